@@ -1,0 +1,9 @@
+pub mod Error
+pub mod Outcome
+pub mod Lists
+pub mod Types
+pub mod Reading
+pub mod Bodies
+pub mod BodiesReading
+pub mod Chains
+pub mod Sections
