@@ -1,12 +1,17 @@
-//! The sections of a WebAssembly module.
+//! The sections of a WebAssembly module, as the core specification's binary format has them.
+//!
+//! [`split_sections`] finds where each section stands. The other calls read the payload of one
+//! section each: [`read_types`], [`read_functions`] and [`read_bodies`].
 #![tactic(auto)]
 
 mod code;
 mod error;
+mod functions;
 mod sections;
 mod types;
 
-pub use code::{WasmFunctionBody, read_bodies, read_functions};
+pub use code::{WasmFunctionBody, bodies_exclude, read_bodies};
 pub use error::{Form, ReadError, Why};
-pub use sections::{SectionHeader, split_sections};
-pub use types::{FuncType, ValType, ValTypes, read_types};
+pub use functions::{functions_exclude, read_functions};
+pub use sections::{SectionHeader, frames_exclude, split_sections};
+pub use types::{FuncType, ValType, read_types, types_exclude};
