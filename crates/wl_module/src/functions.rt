@@ -5,7 +5,7 @@ ghost use Rattle.wl_bytes.specs.Grammar.{times_at};
 ghost use Rattle.wl_module.specs.Bodies.{AreIndices, IndicesFault};
 ghost use Rattle.wl_module.specs.BodiesReading.{indices_of};
 ghost use Rattle.wl_module.specs.Lists.{number_at};
-ghost use Rattle.wl_module.specs.Outcome.{Yields, Gives, ReadsWhole, AreExclusive};
+ghost use Rattle.wl_module.specs.Outcome.{Yields, Gives, ReadsWhole, AreAlternatives};
 
 use crate::error::{ReadError, Why};
 use std::alloc::Global;
@@ -51,7 +51,7 @@ pub fn read_functions(alloc: Global, payload: &[u8]) -> Result<Vec<u32>, ReadErr
     functions_in(alloc, payload)
 }
 
-/// A payload spells at most one list of indices, or has one fault, and never both.
-pub fn functions_exclude()
-    ensures { AreExclusive AreIndices IndicesFault }
+/// Each payload spells one list of indices or has one fault, and never both.
+pub fn functions_or_fault()
+    ensures { AreAlternatives AreIndices IndicesFault }
 {}

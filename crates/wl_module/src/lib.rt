@@ -10,8 +10,8 @@ mod functions;
 mod sections;
 mod types;
 
-pub use code::{WasmFunctionBody, bodies_exclude, read_bodies};
+pub use code::{WasmFunctionBody, bodies_or_fault, read_bodies};
 pub use error::{Form, ReadError, Why};
-pub use functions::{functions_exclude, read_functions};
-pub use sections::{SectionHeader, frames_exclude, split_sections};
-pub use types::{FuncType, ValType, read_types, types_exclude};
+pub use functions::{functions_or_fault, read_functions};
+pub use sections::{SectionHeader, sections_or_fault, split_sections};
+pub use types::{FuncType, ValType, read_types, types_or_fault};

@@ -1,8 +1,0 @@
-use Rattle.wl_module.specs.Bodies.{AreIndices, IndicesFault}
-use Rattle.wl_module.specs.BodiesReading.{indices_of}
-use Rattle.wl_module.proofs.ListLaws.{whole_excludes}
-use Rattle.wl_module.proofs.BodyLaws.{indices_reading}
-use Rattle.wl_module.proofs.functions.functions_exclude.Goals as goal
-
-pub returns : goal.returns
-returns c = whole_excludes AreIndices IndicesFault indices_of indices_reading

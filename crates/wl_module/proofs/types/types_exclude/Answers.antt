@@ -1,8 +1,0 @@
-use Rattle.wl_module.specs.Types.{AreTypes, TypesFault}
-use Rattle.wl_module.specs.Reading.{types_of}
-use Rattle.wl_module.proofs.ListLaws.{whole_excludes}
-use Rattle.wl_module.proofs.TypeLaws.{types_reading}
-use Rattle.wl_module.proofs.types.types_exclude.Goals as goal
-
-pub returns : goal.returns
-returns c = whole_excludes AreTypes TypesFault types_of types_reading
