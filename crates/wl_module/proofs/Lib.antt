@@ -4,3 +4,4 @@ pub mod TypeLaws
 pub mod BodyLaws
 pub mod ChainLaws
 pub mod SectionLaws
+pub mod Ranks

@@ -15,3 +15,6 @@ pub use error::{Form, ReadError, Why};
 pub use functions::{functions_or_fault, read_functions};
 pub use sections::{SectionHeader, sections_or_fault, split_sections};
 pub use types::{FuncType, ValType, read_types, types_or_fault};
+
+#[cfg(test)]
+mod tests;
