@@ -13,7 +13,7 @@ mod types;
 pub use code::{WasmFunctionBody, bodies_or_fault, read_bodies};
 pub use error::{Form, ReadError, Why};
 pub use functions::{functions_or_fault, read_functions};
-pub use sections::{SectionHeader, sections_or_fault, split_sections};
+pub use sections::{SectionHeader, ranges_lie_within, sections_or_fault, split_sections};
 pub use types::{FuncType, ValType, read_types, types_or_fault};
 
 #[cfg(test)]
