@@ -11,12 +11,14 @@ use crate::error::{ReadError, Why};
 use std::alloc::Global;
 use wl_bytes::Reader;
 
+/// The index in front.
 fn read_index(reader: &mut Reader<'_>) -> Result<u32, ReadError>
     ensures { Yields (λ n. n) result reader.new (number_at reader.old) }
 {
     Ok(reader.read_u32()?)
 }
 
+/// So many indices, in a list that grows as they are read.
 fn indices_in(alloc: Global, reader: &mut Reader<'_>, count: u32) -> Result<Vec<u32>, ReadError>
     ensures { Yields (λ v. v.items) result reader.new (times_at number_at count reader.old) }
 {
@@ -28,6 +30,7 @@ fn indices_in(alloc: Global, reader: &mut Reader<'_>, count: u32) -> Result<Vec<
     Ok(items)
 }
 
+/// The indices of a whole payload.
 fn functions_in(alloc: Global, payload: &[u8]) -> Result<Vec<u32>, ReadError>
     ensures { Gives (λ v. v.items) result (indices_of payload.now) }
 {
