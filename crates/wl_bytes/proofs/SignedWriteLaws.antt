@@ -100,7 +100,7 @@ splits_more (negsuc n) low p q (negsuc r) b e is v =
     halves : (p a b c : ℕ) → a + b ≡ c → p * a + p * b ≡ p * c
     halves p a b c s = rw (← s) (omega arith)
 
-low_byte : (rest : ℤ) (b : ℕ) → pos b ≡ int_rem_euclid rest (pos 128) → b < 128
+pub low_byte : (rest : ℤ) (b : ℕ) → pos b ≡ int_rem_euclid rest (pos 128) → b < 128
 low_byte (pos r) b is = omega (arith, ints, is)
 low_byte (negsuc r) b is = omega (arith, ints, is)
 
