@@ -1,14 +1,14 @@
 -- The shortest form of a number is one, and it is read as that number.
-use Rattle.std.proofs.Common.{◌≡◌, ℕ, zero, suc, ◌+◌, ◌-◌, ◌*◌, ◌/◌, ◌%◌, ◌^◌, ◌<◌, ◌≤◌, Bool, true, false, cond, ltb, List, [], ◌∷◌, ◌++◌, length, refl, sym, ap, ◌∙◌, arith, ◌⊎◌, inl, inr, add-one, length-append}
-use Rattle.std.specs.Prelude.{ℤ, pos, negsuc, ◌-ℤ◌, ◌||◌, ◌&&◌, nat_lt, nat_le}
+use Rattle.std.proofs.Common.{◌≡◌, ℕ, zero, suc, ◌+◌, ◌-◌, ◌*◌, ◌/◌, ◌%◌, ◌^◌, ◌<◌, ◌≤◌, Bool, true, false, cond, ltb, List, [], ◌∷◌, ◌++◌, length, refl, sym, ap, ◌∙◌, arith, ◌⊎◌, inl, inr, length-append}
+use Rattle.std.specs.Prelude.{ℤ, pos, negsuc, ◌-ℤ◌}
 use Rattle.std.specs.Int.{int_rem_euclid, int_div_euclid}
 use Rattle.std.specs.Int.Signed.{mag}
 use Rattle.std.specs.List.{AllByRecursion}
 use Rattle.std.proofs.lemmas.Int.{ints}
 use Rattle.std.proofs.lemmas.Bool.{cases_lt, lt-ltb, le-ltb}
 use Rattle.std.proofs.lemmas.Bool.Decides.{nat_tests}
-use Rattle.std.proofs.Math.Nat.{pow-suc, mul-le-mul_left}
-use Rattle.wl_bytes.specs.Parse.{Takes, IsReadAgain}
+use Rattle.std.proofs.Math.Nat.{pow-suc}
+use Rattle.wl_bytes.specs.Parse.{IsReadAgain}
 use Rattle.wl_bytes.specs.Leb.{low_bits, IsHigh, Form, IsLeb, u32_form, u64_form, s32_form, s33_form, IsU32, IsUleb, IsShortest, signed_of, IsSigned, IsWithin, IsSleb, IsShortestSleb}
 use Rattle.wl_bytes.proofs.LebLemmas.{low_bits-bound}
 use Rattle.wl_bytes.proofs.LebLaws.{low_bits-last}
@@ -53,9 +53,9 @@ LowBitsOf (negsuc n) low all = low + n + 1 ≡ all
 
 low_bits-of : (z : ℤ) (low all end : ℕ) → low < all → z ≡ cond (ltb end 64) (pos low) (pos low -ℤ pos all) → LowBitsOf z low all
 low_bits-of z low all end lt e = elim (cases_lt end 64) [
-    | inl small ↦ first z low all (rw (lt-ltb end 64 small) at e)
-    | inr large ↦ second z low all lt (rw (le-ltb end 64 large) at e)
-  ]
+  | inl small ↦ first z low all (rw (lt-ltb end 64 small) at e)
+  | inr large ↦ second z low all lt (rw (le-ltb end 64 large) at e)
+]
   where
     first : (z : ℤ) (low all : ℕ) → z ≡ pos low → LowBitsOf z low all
     first (pos n) low all e = omega (arith, ints, e)
@@ -105,12 +105,15 @@ padded (suc k) n short lt =
     let more : 128 ^ (suc k + 1) ≡ 128 ^ (k + 1) * 128 = next_power k in
     let less : n / 128 < 128 ^ (k + 1) = omega (arith, more) in
     let rest = padded k (n / 128) (omega arith) less in
-    let b = n % 128 + 128 in
-    (b ∷ rest.0, record {
-      leb = more_high b rest.0 (omega arith) (omega (arith, rest.2)) rest.1.leb;
-      value = omega (arith, rest.1.value);
-      bytes = (omega arith, rest.1.bytes);
-    }, omega (arith, rest.2))
+    let b = n % 128 + 128 in (
+      b ∷ rest.0,
+      record {
+        leb = more_high b rest.0 (omega arith) (omega (arith, rest.2)) rest.1.leb;
+        value = omega (arith, rest.1.value);
+        bytes = (omega arith, rest.1.bytes);
+      },
+      omega (arith, rest.2),
+    )
 
 -- a byte in front of the number that is left
 signed_more : (z next : ℤ) (low all all' : ℕ) (b : ℕ) (small : Bool) → all' ≡ all * 128 → pos b ≡ int_rem_euclid z (pos 128) → next ≡ int_div_euclid z (pos 128)
@@ -148,12 +151,15 @@ padded_sleb (suc k) z short lt =
     let next = int_div_euclid z (pos 128) in
     let rest = padded_sleb k next (omega arith) (next_mag z k lt) in
     let leb = rest.1.leb in
-    let more : 128 ^ length ((b.0 + 128) ∷ rest.0) ≡ 128 ^ length rest.0 * 128 = pow-suc 128 (length rest.0) in
-    ((b.0 + 128) ∷ rest.0, record {
-      leb = more_high (b.0 + 128) rest.0 (omega arith) (omega (arith, rest.2)) leb;
-      value = signed_more z next (low_bits rest.0) (128 ^ length rest.0) (128 ^ length ((b.0 + 128) ∷ rest.0)) b.0 (ltb leb.end 64) more b.1 refl rest.1.value;
-      bytes = (omega (arith, low), rest.1.bytes);
-    }, omega (arith, rest.2))
+    let more : 128 ^ length ((b.0 + 128) ∷ rest.0) ≡ 128 ^ length rest.0 * 128 = pow-suc 128 (length rest.0) in (
+      (b.0 + 128) ∷ rest.0,
+      record {
+        leb = more_high (b.0 + 128) rest.0 (omega arith) (omega (arith, rest.2)) leb;
+        value = signed_more z next (low_bits rest.0) (128 ^ length rest.0) (128 ^ length ((b.0 + 128) ∷ rest.0)) b.0 (ltb leb.end 64) more b.1 refl rest.1.value;
+        bytes = (omega (arith, low), rest.1.bytes);
+      },
+      omega (arith, rest.2),
+    )
 
 -- ---- what is written is read
 

@@ -15,7 +15,7 @@ loop-rest-preserved c =
     ] in
     let next = c.div_euclid-rest.result in
     sleb_more (to_z w64 (of_z w64 c.args.number)) c.loop-rest.len rest c.loop-rest.buffer c.low_seven.result (to_z w64 (of_z w64 next)) far c.low_seven.ensures
-        (to_z-of_z w64 next (record { sfits = c.div_euclid-rest.type_inv }) ∙ c.div_euclid-rest.ensures) c.loop-rest.invariant
+    (to_z-of_z w64 next (record { sfits = c.div_euclid-rest.type_inv }) ∙ c.div_euclid-rest.ensures) c.loop-rest.invariant
 
 pub returns-clause-short : goal.returns-clause-short
 returns-clause-short c =
