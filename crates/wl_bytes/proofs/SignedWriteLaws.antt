@@ -82,6 +82,9 @@ left-bound (negsuc n) low p (negsuc r) l far v = let h : p * 64 ≤ p * r = mul-
 
 -- ---- a byte more
 
+both_parts : (p a b c : ℕ) → a + b ≡ c → p * a + p * b ≡ p * c
+both_parts p a b c s = rw (← s) (omega arith)
+
 splits_more : (z : ℤ) (low p q : ℕ) (rest : ℤ) (b : ℕ) → q ≡ p * 128 → pos b ≡ int_rem_euclid rest (pos 128) → Splits z low p rest
     → Splits z (low + p * ((b + 128) % 128)) q (int_div_euclid rest (pos 128))
 splits_more (pos n) low p q (pos r) b e is v =
@@ -94,11 +97,8 @@ splits_more (negsuc n) low p q (pos r) b e is v = absurd v
 splits_more (negsuc n) low p q (negsuc r) b e is v =
     let b-is : b ≡ 127 - r % 128 = omega (arith, ints, is) in
     let m : (b + 128) % 128 ≡ 127 - r % 128 = omega (arith, b-is) in
-    let whole : p * (r + 1) + p * (127 - r % 128) ≡ p * (128 * (r / 128 + 1)) = halves p (r + 1) (127 - r % 128) (128 * (r / 128 + 1)) (omega arith) in
+    let whole : p * (r + 1) + p * (127 - r % 128) ≡ p * (128 * (r / 128 + 1)) = both_parts p (r + 1) (127 - r % 128) (128 * (r / 128 + 1)) (omega arith) in
     rw (m, e) (omega (arith, whole))
-  where
-    halves : (p a b c : ℕ) → a + b ≡ c → p * a + p * b ≡ p * c
-    halves p a b c s = rw (← s) (omega arith)
 
 pub low_byte : (rest : ℤ) (b : ℕ) → pos b ≡ int_rem_euclid rest (pos 128) → b < 128
 low_byte (pos r) b is = omega (arith, ints, is)
@@ -158,11 +158,8 @@ value_done (negsuc n) low p all (negsuc r) b a near is v =
     let b-is : b + r ≡ 127 = omega (arith, ints, is) in
     let le : 64 ≤ b = omega arith in
     let m : b % 128 ≡ b = omega arith in
-    let whole : p * (r + 1) + p * b ≡ p * 128 = halves p (r + 1) b 128 (omega arith) in
+    let whole : p * (r + 1) + p * b ≡ p * 128 = both_parts p (r + 1) b 128 (omega arith) in
     rw (m, le-ltb b 64 le) (omega (arith, ints, whole))
-  where
-    halves : (p a b c : ℕ) → a + b ≡ c → p * a + p * b ≡ p * c
-    halves p a b c s = rw (← s) (omega arith)
 
 pub sleb_done : (z : ℤ) (len : ℕ) (rest : ℤ) (buffer : List ℕ) (b : ℕ) → mag rest < 64 → pos b ≡ int_rem_euclid rest (pos 128) → IsWrittenSigned z len rest buffer
     → IsShortestSleb z (take (len + 1) (set buffer len b))
