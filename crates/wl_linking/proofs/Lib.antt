@@ -1,0 +1,11 @@
+pub mod Exact
+pub mod SymbolLaws
+pub mod LinkingLaws
+pub mod RelocationLaws
+pub mod PlainBodies
+pub mod PartLaws
+pub mod SiteLaws
+pub mod OrderLaws
+pub mod SectionLaws
+pub mod BodyOrder
+pub mod ObjectLaws

@@ -1,0 +1,11 @@
+pub mod Verdict
+pub mod Symbols
+pub mod SymbolsReading
+pub mod Linking
+pub mod Relocations
+pub mod Targets
+pub mod Sections
+pub mod Object
+pub mod Parts
+pub mod Placing
+pub mod Fitting

@@ -1,0 +1,60 @@
+//! A list in a record, which clauses see as the list.
+
+ghost use Rattle.std.specs.Prelude.{◌≡◌, [], ◌++◌, OnOk};
+
+use std::alloc::{AllocError, Global};
+use std::marker::Model;
+
+/// A list of things, in order.
+#[derive(Drop)]
+pub struct Items<T: Drop> {
+    list: Vec<T>,
+}
+
+impl<T: Drop> Model for Items<T> {
+    ghost use Rattle.std.specs.Prelude.{List};
+
+    ghost Value = { List T };
+
+    ghost view = { λ items. items.list.items };
+}
+
+impl<T: Drop> Items<T> {
+    /// The things of a vector.
+    pub fn new(list: Vec<T>) -> Self
+        ensures { result ≡ list.items }
+    {
+        Items { list }
+    }
+
+    /// The things as a slice.
+    pub fn as_slice(&self) -> &[T]
+        ensures { result.now ≡ self.now }
+    {
+        self.list.as_slice()
+    }
+
+    /// No things.
+    pub fn empty(alloc: Global) -> Self
+        ensures { result ≡ [] }
+    {
+        Items {
+            list: Vec::new(alloc),
+        }
+    }
+
+    /// Puts more things at the end.
+    pub fn append(&mut self, more: Items<T>) -> Result<(), AllocError>
+        ensures { OnOk result (self.new ≡ self.old ++ more) }
+    {
+        let mut list = more.list;
+        self.list.append(&mut list)
+    }
+
+    /// The things in a vector of their own.
+    pub fn into_vec(self) -> Vec<T>
+        ensures { result.items ≡ self }
+    {
+        self.list
+    }
+}
