@@ -1,0 +1,4 @@
+pub mod TypeLaws
+pub mod Merges
+pub mod SpaceLaws
+pub mod PlanLaws

@@ -1,0 +1,7 @@
+use Rattle.std.proofs.Common.{◌≡◌, drop}
+use Rattle.wl_plan.specs.Types.{firsts_onto, used_from, live_types}
+use Rattle.wl_plan.proofs.Merges.{MergesOn}
+use Rattle.wl_plan.proofs.merge.merge_types.Given as goal
+
+abbrev pub invariant-loop-local : goal.invariant-loop-local
+invariant-loop-local l = MergesOn l.fn.merger l.file l.local l.merger l.indices.items

@@ -1,0 +1,5 @@
+pub mod Types
+pub mod Space
+pub mod Plan
+pub mod Merging
+pub mod Building

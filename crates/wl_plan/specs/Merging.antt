@@ -1,0 +1,27 @@
+-- What a merger of types has found.
+use Rattle.std.specs.Prelude.{◌≡◌, ◌<◌, ℕ, List, length, Option, Some, None, true, false, slice_get, slice_index, slice_index_or, ◌==◌, ⊤}
+use Rattle.std.specs.List.{list_any}
+use Rattle.wl_module.specs.Types.{FunctionType}
+use Rattle.wl_linking.specs.Object.{Object}
+use Rattle.wl_plan.specs.Types.{same_type}
+use Rattle.wl_plan.specs.Plan.{max_entries}
+use Rattle.wl_plan.specs.declared.error.LinkError.{LinkError}
+use Rattle.wl_plan.specs.declared.error.LinkError.TheVariants.{OutOfMemory, Malformed, Unsupported, TooLarge}
+use Rattle.wl_plan.specs.declared.error.Quantity.TheVariants.{Space}
+
+-- the place of a type in the list, if it is there
+abbrev pub Finds : List FunctionType → FunctionType → Option ℕ → Type 0
+Finds types ty None = list_any (λ t. same_type t ty) types ≡ false
+Finds types ty (Some place) = (place < length types) × (list_any (λ t. same_type t ty) types ≡ true) × (slice_get types place ≡ Some ty)
+
+-- memory ran out, or the list would have too many entries
+abbrev pub IsFull : List FunctionType → LinkError → Type 0
+IsFull types OutOfMemory = ⊤
+IsFull types (TooLarge what) = (what ≡ Space) × (max_entries < length types)
+IsFull types (Malformed object why) = ⊥
+IsFull types (Unsupported object form) = ⊥
+
+-- each local type that a function has is led to itself
+pub record LeadsToTypes (types : List FunctionType) (o : Object) (indices : List ℕ) : Type 0 where
+  pub len : length indices ≡ length o.types
+  pub place : (k : ℕ) (d : FunctionType) → k < length o.types → list_any (λ f. f == k) o.functions ≡ true → slice_get types (slice_index indices k) ≡ Some (slice_index_or o.types k d)

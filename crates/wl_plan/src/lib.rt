@@ -1,0 +1,16 @@
+//! The plan of the output module.
+#![tactic(auto)]
+
+mod error;
+mod layout;
+mod merge;
+mod plan;
+mod spaces;
+mod types;
+
+pub use error::{LinkError, Quantity};
+pub use layout::{
+    ExternalKind, Fixup, FixupPlace, FixupTo, FunctionOrigin, LinkPlan, MadeGlobal, MemoryType,
+    OutputExport, OutputFunction, PlannedGlobal, WasmLayout,
+};
+pub use types::TypeMerger;

@@ -1,0 +1,59 @@
+//! The types of an object's functions among the output types.
+
+ghost use Rattle.std.specs.Prelude.{◌≡◌, ◌≤◌, ◌<◌, ◌==◌, ℕ, length, true, IfOk, IfErr, Some, slice_get, slice_index_or, if◌then◌else◌, Bool};
+ghost use Rattle.std.specs.List.{list_any};
+ghost use Rattle.wl_linking.specs.Object.{types_exist};
+ghost use Rattle.wl_plan.specs.Types.{add_new, firsts_onto, live_types};
+ghost use Rattle.wl_plan.specs.Merging.{IsFull, LeadsToTypes};
+
+use crate::error::LinkError;
+use crate::types::TypeMerger;
+use std::alloc::{AllocError, Global};
+use wl_linking::File;
+use wl_module::FuncType;
+
+/// The index of what the output doesn't hold.
+pub const DEAD_INDEX: u32 = 4_294_967_295;
+
+/// Which of so many types a function has.
+fn used_types(alloc: Global, count: usize, functions: &[u32]) -> Result<Vec<bool>, AllocError>
+    requires { types_exist count functions.now ≡ true }
+    ensures len { IfOk result (λ used. length used.items ≡ count) }
+    ensures marks { IfOk result (λ used. (k : ℕ) (d : Bool) → k < count → slice_index_or used.items k d ≡ list_any (λ f. f == k) functions.now) }
+{
+    let mut used = vec![in alloc; false; count]?;
+    for ty in functions {
+        used[*ty as usize] = true;
+    }
+    Ok(used)
+}
+
+/// The place of a type among the output types, where a function has it.
+fn merge_type(merger: &mut TypeMerger, ty: &FuncType, used: bool) -> Result<u32, LinkError>
+    ensures merged { IfOk result (λ index. merger.new ≡ (if used then add_new merger.old ty.now else merger.old)) }
+    ensures place { IfOk result (λ index. used ≡ true → slice_get merger.new index ≡ Some ty.now) }
+    ensures err { IfErr result (λ e. (used ≡ true) × IsFull (add_new merger.old ty.now) e) }
+{
+    if used { merger.add(ty) } else { Ok(DEAD_INDEX) }
+}
+
+/// Merges the types of an object's functions, and answers where each local type went.
+pub(crate) fn merge_types(
+    alloc: Global,
+    merger: &mut TypeMerger,
+    file: &File<'_>,
+) -> Result<Vec<u32>, LinkError>
+    requires { types_exist (length file.now.types) file.now.functions ≡ true }
+    ensures merged { IfOk result (λ indices. merger.new ≡ firsts_onto merger.old (live_types file.now)) }
+    ensures places { IfOk result (λ indices. LeadsToTypes merger.new file.now indices.items) }
+    ensures err { IfErr result (IsFull (firsts_onto merger.old (live_types file.now))) }
+{
+    let types = file.types();
+    let used = used_types(alloc, types.len(), file.module_functions())?;
+    let mut indices = Vec::new(alloc);
+    for (local, ty) in types.iter().enumerate() {
+        let index = merge_type(merger, ty, used[local])?;
+        indices.push(index)?;
+    }
+    Ok(indices)
+}
