@@ -1,4 +1,4 @@
-use Rattle.std.proofs.Common.{refl, ap, Some, length}
+use Rattle.std.proofs.Common.{refl, ap, Some}
 use Rattle.wildplan.proofs.Memory.{held-push, left_of-push}
 use Rattle.wildplan.proofs.mem_files.MemFiles.add.Goals as goal
 
