@@ -14,6 +14,10 @@ held_by s = held s.files.items
 abbrev pub failing_calls : MemFiles → List ℕ
 failing_calls s = s.fails.items
 
+-- how many bytes a read gives at most
+abbrev pub read_limit : MemFiles → ℕ
+read_limit s = s.piece
+
 -- they tell what each name holds, and what is left of the current file
 abbrev pub files_state : MemFiles → FilesState
 files_state s = record {
