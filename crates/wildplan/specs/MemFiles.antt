@@ -1,0 +1,56 @@
+-- Files in memory.
+use Rattle.std.specs.Prelude.{◌≡◌, ℕ, List, [], false, Some, None, if◌then◌else◌}
+use Rattle.std.specs.Option.{option_copied, option_or}
+use Rattle.std.specs.Str.{bytes_eq}
+use Rattle.wildplan.specs.Files.{Names, FilesState}
+use Rattle.wildplan.specs.Held.{held, left_of}
+use Rattle.wildplan.specs.declared.mem_files.MemFiles.{MemFiles}
+
+-- what each name holds
+abbrev pub held_by : MemFiles → Names
+held_by s = held s.files.items
+
+-- the calls that are to fail, counted from 1
+abbrev pub failing_calls : MemFiles → List ℕ
+failing_calls s = s.fails.items
+
+-- how many bytes a read gives at most
+abbrev pub read_limit : MemFiles → ℕ
+read_limit s = s.piece
+
+-- they tell what each name holds, and what is left of the current file
+abbrev pub files_state : MemFiles → FilesState
+files_state s = record {
+  begun = option_copied s.name;
+  closed = s.closed;
+  failed = s.failed;
+  given = s.given;
+  faults = s.faults;
+  names = Some (held s.files.items);
+  rest = Some (left_of s.files.items s.place s.given);
+}
+
+-- no call is to fail
+abbrev pub IsCalm : MemFiles → Type 0
+IsCalm s = s.fails.items ≡ []
+
+-- no name holds anything, nothing was begun, and no call is to fail
+pub record IsNewFiles (s : MemFiles) : Type 0 where
+  pub names : (name : List ℕ) → held_by s name ≡ None
+  pub begun : (files_state s).begun ≡ None
+  pub closed : (files_state s).closed ≡ false
+  pub faults : (files_state s).faults ≡ 0
+  pub failing : failing_calls s ≡ []
+
+-- one name more, unless it is there already
+abbrev pub AddsFile : Names → Names → List ℕ → List ℕ → Type 0
+AddsFile old new name bytes = (other : List ℕ) → new other ≡ option_or (old other) (if bytes_eq name other then Some bytes else None)
+
+-- the current file is read on as before
+pub record IsSameReading (old new : FilesState) : Type 0 where
+  pub begun : new.begun ≡ old.begun
+  pub closed : new.closed ≡ old.closed
+  pub failed : new.failed ≡ old.failed
+  pub given : new.given ≡ old.given
+  pub faults : new.faults ≡ old.faults
+  pub rest : new.rest ≡ old.rest
