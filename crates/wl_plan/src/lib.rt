@@ -13,4 +13,5 @@ pub use layout::{
     ExternalKind, Fixup, FixupPlace, FixupTo, FunctionOrigin, LinkPlan, MadeGlobal, MemoryType,
     OutputExport, OutputFunction, PlannedGlobal, WasmLayout,
 };
+pub use plan::plan_objects;
 pub use types::TypeMerger;

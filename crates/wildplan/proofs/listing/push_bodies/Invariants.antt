@@ -1,0 +1,6 @@
+use Rattle.std.proofs.Common.{◌≡◌, ◌++◌, drop}
+use Rattle.wildplan.specs.Listing.{numbered, body_line}
+use Rattle.wildplan.proofs.listing.push_bodies.Given as goal
+
+abbrev pub invariant-loop-i : goal.invariant-loop-i
+invariant-loop-i l = l.text.items ++ numbered body_line l.i (drop l.i l.bodies) ≡ l.initial.text.items ++ numbered body_line 0 l.bodies

@@ -1,0 +1,6 @@
+use Rattle.std.proofs.Common.{◌≡◌, ◌++◌, drop}
+use Rattle.wildplan.specs.Listing.{numbered, type_line}
+use Rattle.wildplan.proofs.listing.push_types.Given as goal
+
+abbrev pub invariant-loop-i : goal.invariant-loop-i
+invariant-loop-i l = l.text.items ++ numbered type_line l.i (drop l.i l.types) ≡ l.initial.text.items ++ numbered type_line 0 l.types

@@ -1,0 +1,38 @@
+//! The line of a refusal.
+
+ghost use Rattle.std.specs.Prelude.{◌≡◌, ◌++◌, IfOk, codes, decimal};
+ghost use Rattle.wildplan.specs.Listing.{error_line};
+
+use crate::names::{form_name_of, quantity_name_of, why_name_of};
+use std::alloc::{AllocError, Global};
+use wl_plan::LinkError;
+
+/// The line of a refusal that is an object's.
+fn object_line(
+    alloc: Global,
+    refusal: &str,
+    object: usize,
+    name: &str,
+) -> Result<Vec<u8>, AllocError>
+    ensures { IfOk result (λ text. text.items ≡ codes "error: " ++ refusal.now ++ codes " " ++ decimal object ++ codes " " ++ name.now ++ codes "\n") }
+{
+    Ok(format!(in alloc; "error: {refusal} {object} {name}\n")?.into_bytes())
+}
+
+/// The line of a refusal. When memory ran out there is none.
+pub fn error_text(alloc: Global, error: &LinkError) -> Result<Vec<u8>, AllocError>
+    ensures { IfOk result (λ text. text.items ≡ error_line error.now) }
+{
+    match *error {
+        LinkError::OutOfMemory => Ok(Vec::new(alloc)),
+        LinkError::Malformed { object, why } => {
+            object_line(alloc, "Malformed", object, why_name_of(why))
+        }
+        LinkError::Unsupported { object, form } => {
+            object_line(alloc, "Unsupported", object, form_name_of(form))
+        }
+        LinkError::TooLarge { what } => {
+            Ok(format!(in alloc; "error: TooLarge {}\n", quantity_name_of(what))?.into_bytes())
+        }
+    }
+}
