@@ -34,9 +34,9 @@ pub fn push_signed(text: &mut Vec<u8>, word: &[u8], number: i32) -> Result<(), A
 fn push_hex_byte(text: &mut Vec<u8>, byte: u8) -> Result<(), AllocError>
     ensures { OnOk result (text.new.items ≡ text.old.items ++ encode_lower (byte ∷ [])) }
 {
-    text.push(HEX_DIGITS[usize::from(byte / 16)])?;
-    text.push(HEX_DIGITS[usize::from(byte % 16)])?;
-    Ok(())
+    let high = HEX_DIGITS[usize::from(byte / 16)];
+    let low = HEX_DIGITS[usize::from(byte % 16)];
+    text.extend_from_slice(&[high, low])
 }
 
 /// Bytes in hexadecimal.

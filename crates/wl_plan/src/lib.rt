@@ -15,3 +15,6 @@ pub use layout::{
 };
 pub use plan::plan_objects;
 pub use types::TypeMerger;
+
+#[cfg(test)]
+mod tests;

@@ -1,0 +1,225 @@
+//! What the program answers to the bytes of an object.
+
+use super::{MemFiles, MemSink, Status, run};
+use std::alloc::{AllocError, Global};
+use std::process::Abort;
+use std::test::Fail;
+
+/// Two functions `()->()`: `a`, which calls `b`, and `b`.
+const OBJECT: &[u8; 76] = b"\0asm\x01\0\0\0\
+    \x01\x04\x01\x60\0\0\
+    \x03\x03\x02\0\0\
+    \x0a\x0d\x02\x08\0\x10\x81\x80\x80\x80\0\x0b\x02\0\x0b\
+    \0\x16\x07linking\x02\x08\x0b\x02\0\0\0\x01a\0\0\x01\x01b\
+    \0\x10\x0areloc.CODE\x02\x01\0\x04\x01";
+
+/// The lines of its listing, up to the references.
+const FUNCTIONS: &str = "wildplan 1\n\
+    type 0 ()->()\n\
+    func 0 type 0 object 0 unit 0\n\
+    func 1 type 0 object 0 unit 1\n\
+    body 0 001081808080000b\n\
+    body 1 000b\n\
+    global 0 i32 var 41808004 made stack_pointer\n\
+    memory 2 - -\n\
+    export \"memory\" memory 0\n";
+
+/// The listing of an object that has nothing that is used.
+const NOTHING: &str = "wildplan 1\n\
+    global 0 i32 var 41808004 made stack_pointer\n\
+    memory 2 - -\n\
+    export \"memory\" memory 0\n\
+    end\n";
+
+/// The line of the call of `b`.
+const CALL: &str = "fix 0 code 0 2 R_WASM_FUNCTION_INDEX_LEB 1 0\n";
+
+/// How a run over an object ended, and what each sink took.
+#[derive(Drop)]
+struct Answer {
+    status: Status,
+    out: MemSink,
+    err: MemSink,
+}
+
+fn answer_to(alloc: Global, object: &[u8]) -> Result<Answer, AllocError> {
+    let mut words = Vec::new(alloc);
+    for word in ["--no-gc-sections", "--no-entry", "a.o"] {
+        words.push(String::from_str(alloc, word)?)?;
+    }
+    let mut files = MemFiles::new(alloc);
+    files.add("a.o", object)?;
+    let mut out = MemSink::new(alloc, 1000, 1000)?;
+    let mut err = MemSink::new(alloc, 1000, 1000)?;
+    let status = run(alloc, &words, &mut files, &mut out, &mut err);
+    Ok(Answer { status, out, err })
+}
+
+// An object is planned: nothing but these lines was written, once.
+fn assert_listing(
+    rt: &impl Abort,
+    alloc: Global,
+    object: &[u8],
+    lines: &[&str],
+) -> Result<(), Fail> {
+    let mut listing = String::new(alloc);
+    for line in lines {
+        listing.push_str(line)?;
+    }
+    let answer = answer_to(alloc, object)?;
+    assert_eq!(rt; answer.status, Status::Done);
+    assert_eq!(rt; answer.out.bytes(), listing.as_bytes());
+    assert!(rt; answer.err.bytes().is_empty());
+    Ok(())
+}
+
+// An object is refused: nothing but this line was written, on the other sink.
+fn assert_refused(rt: &impl Abort, alloc: Global, object: &[u8], line: &str) -> Result<(), Fail> {
+    let answer = answer_to(alloc, object)?;
+    assert_eq!(rt; answer.status, Status::Refused, "{line}");
+    assert_eq!(rt; answer.err.bytes(), line.as_bytes());
+    assert!(rt; answer.out.bytes().is_empty());
+    Ok(())
+}
+
+// A copy of the object with another byte at a place.
+fn changed(place: usize, byte: u8) -> [u8; 76] {
+    let mut object = *OBJECT;
+    if let Some(there) = object.get_mut(place) {
+        *there = byte;
+    }
+    object
+}
+
+#[test]
+fn sound_objects_are_planned(rt: HostRuntime) -> Result<(), Fail> {
+    assert_listing(&rt, rt.alloc(), OBJECT, &[FUNCTIONS, CALL, "end\n"])?;
+    assert_listing(&rt, rt.alloc(), &OBJECT[..8], &[NOTHING])
+}
+
+#[test]
+fn each_front_has_its_answer(rt: HostRuntime) -> Result<(), Fail> {
+    for end in 0..OBJECT.len() {
+        let front = &OBJECT[..end];
+        match end {
+            0..8 => assert_refused(&rt, rt.alloc(), front, "error: Malformed 0 Header\n")?,
+            // A type that no function has isn't listed.
+            8 | 14 => assert_listing(&rt, rt.alloc(), front, &[NOTHING])?,
+            19 => assert_refused(&rt, rt.alloc(), front, "error: Malformed 0 Count\n")?,
+            // Without names nothing is referred to, and nothing refers without references.
+            34 | 58 => assert_listing(&rt, rt.alloc(), front, &[FUNCTIONS, "end\n"])?,
+            _ => assert_refused(&rt, rt.alloc(), front, "error: Malformed 0 Truncated\n")?,
+        }
+    }
+    Ok(())
+}
+
+#[test]
+fn other_calls_are_planned(rt: HostRuntime) -> Result<(), Fail> {
+    // A local symbol, and a call of the first function.
+    assert_listing(
+        &rt,
+        rt.alloc(),
+        &changed(49, 2),
+        &[FUNCTIONS, CALL, "end\n"],
+    )?;
+    let line = "fix 0 code 0 2 R_WASM_FUNCTION_INDEX_LEB 0 0\n";
+    assert_listing(
+        &rt,
+        rt.alloc(),
+        &changed(75, 0),
+        &[FUNCTIONS, line, "end\n"],
+    )?;
+    // A section of another name is skipped.
+    assert_listing(&rt, rt.alloc(), &changed(61, b's'), &[FUNCTIONS, "end\n"])
+}
+
+#[test]
+fn each_malformed_change_has_its_line(rt: HostRuntime) -> Result<(), Fail> {
+    let changes = [
+        // the header
+        (0, 1, "error: Malformed 0 Header\n"),
+        (7, 1, "error: Malformed 0 Header\n"),
+        // the types
+        (8, 0, "error: Malformed 0 BadIndex\n"),
+        (8, 3, "error: Malformed 0 SectionOrder\n"),
+        (8, 14, "error: Malformed 0 SectionId\n"),
+        (9, 3, "error: Malformed 0 Truncated\n"),
+        (9, 132, "error: Malformed 0 Truncated\n"),
+        (10, 0, "error: Malformed 0 Trailing\n"),
+        (10, 2, "error: Malformed 0 Truncated\n"),
+        // the functions' types
+        (14, 1, "error: Malformed 0 SectionOrder\n"),
+        (15, 128, "error: Malformed 0 Trailing\n"),
+        (16, 1, "error: Malformed 0 Trailing\n"),
+        (16, 3, "error: Malformed 0 Truncated\n"),
+        (17, 1, "error: Malformed 0 BadIndex\n"),
+        (18, 128, "error: Malformed 0 Truncated\n"),
+        // the bodies
+        (20, 12, "error: Malformed 0 SectionId\n"),
+        (21, 1, "error: Malformed 0 Trailing\n"),
+        (22, 9, "error: Malformed 0 Trailing\n"),
+        (25, 1, "error: Malformed 0 Field\n"),
+        (29, 128, "error: Malformed 0 Field\n"),
+        // the symbols
+        (35, 21, "error: Malformed 0 SectionId\n"),
+        (36, 6, "error: Malformed 0 BadIndex\n"),
+        (37, 255, "error: Malformed 0 BadUtf8\n"),
+        (45, 7, "error: Malformed 0 BadIndex\n"),
+        (46, 10, "error: Malformed 0 Truncated\n"),
+        (46, 12, "error: Malformed 0 Truncated\n"),
+        (47, 1, "error: Malformed 0 Trailing\n"),
+        (47, 3, "error: Malformed 0 Truncated\n"),
+        (48, 6, "error: Malformed 0 BadByte\n"),
+        (50, 2, "error: Malformed 0 BadIndex\n"),
+        (52, 192, "error: Malformed 0 BadUtf8\n"),
+        // the references
+        (59, 15, "error: Malformed 0 Truncated\n"),
+        (72, 0, "error: Malformed 0 Trailing\n"),
+        (72, 2, "error: Malformed 0 Truncated\n"),
+        (73, 27, "error: Malformed 0 RelocType\n"),
+        (74, 3, "error: Malformed 0 Field\n"),
+        (74, 5, "error: Malformed 0 Field\n"),
+        (74, 10, "error: Malformed 0 Field\n"),
+        (74, 128, "error: Malformed 0 Truncated\n"),
+        (75, 2, "error: Malformed 0 BadIndex\n"),
+    ];
+    for (place, byte, line) in changes {
+        assert_refused(&rt, rt.alloc(), &changed(place, byte), line)?;
+    }
+    Ok(())
+}
+
+#[test]
+fn each_foreign_change_has_its_line(rt: HostRuntime) -> Result<(), Fail> {
+    let changes = [
+        // a section
+        (8, 13, "error: Unsupported 0 Tag\n"),
+        (14, 2, "error: Unsupported 0 NotYet\n"),
+        (19, 11, "error: Unsupported 0 NotYet\n"),
+        // a type
+        (11, 95, "error: Unsupported 0 TypeForm\n"),
+        (12, 1, "error: Unsupported 0 ValueType\n"),
+        // a body
+        (24, 252, "error: Unsupported 0 NotYet\n"),
+        // the symbols
+        (44, 1, "error: Unsupported 0 LinkingVersion\n"),
+        (45, 5, "error: Unsupported 0 NotYet\n"),
+        (45, 6, "error: Unsupported 0 NotYet\n"),
+        (48, 1, "error: Unsupported 0 NotYet\n"),
+        (48, 4, "error: Unsupported 0 Tag\n"),
+        (48, 5, "error: Unsupported 0 NotYet\n"),
+        (49, 1, "error: Unsupported 0 NotYet\n"),
+        (49, 16, "error: Unsupported 0 NotYet\n"),
+        // the references
+        (60, 9, "error: Unsupported 0 RelocTarget\n"),
+        (71, 0, "error: Unsupported 0 RelocTarget\n"),
+        (71, 9, "error: Unsupported 0 RelocTarget\n"),
+        (73, 1, "error: Unsupported 0 NotYet\n"),
+        (73, 8, "error: Unsupported 0 RelocType\n"),
+    ];
+    for (place, byte, line) in changes {
+        assert_refused(&rt, rt.alloc(), &changed(place, byte), line)?;
+    }
+    Ok(())
+}

@@ -1,0 +1,115 @@
+//! Plans of one and of two objects.
+
+use super::*;
+use std::alloc::{AllocError, Global};
+use std::borrow::CowSlice;
+use std::test::Fail;
+use wl_linking::{RelocationType, parse_wasm_module};
+use wl_module::{FuncType, ValType};
+
+/// Two functions `()->()`: `a`, which calls `b`, and `b`.
+const CALLS: &[u8; 76] = b"\0asm\x01\0\0\0\
+    \x01\x04\x01\x60\0\0\
+    \x03\x03\x02\0\0\
+    \x0a\x0d\x02\x08\0\x10\x81\x80\x80\x80\0\x0b\x02\0\x0b\
+    \0\x16\x07linking\x02\x08\x0b\x02\0\0\0\x01a\0\0\x01\x01b\
+    \0\x10\x0areloc.CODE\x02\x01\0\x04\x01";
+
+/// Types `(i64)->()`, `(i32)->()` and `()->()`, and functions of the second and the third.
+const TYPED: &[u8; 36] = b"\0asm\x01\0\0\0\
+    \x01\x0c\x03\x60\x01\x7e\0\x60\x01\x7f\0\x60\0\0\
+    \x03\x03\x02\x01\x02\
+    \x0a\x07\x02\x02\0\x0b\x02\0\x0b";
+
+fn func_type(
+    alloc: Global,
+    params: &[ValType],
+    results: &[ValType],
+) -> Result<FuncType, AllocError> {
+    let params = Vec::from_slice(alloc, params)?;
+    let results = Vec::from_slice(alloc, results)?;
+    Ok(FuncType::new(params, results))
+}
+
+#[test]
+fn equal_types_are_one(rt: HostRuntime) -> Result<(), Fail> {
+    let alloc = rt.alloc();
+    let mut merger = TypeMerger::new(alloc);
+    let cases: [(&[ValType], &[ValType], u32); 5] = [
+        (&[ValType::I32], &[], 0),
+        (&[], &[ValType::I32], 1),
+        (&[ValType::I32], &[], 0),
+        (&[ValType::I32, ValType::I32], &[], 2),
+        (&[], &[ValType::I32], 1),
+    ];
+    for (params, results, place) in cases {
+        let ty = func_type(alloc, params, results)?;
+        assert_eq!(rt; merger.add(&ty).ok(), Some(place));
+    }
+    assert_eq!(rt; merger.into_types().len(), 3);
+    Ok(())
+}
+
+#[test]
+fn no_objects_have_a_plan(rt: HostRuntime) -> Result<(), Fail> {
+    let plan = plan_objects(rt.alloc(), &[])?;
+    assert!(rt; plan.layout.functions.is_empty() && plan.layout.output_types.is_empty());
+    assert!(rt; plan.layout.function_bodies.is_empty() && plan.fixups.is_empty());
+    assert_eq!(rt; plan.layout.globals.len(), 1);
+    assert_eq!(rt; plan.layout.exports.len(), 1);
+    assert_eq!(rt; plan.layout.memory.initial, 2);
+    Ok(())
+}
+
+#[test]
+fn two_objects_share_the_spaces(rt: HostRuntime) -> Result<(), Fail> {
+    let alloc = rt.alloc();
+    let mut files = Vec::new(alloc);
+    files.push(parse_wasm_module(alloc, TYPED)?)?;
+    files.push(parse_wasm_module(alloc, CALLS)?)?;
+    let plan = plan_objects(alloc, &files)?;
+    // The type that no function has is left out, and the last is used by both.
+    let types = plan.layout.output_types;
+    assert_eq!(rt; types.len(), 2);
+    assert_eq!(rt; types[0].params(), [ValType::I32].as_slice());
+    assert!(rt; types[1].params().is_empty());
+    let wanted = [(0, 0, 0), (1, 0, 1), (1, 1, 0), (1, 1, 1)];
+    for (function, (type_index, object, unit)) in plan.layout.functions.iter().zip(&wanted) {
+        assert_eq!(rt; function.type_index, *type_index);
+        assert_eq!(rt;
+            function.origin,
+            FunctionOrigin::Object {
+                object: *object,
+                unit: *unit
+            }
+        );
+    }
+    Ok(())
+}
+
+#[test]
+fn a_call_leads_to_its_object(rt: HostRuntime) -> Result<(), Fail> {
+    let alloc = rt.alloc();
+    let mut files = Vec::new(alloc);
+    files.push(parse_wasm_module(alloc, TYPED)?)?;
+    files.push(parse_wasm_module(alloc, CALLS)?)?;
+    let plan = plan_objects(alloc, &files)?;
+    let bodies = plan.layout.function_bodies;
+    assert_eq!(rt; bodies.len(), 4);
+    assert_eq!(rt; bodies[1].bytes.as_slice(), b"\0\x0b".as_slice());
+    assert_eq!(rt; (bodies[1].object_index, bodies[2].object_index), (0, 1));
+    assert!(rt; matches!(bodies[2].bytes, CowSlice::Borrowed(_)));
+    let fixup = Fixup {
+        object: 1,
+        place: FixupPlace::Code,
+        unit: 0,
+        position: 2,
+        ty: RelocationType::FunctionIndexLeb,
+        to: FixupTo::Value {
+            value: 3,
+            addend_left: 0,
+        },
+    };
+    assert_eq!(rt; plan.fixups.as_slice(), [fixup].as_slice());
+    Ok(())
+}
