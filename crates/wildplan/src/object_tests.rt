@@ -150,7 +150,7 @@ fn each_malformed_change_has_its_line(rt: HostRuntime) -> Result<(), Fail> {
         (10, 2, "error: Malformed 0 Truncated\n"),
         // the functions' types
         (14, 1, "error: Malformed 0 SectionOrder\n"),
-        (15, 128, "error: Malformed 0 Trailing\n"),
+        (15, 128, "error: Malformed 0 Truncated\n"),
         (16, 1, "error: Malformed 0 Trailing\n"),
         (16, 3, "error: Malformed 0 Truncated\n"),
         (17, 1, "error: Malformed 0 BadIndex\n"),

@@ -46,17 +46,22 @@ fn equal_types_are_one(rt: HostRuntime) -> Result<(), Fail> {
         let ty = func_type(alloc, params, results)?;
         assert_eq!(rt; merger.add(&ty).ok(), Some(place));
     }
-    assert_eq!(rt; merger.into_types().len(), 3);
+    assert_eq!(rt; merger.into_types().as_slice().len(), 3);
     Ok(())
 }
 
 #[test]
 fn no_objects_have_a_plan(rt: HostRuntime) -> Result<(), Fail> {
     let plan = plan_objects(rt.alloc(), &[])?;
-    assert!(rt; plan.layout.functions.is_empty() && plan.layout.output_types.is_empty());
-    assert!(rt; plan.layout.function_bodies.is_empty() && plan.fixups.is_empty());
-    assert_eq!(rt; plan.layout.globals.len(), 1);
-    assert_eq!(rt; plan.layout.exports.len(), 1);
+    assert!(rt;
+        plan.layout.functions.as_slice().is_empty()
+            && plan.layout.output_types.as_slice().is_empty()
+    );
+    assert!(rt;
+        plan.layout.function_bodies.as_slice().is_empty() && plan.fixups.as_slice().is_empty()
+    );
+    assert_eq!(rt; plan.layout.globals.as_slice().len(), 1);
+    assert_eq!(rt; plan.layout.exports.as_slice().len(), 1);
     assert_eq!(rt; plan.layout.memory.initial, 2);
     Ok(())
 }
@@ -69,12 +74,18 @@ fn two_objects_share_the_spaces(rt: HostRuntime) -> Result<(), Fail> {
     files.push(parse_wasm_module(alloc, CALLS)?)?;
     let plan = plan_objects(alloc, &files)?;
     // The type that no function has is left out, and the last is used by both.
-    let types = plan.layout.output_types;
+    let types = plan.layout.output_types.as_slice();
     assert_eq!(rt; types.len(), 2);
     assert_eq!(rt; types[0].params(), [ValType::I32].as_slice());
     assert!(rt; types[1].params().is_empty());
     let wanted = [(0, 0, 0), (1, 0, 1), (1, 1, 0), (1, 1, 1)];
-    for (function, (type_index, object, unit)) in plan.layout.functions.iter().zip(&wanted) {
+    for (function, (type_index, object, unit)) in plan
+        .layout
+        .functions
+        .as_slice()
+        .iter()
+        .zip(&wanted)
+    {
         assert_eq!(rt; function.type_index, *type_index);
         assert_eq!(rt;
             function.origin,
@@ -94,7 +105,7 @@ fn a_call_leads_to_its_object(rt: HostRuntime) -> Result<(), Fail> {
     files.push(parse_wasm_module(alloc, TYPED)?)?;
     files.push(parse_wasm_module(alloc, CALLS)?)?;
     let plan = plan_objects(alloc, &files)?;
-    let bodies = plan.layout.function_bodies;
+    let bodies = plan.layout.function_bodies.as_slice();
     assert_eq!(rt; bodies.len(), 4);
     assert_eq!(rt; bodies[1].bytes.as_slice(), b"\0\x0b".as_slice());
     assert_eq!(rt; (bodies[1].object_index, bodies[2].object_index), (0, 1));
