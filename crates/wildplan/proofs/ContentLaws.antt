@@ -45,7 +45,7 @@ parses_more files objects i file bytes h here is = rw (add-one, take_more object
 pub bad_object : (files : List Object) (objects : List (List ℕ)) (i : ℕ) (bytes : List ℕ) (e : ReadError) → AreObjects files (take i objects) → slice_get objects i ≡ Some bytes → HasCause (λ e. ObjectFault e bytes) e → IsBadObject objects (link_error_of i e)
 bad_object files objects i bytes read.OutOfMemory h here f = tt
 bad_object files objects i bytes (read.Malformed why) h here f = record { before = files; grammar = h; bytes = bytes; here = here; fault = f }
-bad_object files objects i bytes (read.Unsupported form) h here f = inl (record { before = files; grammar = h; bytes = bytes; here = here; fault = f })
+bad_object files objects i bytes (read.Unsupported form) h here f = record { before = files; grammar = h; bytes = bytes; here = here; fault = f }
 
 pub all_taken : (files : List Object) (objects : List (List ℕ)) (i : ℕ) → AreObjects files (take i objects) → slice_get objects i ≡ None → AreObjects files objects
 all_taken files objects i h none = subst (λ (os : List (List ℕ)). AreObjects files os) (past objects i none) h
@@ -61,11 +61,3 @@ pub all_fit : (files : List Object) (objects : List (List ℕ)) → AreObjects f
 all_fit [] objects h = tt
 all_fit (f ∷ files) [] h = absurd h
 all_fit (f ∷ files) (b ∷ objects) h = (h.0.fitting, all_fit files objects h.1)
-
--- nothing stands at 0 or 1
-pub few_objects : (objects : List (List ℕ)) (i : ℕ) → i ≤ 1 → slice_get objects i ≡ None → length objects < 2
-few_objects [] i le none = omega arith
-few_objects (b ∷ []) i le none = omega arith
-few_objects (b ∷ c ∷ objects) zero le none = absurd cc
-few_objects (b ∷ c ∷ objects) (suc zero) le none = absurd cc
-few_objects (b ∷ c ∷ objects) (suc (suc i)) le none = absurd (omega arith)

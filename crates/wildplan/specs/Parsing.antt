@@ -1,12 +1,11 @@
 -- What the steps of a plan refuse.
-use Rattle.std.specs.Prelude.{◌⊎◌, ◌≡◌, ◌<◌, ℕ, List, take, length, true, ⊤}
+use Rattle.std.specs.Prelude.{◌≡◌, ℕ, List, ⊤}
 use Rattle.wl_module.specs.declared.error.ReadError.{ReadError}
 use Rattle.wl_module.specs.declared.error.ReadError.TheVariants as read
 use Rattle.wl_module.specs.declared.error.Form.TheVariants.{NotYet}
-use Rattle.wl_linking.specs.Object.{Object}
 use Rattle.wl_plan.specs.declared.error.LinkError.{LinkError}
-use Rattle.wl_plan.specs.declared.error.LinkError.TheVariants.{OutOfMemory, Malformed, Unsupported, TooLarge}
-use Rattle.wildplan.specs.Plan.{AreObjects, IsRefusedAt}
+use Rattle.wl_plan.specs.declared.error.LinkError.TheVariants.{OutOfMemory, Malformed, Unsupported, DuplicateSymbol, TooLarge}
+use Rattle.wildplan.specs.Plan.{IsRefusedAt, HasNoPlanYet}
 use Rattle.wildplan.specs.declared.words.WasmArgs.{WasmArgs}
 
 -- what is wrong with an object, as a refusal of the plan
@@ -15,17 +14,14 @@ link_error_of object read.OutOfMemory = OutOfMemory
 link_error_of object (read.Malformed why) = Malformed object why
 link_error_of object (read.Unsupported form) = Unsupported object form
 
--- an object isn't in the grammar, or there is a second one, which has no plan yet
+-- an object isn't in the grammar
 abbrev pub IsBadObject : List (List ℕ) → LinkError → Type 0
 IsBadObject objects OutOfMemory = ⊤
 IsBadObject objects (Malformed object why) = IsRefusedAt objects object (read.Malformed why)
 IsBadObject objects (Unsupported object form) = IsRefusedAt objects object (read.Unsupported form)
-    ⊎ ((form ≡ NotYet) × (object ≡ 1) × (before : List Object) × AreObjects before (take 1 objects) × (1 < length objects))
+IsBadObject objects (DuplicateSymbol name first_object first_symbol second_object second_symbol) = ⊥
 IsBadObject objects (TooLarge what) = ⊥
 
 -- units are to be dropped, or an entry is asked for
 abbrev pub IsBadMode : WasmArgs → LinkError → Type 0
-IsBadMode args OutOfMemory = ⊥
-IsBadMode args (Malformed object why) = ⊥
-IsBadMode args (Unsupported object form) = (form ≡ NotYet) × (object ≡ 0) × ((args.gc_sections ≡ true) ⊎ (args.entry ≡ true))
-IsBadMode args (TooLarge what) = ⊥
+IsBadMode args error = (error ≡ Unsupported 0 NotYet) × HasNoPlanYet args

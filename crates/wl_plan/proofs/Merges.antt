@@ -13,7 +13,7 @@ use Rattle.wl_plan.specs.Types.{same_type, add_new, firsts_onto, used_from, live
 use Rattle.wl_plan.specs.Merging.{IsFull, LeadsToTypes}
 use Rattle.wl_plan.specs.Plan.{max_entries}
 use Rattle.wl_plan.specs.declared.error.LinkError.{LinkError}
-use Rattle.wl_plan.specs.declared.error.LinkError.TheVariants.{OutOfMemory, Malformed, Unsupported, TooLarge}
+use Rattle.wl_plan.specs.declared.error.LinkError.TheVariants.{OutOfMemory, Malformed, Unsupported, DuplicateSymbol, TooLarge}
 
 -- ---- which types a function has
 
@@ -138,6 +138,7 @@ pub full_later : (before : List FunctionType) (o : Object) (i : ℕ) (merger : L
 full_later before o i merger indices ty used OutOfMemory lt ty-is is h f = tt
 full_later before o i merger indices ty used (Malformed object why) lt ty-is is h f = f.1
 full_later before o i merger indices ty used (Unsupported object form) lt ty-is is h f = f.1
+full_later before o i merger indices ty used (DuplicateSymbol name first_object first_symbol second_object second_symbol) lt ty-is is h f = f.1
 full_later before o i merger indices ty used (TooLarge what) lt ty-is is h f =
     let now = merged used merger ty in
     let later = grows_all now (used_from (i + 1) (drop (i + 1) o.types) o.functions) in

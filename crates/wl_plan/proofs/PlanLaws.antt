@@ -19,7 +19,7 @@ use Rattle.wl_plan.specs.Plan.{type_in, type_of, HasItsType, bodies_of, target_o
 use Rattle.wl_plan.specs.Merging.{LeadsToTypes}
 use Rattle.wl_plan.specs.Building.{outputs_from, body_in, index_of, fixup_of, fixups_from, IsEmpty, AddsObject, LacksRoom, AreSpaces}
 use Rattle.wl_plan.specs.declared.error.LinkError.{LinkError}
-use Rattle.wl_plan.specs.declared.error.LinkError.TheVariants.{OutOfMemory, Malformed, Unsupported, TooLarge}
+use Rattle.wl_plan.specs.declared.error.LinkError.TheVariants.{OutOfMemory, Malformed, Unsupported, DuplicateSymbol, TooLarge}
 use Rattle.wl_plan.specs.declared.layout.FunctionOrigin.{FunctionOrigin}
 use Rattle.wl_plan.specs.declared.layout.FunctionOrigin.TheVariants as origin
 use Rattle.wl_plan.specs.declared.layout.OutputFunction.{OutputFunction}
@@ -195,6 +195,7 @@ pub plan_fault : (objects : List Object) (i : ℕ) (o : Object) (spaces : Spaces
 plan_fault objects i o spaces OutOfMemory lt is h f = tt
 plan_fault objects i o spaces (Malformed object why) lt is h f = f
 plan_fault objects i o spaces (Unsupported object form) lt is h f = f
+plan_fault objects i o spaces (DuplicateSymbol name first_object first_symbol second_object second_symbol) lt is h f = f
 plan_fault objects i o spaces (TooLarge what) lt is h (what-is, inl types) =
     (what-is, inl (omega (arith, types, ap length (types_step objects i o spaces lt is h), grows_all (firsts_onto spaces.merger (live_types o)) (flat_map live_types (drop (i + 1) objects)))))
 plan_fault objects i o spaces (TooLarge what) lt is h (what-is, inr functions) =

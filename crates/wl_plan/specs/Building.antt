@@ -13,7 +13,7 @@ use Rattle.wl_plan.specs.Types.{output_types}
 use Rattle.wl_plan.specs.Space.{function_space}
 use Rattle.wl_plan.specs.Plan.{max_entries, HasItsType, bodies_of, AreFixups}
 use Rattle.wl_plan.specs.declared.error.LinkError.{LinkError}
-use Rattle.wl_plan.specs.declared.error.LinkError.TheVariants.{OutOfMemory, Malformed, Unsupported, TooLarge}
+use Rattle.wl_plan.specs.declared.error.LinkError.TheVariants.{OutOfMemory, Malformed, Unsupported, DuplicateSymbol, TooLarge}
 use Rattle.wl_plan.specs.declared.error.Quantity.TheVariants.{Space}
 use Rattle.wl_plan.specs.declared.plan.Spaces.{Spaces}
 use Rattle.wl_plan.specs.declared.layout.FunctionOrigin.TheVariants as origin
@@ -80,6 +80,7 @@ LacksRoom spaces o OutOfMemory = ⊤
 LacksRoom spaces o (TooLarge what) = (what ≡ Space) × ((max_entries < length (firsts_onto spaces.merger (live_types o))) ⊎ (max_entries < length spaces.functions.items + length o.functions))
 LacksRoom spaces o (Malformed object why) = ⊥
 LacksRoom spaces o (Unsupported object form) = ⊥
+LacksRoom spaces o (DuplicateSymbol name first_object first_symbol second_object second_symbol) = ⊥
 
 -- the spaces of all objects
 pub record AreSpaces (objects : List Object) (spaces : Spaces) : Type 0 where

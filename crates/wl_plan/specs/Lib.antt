@@ -3,3 +3,4 @@ pub mod Space
 pub mod Plan
 pub mod Merging
 pub mod Building
+pub mod Names

@@ -6,7 +6,7 @@ use Rattle.wl_linking.specs.Object.{Object}
 use Rattle.wl_plan.specs.Types.{same_type}
 use Rattle.wl_plan.specs.Plan.{max_entries}
 use Rattle.wl_plan.specs.declared.error.LinkError.{LinkError}
-use Rattle.wl_plan.specs.declared.error.LinkError.TheVariants.{OutOfMemory, Malformed, Unsupported, TooLarge}
+use Rattle.wl_plan.specs.declared.error.LinkError.TheVariants.{OutOfMemory, Malformed, Unsupported, DuplicateSymbol, TooLarge}
 use Rattle.wl_plan.specs.declared.error.Quantity.TheVariants.{Space}
 
 -- the place of a type in the list, if it is there
@@ -20,6 +20,7 @@ IsFull types OutOfMemory = ⊤
 IsFull types (TooLarge what) = (what ≡ Space) × (max_entries < length types)
 IsFull types (Malformed object why) = ⊥
 IsFull types (Unsupported object form) = ⊥
+IsFull types (DuplicateSymbol name first_object first_symbol second_object second_symbol) = ⊥
 
 -- each local type that a function has is led to itself
 pub record LeadsToTypes (types : List FunctionType) (o : Object) (indices : List ℕ) : Type 0 where

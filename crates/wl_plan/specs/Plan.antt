@@ -10,7 +10,7 @@ use Rattle.wl_linking.specs.Object.{Object}
 use Rattle.wl_linking.specs.declared.relocations.WasmRelocation.{WasmRelocation}
 use Rattle.wl_linking.specs.declared.sites.Site.{Site}
 use Rattle.wl_plan.specs.declared.error.LinkError.{LinkError}
-use Rattle.wl_plan.specs.declared.error.LinkError.TheVariants.{OutOfMemory, Malformed, Unsupported, TooLarge}
+use Rattle.wl_plan.specs.declared.error.LinkError.TheVariants.{OutOfMemory, Malformed, Unsupported, DuplicateSymbol, TooLarge}
 use Rattle.wl_plan.specs.declared.error.Quantity.TheVariants.{Space}
 use Rattle.wl_plan.specs.declared.layout.FunctionOrigin.{FunctionOrigin}
 use Rattle.wl_plan.specs.declared.layout.FunctionOrigin.TheVariants as origin
@@ -119,3 +119,4 @@ PlanFault objects OutOfMemory = ⊤
 PlanFault objects (TooLarge what) = (what ≡ Space) × HasTooMany objects
 PlanFault objects (Malformed object why) = ⊥
 PlanFault objects (Unsupported object form) = ⊥
+PlanFault objects (DuplicateSymbol name first_object first_symbol second_object second_symbol) = ⊥

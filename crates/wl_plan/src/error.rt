@@ -12,8 +12,8 @@ pub enum Quantity {
     Space,
 }
 
-/// Why there is no plan. Objects are numbered as given, from 0.
-#[derive(Clone, Copy, Debug, PartialEq, Eq)]
+/// Why there is no plan. Objects are numbered as given, from 0, and symbols as in their object.
+#[derive(Debug, PartialEq, Eq, Drop)]
 pub enum LinkError {
     /// Memory ran out.
     OutOfMemory,
@@ -21,6 +21,15 @@ pub enum LinkError {
     Malformed { object: usize, why: Why },
     /// The object has a form that isn't planned.
     Unsupported { object: usize, form: Form },
+    /// Two symbols that other objects can name have one name; the second is the earliest of all
+    /// symbols that repeats a name.
+    DuplicateSymbol {
+        name: String,
+        first_object: usize,
+        first_symbol: usize,
+        second_object: usize,
+        second_symbol: usize,
+    },
     /// Something is larger than it may be.
     TooLarge { what: Quantity },
 }

@@ -4,6 +4,7 @@
 mod error;
 mod layout;
 mod merge;
+mod names;
 mod plan;
 mod spaces;
 mod types;
@@ -13,6 +14,7 @@ pub use layout::{
     ExternalKind, Fixup, FixupPlace, FixupTo, FunctionOrigin, LinkPlan, MadeGlobal, MemoryType,
     OutputExport, OutputFunction, PlannedGlobal, WasmLayout,
 };
+pub use names::check_names;
 pub use plan::plan_objects;
 pub use types::TypeMerger;
 
