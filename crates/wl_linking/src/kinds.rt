@@ -3,7 +3,7 @@
 
 ghost use Rattle.std.specs.Prelude.{◌≡◌};
 ghost use Rattle.wl_module.specs.Outcome.{Gives};
-ghost use Rattle.wl_linking.specs.Targets.{stretch, custom_kind, standard_kind, named_kind, kind_of, target_verdict, numbered_verdict};
+ghost use Rattle.wl_linking.specs.Targets.{stretch, custom_kind, standard_kind, kind_of, target_verdict, numbered_verdict};
 
 use crate::relocations::Target;
 use wl_module::{Form, ReadError, SectionHeader, Why};

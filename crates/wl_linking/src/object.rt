@@ -1,6 +1,6 @@
 //! A relocatable object: its sections, and what must hold across them.
 
-ghost use Rattle.std.specs.Prelude.{◌≡◌, ◌≤◌, ◌^◌, ℕ, List, length, true, MatchResult};
+ghost use Rattle.std.specs.Prelude.{◌≡◌, ◌≤◌, ◌^◌, ℕ, List, length, MatchResult};
 ghost use Rattle.wl_module.specs.Sections.{Framed, FrameFault};
 ghost use Rattle.wl_module.specs.declared.sections.SectionHeader.{SectionHeader};
 ghost use Rattle.wl_module.specs.declared.error.ReadError.{ReadError};

@@ -10,7 +10,7 @@ use std::alloc::Global;
 use wl_bytes::Reader;
 use wl_module::{Form, ReadError, Why};
 
-/// What a relocation puts into its field.
+/// What a relocation puts into its field (object file linking, version 2, "Relocation Sections").
 #[derive(Clone, Copy, Debug, PartialEq, Eq)]
 pub enum RelocationType {
     /// The number of a function, in five bytes of LEB128.
@@ -45,6 +45,11 @@ pub(crate) enum RelocSection {
     Debug,
 }
 
+/// The types of relocations that are told apart from their neighbours.
+const FUNCTION_INDEX_LEB: u8 = 0;
+
+const TABLE_INDEX_REL_SLEB: u8 = 12;
+
 /// The greatest number of a type of relocation.
 const LAST_TYPE: u8 = 26;
 
@@ -53,11 +58,11 @@ fn lacks_rule(target: Target, ty: u8) -> bool
     ensures { result ≡ has_no_rule target ty }
 {
     match ty {
-        // Offsets of functions and sections, tags; 64-bit addresses and slots of tables; and again
-        // 64-bit forms, with addresses relative to their own field.
+        // 8 to 10 are offsets of functions and sections, and tags. 23 is relative to its own field,
+        // and the others are forms of 64 bits.
         8..=10 | 14..=19 | 22..=25 => true,
-        // The slot of a table relative to its base is an operand of code.
-        12 => target == Target::Data,
+        // Only code adds the base of its table to such a slot.
+        TABLE_INDEX_REL_SLEB => target == Target::Data,
         _ => false,
     }
 }
@@ -66,7 +71,7 @@ fn lacks_rule(target: Target, ty: u8) -> bool
 fn read_type(target: Target, ty: u8) -> Result<RelocationType, ReadError>
     ensures { Gives (λ t. t) result (type_verdict target ty) }
 {
-    if ty == 0 {
+    if ty == FUNCTION_INDEX_LEB {
         Ok(RelocationType::FunctionIndexLeb)
     } else if ty > LAST_TYPE {
         Err(ReadError::Malformed(Why::RelocType))

@@ -4,7 +4,7 @@ ghost use Rattle.std.specs.Prelude.{◌≡◌, ◌≤◌, ◌^◌, length, Match
 ghost use Rattle.std.specs.List.{list_all};
 ghost use Rattle.wl_module.specs.Outcome.{Gives, IsFault, ReadsWhole};
 ghost use Rattle.wl_linking.specs.Relocations.{IsRelocSection, RelocSectionFault, reloc_section_of};
-ghost use Rattle.wl_linking.specs.Sections.{is_plain, ArePlainBodies, PlainBodiesFault, HoldsItems, ItemsFault, payload_of, IsSound, IsFaulty, LinkingItems, LinkingItemsFault, seen_then};
+ghost use Rattle.wl_linking.specs.Sections.{is_plain, ArePlainBodies, PlainBodiesFault, HoldsItems, ItemsFault, IsSound, IsFaulty, LinkingItems, LinkingItemsFault, seen_then};
 ghost use Rattle.wl_linking.specs.Verdict.{HasCause};
 ghost use Rattle.wl_linking.specs.Targets.{numbered_verdict};
 

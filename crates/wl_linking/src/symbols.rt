@@ -1,7 +1,6 @@
 //! The symbol table of a linking section (object file linking, version 2, "Symbol Table
 //! Subsection").
 
-ghost use Rattle.std.specs.Prelude.{◌≡◌};
 ghost use Rattle.wl_bytes.specs.Grammar.{times_at};
 ghost use Rattle.wl_module.specs.Outcome.{Yields, Gives};
 ghost use Rattle.wl_linking.specs.Symbols.{kind_verdict, flags_verdict};
