@@ -195,7 +195,8 @@ fn object(alloc: Global, bytes: &[u8]) -> Result<File<'_>, ReadError>
 ///
 /// # Errors
 /// `Malformed` and `Unsupported` say what is wrong with the bytes: their frame is judged first,
-/// then the sections in file order, then what must hold across them.
+/// then the sections in file order, up to the first that isn't sound, then what must hold across
+/// them. Where more than one of these last rules is broken, which one is told is left open.
 pub fn parse_wasm_module(alloc: Global, bytes: &[u8]) -> Result<File<'_>, ReadError>
     requires { length bytes.now ≤ 2 ^ 30 }
     ensures { ParsesObject bytes.now result }
