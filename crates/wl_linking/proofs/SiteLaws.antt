@@ -152,9 +152,6 @@ pub record PlacesOn (bodies : List Body) (rs : List WasmRelocation) (i unit : �
   pub sited : AreSites bodies (take i rs) sites
   pub later : (j : ℕ) (d : WasmRelocation) → i ≤ j → j < length rs → site_of unit (drop unit bodies) (get_or rs j d).offset ≡ site_of 0 bodies (get_or rs j d).offset
 
-pub places_at_start : (bodies : List Body) (rs : List WasmRelocation) → PlacesOn bodies rs 0 0 []
-places_at_start bodies rs = record { sited = tt; later = λ j d le lt. refl }
-
 -- a site that is found is one
 site_is : (bodies : List Body) (r : WasmRelocation) (s : Site) → site_of 0 bodies r.offset ≡ Some s → IsSite bodies r s
 site_is bodies r s e =

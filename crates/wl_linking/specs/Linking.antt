@@ -22,7 +22,7 @@ use Rattle.wl_linking.specs.declared.linking.Subsection.TheVariants.{SymbolTable
 
 -- ---- a subsection
 
--- the kind of a subsection, where a symbol table came before or not: segments and start functions aren't planned yet
+-- the kind of a subsection, where a symbol table came before or not: segments, 5, and start functions, 6, aren't planned yet
 abbrev pub subsection_verdict : Bool → ℕ → Result (Unit {0}) ReadError
 subsection_verdict seen kind =
     if (kind == 5) || (kind == 6) then Err (Unsupported NotYet)
@@ -38,6 +38,7 @@ IsHeld kind Skipped payload = (kind == 8) ≡ false
 abbrev pub HeldFault : ℕ → ReadError → List ℕ → Type 0
 HeldFault kind e payload = ((kind == 8) ≡ true) × SymbolsFault e payload
 
+-- what a payload holds, read by the kind of its subsection
 abbrev pub held_of : ℕ → List ℕ → Result Subsection ReadError
 held_of kind payload = if kind == 8 then (symbols_of payload >>= λ symbols. Ok (SymbolTable symbols)) else Ok Skipped
 
@@ -45,6 +46,7 @@ held_of kind payload = if kind == 8 then (symbols_of payload >>= λ symbols. Ok 
 abbrev pub SubsectionParts : Type 0
 SubsectionParts = ℕ × (Unit {0} × (ℕ × (List ℕ × Subsection)))
 
+-- these parts stand one behind the other
 abbrev pub AreSubsectionParts : Bool → ℕ → SubsectionParts → List ℕ → Type 0
 AreSubsectionParts seen = Then IsByte (λ kind. Then (Judged (subsection_verdict seen kind)) (λ _. Then IsU32 (λ size. Then (IsStretch size) (λ payload. Inside (IsHeld kind) payload))))
 
@@ -57,9 +59,11 @@ abbrev pub SubsectionFault : Bool → ReadError → Cursor → Type 0
 SubsectionFault seen = ThenFault IsByte ByteFault (λ kind. ThenFault (Judged (subsection_verdict seen kind)) (JudgedFault (subsection_verdict seen kind))
     (λ _. ThenFault IsU32 NumberFault (λ size. ThenFault (IsStretch size) (StretchFault size) (λ payload. InsideFault (HeldFault kind) payload))))
 
+-- the parts of a subsection, read from a place
 abbrev pub subsection_parts_at : Bool → Cursor → Result (SubsectionParts × Cursor) ReadError
 subsection_parts_at seen c = then_at one_byte_at (λ kind. then_at (judged_at (subsection_verdict seen kind)) (λ _. then_at number_at (λ size. then_at (stretch_at size) (λ payload. judged_at (held_of kind payload))))) c
 
+-- a subsection, read from a place
 unfoldable pub subsection_at : Bool → Cursor → Result (Subsection × Cursor) ReadError
 subsection_at seen c = map_at (λ p. p.1.1.1.1) (subsection_parts_at seen) c
 
@@ -69,12 +73,15 @@ subsection_at seen c = map_at (λ p. p.1.1.1.1) (subsection_parts_at seen) c
 abbrev pub version_verdict : ℕ → Result (Unit {0}) ReadError
 version_verdict version = if version == 2 then Ok tt else Err (Unsupported LinkingVersion)
 
+-- a version, and it is read
 abbrev pub IsVersion : ℕ → ℕ × Unit {0} → List ℕ → Type 0
 IsVersion = Then IsU32 (λ version. Judged (version_verdict version))
 
+-- no version stands there, or not the one that is read
 abbrev pub VersionFault : ReadError → Cursor → Type 0
 VersionFault = ThenFault IsU32 NumberFault (λ version. JudgedFault (version_verdict version))
 
+-- a version, read from a place
 unfoldable pub version_at : Cursor → Result ((ℕ × Unit {0}) × Cursor) ReadError
 version_at c = then_at number_at (λ version. judged_at (version_verdict version)) c
 

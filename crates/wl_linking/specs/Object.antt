@@ -1,4 +1,5 @@
--- The relocatable object that some bytes are: what its sections hold, and what must hold across them.
+-- The relocatable object that some bytes are: what its sections hold, and what must hold across them
+-- (core specification, "Modules"; object file linking, version 2).
 use Rattle.std.specs.Prelude.{◌≡◌, ◌≢◌, ◌⊎◌, ℕ, ◌+◌, ◌<◌, ◌≤◌, Bool, true, false, List, [], ◌∷◌, length, take, drop, ◌&&◌, nat_lt, nat_le, Some, ⊤, slice_get, slice_index_or, Result, Ok, Err, IfOk, IfErr}
 use Rattle.std.specs.List.{flat_map, list_all}
 use Rattle.std.specs.List.Sorted.{IsNonDecreasingBy, IsStableByKey}
@@ -24,7 +25,7 @@ use Rattle.wl_linking.specs.declared.section.Section.{Section}
 abbrev pub field_len : ℕ
 field_len = 5
 
--- a padded LEB number: five bytes, the high bit on all but the last
+-- a padded LEB number (object file linking, version 2, "Relocation Sections"): five bytes, the high bit on all but the last
 abbrev pub is_padded : List ℕ → Bool
 is_padded (a ∷ b ∷ c ∷ d ∷ e ∷ []) = nat_le 128 a && nat_le 128 b && nat_le 128 c && nat_le 128 d && nat_lt e 128
 is_padded _ = false
@@ -80,13 +81,15 @@ pub record Object : Type 0 where
   pub relocations : List WasmRelocation
   pub sites : List Site
 
--- each function has one of the types, each symbol names one of the functions, each relocation one of the symbols
+-- each function has one of the types
 abbrev pub types_exist : ℕ → List ℕ → Bool
 types_exist count functions = list_all (λ t. nat_lt t count) functions
 
+-- each symbol names one of the functions
 abbrev pub functions_exist : ℕ → List Symbol → Bool
 functions_exist count symbols = list_all (λ (s : Symbol). nat_lt s.index count) symbols
 
+-- each relocation names one of the symbols
 abbrev pub symbols_exist : ℕ → List WasmRelocation → Bool
 symbols_exist count relocations = list_all (λ (r : WasmRelocation). nat_lt r.index count) relocations
 

@@ -21,6 +21,7 @@ Ascend place (body ∷ bodies) = (place ≤ body.code_offset) × Ascend (body_en
 abbrev pub position_of : Body → ℕ → Option ℕ
 position_of body offset = if nat_le body.code_offset offset && is_padded (take field_len (drop (offset - body.code_offset) body.bytes)) then Some (offset - body.code_offset) else None
 
+-- the site at that place of a body, if any
 abbrev pub site_in : ℕ → Option ℕ → Option Site
 site_in unit None = None
 site_in unit (Some position) = Some (record { unit = unit; position = position })

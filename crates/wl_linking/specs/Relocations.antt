@@ -21,16 +21,17 @@ use Rattle.wl_linking.specs.declared.relocations.RelocSection.TheVariants.{Code,
 
 -- ---- an entry
 
+-- the fields lie in the data section
 abbrev pub is_data : Target → Bool
 is_data target.Data = true
 is_data target.Code = false
 is_data target.Debug = false
 
--- types that have no rule: 64-bit memories, tags, sections and code offsets, and a table's relative slot in data
+-- types that have no rule: offsets of functions and sections, tags, 64-bit forms, addresses relative to their field, and in data a relative slot of a table
 abbrev pub has_no_rule : Target → ℕ → Bool
 has_no_rule at ty = (nat_le 8 ty && nat_le ty 10) || (nat_le 14 ty && nat_le ty 19) || (nat_le 22 ty && nat_le ty 25) || ((ty == 12) && is_data at)
 
--- the type of a relocation in that target: only one is planned yet
+-- the type of a relocation in that target: 26 is the last, and 0 the only one that is planned yet
 abbrev pub type_verdict : Target → ℕ → Result RelocationType ReadError
 type_verdict at ty =
     if ty == 0 then Ok FunctionIndexLeb
@@ -42,9 +43,11 @@ type_verdict at ty =
 abbrev pub EntryParts : Type 0
 EntryParts = ℕ × (RelocationType × (ℕ × ℕ))
 
+-- the relocation of these parts
 abbrev pub relocation_of : EntryParts → WasmRelocation
 relocation_of p = record { ty = p.1.0; offset = p.1.1.0; index = p.1.1.1 }
 
+-- these parts stand one behind the other
 abbrev pub AreEntryParts : Target → ℕ → EntryParts → List ℕ → Type 0
 AreEntryParts at = Then IsByte (λ ty. Then (Judged (type_verdict at ty)) (λ _. Then IsU32 (λ _. IsU32)))
 
@@ -56,9 +59,11 @@ IsEntry at place r text = (p : EntryParts) × AreEntryParts at place p text × (
 abbrev pub EntryFault : Target → ReadError → Cursor → Type 0
 EntryFault at = ThenFault IsByte ByteFault (λ ty. ThenFault (Judged (type_verdict at ty)) (JudgedFault (type_verdict at ty)) (λ _. ThenFault IsU32 NumberFault (λ _. NumberFault)))
 
+-- the parts of an entry, read from a place
 abbrev pub entry_parts_at : Target → Cursor → Result (EntryParts × Cursor) ReadError
 entry_parts_at at c = then_at one_byte_at (λ ty. then_at (judged_at (type_verdict at ty)) (λ _. then_at number_at (λ _. number_at))) c
 
+-- an entry, read from a place
 unfoldable pub entry_at : Target → Cursor → Result (WasmRelocation × Cursor) ReadError
 entry_at at c = map_at relocation_of (entry_parts_at at) c
 
@@ -73,6 +78,7 @@ abbrev pub EntriesFault : Target → ReadError → Cursor → Type 0
 EntriesFault at e from = ListedFault (IsEntry at) (EntryFault at) e from
     ⊎ ((entries : List WasmRelocation) × (to : Cursor) × Takes (Listed (IsEntry at)) entries from to × (to.rest ≢ []) × (e ≡ Malformed Trailing))
 
+-- the entries to the end, read from a place
 abbrev pub entries_of : Target → Cursor → Result (List WasmRelocation) ReadError
 entries_of at c = list_at (entry_at at) c >>= λ p. if length p.1.rest == 0 then Ok p.0 else Err (Malformed Trailing)
 
@@ -85,17 +91,19 @@ Holds target.Data (Data entries) from = AreEntries target.Data entries from
 Holds target.Debug Debug from = ⊤
 Holds _ _ from = ⊥
 
+-- what stands behind the number is at fault
 abbrev pub HoldsFault : Target → ReadError → Cursor → Type 0
 HoldsFault target.Code e from = EntriesFault target.Code e from
 HoldsFault target.Data e from = EntriesFault target.Data e from
 HoldsFault target.Debug e from = ⊥
 
+-- what stands behind the number, read from a place
 abbrev pub held_at : Target → Cursor → Result RelocSection ReadError
 held_at target.Code c = entries_of target.Code c >>= λ entries. Ok (Code entries)
 held_at target.Data c = entries_of target.Data c >>= λ entries. Ok (Data entries)
 held_at target.Debug c = Ok Debug
 
--- A relocation section, where this is the verdict on each section that it may be for.
+-- a relocation section, where this is the verdict on each section that it may be for
 abbrev pub IsRelocSection : (ℕ → Result Target ReadError) → RelocSection → List ℕ → Type 0
 IsRelocSection verdict section payload = (number : ℕ) × (behind : Cursor) × Takes IsU32 number (start payload) behind × (at : Target) × (verdict number ≡ Ok at) × Holds at section behind
 
@@ -105,5 +113,6 @@ RelocSectionFault verdict e payload = NumberFault e (start payload)
     ⊎ ((number : ℕ) × (behind : Cursor) × Takes IsU32 number (start payload) behind
     × ((verdict number ≡ Err e) ⊎ ((at : Target) × (verdict number ≡ Ok at) × HoldsFault at e behind)))
 
+-- a relocation section, read from its payload
 abbrev pub reloc_section_of : (ℕ → Result Target ReadError) → List ℕ → Result RelocSection ReadError
 reloc_section_of verdict payload = number_at (start payload) >>= λ p. verdict p.0 >>= λ at. held_at at p.1

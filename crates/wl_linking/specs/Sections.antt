@@ -1,4 +1,4 @@
--- What each section holds: a section is sound with its items, or foreign, or bad.
+-- What each section holds (core specification, "Sections"; object file linking, version 2): it is sound with its items, or foreign, or bad.
 use Rattle.std.specs.Prelude.{◌≡◌, ◌⊎◌, ℕ, Bool, true, false, List, [], ◌∷◌, ⊤, not, ◌==◌}
 use Rattle.std.specs.List.{list_any, list_all}
 use Rattle.wl_module.specs.declared.sections.SectionHeader.{SectionHeader}
@@ -22,7 +22,7 @@ use Rattle.wl_linking.specs.declared.section.Section.TheVariants.{Types, Functio
 
 -- ---- code
 
--- a body without the first byte of the bulk memory operators, which have no plan yet
+-- a body without 0xfc, the first byte of the bulk memory operators (core specification, "Memory Instructions"), which have no plan yet
 abbrev pub is_plain : Body → Bool
 is_plain body = not (list_any (λ b. b == 0xfc) body.bytes)
 
@@ -84,10 +84,11 @@ ItemsFault kind.Later bytes headers seen e payload = e ≡ Unsupported form.NotY
 abbrev pub payload_of : List ℕ → SectionHeader → List ℕ
 payload_of bytes header = stretch bytes header.payload_range
 
--- a sound section, and one at fault
+-- a sound section
 abbrev pub IsSound : List ℕ → List SectionHeader → Seen → SectionHeader → Section → Type 0
 IsSound bytes headers seen header section = HoldsItems (kind_of bytes header) bytes headers seen section (payload_of bytes header)
 
+-- a section at fault
 abbrev pub IsFaulty : List ℕ → List SectionHeader → Seen → SectionHeader → ReadError → Type 0
 IsFaulty bytes headers seen header e = ItemsFault (kind_of bytes header) bytes headers seen e (payload_of bytes header)
 
@@ -104,6 +105,7 @@ seen_then seen (Functions functions) = seen
 seen_then seen (Code bodies) = seen
 seen_then seen Skipped = seen
 
+-- before the first section
 abbrev pub nothing_seen : Seen
 nothing_seen = record { linking = false; code_relocations = false; data_relocations = false }
 
@@ -122,18 +124,22 @@ AreFaulty bytes headers seen (header ∷ rest) e = IsFaulty bytes headers seen h
 
 -- ---- the items of all sections
 
+-- the types of a type section
 abbrev pub types_in : Section → List FunctionType
 types_in (Types types) = types
 types_in _ = []
 
+-- the types of the functions of a function section, by number
 abbrev pub functions_in : Section → List ℕ
 functions_in (Functions functions) = functions
 functions_in _ = []
 
+-- the bodies of a code section
 abbrev pub bodies_in : Section → List Body
 bodies_in (Code bodies) = bodies
 bodies_in _ = []
 
+-- the symbols of a linking section
 abbrev pub symbols_in : Section → List Symbol
 symbols_in (Linking symbols) = symbols
 symbols_in _ = []

@@ -22,7 +22,7 @@ pub record Symbol : Type 0 where
 abbrev pub has_flag : ℕ → ℕ → Bool
 has_flag flags bits = not (bit_and flags bits == 0)
 
--- the kind of a symbol: only functions are planned yet
+-- the kind of a symbol: 0 is a function, the only one that is planned yet, 4 a tag, and 5 the last
 abbrev pub kind_verdict : ℕ → Result (Unit {0}) ReadError
 kind_verdict kind =
     if kind == 0 then Ok tt
@@ -30,7 +30,7 @@ kind_verdict kind =
     else if nat_lt kind 6 then Err (Unsupported NotYet)
     else Err (Malformed BadByte)
 
--- the flags of a symbol: weak and undefined ones are not planned yet
+-- the flags of a symbol: 0x200 is absolute; weak ones, 1, and undefined ones, 0x10, aren't planned yet
 abbrev pub flags_verdict : ℕ → Result (Unit {0}) ReadError
 flags_verdict flags =
     if has_flag flags 0x200 then Err (Unsupported Absolute)

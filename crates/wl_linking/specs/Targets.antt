@@ -13,7 +13,7 @@ use Rattle.wl_linking.specs.declared.kinds.Seen.{Seen}
 use Rattle.wl_linking.specs.declared.relocations.Target.{Target}
 use Rattle.wl_linking.specs.declared.relocations.Target.TheVariants as target
 
--- the bytes from one place to another
+-- the bytes from one place to another, as far as there are any
 abbrev pub stretch : List ℕ → ℕ × ℕ → List ℕ
 stretch bytes range = take (range.1 - range.0) (drop range.0 bytes)
 
@@ -38,11 +38,12 @@ standard_kind id =
     else if id == 13 then kind.Tag
     else kind.Later
 
+-- what a section is, by its name if it has one
 abbrev pub named_kind : List ℕ → ℕ → Option (ℕ × ℕ) → SectionKind
 named_kind bytes id None = standard_kind id
 named_kind bytes id (Some range) = custom_kind (stretch bytes range)
 
--- what a section is: custom sections alone have a name
+-- what the section of a header is: custom sections alone have a name
 abbrev pub kind_of : List ℕ → SectionHeader → SectionKind
 kind_of bytes s = named_kind bytes s.id s.name_range
 

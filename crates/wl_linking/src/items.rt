@@ -5,7 +5,7 @@ ghost use Rattle.std.specs.Prelude.{◌≡◌, [], ◌++◌, OnOk};
 use std::alloc::{AllocError, Global};
 use std::marker::Model;
 
-/// A list of things, in order.
+/// A list of things, in order. Clauses see it as a list.
 #[derive(Drop)]
 pub struct Items<T: Drop> {
     list: Vec<T>,
@@ -43,7 +43,7 @@ impl<T: Drop> Items<T> {
         }
     }
 
-    /// Puts more things at the end.
+    /// Puts more things at the end. Where memory runs out, nothing is said of the list.
     pub fn append(&mut self, more: Items<T>) -> Result<(), AllocError>
         ensures { OnOk result (self.new ≡ self.old ++ more) }
     {

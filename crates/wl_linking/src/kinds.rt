@@ -1,15 +1,31 @@
-//! What each section of an object is.
+//! What each section of an object is (core specification, "Sections"; object file linking,
+//! version 2).
 
 ghost use Rattle.std.specs.Prelude.{◌≡◌};
 ghost use Rattle.wl_module.specs.Outcome.{Gives};
-ghost use Rattle.wl_linking.specs.Targets.{stretch, custom_kind, standard_kind, named_kind, kind_of, target_verdict, numbered_verdict};
+ghost use Rattle.wl_linking.specs.Targets.{stretch, custom_kind, standard_kind, kind_of, target_verdict, numbered_verdict};
 
 use crate::relocations::Target;
 use wl_module::{Form, ReadError, SectionHeader, Why};
 
+/// The ids of the standard sections that are read, or refused by a form of their own.
+const TYPE: u8 = 1;
+
+const FUNCTION: u8 = 3;
+
+const TABLE: u8 = 4;
+
+const START: u8 = 8;
+
+const CODE: u8 = 10;
+
+const DATA: u8 = 11;
+
+const TAG: u8 = 13;
+
 /// What a section is.
 #[derive(Clone, Copy, Debug, PartialEq, Eq)]
-pub enum SectionKind {
+pub(crate) enum SectionKind {
     Type,
     Function,
     Code,
@@ -28,14 +44,14 @@ pub enum SectionKind {
 
 /// Which sections came before that may come once.
 #[derive(Clone, Copy, Debug, Default, PartialEq, Eq)]
-pub struct Seen {
+pub(crate) struct Seen {
     pub linking: bool,
     pub code_relocations: bool,
     pub data_relocations: bool,
 }
 
 /// The bytes from one place to another, as far as there are any.
-pub fn stretch(bytes: &[u8], range: (u32, u32)) -> &[u8]
+pub(crate) fn stretch(bytes: &[u8], range: (u32, u32)) -> &[u8]
     ensures { result.now ≡ stretch bytes.now range }
 {
     let from = bytes.len().min(range.0 as usize);
@@ -44,6 +60,7 @@ pub fn stretch(bytes: &[u8], range: (u32, u32)) -> &[u8]
     rest.split_at(len).0
 }
 
+/// What a custom section of that name is.
 fn custom_kind(name: &[u8]) -> SectionKind
     ensures { result ≡ custom_kind name.now }
 {
@@ -60,23 +77,24 @@ fn custom_kind(name: &[u8]) -> SectionKind
     }
 }
 
+/// What a standard section of that id is.
 fn standard_kind(id: u8) -> SectionKind
     ensures { result ≡ standard_kind id }
 {
     match id {
-        1 => SectionKind::Type,
-        3 => SectionKind::Function,
-        4 => SectionKind::Table,
-        8 => SectionKind::Start,
-        10 => SectionKind::Code,
-        11 => SectionKind::Data,
-        13 => SectionKind::Tag,
+        TYPE => SectionKind::Type,
+        FUNCTION => SectionKind::Function,
+        TABLE => SectionKind::Table,
+        START => SectionKind::Start,
+        CODE => SectionKind::Code,
+        DATA => SectionKind::Data,
+        TAG => SectionKind::Tag,
         _ => SectionKind::Later,
     }
 }
 
 /// What the section of this header is, in the object of these bytes.
-pub fn kind_of(bytes: &[u8], header: &SectionHeader) -> SectionKind
+pub(crate) fn kind_of(bytes: &[u8], header: &SectionHeader) -> SectionKind
     ensures { result ≡ kind_of bytes.now header.now }
 {
     match header.name_range {
@@ -85,6 +103,7 @@ pub fn kind_of(bytes: &[u8], header: &SectionHeader) -> SectionKind
     }
 }
 
+/// What a section of that kind is for relocations, after the sections that were seen.
 fn check_target(seen: Seen, kind: SectionKind) -> Result<Target, ReadError>
     ensures { Gives (λ t. t) result (target_verdict seen kind) }
 {
@@ -106,7 +125,7 @@ fn check_target(seen: Seen, kind: SectionKind) -> Result<Target, ReadError>
     }
 }
 
-/// What the section of that number is for relocations.
+/// What the section of that number is for relocations. One that isn't there has no rule either.
 pub(crate) fn target_of(
     bytes: &[u8],
     headers: &[SectionHeader],

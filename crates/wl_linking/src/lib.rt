@@ -20,3 +20,6 @@ pub use object::{File, object_or_fault, parse_wasm_module};
 pub use relocations::{RelocationType, WasmRelocation};
 pub use sites::Site;
 pub use symbols::WasmSymbol;
+
+#[cfg(test)]
+mod tests;

@@ -1,9 +1,8 @@
-//! The linking section.
+//! The linking section (object file linking, version 2, "Linking Metadata Section").
 
-ghost use Rattle.std.specs.Prelude.{◌≡◌, is_some, Some, MatchResult, [], Option};
+ghost use Rattle.std.specs.Prelude.{◌≡◌, MatchResult};
 ghost use Rattle.wl_module.specs.Outcome.{Yields, Gives, ReadsWhole, IsFault};
-ghost use Rattle.wl_linking.specs.Linking.{subsection_verdict, held_of, subsection_at, version_at, version_verdict, seen_after, found_symbols, HaveSymbols, IsSubsectionsFault, IsLinking, LinkingFault, table_after};
-ghost use Rattle.wl_linking.specs.Verdict.{judged_at};
+ghost use Rattle.wl_linking.specs.Linking.{subsection_verdict, held_of, subsection_at, version_at, HaveSymbols, IsSubsectionsFault, IsLinking, LinkingFault, table_after};
 
 use crate::items::Items;
 use crate::symbols::{WasmSymbol, read_symbols};
@@ -28,6 +27,7 @@ const SYMBOL_TABLE: u8 = 8;
 /// The version of the linking section that is read.
 const VERSION: u32 = 2;
 
+/// Whether a subsection of that kind is taken, where a symbol table was seen or not.
 fn check_kind(seen: bool, kind: u8) -> Result<(), ReadError>
     ensures { Gives (λ u. u) result (subsection_verdict seen kind) }
 {
@@ -38,6 +38,7 @@ fn check_kind(seen: bool, kind: u8) -> Result<(), ReadError>
     }
 }
 
+/// What the payload of a subsection of that kind holds.
 fn read_held(alloc: Global, kind: u8, payload: &[u8]) -> Result<Subsection<'_>, ReadError>
     ensures { Gives (λ s. s) result (held_of kind payload.now) }
 {
@@ -49,6 +50,7 @@ fn read_held(alloc: Global, kind: u8, payload: &[u8]) -> Result<Subsection<'_>, 
     }
 }
 
+/// The subsection in front.
 #[tactic(auto, unfolding(crate::specs::Linking::subsection_at))]
 fn read_subsection<'a>(
     alloc: Global,
@@ -91,10 +93,11 @@ fn read_subsections<'a>(
     }
     match table {
         Some(symbols) => Ok(symbols),
-        None => Ok(Items::new(Vec::new(alloc))),
+        None => Ok(Items::empty(alloc)),
     }
 }
 
+/// The version in front is the one that is read.
 #[tactic(auto, unfolding(crate::specs::Linking::version_at))]
 fn read_version(reader: &mut Reader<'_>) -> Result<(), ReadError>
     ensures { Yields (λ _. (2, tt)) result reader.new (version_at reader.old) }
@@ -106,7 +109,8 @@ fn read_version(reader: &mut Reader<'_>) -> Result<(), ReadError>
     }
 }
 
-fn linking<'a>(alloc: Global, payload: &'a [u8]) -> Result<Items<WasmSymbol<'a>>, ReadError>
+/// The symbols of a whole payload.
+fn linking(alloc: Global, payload: &[u8]) -> Result<Items<WasmSymbol<'_>>, ReadError>
     ensures { MatchResult result (λ symbols. IsLinking symbols payload.now) (IsFault LinkingFault payload.now) }
 {
     let mut reader = Reader::new(payload);
@@ -114,7 +118,8 @@ fn linking<'a>(alloc: Global, payload: &'a [u8]) -> Result<Items<WasmSymbol<'a>>
     read_subsections(alloc, &mut reader)
 }
 
-/// The symbols of a linking section, in order.
+/// Reads the payload of a linking section (object file linking, version 2, "Linking Metadata
+/// Section"): the symbols of its table in order, and none where it has no table.
 ///
 /// # Errors
 /// `Malformed` and `Unsupported` name the first thing at fault in the payload.

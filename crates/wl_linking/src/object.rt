@@ -1,6 +1,6 @@
-//! A relocatable object.
+//! A relocatable object: its sections, and what must hold across them.
 
-ghost use Rattle.std.specs.Prelude.{◌≡◌, ◌≤◌, ◌^◌, ℕ, List, length, true, MatchResult};
+ghost use Rattle.std.specs.Prelude.{◌≡◌, ◌≤◌, ◌^◌, ℕ, List, length, MatchResult};
 ghost use Rattle.wl_module.specs.Sections.{Framed, FrameFault};
 ghost use Rattle.wl_module.specs.declared.sections.SectionHeader.{SectionHeader};
 ghost use Rattle.wl_module.specs.declared.error.ReadError.{ReadError};
@@ -19,8 +19,9 @@ use std::alloc::Global;
 use std::marker::Model;
 use wl_module::{FuncType, ReadError, SectionHeader, WasmFunctionBody, Why, split_sections};
 
-/// A relocatable object: what its sections hold, in file order. Names and bodies are slices of
-/// the bytes that it was read from.
+/// A relocatable object: what its sections hold, in file order (core specification, "Modules";
+/// object file linking, version 2). Names and bodies are slices of the bytes that it was read from.
+/// Clauses see it as an `Object`.
 #[derive(Drop)]
 pub struct File<'a> {
     sections: Items<SectionHeader>,
@@ -49,49 +50,52 @@ impl<'a> Model for File<'a> {
 }
 
 impl<'a> File<'a> {
-    /// Where each section stands.
+    /// Where each section stands in the bytes of the object, those that aren't read too.
     pub fn sections(&self) -> &[SectionHeader]
         ensures { result.now ≡ self.now.sections }
     {
         self.sections.as_slice()
     }
 
-    /// The types of the type section.
+    /// The types of the type section (core specification, "Type Section").
     pub fn types(&self) -> &[FuncType]
         ensures { result.now ≡ self.now.types }
     {
         self.types.as_slice()
     }
 
-    /// The type of each function that the object defines.
+    /// The type of each function that the object defines, as its number among the types (core
+    /// specification, "Function Section").
     pub fn module_functions(&self) -> &[u32]
         ensures { result.now ≡ self.now.functions }
     {
         self.functions.as_slice()
     }
 
-    /// The body of each function that the object defines.
+    /// The body of each function that the object defines (core specification, "Code Section").
     pub fn function_bodies(&self) -> &[WasmFunctionBody<'a>]
         ensures { result.now ≡ self.now.bodies }
     {
         self.bodies.as_slice()
     }
 
-    /// The symbols of the linking section.
+    /// The symbols of the linking section (object file linking, version 2, "Symbol Table
+    /// Subsection").
     pub fn symbols(&self) -> &[WasmSymbol<'a>]
         ensures { result.now ≡ self.now.symbols }
     {
         self.symbols.as_slice()
     }
 
-    /// The relocations of the code section, in order of their fields.
+    /// The relocations of the code section, in order of their fields, whatever their order in the
+    /// object (object file linking, version 2, "Relocation Sections").
     pub fn code_relocations(&self) -> &[WasmRelocation]
         ensures { result.now ≡ self.now.relocations }
     {
         self.relocations.as_slice()
     }
 
-    /// Where the field of each of these relocations lies.
+    /// Where the field of each relocation of the code section lies, in the same order as these.
     pub fn code_sites(&self) -> &[Site]
         ensures { result.now ≡ self.now.sites }
     {
@@ -191,7 +195,8 @@ fn object(alloc: Global, bytes: &[u8]) -> Result<File<'_>, ReadError>
 ///
 /// # Errors
 /// `Malformed` and `Unsupported` say what is wrong with the bytes: their frame is judged first,
-/// then the sections in file order, then what must hold across them.
+/// then the sections in file order, up to the first that isn't sound, then what must hold across
+/// them. Where more than one of these last rules is broken, which one is told is left open.
 pub fn parse_wasm_module(alloc: Global, bytes: &[u8]) -> Result<File<'_>, ReadError>
     requires { length bytes.now ≤ 2 ^ 30 }
     ensures { ParsesObject bytes.now result }

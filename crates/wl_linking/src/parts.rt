@@ -8,7 +8,7 @@ ghost use Rattle.wl_linking.specs.Verdict.{HasCause};
 use crate::items::Items;
 use crate::kinds::Seen;
 use crate::relocations::{RelocSection, WasmRelocation};
-use crate::section::{Section, read_section, see};
+use crate::section::{Section, read_section, seen_then};
 use crate::symbols::WasmSymbol;
 use std::alloc::{AllocError, Global};
 use wl_module::{FuncType, ReadError, SectionHeader, WasmFunctionBody};
@@ -24,6 +24,7 @@ pub(crate) struct Parts<'a> {
 }
 
 impl<'a> Parts<'a> {
+    /// The items of no section.
     fn empty(alloc: Global) -> Self
         ensures { result ≡ parts_of [] }
     {
@@ -46,9 +47,9 @@ impl<'a> Parts<'a> {
             Section::Code(bodies) => self.bodies.append(bodies),
             Section::Linking(symbols) => self.symbols.append(symbols),
             Section::Reloc(RelocSection::Code(entries)) => self.relocations.append(entries),
-            Section::Reloc(RelocSection::Data(_) | RelocSection::Debug) | Section::Skipped => Ok(
-                (),
-            ),
+            Section::Reloc(RelocSection::Data(_))
+            | Section::Reloc(RelocSection::Debug)
+            | Section::Skipped => Ok(()),
         }
     }
 }
@@ -66,7 +67,7 @@ pub(crate) fn read_parts<'a>(
     let mut seen = Seen::default();
     for header in headers {
         let section = read_section(alloc, bytes, headers, seen, header)?;
-        seen = see(seen, &section);
+        seen = seen_then(seen, &section);
         parts.add(section)?;
     }
     Ok(parts)

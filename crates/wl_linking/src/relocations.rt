@@ -1,29 +1,29 @@
-//! Relocation sections.
+//! Relocation sections (object file linking, version 2, "Relocation Sections").
 
 ghost use Rattle.std.specs.Prelude.{◌≡◌};
 ghost use Rattle.wl_bytes.specs.Grammar.{times_at};
-ghost use Rattle.wl_module.specs.Outcome.{Yields, Gives, ReadsWhole};
-ghost use Rattle.wl_linking.specs.Relocations.{is_data, has_no_rule, type_verdict, entry_at, entries_of, held_at};
-ghost use Rattle.wl_linking.specs.Verdict.{judged_at};
+ghost use Rattle.wl_module.specs.Outcome.{Yields, Gives};
+ghost use Rattle.wl_linking.specs.Relocations.{has_no_rule, type_verdict, entry_at, entries_of, held_at};
 
 use crate::items::Items;
 use std::alloc::Global;
 use wl_bytes::Reader;
 use wl_module::{Form, ReadError, Why};
 
-/// What a relocation puts into its field.
+/// What a relocation puts into its field (object file linking, version 2, "Relocation Sections").
 #[derive(Clone, Copy, Debug, PartialEq, Eq)]
 pub enum RelocationType {
     /// The number of a function, in five bytes of LEB128.
     FunctionIndexLeb,
 }
 
-/// A place in a section's payload that names a symbol.
+/// A place in a section's payload that names a symbol (object file linking, version 2,
+/// "Relocation Sections").
 #[derive(Clone, Copy, Debug, PartialEq, Eq)]
 pub struct WasmRelocation {
     /// What the field takes.
     pub ty: RelocationType,
-    /// The first byte of the field, from the start of the section's payload.
+    /// How many bytes of the section's payload lie before the field.
     pub offset: u32,
     /// The number of the symbol in its object.
     pub index: u32,
@@ -31,7 +31,7 @@ pub struct WasmRelocation {
 
 /// What the fields of a relocation section lie in.
 #[derive(Clone, Copy, Debug, PartialEq, Eq)]
-pub enum Target {
+pub(crate) enum Target {
     Code,
     Data,
     Debug,
@@ -39,30 +39,39 @@ pub enum Target {
 
 /// What a relocation section holds; those of debug sections are not read.
 #[derive(Drop)]
-pub enum RelocSection {
+pub(crate) enum RelocSection {
     Code(Items<WasmRelocation>),
     Data(Items<WasmRelocation>),
     Debug,
 }
 
-/// The greatest number of a type.
+/// The types of relocations that are told apart from their neighbours.
+const FUNCTION_INDEX_LEB: u8 = 0;
+
+const TABLE_INDEX_REL_SLEB: u8 = 12;
+
+/// The greatest number of a type of relocation.
 const LAST_TYPE: u8 = 26;
 
-/// The types that have no rule in that target.
+/// The type has no rule in that target.
 fn lacks_rule(target: Target, ty: u8) -> bool
     ensures { result ≡ has_no_rule target ty }
 {
     match ty {
+        // 8 to 10 are offsets of functions and sections, and tags. 23 is relative to its own field,
+        // and the others are forms of 64 bits.
         8..=10 | 14..=19 | 22..=25 => true,
-        12 => target == Target::Data,
+        // Only code adds the base of its table to such a slot.
+        TABLE_INDEX_REL_SLEB => target == Target::Data,
         _ => false,
     }
 }
 
+/// The type of that number, in that target.
 fn read_type(target: Target, ty: u8) -> Result<RelocationType, ReadError>
     ensures { Gives (λ t. t) result (type_verdict target ty) }
 {
-    if ty == 0 {
+    if ty == FUNCTION_INDEX_LEB {
         Ok(RelocationType::FunctionIndexLeb)
     } else if ty > LAST_TYPE {
         Err(ReadError::Malformed(Why::RelocType))
@@ -73,6 +82,7 @@ fn read_type(target: Target, ty: u8) -> Result<RelocationType, ReadError>
     }
 }
 
+/// The entry in front.
 #[tactic(auto, unfolding(crate::specs::Relocations::entry_at))]
 fn read_entry(target: Target, reader: &mut Reader<'_>) -> Result<WasmRelocation, ReadError>
     ensures { Yields (λ r. r) result reader.new (entry_at target reader.old) }
@@ -84,6 +94,7 @@ fn read_entry(target: Target, reader: &mut Reader<'_>) -> Result<WasmRelocation,
     Ok(WasmRelocation { ty, offset, index })
 }
 
+/// So many entries, in a list that grows as they are read.
 fn entries_in(
     alloc: Global,
     target: Target,

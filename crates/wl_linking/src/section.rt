@@ -4,7 +4,7 @@ ghost use Rattle.std.specs.Prelude.{◌≡◌, ◌≤◌, ◌^◌, length, Match
 ghost use Rattle.std.specs.List.{list_all};
 ghost use Rattle.wl_module.specs.Outcome.{Gives, IsFault, ReadsWhole};
 ghost use Rattle.wl_linking.specs.Relocations.{IsRelocSection, RelocSectionFault, reloc_section_of};
-ghost use Rattle.wl_linking.specs.Sections.{is_plain, ArePlainBodies, PlainBodiesFault, HoldsItems, ItemsFault, payload_of, IsSound, IsFaulty, LinkingItems, LinkingItemsFault, seen_then};
+ghost use Rattle.wl_linking.specs.Sections.{is_plain, ArePlainBodies, PlainBodiesFault, HoldsItems, ItemsFault, IsSound, IsFaulty, LinkingItems, LinkingItemsFault, seen_then};
 ghost use Rattle.wl_linking.specs.Verdict.{HasCause};
 ghost use Rattle.wl_linking.specs.Targets.{numbered_verdict};
 
@@ -35,18 +35,21 @@ pub(crate) enum Section<'a> {
 /// The first byte of the bulk memory operators.
 const BULK_MEMORY: u8 = 0xfc;
 
+/// The body holds no such byte.
 fn is_plain(body: &WasmFunctionBody<'_>) -> bool
     ensures { result ≡ is_plain body.now }
 {
     memchr(BULK_MEMORY, &body.bytes).is_none()
 }
 
+/// No body holds such a byte.
 fn are_plain(bodies: &[WasmFunctionBody<'_>]) -> bool
     ensures { result ≡ list_all is_plain bodies.now }
 {
     bodies.iter().all(|body| is_plain(body))
 }
 
+/// The bodies of a code section, unless one may hold a bulk memory operator.
 fn read_plain_bodies(
     alloc: Global,
     payload: &[u8],
@@ -62,6 +65,7 @@ fn read_plain_bodies(
     }
 }
 
+/// The symbols of a linking section, unless one came before.
 fn read_first_linking(
     alloc: Global,
     seen: Seen,
@@ -75,6 +79,7 @@ fn read_first_linking(
     read_linking(alloc, payload)
 }
 
+/// What a whole payload of a relocation section holds.
 fn reloc_section(
     alloc: Global,
     bytes: &[u8],
@@ -90,6 +95,7 @@ fn reloc_section(
     read_held(alloc, target, &mut reader)
 }
 
+/// Reads the payload of a relocation section, after the sections that were seen.
 fn read_reloc_section(
     alloc: Global,
     bytes: &[u8],
@@ -150,8 +156,8 @@ pub(crate) fn read_section<'a>(
     read_items(alloc, kind, bytes, headers, seen, payload)
 }
 
-/// What came before, after this section too.
-pub(crate) fn see(seen: Seen, section: &Section<'_>) -> Seen
+/// What was seen, with this section too.
+pub(crate) fn seen_then(seen: Seen, section: &Section<'_>) -> Seen
     ensures { result ≡ seen_then seen section.now }
 {
     match section {

@@ -1,8 +1,8 @@
-//! Where the fields of relocations lie.
+//! Where the fields of relocations lie (object file linking, version 2, "Relocation Sections").
 
-ghost use Rattle.std.specs.Prelude.{◌≡◌, ◌≤◌, ◌+◌, length, nat_le, take, drop, IfOk, MatchResult, MatchBool};
+ghost use Rattle.std.specs.Prelude.{◌≡◌, nat_le, take, drop, IfOk, MatchResult, MatchBool};
 ghost use Rattle.std.specs.List.Sorted.{IsNonDecreasingBy};
-ghost use Rattle.wl_linking.specs.Object.{AreInOrder, AreSites, AreApart, HasNoSite, HasOverlap, is_padded, offset_of};
+ghost use Rattle.wl_linking.specs.Object.{AreInOrder, AreSites, AreApart, HasOverlap, is_padded, offset_of};
 ghost use Rattle.wl_linking.specs.Placing.{body_end, position_of, site_of, Ascend, FieldFault};
 ghost use Rattle.wl_linking.specs.Verdict.{HasCause};
 
@@ -14,9 +14,9 @@ use wl_module::{ReadError, WasmFunctionBody, Why};
 /// A place in a function's body.
 #[derive(Clone, Copy, Debug, PartialEq, Eq)]
 pub struct Site {
-    /// The function, among those that the object defines.
+    /// The number of the function, among those that the object defines.
     pub unit: usize,
-    /// The place in the bytes of its body.
+    /// How many bytes of its body lie before the field.
     pub position: u32,
 }
 
@@ -42,9 +42,9 @@ fn is_padded(text: &[u8]) -> bool
     }
 }
 
-/// The first bytes behind a place, at most as many as a field has.
+/// The bytes from a place on, at most as many as a field has.
 fn field_at(bytes: &[u8], position: usize) -> &[u8]
-    ensures { result.now ≡ take 5 (drop position bytes.now) }
+    ensures { result.now ≡ take FIELD_LEN (drop position bytes.now) }
 {
     let rest = bytes.split_at(position.min(bytes.len())).1;
     rest.split_at(FIELD_LEN.min(rest.len())).0

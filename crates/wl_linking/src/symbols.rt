@@ -1,11 +1,10 @@
-//! The symbol table of a linking section.
+//! The symbol table of a linking section (object file linking, version 2, "Symbol Table
+//! Subsection").
 
-ghost use Rattle.std.specs.Prelude.{◌≡◌};
 ghost use Rattle.wl_bytes.specs.Grammar.{times_at};
 ghost use Rattle.wl_module.specs.Outcome.{Yields, Gives};
 ghost use Rattle.wl_linking.specs.Symbols.{kind_verdict, flags_verdict};
 ghost use Rattle.wl_linking.specs.SymbolsReading.{symbol_at, symbols_of};
-ghost use Rattle.wl_linking.specs.Verdict.{judged_at};
 
 use crate::items::Items;
 use std::alloc::Global;
@@ -13,7 +12,8 @@ use std::marker::Model;
 use wl_bytes::Reader;
 use wl_module::{Form, ReadError, Why};
 
-/// A symbol of a function that the object defines.
+/// A symbol of a function that the object defines (object file linking, version 2, "Symbol Table
+/// Subsection"). Clauses see it as a `Symbol`, with its name as a list of bytes.
 #[derive(Drop)]
 pub struct WasmSymbol<'a> {
     /// The bits of the symbol's flags, as they stand in the object.
@@ -32,22 +32,37 @@ impl<'a> Model for WasmSymbol<'a> {
     ghost view = { λ s. record { flags = s.flags; index = s.index; name = s.name.now } };
 }
 
-/// The symbol stands for something absolute.
+/// The kinds of symbols.
+const FUNCTION: u8 = 0;
+
+const DATA: u8 = 1;
+
+const GLOBAL: u8 = 2;
+
+const SECTION: u8 = 3;
+
+const TAG: u8 = 4;
+
+const TABLE: u8 = 5;
+
+/// The flag of a symbol with an absolute address.
 const ABSOLUTE: u32 = 0x200;
-/// The symbol is weak or undefined.
+/// The flags of a symbol that is weak, 1, or undefined, 0x10.
 const WEAK_OR_UNDEFINED: u32 = 0x11;
 
+/// Functions alone have a plan so far.
 fn check_kind(kind: u8) -> Result<(), ReadError>
     ensures { Gives (λ u. u) result (kind_verdict kind) }
 {
     match kind {
-        0 => Ok(()),
-        4 => Err(ReadError::Unsupported(Form::Tag)),
-        1 | 2 | 3 | 5 => Err(ReadError::Unsupported(Form::NotYet)),
+        FUNCTION => Ok(()),
+        TAG => Err(ReadError::Unsupported(Form::Tag)),
+        DATA | GLOBAL | SECTION | TABLE => Err(ReadError::Unsupported(Form::NotYet)),
         _ => Err(ReadError::Malformed(Why::BadByte)),
     }
 }
 
+/// Strong symbols of what the object defines alone have a plan so far.
 fn check_flags(flags: u32) -> Result<(), ReadError>
     ensures { Gives (λ u. u) result (flags_verdict flags) }
 {
@@ -60,6 +75,7 @@ fn check_flags(flags: u32) -> Result<(), ReadError>
     Ok(())
 }
 
+/// The symbol in front.
 #[tactic(auto, unfolding(crate::specs::SymbolsReading::symbol_at))]
 fn read_symbol<'a>(reader: &mut Reader<'a>) -> Result<WasmSymbol<'a>, ReadError>
     ensures { Yields (λ s. s) result reader.new (symbol_at reader.old) }
@@ -73,6 +89,7 @@ fn read_symbol<'a>(reader: &mut Reader<'a>) -> Result<WasmSymbol<'a>, ReadError>
     Ok(WasmSymbol { flags, index, name })
 }
 
+/// So many symbols, in a list that grows as they are read.
 fn symbols_in<'a>(
     alloc: Global,
     reader: &mut Reader<'a>,

@@ -107,9 +107,10 @@ fn a_call_leads_to_its_object(rt: HostRuntime) -> Result<(), Fail> {
     let plan = plan_objects(alloc, &files)?;
     let bodies = plan.layout.function_bodies.as_slice();
     assert_eq!(rt; bodies.len(), 4);
-    assert_eq!(rt; bodies[1].bytes.as_slice(), b"\0\x0b".as_slice());
-    assert_eq!(rt; (bodies[1].object_index, bodies[2].object_index), (0, 1));
-    assert!(rt; matches!(bodies[2].bytes, CowSlice::Borrowed(_)));
+    let (second, third) = (&bodies[1], &bodies[2]);
+    assert_eq!(rt; second.bytes.as_slice(), b"\0\x0b".as_slice());
+    assert_eq!(rt; (second.object_index, third.object_index), (0, 1));
+    assert!(rt; matches!(&third.bytes, CowSlice::Borrowed(_)));
     let fixup = Fixup {
         object: 1,
         place: FixupPlace::Code,

@@ -10,4 +10,4 @@ returns-in_err-section c =
 
 pub loop-header-preserved : goal.loop-header-preserved
 loop-header-preserved c =
-    rw (c.in_ok-add.ensures, c.see-seen.ensures) (reads_more c.args.bytes.now c.args.headers.now c.loop-header.header-index _ c.loop-header.seen c.loop-header.parts c.in_ok-section.section (omega arith) c.loop-header.invariant c.in_ok-section.ensures)
+    rw (c.in_ok-add.ensures, c.seen_then-seen.ensures) (reads_more c.args.bytes.now c.args.headers.now c.loop-header.header-index _ c.loop-header.seen c.loop-header.parts c.in_ok-section.section (omega arith) c.loop-header.invariant c.in_ok-section.ensures)
