@@ -40,6 +40,8 @@ def listings():
         listing = wanted.read_bytes()
         made = wanted.with_suffix(".o")
         check(made.name, run([*FLAGS, made]), 0, listing)
+        bare = EXAMPLES / "bare_module.o"
+        check(f"{made.name} and one more", run([*FLAGS, made, bare]), 0, listing)
         check(f"{made.name}, one dash", run([made, "-no-entry", "-no-gc-sections"]), 0, listing)
 
 
@@ -79,7 +81,7 @@ def refusals(folder):
     refused("a tag section", sound + b"\x0d\x00", b"error: Unsupported 0 Tag\n")
     refused("a memory", sound[:19] + b"\x05\x03\x01\x00\x01" + sound[19:], b"error: Unsupported 0 NotYet\n")
     made.write_bytes(sound)
-    check("two objects", run([*FLAGS, made, made]), 1, err=b"error: Unsupported 1 NotYet\n")
+    check("a name twice", run([*FLAGS, made, made]), 1, err=b'error: DuplicateSymbol "a" 0 0 1 0\n')
     check("units dropped", run([made, "--no-entry"]), 1, err=b"error: Unsupported 0 NotYet\n")
     check("an entry asked for", run([made, "--no-gc-sections"]), 1, err=b"error: Unsupported 0 NotYet\n")
 

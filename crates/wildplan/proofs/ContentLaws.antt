@@ -1,14 +1,12 @@
 -- Bytes of objects, by their number.
-use Rattle.std.proofs.Common.{◌≡◌, ◌<◌, ◌≤◌, ◌+◌, ℕ, zero, suc, List, [], ◌∷◌, ◌++◌, length, get_or, take, map, Option, Some, None, refl, sym, ap, subst, ◌∙◌, arith, slice_get, Vec, Global, add-one, inl, inr}
+use Rattle.std.proofs.Common.{◌≡◌, ◌<◌, ◌≤◌, ◌+◌, ℕ, zero, suc, List, [], ◌∷◌, ◌++◌, length, get_or, take, Some, None, refl, sym, ap, subst, arith, slice_get, Vec, Global, add-one}
 use Rattle.wl_linking.specs.Object.{Object, IsObject, ObjectFault, IsFitting}
 use Rattle.std.specs.List.{AllByRecursion}
 use Rattle.wl_module.specs.declared.error.ReadError.{ReadError}
 use Rattle.wl_module.specs.declared.error.ReadError.TheVariants as read
 use Rattle.wl_linking.specs.Verdict.{HasCause}
-use Rattle.wl_plan.specs.declared.error.LinkError.{LinkError}
-use Rattle.wl_plan.specs.declared.error.LinkError.TheVariants.{OutOfMemory, Malformed, Unsupported, TooLarge}
 use Rattle.wildplan.specs.Contents.{contents, AllWithin}
-use Rattle.wildplan.specs.Plan.{AreObjects, IsRefusedAt}
+use Rattle.wildplan.specs.Plan.{AreObjects}
 use Rattle.wildplan.specs.Parsing.{link_error_of, IsBadObject}
 
 pub content_at : (objects : List (Vec ℕ Global)) (i : ℕ) (d : Vec ℕ Global) → i < length objects → d ≡ get_or objects i d → slice_get (contents objects) i ≡ Some d.items

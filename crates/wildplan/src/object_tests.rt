@@ -42,13 +42,18 @@ struct Answer {
     err: MemSink,
 }
 
-fn answer_to(alloc: Global, object: &[u8]) -> Result<Answer, AllocError> {
+// What is answered to one object, or to two.
+fn answer_to(alloc: Global, object: &[u8], second: Option<&[u8]>) -> Result<Answer, AllocError> {
     let mut words = Vec::new(alloc);
     for word in ["--no-gc-sections", "--no-entry", "a.o"] {
         words.push(String::from_str(alloc, word)?)?;
     }
     let mut files = MemFiles::new(alloc);
     files.add("a.o", object)?;
+    if let Some(second) = second {
+        words.push(String::from_str(alloc, "b.o")?)?;
+        files.add("b.o", second)?;
+    }
     let mut out = MemSink::new(alloc, 1000, 1000)?;
     let mut err = MemSink::new(alloc, 1000, 1000)?;
     let status = run(alloc, &words, &mut files, &mut out, &mut err);
@@ -66,7 +71,7 @@ fn assert_listing(
     for line in lines {
         listing.push_str(line)?;
     }
-    let answer = answer_to(alloc, object)?;
+    let answer = answer_to(alloc, object, None)?;
     assert_eq!(rt; answer.status, Status::Done);
     assert_eq!(rt; answer.out.bytes(), listing.as_bytes());
     assert!(rt; answer.err.bytes().is_empty());
@@ -75,7 +80,7 @@ fn assert_listing(
 
 // An object is refused: nothing but this line was written, on the other sink.
 fn assert_refused(rt: &impl Abort, alloc: Global, object: &[u8], line: &str) -> Result<(), Fail> {
-    let answer = answer_to(alloc, object)?;
+    let answer = answer_to(alloc, object, None)?;
     assert_eq!(rt; answer.status, Status::Refused, "{line}");
     assert_eq!(rt; answer.err.bytes(), line.as_bytes());
     assert!(rt; answer.out.bytes().is_empty());
@@ -89,6 +94,58 @@ fn changed(place: usize, byte: u8) -> [u8; 76] {
         *there = byte;
     }
     object
+}
+
+#[test]
+fn two_objects_share_the_spaces(rt: HostRuntime) -> Result<(), Fail> {
+    // Its symbols are known in the object alone, so that they repeat no name.
+    let mut local = changed(49, 2);
+    if let Some(flags) = local.get_mut(54) {
+        *flags = 2;
+    }
+    let answer = answer_to(rt.alloc(), &local, Some(OBJECT))?;
+    let listing = "wildplan 1\n\
+        type 0 ()->()\n\
+        func 0 type 0 object 0 unit 0\n\
+        func 1 type 0 object 0 unit 1\n\
+        func 2 type 0 object 1 unit 0\n\
+        func 3 type 0 object 1 unit 1\n\
+        body 0 001081808080000b\n\
+        body 1 000b\n\
+        body 2 001081808080000b\n\
+        body 3 000b\n\
+        global 0 i32 var 41808004 made stack_pointer\n\
+        memory 2 - -\n\
+        export \"memory\" memory 0\n\
+        fix 0 code 0 2 R_WASM_FUNCTION_INDEX_LEB 1 0\n\
+        fix 1 code 0 2 R_WASM_FUNCTION_INDEX_LEB 3 0\n\
+        end\n";
+    assert_eq!(rt; answer.out.bytes(), listing.as_bytes());
+    assert!(rt; answer.status == Status::Done && answer.err.bytes().is_empty());
+    Ok(())
+}
+
+#[test]
+fn a_repeated_name_has_its_line(rt: HostRuntime) -> Result<(), Fail> {
+    // Symbols `a` and `b`; then the same, only the second, none, and one that repeats within.
+    let seconds = [
+        (*OBJECT, "error: DuplicateSymbol \"a\" 0 0 1 0\n"),
+        (changed(52, b'c'), "error: DuplicateSymbol \"b\" 0 1 1 1\n"),
+        (changed(52, b'b'), "error: DuplicateSymbol \"b\" 0 1 1 0\n"),
+        (changed(49, 2), "error: DuplicateSymbol \"b\" 0 1 1 1\n"),
+    ];
+    for (second, line) in seconds {
+        let answer = answer_to(rt.alloc(), OBJECT, Some(&second))?;
+        assert_eq!(rt; answer.err.bytes(), line.as_bytes());
+        assert!(rt; answer.status == Status::Refused && answer.out.bytes().is_empty());
+    }
+    // A name may repeat within an object too, which is no less a refusal.
+    assert_refused(
+        &rt,
+        rt.alloc(),
+        &changed(57, b'a'),
+        "error: DuplicateSymbol \"a\" 0 0 0 1\n",
+    )
 }
 
 #[test]

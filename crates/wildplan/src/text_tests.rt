@@ -30,6 +30,16 @@ fn refusals_have_a_line(rt: HostRuntime) -> Result<(), Fail> {
             },
             "error: TooLarge Object\n",
         ),
+        (
+            LinkError::DuplicateSymbol {
+                name: String::from_str(rt.alloc(), "a \"b\"")?,
+                first_object: 0,
+                first_symbol: 12,
+                second_object: 3,
+                second_symbol: 4,
+            },
+            "error: DuplicateSymbol \"a \\22b\\22\" 0 12 3 4\n",
+        ),
         (LinkError::OutOfMemory, ""),
     ];
     for (error, want) in lines {

@@ -1,17 +1,15 @@
 -- The types of an object that are merged in turn.
-use Rattle.std.proofs.Common.{◌≡◌, ◌≢◌, ◌⊎◌, ◌<◌, ◌≤◌, ◌+◌, ℕ, zero, suc, Bool, true, false, cond, eqb, ltb, ◌||◌, List, [], ◌∷◌, ◌++◌, length, get_or, drop, take, Option, Some, None, refl, sym, ap, subst, ◌∙◌, arith, slice_get, add-one, drop-cons, length-append, inl, inr, eq-eqb}
+use Rattle.std.proofs.Common.{◌≡◌, ◌≢◌, ◌<◌, ◌≤◌, ◌+◌, ℕ, zero, suc, Bool, true, false, cond, eqb, ltb, ◌||◌, List, [], ◌∷◌, ◌++◌, length, get_or, drop, take, Some, refl, sym, ap, subst, ◌∙◌, arith, slice_get, add-one, drop-cons, length-append, inl, inr, eq-eqb}
 use Rattle.std.specs.List.{list_any, list_all}
 use Rattle.std.proofs.Math.ListN.{set}
 use Rattle.std.proofs.Math.Seq.{get_or-append_seam}
 use Rattle.std.proofs.lemmas.Bool.{cases_Bool, eqb-true, cases_lt, ltb-true}
 use Rattle.std.proofs.lemmas.List.{get_or-set_same, get_or-set_other, take_all, get_or_append_left, get_or_default, drop_all}
 use Rattle.std.proofs.lemmas.List.Folds.{list_any_more, list_all_at}
-use Rattle.std.proofs.lemmas.Option.{slice_get_within}
 use Rattle.wl_module.specs.Types.{FunctionType}
 use Rattle.wl_linking.specs.Object.{Object}
 use Rattle.wl_plan.specs.Types.{same_type, add_new, firsts_onto, used_from, live_types}
 use Rattle.wl_plan.specs.Merging.{IsFull, LeadsToTypes}
-use Rattle.wl_plan.specs.Plan.{max_entries}
 use Rattle.wl_plan.specs.declared.error.LinkError.{LinkError}
 use Rattle.wl_plan.specs.declared.error.LinkError.TheVariants.{OutOfMemory, Malformed, Unsupported, DuplicateSymbol, TooLarge}
 

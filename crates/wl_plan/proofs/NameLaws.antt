@@ -1,9 +1,9 @@
 -- Laws of names that are compared in turn.
-use Rattle.std.proofs.Common.{◌≡◌, ◌≢◌, ◌⊎◌, ◌<◌, ◌≤◌, ◌+◌, ℕ, zero, suc, List, [], ◌∷◌, length, take, get_or, Option, Some, None, refl, sym, ap, subst, ◌∙◌, arith, slice_get, add-one, inl, inr, true, false, true≢false}
+use Rattle.std.proofs.Common.{◌≡◌, ◌≢◌, ◌⊎◌, ◌<◌, ◌≤◌, ◌+◌, ℕ, zero, suc, List, [], ◌∷◌, length, take, get_or, Some, refl, sym, ap, subst, ◌∙◌, arith, slice_get, add-one, inl, inr, true, false, true≢false}
 use Rattle.std.specs.Str.{bytes_eq}
 use Rattle.std.proofs.lemmas.Slice.Eq.{bytes_eq-Decides}
-use Rattle.std.proofs.lemmas.Option.{slice_get_within, slice_get-get_or}
-use Rattle.std.proofs.lemmas.List.{take_all, length-take}
+use Rattle.std.proofs.lemmas.Option.{slice_get-get_or}
+use Rattle.std.proofs.lemmas.List.{take_all}
 use Rattle.wl_plan.specs.Names.{Strong, AreDistinct, IsRepeat, LacksName, HasName}
 
 -- ---- equal names
@@ -65,13 +65,13 @@ distinct_more symbols k t lt is distinct lacks = λ i j s u before a b.
     let here : slice_get symbols k ≡ Some t = slice_get-get_or symbols k t lt ∙ ap Some (sym is) in
     elim (front_cases symbols k i s (subst (λ (n : ℕ). slice_get (take n symbols) i ≡ Some s) (add-one k) a)) [
       | inl first ↦ elim (front_cases symbols k j u (subst (λ (n : ℕ). slice_get (take n symbols) j ≡ Some u) (add-one k) b)) [
-          | inl second ↦ distinct i j s u before first second
-          | inr second ↦ subst (λ (v : Strong). s.name ≢ v.name) (same_symbol symbols k t u here second.1) (lacks i s first)
-        ]
+        | inl second ↦ distinct i j s u before first second
+        | inr second ↦ subst (λ (v : Strong). s.name ≢ v.name) (same_symbol symbols k t u here second.1) (lacks i s first)
+      ]
       | inr first ↦ elim (front_cases symbols k j u (subst (λ (n : ℕ). slice_get (take n symbols) j ≡ Some u) (add-one k) b)) [
-          | inl second ↦ let h = in_whole symbols k j u second in absurd (omega (arith, before, first.0, h.0))
-          | inr second ↦ absurd (omega (arith, before, first.0, second.0))
-        ]
+        | inl second ↦ let h = in_whole symbols k j u second in absurd (omega (arith, before, first.0, h.0))
+        | inr second ↦ absurd (omega (arith, before, first.0, second.0))
+      ]
     ]
 
 pub distinct_all : (symbols : List Strong) (k : ℕ) → length symbols ≤ k → AreDistinct (take k symbols) → AreDistinct symbols

@@ -1,23 +1,21 @@
 -- Objects that are added to the spaces in turn.
-use Rattle.std.proofs.Common.{◌≡◌, ◌⊎◌, ◌<◌, ◌≤◌, ◌+◌, ◌++◌, ◌&&◌, ℕ, zero, suc, Bool, true, false, eqb, ltb, List, [], ◌∷◌, length, get_or, drop, take, map, Option, Some, None, refl, sym, ap, subst, ◌∙◌, arith, slice_get, add-one, drop-cons, append_assoc, length-append, inl, inr, pos, eq-eqb, append-nil}
-use Rattle.std.specs.Option.{option_and_then}
-use Rattle.std.specs.List.{AllByRecursion, list_any, list_all, flat_map}
+use Rattle.std.proofs.Common.{◌≡◌, ◌<◌, ◌≤◌, ◌+◌, ◌++◌, ◌&&◌, ℕ, zero, suc, Bool, true, false, eqb, ltb, List, [], ◌∷◌, length, get_or, drop, take, map, Some, refl, sym, ap, subst, ◌∙◌, arith, slice_get, add-one, drop-cons, append_assoc, length-append, inl, inr, eq-eqb, append-nil}
+use Rattle.std.specs.List.{AllByRecursion, list_any, flat_map}
 use Rattle.std.proofs.Math.Seq.{take-suc}
 use Rattle.std.proofs.lemmas.Bool.{cases_Bool, ltb-true}
 use Rattle.std.proofs.lemmas.List.{length-map, length-take, map-append, take_all, drop_all}
 use Rattle.std.proofs.lemmas.List.Folds.{list_all_at, list_any_at}
 use Rattle.std.proofs.lemmas.Option.{slice_get-get_or, slice_get_within, get_or_from_slice_get}
 use Rattle.wl_module.specs.Types.{FunctionType}
-use Rattle.wl_module.specs.Bodies.{Body}
 use Rattle.wl_linking.specs.Symbols.{Symbol}
 use Rattle.wl_linking.specs.Object.{Object, AreSites, IsFitting, types_exist, functions_exist, symbols_exist}
 use Rattle.wl_linking.specs.declared.relocations.WasmRelocation.{WasmRelocation}
 use Rattle.wl_linking.specs.declared.sites.Site.{Site}
 use Rattle.wl_plan.specs.Types.{firsts_onto, live_types, output_types}
 use Rattle.wl_plan.specs.Space.{functions_from, functions_of, function_space}
-use Rattle.wl_plan.specs.Plan.{type_in, type_of, HasItsType, bodies_of, target_of, IsFixup, AreFixupsIn, AreFixups, PlanFault}
+use Rattle.wl_plan.specs.Plan.{HasItsType, bodies_of, target_of, AreFixupsIn, AreFixups, PlanFault}
 use Rattle.wl_plan.specs.Merging.{LeadsToTypes}
-use Rattle.wl_plan.specs.Building.{outputs_from, body_in, index_of, fixup_of, fixups_from, IsEmpty, AddsObject, LacksRoom, AreSpaces}
+use Rattle.wl_plan.specs.Building.{outputs_from, body_in, index_of, fixups_from, IsEmpty, AddsObject, LacksRoom, AreSpaces}
 use Rattle.wl_plan.specs.declared.error.LinkError.{LinkError}
 use Rattle.wl_plan.specs.declared.error.LinkError.TheVariants.{OutOfMemory, Malformed, Unsupported, DuplicateSymbol, TooLarge}
 use Rattle.wl_plan.specs.declared.layout.FunctionOrigin.{FunctionOrigin}

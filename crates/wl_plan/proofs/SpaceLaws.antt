@@ -1,13 +1,13 @@
 -- What each object adds to the spaces.
-use Rattle.std.proofs.Common.{◌≡◌, ◌<◌, ◌≤◌, ◌+◌, ◌++◌, ℕ, zero, suc, List, [], ◌∷◌, length, get_or, drop, Option, Some, None, refl, sym, ap, ◌∙◌, arith, slice_get, add-one, drop-cons, append_assoc}
-use Rattle.std.proofs.Common.{Bool, true, false, ltb, inl, inr, pos}
+use Rattle.std.proofs.Common.{◌≡◌, ◌<◌, ◌+◌, ◌++◌, ℕ, zero, suc, List, [], ◌∷◌, length, get_or, drop, Some, refl, sym, ap, ◌∙◌, arith, slice_get, add-one, drop-cons, append_assoc}
+use Rattle.std.proofs.Common.{true, ltb, inl, inr, pos}
 use Rattle.std.proofs.lemmas.Bool.{cases_Bool, ltb-true}
 use Rattle.std.proofs.lemmas.List.{get_or_default}
 use Rattle.std.proofs.lemmas.List.Folds.{list_all_at}
 use Rattle.std.proofs.lemmas.Option.{slice_get_within, slice_get-get_or}
 use Rattle.wl_module.specs.Bodies.{Body}
 use Rattle.wl_linking.specs.Symbols.{Symbol}
-use Rattle.wl_linking.specs.Object.{Object, IsSite, AreSites, symbols_exist}
+use Rattle.wl_linking.specs.Object.{Object, AreSites, symbols_exist}
 use Rattle.wl_linking.specs.declared.relocations.RelocationType.TheVariants.{FunctionIndexLeb}
 use Rattle.wl_linking.specs.declared.relocations.WasmRelocation.{WasmRelocation}
 use Rattle.wl_linking.specs.declared.sites.Site.{Site}

@@ -1,6 +1,5 @@
 -- What each object adds to the plan.
 use Rattle.std.specs.Prelude.{◌≡◌, ◌⊎◌, ℕ, ◌+◌, ◌≤◌, ◌<◌, ⊤, List, [], ◌∷◌, ◌++◌, length, pos, map, Option, Some, None, slice_get, slice_index}
-use Rattle.wl_module.specs.Types.{FunctionType}
 use Rattle.wl_module.specs.Bodies.{Body}
 use Rattle.wl_linking.specs.Symbols.{Symbol}
 use Rattle.wl_linking.specs.Object.{Object, IsFitting}

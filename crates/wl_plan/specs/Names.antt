@@ -1,5 +1,5 @@
 -- The names by which objects refer to what other objects define.
-use Rattle.std.specs.Prelude.{◌≡◌, ◌≢◌, ◌⊎◌, ◌<◌, ℕ, ◌+◌, Bool, not, ◌&&◌, if◌then◌else◌, nat_lt, List, length, [], ◌∷◌, ◌++◌, take, Some, slice_get, ⊤, string_bytes}
+use Rattle.std.specs.Prelude.{◌≡◌, ◌≢◌, ◌⊎◌, ◌<◌, ℕ, ◌+◌, Bool, not, ◌&&◌, if◌then◌else◌, nat_lt, List, length, [], ◌∷◌, ◌++◌, take, Some, slice_get, string_bytes}
 use Rattle.wl_linking.specs.Symbols.{Symbol, has_flag}
 use Rattle.wl_linking.specs.Object.{Object}
 use Rattle.wl_plan.specs.declared.error.LinkError.{LinkError}

@@ -19,7 +19,6 @@ use Rattle.wl_plan.specs.declared.layout.MadeGlobal.TheVariants.{StackPointer}
 use Rattle.wl_plan.specs.declared.layout.PlannedGlobal.{PlannedGlobal}
 use Rattle.wl_plan.specs.declared.layout.ExternalKind.TheVariants.{Memory}
 use Rattle.wl_plan.specs.declared.layout.OutputExport.{OutputExport}
-use Rattle.wl_plan.specs.declared.layout.WasmLayout.{WasmLayout}
 use Rattle.wl_plan.specs.declared.layout.LinkPlan.{LinkPlan}
 use Rattle.wl_plan.specs.declared.layout.Fixup.{Fixup}
 use Rattle.wl_plan.specs.declared.layout.FixupPlace.TheVariants.{Code}

@@ -18,9 +18,15 @@ pub enum LinkError {
     /// Memory ran out.
     OutOfMemory,
     /// The object breaks the grammar.
-    Malformed { object: usize, why: Why },
+    Malformed {
+        object: usize,
+        why: Why,
+    },
     /// The object has a form that isn't planned.
-    Unsupported { object: usize, form: Form },
+    Unsupported {
+        object: usize,
+        form: Form,
+    },
     /// Two symbols that other objects can name have one name; the second is the earliest of all
     /// symbols that repeats a name.
     DuplicateSymbol {
@@ -31,7 +37,9 @@ pub enum LinkError {
         second_symbol: usize,
     },
     /// Something is larger than it may be.
-    TooLarge { what: Quantity },
+    TooLarge {
+        what: Quantity,
+    },
 }
 
 impl From<AllocError> for LinkError {

@@ -125,3 +125,22 @@ fn a_call_leads_to_its_object(rt: HostRuntime) -> Result<(), Fail> {
     assert_eq!(rt; plan.fixups.as_slice(), [fixup].as_slice());
     Ok(())
 }
+
+#[test]
+fn a_repeated_name_is_told(rt: HostRuntime) -> Result<(), Fail> {
+    let alloc = rt.alloc();
+    let mut files = Vec::new(alloc);
+    files.push(parse_wasm_module(alloc, TYPED)?)?;
+    files.push(parse_wasm_module(alloc, CALLS)?)?;
+    assert!(rt; check_names(alloc, &files).is_ok());
+    files.push(parse_wasm_module(alloc, CALLS)?)?;
+    let wanted = LinkError::DuplicateSymbol {
+        name: String::from_str(alloc, "a")?,
+        first_object: 1,
+        first_symbol: 0,
+        second_object: 2,
+        second_symbol: 0,
+    };
+    assert_eq!(rt; check_names(alloc, &files).err(), Some(wanted));
+    Ok(())
+}

@@ -1,4 +1,4 @@
-use Rattle.std.proofs.Common.{◌≡◌, ◌<◌, eqb, get_or, length, sym, ◌∙◌}
+use Rattle.std.proofs.Common.{◌≡◌, ◌<◌, eqb, get_or, length, ◌∙◌}
 use Rattle.std.specs.List.{list_any}
 use Rattle.std.proofs.lemmas.Result.{err_from_is_err_and}
 use Rattle.wl_plan.proofs.Merges.{merges_more, full_later}

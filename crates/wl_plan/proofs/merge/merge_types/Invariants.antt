@@ -1,5 +1,3 @@
-use Rattle.std.proofs.Common.{◌≡◌, drop}
-use Rattle.wl_plan.specs.Types.{firsts_onto, used_from, live_types}
 use Rattle.wl_plan.proofs.Merges.{MergesOn}
 use Rattle.wl_plan.proofs.merge.merge_types.Given as goal
 

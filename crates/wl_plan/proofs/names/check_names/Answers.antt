@@ -1,5 +1,5 @@
-use Rattle.std.proofs.Common.{◌≡◌, List, get_or, sym, ◌∙◌, subst, arith, inr, take, length, ◌<◌}
-use Rattle.wl_plan.specs.Names.{Strong, AreDistinct, IsRepeat, LacksName, HasName, strong_of}
+use Rattle.std.proofs.Common.{◌≡◌, List, get_or, sym, ◌∙◌, subst, arith, inr, take}
+use Rattle.wl_plan.specs.Names.{Strong, AreDistinct, IsRepeat, LacksName, HasName}
 use Rattle.wl_plan.proofs.NameLaws.{distinct_none, distinct_more, distinct_all, repeats, in_whole}
 use Rattle.wl_plan.proofs.names.check_names.Goals as goal
 

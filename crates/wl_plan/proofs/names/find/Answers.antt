@@ -1,4 +1,4 @@
-use Rattle.std.proofs.Common.{◌≡◌, sym, ◌∙◌}
+use Rattle.std.proofs.Common.{sym, ◌∙◌}
 use Rattle.wl_plan.proofs.NameLaws.{names_are, names_differ, has_name, lacks_more, lacks_all}
 use Rattle.wl_plan.proofs.names.find.Goals as goal
 

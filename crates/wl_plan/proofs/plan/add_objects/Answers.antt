@@ -1,4 +1,3 @@
-use Rattle.std.proofs.Common.{sym}
 use Rattle.std.proofs.lemmas.Result.{err_from_is_err_and}
 use Rattle.wl_linking.specs.Object.{IsFitting}
 use Rattle.wl_plan.proofs.PlanLaws.{plans_more, plan_fault, fits_at}

@@ -1,4 +1,3 @@
-use Rattle.std.proofs.Common.{◌<◌, length}
 use Rattle.wl_plan.proofs.SpaceLaws.{fixups_more}
 use Rattle.wl_plan.proofs.spaces.push_fixups.Goals as goal
 

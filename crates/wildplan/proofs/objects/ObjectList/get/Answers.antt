@@ -1,4 +1,4 @@
-use Rattle.std.proofs.Common.{◌<◌, ◌≤◌, length, arith}
+use Rattle.std.proofs.Common.{arith}
 use Rattle.wildplan.specs.Contents.{contents}
 use Rattle.wildplan.proofs.ContentLaws.{content_at, content_past, within_at}
 use Rattle.wildplan.proofs.objects.ObjectList.get.Goals as goal
