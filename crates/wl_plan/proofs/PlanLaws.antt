@@ -13,7 +13,7 @@ use Rattle.wl_linking.specs.declared.relocations.WasmRelocation.{WasmRelocation}
 use Rattle.wl_linking.specs.declared.sites.Site.{Site}
 use Rattle.wl_plan.specs.Types.{firsts_onto, live_types, output_types}
 use Rattle.wl_plan.specs.Space.{functions_from, functions_of, function_space}
-use Rattle.wl_plan.specs.Plan.{HasItsType, bodies_of, target_of, AreFixupsIn, AreFixups, PlanFault}
+use Rattle.wl_plan.specs.Plan.{HasItsType, bodies_of, target_of, AreFixupsIn, AreFixups, PlanFault, max_entries}
 use Rattle.wl_plan.specs.Merging.{LeadsToTypes}
 use Rattle.wl_plan.specs.Building.{outputs_from, body_in, index_of, fixups_from, IsEmpty, AddsObject, LacksRoom, AreSpaces}
 use Rattle.wl_plan.specs.declared.error.LinkError.{LinkError}
@@ -126,6 +126,7 @@ fixups_push space j i (p ∷ objects) o fs front at (a, b, parts, first, rest) n
 
 -- what the first objects added
 pub record PlansOn (objects : List Object) (i : ℕ) (spaces : Spaces) : Type 0 where
+  pub room : length spaces.functions.items ≤ max_entries
   pub types : firsts_onto spaces.merger (flat_map live_types (drop i objects)) ≡ output_types objects
   pub functions : map origin_of spaces.functions.items ++ functions_of i (drop i objects) ≡ function_space objects
   pub typed : AllByRecursion (HasItsType objects spaces.merger) spaces.functions.items
@@ -134,6 +135,7 @@ pub record PlansOn (objects : List Object) (i : ℕ) (spaces : Spaces) : Type 0 
 
 pub plans_at_start : (objects : List Object) (spaces : Spaces) → IsEmpty spaces → PlansOn objects 0 spaces
 plans_at_start objects spaces h = record {
+  room = rw h.functions (omega arith);
   types = rw h.types refl;
   functions = rw h.functions refl;
   typed = rw h.functions tt;
@@ -169,6 +171,7 @@ plans_more objects i o old new lt is fits add h =
     (fixups_are (map origin_of old.functions.items) i o (functions_of (i + 1) (drop (i + 1) objects)) o.relocations o.sites fits.functions fits.symbols fits.sited)) in
     let first : take (i + 1) objects ≡ take i objects ++ o ∷ [] = rw (add-one, take-suc objects i o) (ap (λ (x : Object). take i objects ++ x ∷ []) (sym is)) in
     record {
+      room = omega (arith, add.room, ap length origins, length-map new.functions.items origin_of, length-append (map origin_of old.functions.items) (functions_from i 0 o.functions), base, length-functions_from i 0 o.functions);
       types = rw add.types (types_step objects i o old lt is h);
       functions = rw origins (append_assoc (map origin_of old.functions.items) (functions_from i 0 o.functions) (functions_of (i + 1) (drop (i + 1) objects)) ∙ space);
       typed = rw add.functions (all_append (HasItsType objects new.merger) old.functions.items (outputs_from i 0 o.functions add.indices)
@@ -182,6 +185,7 @@ pub plans_all : (objects : List Object) (i : ℕ) (spaces : Spaces) → length o
 plans_all objects i spaces le h =
     let none : drop i objects ≡ [] = drop_all i objects le in
     record {
+      room = h.room;
       types = sym (ap (λ (os : List Object). firsts_onto spaces.merger (flat_map live_types os)) none) ∙ h.types;
       functions = sym (ap (λ (os : List Object). map origin_of spaces.functions.items ++ functions_of i os) none ∙ append-nil (map origin_of spaces.functions.items)) ∙ h.functions;
       typed = h.typed;

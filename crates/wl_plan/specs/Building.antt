@@ -66,6 +66,7 @@ pub record IsEmpty (spaces : Spaces) : Type 0 where
 
 -- what the next object adds: its types where they are new, and its functions, bodies and fixups at the end
 pub record AddsObject (old new : Spaces) (object : ℕ) (o : Object) : Type 0 where
+  pub room : length old.functions.items + length o.functions ≤ max_entries
   pub indices : List ℕ
   pub types : new.merger ≡ firsts_onto old.merger (live_types o)
   pub places : LeadsToTypes new.merger o indices
@@ -83,6 +84,7 @@ LacksRoom spaces o (DuplicateSymbol name first_object first_symbol second_object
 
 -- the spaces of all objects
 pub record AreSpaces (objects : List Object) (spaces : Spaces) : Type 0 where
+  pub room : length spaces.functions.items ≤ max_entries
   pub types : spaces.merger ≡ output_types objects
   pub functions : map (λ (f : OutputFunction). f.origin) spaces.functions.items ≡ function_space objects
   pub typed : AllByRecursion (HasItsType objects spaces.merger) spaces.functions.items

@@ -93,8 +93,17 @@ AreFixups space i (o ∷ objects) fixups = (front : List Fixup) × (back : List 
 
 -- ---- the plan
 
+-- the greatest number of entries of a space
+abbrev pub max_entries : ℕ
+max_entries = 4294967294
+
+-- a space has too many entries: the types, or the functions
+abbrev pub HasTooMany : List Object → Type 0
+HasTooMany objects = (max_entries < length (output_types objects)) ⊎ (max_entries < length (function_space objects))
+
 -- The one plan of these objects, where every unit is kept.
 pub record IsPlan (objects : List Object) (plan : LinkPlan) : Type 0 where
+  pub room : HasTooMany objects → ⊥
   pub types : plan.layout.output_types ≡ output_types objects
   pub functions : map (λ (f : OutputFunction). f.origin) plan.layout.functions ≡ function_space objects
   pub typed : AllByRecursion (HasItsType objects plan.layout.output_types) plan.layout.functions
@@ -103,14 +112,6 @@ pub record IsPlan (objects : List Object) (plan : LinkPlan) : Type 0 where
   pub memory : plan.layout.memory ≡ record { initial = 2; maximum = None; shared = false }
   pub exports : (e : OutputExport) × (plan.layout.exports ≡ e ∷ []) × IsMemoryExport e
   pub fixups : AreFixups (function_space objects) 0 objects plan.fixups
-
--- the greatest number of entries of a space
-abbrev pub max_entries : ℕ
-max_entries = 4294967294
-
--- a space has too many entries: the types, or the functions
-abbrev pub HasTooMany : List Object → Type 0
-HasTooMany objects = (max_entries < length (output_types objects)) ⊎ (max_entries < length (function_space objects))
 
 -- memory ran out, or a space has too many entries
 abbrev pub PlanFault : List Object → LinkError → Type 0

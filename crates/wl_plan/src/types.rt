@@ -95,7 +95,8 @@ impl TypeMerger {
 
     /// The types, in order.
     pub fn into_types(self) -> Items<FuncType>
-        ensures { result ≡ self }
+        ensures types { result ≡ self }
+        ensures room { length result ≤ 4294967294 }
     {
         Items::new(self.types)
     }
