@@ -119,8 +119,9 @@ def objects_as_written():
 
 
 def main():
-    # The first run builds the program, where that is still to be done.
-    subprocess.run([ROOT / "wildplan"], stdout=subprocess.DEVNULL, stderr=subprocess.DEVNULL)
+    # The first run builds the program, where that is still to be done, and says so.
+    if subprocess.run([ROOT / "wildplan"], stdin=subprocess.DEVNULL).returncode != 2:
+        sys.exit("the program wasn't built: 0 passed, 1 failed")
     objects_as_written()
     listings()
     words()
