@@ -97,7 +97,7 @@ fn duplicate(
     })
 }
 
-/// Sees that no two objects define one name.
+/// Sees that no two symbols that other objects can name have one name.
 ///
 /// # Errors
 /// `DuplicateSymbol` where a strong symbol repeats the name of another; it tells the earliest.

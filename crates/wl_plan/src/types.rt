@@ -4,6 +4,7 @@ ghost use Rattle.std.specs.Prelude.{◌≡◌, ◌≤◌, ◌<◌, ℕ, List, []
 ghost use Rattle.std.specs.List.{list_any};
 ghost use Rattle.wl_plan.specs.Types.{same_type, add_new};
 ghost use Rattle.wl_plan.specs.Merging.{IsFull, Finds};
+ghost use Rattle.wl_plan.specs.Plan.{max_entries};
 
 use crate::error::{LinkError, Quantity};
 use std::alloc::{AllocError, Global};
@@ -96,7 +97,7 @@ impl TypeMerger {
     /// The types, in order.
     pub fn into_types(self) -> Items<FuncType>
         ensures types { result ≡ self }
-        ensures room { length result ≤ 4294967294 }
+        ensures room { length result ≤ max_entries }
     {
         Items::new(self.types)
     }
