@@ -9,7 +9,7 @@ use Rattle.std.proofs.lemmas.Bool.{cases_lt, lt-ltb, le-ltb}
 use Rattle.std.proofs.lemmas.Bool.Decides.{nat_tests}
 use Rattle.std.proofs.Math.Nat.{pow-suc}
 use Rattle.wl_bytes.specs.Parse.{IsReadAgain}
-use Rattle.wl_bytes.specs.Leb.{low_bits, IsHigh, Form, IsLeb, u32_form, u64_form, s32_form, s33_form, IsU32, IsUleb, IsShortest, signed_of, IsSigned, IsWithin, IsSleb, IsShortestSleb}
+use Rattle.wl_bytes.specs.Leb.{low_bits, IsHigh, Form, IsLeb, u32_form, u64_form, s32_form, s33_form, s64_form, IsU32, IsUleb, IsShortest, signed_of, IsSigned, IsWithin, IsSleb, IsShortestSleb}
 use Rattle.wl_bytes.proofs.LebLemmas.{low_bits-bound}
 use Rattle.wl_bytes.proofs.LebLaws.{low_bits-last}
 use Rattle.wl_bytes.proofs.SignedWriteLaws.{low_byte}
@@ -240,3 +240,23 @@ written_s32 z text within s = read_again (IsSigned s32_form) z text (λ place. s
 
 pub written_s33 : (z : ℤ) (text : List ℕ) → IsWithin 32 z → IsShortestSleb z text → IsReadAgain (IsSigned s33_form) z text
 written_s33 z text within s = read_again (IsSigned s33_form) z text (λ place. sleb_is_s33 place z text within (short_signed z text within s) s.spelled)
+
+-- the last of ten bytes is all copies of the sign
+sleb_is_s64 : (place : ℕ) (z : ℤ) (x : List ℕ) → IsWithin 63 z → IsSleb z x → IsSigned s64_form place z x
+sleb_is_s64 place z x within u = record { leb = other_form s64_form x u.leb u.leb.short last; value = u.value }
+  where
+    by_sign : (z : ℤ) (low end whole all : ℕ) → low < 128 ^ 9 → end < 128 → whole ≡ low + 128 ^ 9 * end → all ≡ 128 ^ 10 → mag z < 2 ^ 63 → LowBitsOf z whole all → s64_form.last end ≡ true
+    by_sign (pos n) low end whole all l e w a small of = let zero : end ≡ 0 = omega (arith, l, w, small, of) in rw zero refl
+    by_sign (negsuc n) low end whole all l e w a small of = let most : end ≡ 127 = omega (arith, l, e, w, a, small, of) in rw most refl
+
+    last : length x ≡ 10 → s64_form.last u.leb.end ≡ true
+    last ten =
+        let nine : length u.leb.front ≡ 9 = omega (arith, size_of u64_form x u.leb) in
+        let sum : low_bits x ≡ low_bits u.leb.front + 128 ^ length u.leb.front * (u.leb.end % 128) = ap low_bits u.leb.parts ∙ low_bits-last u.leb.front u.leb.end in
+        let bound = low_bits-bound u.leb.front in
+        let end-is : u.leb.end % 128 ≡ u.leb.end = omega (arith, u.leb.low) in
+        let of = low_bits-of z (low_bits x) (128 ^ length x) u.leb.end (low_bits-bound x) u.value in
+        by_sign z (low_bits u.leb.front) u.leb.end (low_bits x) (128 ^ length x) (rw nine at bound) u.leb.low (rw (nine, end-is) at sum) (ap (λ (n : ℕ). 128 ^ n) ten) (within_is 63 z within) of
+
+pub written_s64 : (z : ℤ) (text : List ℕ) → IsWithin 63 z → IsShortestSleb z text → IsReadAgain (IsSigned s64_form) z text
+written_s64 z text within s = read_again (IsSigned s64_form) z text (λ place. sleb_is_s64 place z text within s.spelled)

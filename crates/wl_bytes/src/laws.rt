@@ -1,10 +1,10 @@
 //! What callers may count on: functions with an empty body, each of which states a law of the numbers.
 
 ghost use Rattle.std.specs.Prelude.{◌≡◌, ◌<◌, ◌^◌, ℕ, ℤ, List};
-ghost use Rattle.wl_bytes.specs.Leb.{IsU32, IsSigned, s32_form, s33_form, IsShortest, IsShortestSleb, IsWithin};
+ghost use Rattle.wl_bytes.specs.Leb.{IsU32, IsSigned, s32_form, s33_form, s64_form, IsShortest, IsShortestSleb, IsWithin};
 ghost use Rattle.wl_bytes.specs.Parse.{IsReadAgain};
 
-/// What `push_uleb` writes of a number below 2 ^ 32, `read_u32` reads, whatever bytes follow.
+/// What `push_uleb` and `uleb_into` write of a number below 2 ^ 32, `read_u32` reads, whatever bytes follow.
 pub fn written_unsigned_is_read()
     ensures { (n : ℕ) (text : List ℕ) → n < 2 ^ 32 → IsShortest n text → IsReadAgain IsU32 n text }
 {}
@@ -13,6 +13,7 @@ pub fn written_unsigned_is_read()
 pub fn written_signed_is_read()
     ensures s32 { (z : ℤ) (text : List ℕ) → IsWithin 31 z → IsShortestSleb z text → IsReadAgain (IsSigned s32_form) z text }
     ensures s33 { (z : ℤ) (text : List ℕ) → IsWithin 32 z → IsShortestSleb z text → IsReadAgain (IsSigned s33_form) z text }
+    ensures s64 { (z : ℤ) (text : List ℕ) → IsWithin 63 z → IsShortestSleb z text → IsReadAgain (IsSigned s64_form) z text }
 {}
 
 /// A number has one shortest unsigned form and one shortest signed form, so what is written of it is always the same.

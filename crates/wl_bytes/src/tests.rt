@@ -1,4 +1,4 @@
-use crate::{BytesError, Reader, push_sleb, push_uleb, sleb_len, uleb_len};
+use crate::{BytesError, Reader, push_sleb, push_uleb, sleb_len, uleb_into, uleb_len};
 use std::test::Fail;
 
 #[test]
@@ -71,6 +71,39 @@ fn reads_signed_numbers_of_33_bits(rt: HostRuntime) {
 }
 
 #[test]
+fn reads_signed_numbers_of_64_bits(rt: HostRuntime) {
+    let table: [(&[u8], Result<i64, BytesError>); 9] = [
+        (&[0x40], Ok(-64)),
+        (&[0xc0, 0xbb, 0x78], Ok(-123456)),
+        (&[0xfe, 0xff, 0xff, 0xff, 0xff, 0x7f], Ok(-2)),
+        (
+            &[0xff, 0xff, 0xff, 0xff, 0xff, 0xff, 0xff, 0xff, 0xff, 0x00],
+            Ok(i64::MAX),
+        ),
+        (
+            &[0x80, 0x80, 0x80, 0x80, 0x80, 0x80, 0x80, 0x80, 0x80, 0x7f],
+            Ok(i64::MIN),
+        ),
+        (
+            &[0x80, 0x80, 0x80, 0x80, 0x80, 0x80, 0x80, 0x80, 0x80, 0x01],
+            Err(BytesError::BadLeb),
+        ),
+        (
+            &[0xff, 0xff, 0xff, 0xff, 0xff, 0xff, 0xff, 0xff, 0xff, 0x7e],
+            Err(BytesError::BadLeb),
+        ),
+        (
+            &[0x80, 0x80, 0x80, 0x80, 0x80, 0x80, 0x80, 0x80, 0x80, 0x80],
+            Err(BytesError::BadLeb),
+        ),
+        (&[0xff, 0xff, 0xff, 0xff, 0xff], Err(BytesError::End)),
+    ];
+    for (bytes, want) in table {
+        assert_eq!(rt; Reader::new(bytes).read_s64(), want, "at {bytes:?}");
+    }
+}
+
+#[test]
 fn reads_bytes_and_names(rt: HostRuntime) {
     let mut reader = Reader::new(&[0x0a, 0x02, 0xc3, 0xa9, 0x01, 0x02, 0x03]);
     assert_eq!(rt; reader.read_u8(), Ok(0x0a));
@@ -116,6 +149,20 @@ fn writes_unsigned_numbers(rt: HostRuntime) -> Result<(), Fail> {
         assert_eq!(rt; uleb_len(number), want.len(), "at {number}");
     }
     Ok(())
+}
+
+#[test]
+fn writes_unsigned_numbers_in_place(rt: HostRuntime) {
+    let table = [
+        (0, 1, [0x00, 9, 9, 9, 9]),
+        (128, 2, [0x80, 0x01, 9, 9, 9]),
+        (u32::MAX, 5, [0xff, 0xff, 0xff, 0xff, 0x0f]),
+    ];
+    for (number, len, want) in table {
+        let mut buffer = [9; 5];
+        assert_eq!(rt; uleb_into(&mut buffer, number), len, "at {number}");
+        assert_eq!(rt; buffer, want, "at {number}");
+    }
 }
 
 #[test]
