@@ -1,7 +1,15 @@
 pub mod Loops
 pub mod ListLaws
+pub mod CheckLaws
 pub mod TypeLaws
 pub mod BodyLaws
 pub mod ChainLaws
+pub mod AfterLaws
+pub mod EndLaws
+pub mod ConstantLaws
+pub mod LimitLaws
+pub mod GlobalLaws
+pub mod ImportLaws
+pub mod SegmentLaws
 pub mod SectionLaws
 pub mod Ranks

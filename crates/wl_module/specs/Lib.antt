@@ -6,4 +6,13 @@ pub mod Reading
 pub mod Bodies
 pub mod BodiesReading
 pub mod Chains
+pub mod Checks
+pub mod Ends
+pub mod Constants
+pub mod Globals
+pub mod Memories
+pub mod Imports
+pub mod Exports
+pub mod Segments
+pub mod Limits
 pub mod Sections

@@ -1,0 +1,224 @@
+-- The laws of constant expressions.
+use Rattle.std.proofs.Common.{◌≡◌, ◌≢◌, ℕ, suc, ◌+◌, ◌-◌, ◌<◌, ◌≤◌, true, false, List, [], ◌∷◌, ◌++◌, length, take, Option, Some, None, Result, Ok, Err, refl, sym, ap, subst, ◌∙◌, arith, inl, inr, append_assoc, length-append}
+use Rattle.std.proofs.lemmas.List.{take_at}
+use Rattle.std.specs.Prelude.{is_some}
+use Rattle.wl_bytes.specs.Cursor.{Cursor, end_of}
+use Rattle.wl_bytes.specs.Parse.{Takes, ◌>>=◌}
+use Rattle.wl_bytes.specs.Leb.{Form, form_of, s32_form, s64_form, IsU32, IsSigned, SignedFault}
+use Rattle.wl_bytes.specs.Items.{IsStretch, EndsBefore}
+use Rattle.wl_bytes.specs.Reading as bytes
+use Rattle.wl_bytes.specs.Grammar.{Then, ThenFault, then_at, Items}
+use Rattle.wl_bytes.specs.declared.leb.LebForm.{LebForm}
+use Rattle.wl_bytes.specs.declared.leb.LebForm.TheVariants.{S32, S64}
+use Rattle.wl_bytes.proofs.Steps.{bind_ok, bind_err, ok_is}
+use Rattle.wl_bytes.proofs.Readings.{IsReading}
+use Rattle.wl_bytes.proofs.SignedLaws.{signed_reading}
+use Rattle.wl_bytes.proofs.ItemLaws.{take_reading}
+use Rattle.wl_bytes.proofs.GrammarLaws.{then_reading, map_reading, error_reading, take_nothing, nothing_taken, cons_text, first_of_items}
+use Rattle.wl_module.specs.declared.constants.ConstOperator.{ConstOperator}
+use Rattle.wl_module.specs.declared.constants.ConstOperator.TheVariants.{I32Const, I64Const, F32Const, F64Const, GlobalGet, RefNull, RefFunc, I32Add, I32Sub, I32Mul, I64Add, I64Sub, I64Mul, Vector}
+use Rattle.wl_module.specs.declared.error.Why.TheVariants.{Truncated}
+use Rattle.wl_module.specs.declared.error.Form.TheVariants.{ConstOperator as OtherOperator, Operator}
+use Rattle.wl_module.specs.declared.error.ReadError.{ReadError}
+use Rattle.wl_module.specs.declared.error.ReadError.TheVariants.{OutOfMemory, Malformed, Unsupported}
+use Rattle.wl_module.specs.Error.{read_error}
+use Rattle.wl_module.specs.Outcome.{Fails}
+use Rattle.wl_module.specs.Lists.{NumberFault, number_at, IsCoded, CodedFault, coded_at}
+use Rattle.wl_module.specs.Types.{value_type_code}
+use Rattle.wl_module.specs.Reading.{value_type_of}
+use Rattle.wl_module.specs.Bodies.{StretchFault}
+use Rattle.wl_module.specs.BodiesReading.{stretch_at}
+use Rattle.wl_module.specs.Checks.{Where, WhereFault, where_at, Any, any_at, IsNothing, NoFault, nothing_at}
+use Rattle.wl_module.specs.Ends.{ItemOf, Ended, EndedFault, ended_at}
+use Rattle.wl_module.specs.Constants.{operator_code, step_code, all_steps, step_of, first_at, SignedNumberFault, signed_number_at, is_reference, IsReference, ReferenceFault, reference_at, is_vector_const, IsVector, VectorFault, vector_at, IsImmediate, ImmediateFault, immediate_at, IsOperator, IsStepImmediate, IsStep, StepImmediateFault, StepFault, step_immediate_at, step_at, IsExpression, ExpressionFault, expression_at}
+use Rattle.wl_module.proofs.ListLaws.{Decodes, found_code, coded_reading, number_reading}
+use Rattle.wl_module.proofs.TypeLaws.{value_types_decode}
+use Rattle.wl_module.proofs.CheckLaws.{where_reading, any_reading, nothing_reading}
+use Rattle.wl_module.proofs.EndLaws.{AreSteps, end_of_items, parts_of_end, step_shortens, ended_reading}
+
+-- ---- the first bytes
+
+steps_decode : Decodes step_code step_of
+steps_decode = record { back = back; only = λ b x e. found_code step_code all_steps b x e }
+  where
+    back : (x : Option ConstOperator) → step_of (step_code x) ≡ Some x
+    back None = refl
+    back (Some I32Const) = refl
+    back (Some I64Const) = refl
+    back (Some F32Const) = refl
+    back (Some F64Const) = refl
+    back (Some GlobalGet) = refl
+    back (Some RefNull) = refl
+    back (Some RefFunc) = refl
+    back (Some I32Add) = refl
+    back (Some I32Sub) = refl
+    back (Some I32Mul) = refl
+    back (Some I64Add) = refl
+    back (Some I64Sub) = refl
+    back (Some I64Mul) = refl
+    back (Some Vector) = refl
+
+first_reading : IsReading (IsCoded step_code) (CodedFault step_code (λ _. Unsupported OtherOperator)) first_at
+unfolding first_at
+first_reading = coded_reading step_code step_of (λ _. Unsupported OtherOperator) steps_decode
+
+-- ---- what stands behind them
+
+signed_number_reading : (f : LebForm) → IsReading (IsSigned (form_of f)) (SignedNumberFault (form_of f)) (signed_number_at (form_of f))
+signed_number_reading f = error_reading (IsSigned (form_of f)) (SignedFault (form_of f)) (bytes.signed_at (form_of f)) read_error (signed_reading f)
+
+pub stretch_reading : (n : ℕ) → IsReading (IsStretch n) (StretchFault n) (stretch_at n)
+stretch_reading n = error_reading (IsStretch n) (EndsBefore n) (bytes.take_at n) read_error (take_reading n)
+
+reference_reading : IsReading (Any IsReference) ReferenceFault reference_at
+unfolding reference_at
+reference_reading =
+    any_reading IsReference ReferenceFault (where_at (coded_at value_type_of (λ _. Unsupported Operator)) is_reference (Unsupported Operator))
+    (where_reading (IsCoded value_type_code) (CodedFault value_type_code (λ _. Unsupported Operator)) (coded_at value_type_of (λ _. Unsupported Operator)) is_reference (Unsupported Operator)
+    (coded_reading value_type_code value_type_of (λ _. Unsupported Operator) value_types_decode))
+
+vector_reading : IsReading (Any IsVector) VectorFault vector_at
+unfolding vector_at
+vector_reading =
+    any_reading IsVector VectorFault (then_at (where_at number_at is_vector_const (Unsupported OtherOperator)) (λ _. stretch_at 16))
+    (then_reading (Where IsU32 is_vector_const) (λ _. IsStretch 16) (WhereFault IsU32 NumberFault is_vector_const (Unsupported OtherOperator)) (λ _. StretchFault 16) (where_at number_at is_vector_const (Unsupported OtherOperator)) (λ _. stretch_at 16)
+    (where_reading IsU32 NumberFault number_at is_vector_const (Unsupported OtherOperator) number_reading) (λ _. stretch_reading 16))
+
+immediate_reading : (o : ConstOperator) → IsReading (IsImmediate o) (ImmediateFault o) (immediate_at o)
+unfolding immediate_at
+immediate_reading I32Const = any_reading (IsSigned s32_form) (SignedNumberFault s32_form) (signed_number_at s32_form) (signed_number_reading S32)
+immediate_reading I64Const = any_reading (IsSigned s64_form) (SignedNumberFault s64_form) (signed_number_at s64_form) (signed_number_reading S64)
+immediate_reading F32Const = any_reading (IsStretch 4) (StretchFault 4) (stretch_at 4) (stretch_reading 4)
+immediate_reading F64Const = any_reading (IsStretch 8) (StretchFault 8) (stretch_at 8) (stretch_reading 8)
+immediate_reading GlobalGet = any_reading IsU32 NumberFault number_at number_reading
+immediate_reading RefNull = reference_reading
+immediate_reading RefFunc = any_reading IsU32 NumberFault number_at number_reading
+immediate_reading I32Add = nothing_reading
+immediate_reading I32Sub = nothing_reading
+immediate_reading I32Mul = nothing_reading
+immediate_reading I64Add = nothing_reading
+immediate_reading I64Sub = nothing_reading
+immediate_reading I64Mul = nothing_reading
+immediate_reading Vector = vector_reading
+
+step_immediate_reading : (o : Option ConstOperator) → IsReading (IsStepImmediate o) (StepImmediateFault o) (step_immediate_at o)
+unfolding step_immediate_at
+step_immediate_reading None = nothing_reading
+step_immediate_reading (Some o) = immediate_reading o
+
+-- ---- operators
+
+pub step_reading : IsReading IsStep StepFault step_at
+unfolding step_at
+step_reading = map_reading (Then (IsCoded step_code) IsStepImmediate) IsStep StepFault (then_at first_at step_immediate_at) (λ p. p.0) (λ o. (o, tt))
+    (λ place p text s. s) (λ place o text s. (s, refl))
+    (then_reading (IsCoded step_code) IsStepImmediate (CodedFault step_code (λ _. Unsupported OtherOperator)) StepImmediateFault first_at step_immediate_at first_reading step_immediate_reading)
+
+some_step : (text back : List ℕ) (b : ℕ) (front : List ℕ) → text ≡ front ++ back → front ≡ b ∷ [] → text ≢ []
+some_step text back b front e f none = absurd (let whole : text ≡ b ∷ back = e ∙ ap (λ (x : List ℕ). x ++ back) f in cc)
+
+pub are_steps : AreSteps IsStep StepFault step_at
+are_steps = record { each = step_reading; some = λ place x text s. some_step text s.1 (operator_code x) s.0 s.2 s.3 }
+
+-- ---- expressions
+
+abbrev pub steps_reading : IsReading (Ended IsStep) (EndedFault IsStep StepFault) (ended_at step_at (Malformed Truncated))
+steps_reading = ended_reading IsStep StepFault step_at (Malformed Truncated) are_steps
+
+-- the end is one byte
+end_is : (place : ℕ) (text : List ℕ) → IsStep place None text → text ≡ 0x0b ∷ []
+end_is place text s = s.2 ∙ ap (λ (x : List ℕ). x ++ s.1) s.3 ∙ ap (λ (x : List ℕ). 0x0b ∷ x) s.4
+
+abbrev is_end : (place : ℕ) → IsStep place None (0x0b ∷ [])
+is_end place = (0x0b ∷ [], [], refl, refl, refl)
+
+-- the operators and the end as an expression
+pub as_expression : (os : List ConstOperator) (c to : Cursor) (t : Takes (Ended IsStep) os c to) → Takes IsExpression t.spelled.0 c to
+as_expression os c to t = record {
+  text = t.text;
+  spelled = (os, t.spelled.2 ∙ ap (λ (x : List ℕ). t.spelled.0 ++ x) (end_is (c.position + length t.spelled.0) t.spelled.1 t.spelled.4), t.spelled.3);
+  parts = t.parts;
+  moved = t.moved;
+}
+
+abbrev as_steps : (body : List ℕ) (c to : Cursor) (t : Takes IsExpression body c to) → Takes (Ended IsStep) t.spelled.0 c to
+as_steps body c to t = record {
+  text = t.text;
+  spelled = (body, 0x0b ∷ [], t.spelled.1, t.spelled.2, is_end (c.position + length body));
+  parts = t.parts;
+  moved = t.moved;
+}
+
+-- all of it but its last byte
+body_is : (body : List ℕ) (c to : Cursor) → Takes IsExpression body c to → take (to.position - c.position - 1) c.rest ≡ body
+body_is body c to t =
+    let len : to.position - c.position - 1 ≡ length body = omega (arith, t.moved, ap length t.spelled.1, length-append body (0x0b ∷ [])) in
+    let whole : c.rest ≡ body ++ (0x0b ∷ to.rest) = t.parts ∙ ap (λ (x : List ℕ). x ++ to.rest) t.spelled.1 ∙ append_assoc body (0x0b ∷ []) to.rest in
+    rw (len, whole) (take_at body (0x0b ∷ to.rest) (length body) refl)
+
+abbrev body_from : Cursor → List ConstOperator × Cursor → Result (List ℕ × Cursor) ReadError
+body_from c p = Ok (take (p.1.position - c.position - 1) c.rest, p.1)
+
+pub expression_reading : IsReading IsExpression ExpressionFault expression_at
+unfolding expression_at
+expression_reading = record {
+  found = λ c body to e.
+      let a = bind_ok (ended_at step_at (Malformed Truncated) c) (body_from c) (body, to) e in
+      let t = as_expression a.0.0 c a.0.1 (steps_reading.found c a.0.0 a.0.1 a.1) in
+      let same = ok_is {E = ReadError} (take (a.0.1.position - c.position - 1) c.rest, a.0.1) (body, to) a.2 in
+      subst (λ (p : List ℕ × Cursor). Takes IsExpression p.0 c p.1) same (rw (body_is (steps_reading.found c a.0.0 a.0.1 a.1).spelled.0 c a.0.1 t) t);
+  again = λ c body to t.
+      rw (steps_reading.again c t.spelled.0 to (as_steps body c to t), body_is body c to t) refl;
+  fault = λ c e is.
+      elim (bind_err (ended_at step_at (Malformed Truncated) c) (body_from c) e is) [
+        | inl f ↦ steps_reading.fault c e f
+        | inr f ↦ absurd (let g = f.2 in cc)
+      ];
+  fails = λ c e f. rw (steps_reading.fails c e f) refl;
+}
+
+-- ---- the loop
+
+-- behind some operators of the expression at a place
+pub record AreSkipped (os : List ConstOperator) (a b : Cursor) : Type 0 where
+  pub stand : Takes (Items IsOperator) os a b
+
+pub skips_none : (a : Cursor) → AreSkipped [] a a
+skips_none a = record { stand = take_nothing IsOperator a }
+
+one_more : (os : List ConstOperator) (o : ConstOperator) (a b c : Cursor) → Takes (Items IsOperator) os a b → Takes IsOperator o b c → Takes (Items IsOperator) (os ++ o ∷ []) a c
+one_more [] o a b c t u = cons_text IsOperator o [] a c c (subst (λ (d : Cursor). Takes IsOperator o d c) (sym (nothing_taken IsOperator a b t)) u) (take_nothing IsOperator c)
+one_more (p ∷ os) o a b c t u =
+    let f = first_of_items IsOperator p os a b t in
+    cons_text IsOperator p (os ++ o ∷ []) a f.0 c f.1 (one_more os o f.0 b c f.2 u)
+
+step_taken : (o : ConstOperator) (b c : Cursor) → step_at b ≡ Ok (Some o, c) → Takes IsOperator o b c
+step_taken o b c e = let t = step_reading.found b (Some o) c e in record { text = t.text; spelled = t.spelled; parts = t.parts; moved = t.moved }
+
+pub skips_more : (os : List ConstOperator) (o : Option ConstOperator) (a b c : Cursor) → is_some o ≡ true → AreSkipped os a b → step_at b ≡ Ok (o, c) → (qs : List ConstOperator) × AreSkipped qs a c
+skips_more os None a b c some h e = absurd cc
+skips_more os (Some o) a b c some h e = (os ++ o ∷ [], record { stand = one_more os o a b c h.stand (step_taken o b c e) })
+
+pub skips_less : (o : Option ConstOperator) (b c : Cursor) → is_some o ≡ true → step_at b ≡ Ok (o, c) → length c.rest < length b.rest
+skips_less None b c some e = absurd cc
+skips_less (Some o) b c some e = step_shortens IsStep StepFault step_at are_steps o b c (step_taken o b c e)
+
+pub skips_within : (os : List ConstOperator) (a b : Cursor) → AreSkipped os a b → (a.position ≤ b.position) × (b.position - a.position ≤ length a.rest)
+skips_within os a b h = (omega (arith, h.stand.moved), omega (arith, h.stand.moved, ap length h.stand.parts, length-append h.stand.text b.rest))
+
+pub expression_ends : (os : List ConstOperator) (o : Option ConstOperator) (a b c : Cursor) → is_some o ≡ false → AreSkipped os a b → step_at b ≡ Ok (o, c) → expression_at a ≡ Ok (take (b.position - a.position) a.rest, c)
+expression_ends os (Some o) a b c none h e = absurd cc
+expression_ends os None a b c none h e =
+    let t = end_of_items IsStep os a b c h.stand (step_reading.found b None c e) in
+    let x = as_expression os a c t in
+    let len : b.position - a.position ≡ length h.stand.text = omega (arith, h.stand.moved) in
+    let front : take (b.position - a.position) a.rest ≡ h.stand.text = rw (len, h.stand.parts) (take_at h.stand.text b.rest (length h.stand.text) refl) in
+    rw front (expression_reading.again a h.stand.text c x)
+
+fails_so : (os : List ConstOperator) (a b : Cursor) (e : ReadError) → AreSkipped os a b → step_at b ≡ Err e → expression_at a ≡ Err e
+fails_so os a b e h is = expression_reading.fails a e (os, b, h.stand, step_reading.fault b e is)
+
+pub expression_fails : (os : List ConstOperator) (a b : Cursor) (e : ReadError) → AreSkipped os a b → Fails e (step_at b) → Fails e (expression_at a)
+expression_fails os a b OutOfMemory h is = tt
+expression_fails os a b (Malformed why) h is = fails_so os a b (Malformed why) h is
+expression_fails os a b (Unsupported form) h is = fails_so os a b (Unsupported form) h is

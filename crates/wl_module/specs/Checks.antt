@@ -1,0 +1,68 @@
+-- Items under a condition, and items that tell their place or nothing.
+use Rattle.std.specs.Prelude.{◌≡◌, ◌⊎◌, ℕ, ◌-◌, Bool, true, false, if◌then◌else◌, List, [], Option, Some, None, Result, Ok, Err}
+use Rattle.wl_bytes.specs.Cursor.{Cursor}
+use Rattle.wl_bytes.specs.Parse.{Takes, ◌>>=◌}
+use Rattle.wl_bytes.specs.Grammar.{map_at}
+
+-- ---- an item that passes a test
+
+-- the text spells x, and x passes
+abbrev pub Where : {X : Type 0} → (ℕ → X → List ℕ → Type 0) → (X → Bool) → ℕ → X → List ℕ → Type 0
+Where spells test place x text = spells place x text × (test x ≡ true)
+
+-- the item is at fault, or it stands there and fails the test
+abbrev pub WhereFault : {X E : Type 0} → (ℕ → X → List ℕ → Type 0) → (E → Cursor → Type 0) → (X → Bool) → E → E → Cursor → Type 0
+WhereFault {X} spells wrong test failed e from =
+    wrong e from ⊎ ((x : X) × (mid : Cursor) × Takes spells x from mid × (test x ≡ false) × (e ≡ failed))
+
+-- the item in front, if it passes
+abbrev pub where_at : {X E : Type 0} → (Cursor → Result (X × Cursor) E) → (X → Bool) → E → Cursor → Result (X × Cursor) E
+where_at read test failed c = read c >>= λ p. if test p.0 then Ok p else Err failed
+
+-- ---- an item that stands only where it is said to
+
+-- nothing, or the item
+abbrev pub When : {X : Type 0} → (ℕ → X → List ℕ → Type 0) → Bool → ℕ → Option X → List ℕ → Type 0
+When spells false place x text = (x ≡ None) × (text ≡ [])
+When spells true place None text = ⊥
+When spells true place (Some x) text = spells place x text
+
+-- the item is to stand there, and is at fault
+abbrev pub WhenFault : {E : Type 0} → (E → Cursor → Type 0) → Bool → E → Cursor → Type 0
+WhenFault wrong false e from = ⊥
+WhenFault wrong true e from = wrong e from
+
+-- nothing, or the item in front
+abbrev pub when_at : {X E : Type 0} → (Cursor → Result (X × Cursor) E) → Bool → Cursor → Result (Option X × Cursor) E
+when_at read false c = Ok (None, c)
+when_at read true c = map_at (λ x. Some x) read c
+
+-- ---- an item that tells where it stands, and how many bytes it has
+
+-- the item in front, seen by f with its place and its length
+abbrev pub measured_at : {X Y E : Type 0} → (ℕ → ℕ → X → Y) → (Cursor → Result (X × Cursor) E) → Cursor → Result (Y × Cursor) E
+measured_at f read c = read c >>= λ p. Ok (f c.position (p.1.position - c.position) p.0, p.1)
+
+-- ---- an item of which nothing is told
+
+-- the text spells something
+abbrev pub Any : {X : Type 0} → (ℕ → X → List ℕ → Type 0) → ℕ → Unit {0} → List ℕ → Type 0
+Any {X} spells place u text = (x : X) × spells place x text
+
+-- whatever stands in front
+abbrev pub any_at : {X E : Type 0} → (Cursor → Result (X × Cursor) E) → Cursor → Result (Unit {0} × Cursor) E
+any_at read c = map_at (λ _. tt) read c
+
+-- ---- nothing
+
+-- no bytes
+abbrev pub IsNothing : ℕ → Unit {0} → List ℕ → Type 0
+IsNothing place u text = text ≡ []
+
+-- nothing can be wrong
+abbrev pub NoFault : {E : Type 0} → E → Cursor → Type 0
+NoFault e from = ⊥
+
+-- takes nothing
+abbrev pub nothing_at : {E : Type 0} → Cursor → Result (Unit {0} × Cursor) E
+nothing_at c = Ok (tt, c)

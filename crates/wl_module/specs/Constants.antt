@@ -1,0 +1,208 @@
+-- Constant expressions (core specification, "Expressions" and "Constant Expressions").
+use Rattle.std.specs.Prelude.{◌≡◌, ℕ, ℤ, ◌-◌, ◌==◌, Bool, true, false, List, [], ◌∷◌, ◌++◌, Option, Some, None, Result, Ok, take}
+use Rattle.std.specs.List.{find}
+use Rattle.wl_bytes.specs.Cursor.{Cursor}
+use Rattle.wl_bytes.specs.Parse.{Takes, ◌>>=◌}
+use Rattle.wl_bytes.specs.Leb.{Form, s32_form, s64_form, IsU32, IsSigned, SignedFault}
+use Rattle.wl_bytes.specs.Items.{IsStretch}
+use Rattle.wl_bytes.specs.Reading as bytes
+use Rattle.wl_bytes.specs.Grammar.{Then, ThenFault, then_at, Items, map_at, error_of, FaultOf}
+use Rattle.wl_module.specs.declared.constants.ConstOperator.{ConstOperator}
+use Rattle.wl_module.specs.declared.constants.ConstOperator.TheVariants.{I32Const, I64Const, F32Const, F64Const, GlobalGet, RefNull, RefFunc, I32Add, I32Sub, I32Mul, I64Add, I64Sub, I64Mul, Vector}
+use Rattle.wl_module.specs.declared.types.ValType.{ValType}
+use Rattle.wl_module.specs.declared.types.ValType.TheVariants.{I32, I64, F32, F64, V128, FuncRef, ExternRef}
+use Rattle.wl_module.specs.declared.error.Why.TheVariants.{Truncated}
+use Rattle.wl_module.specs.declared.error.Form.TheVariants.{ConstOperator as OtherOperator, Operator}
+use Rattle.wl_module.specs.declared.error.ReadError.{ReadError}
+use Rattle.wl_module.specs.declared.error.ReadError.TheVariants.{Malformed, Unsupported}
+use Rattle.wl_module.specs.Error.{read_error}
+use Rattle.wl_module.specs.Lists.{NumberFault, number_at, IsCoded, CodedFault, coded_at}
+use Rattle.wl_module.specs.Types.{value_type_code}
+use Rattle.wl_module.specs.Reading.{value_type_of}
+use Rattle.wl_module.specs.Bodies.{StretchFault}
+use Rattle.wl_module.specs.BodiesReading.{stretch_at}
+use Rattle.wl_module.specs.Checks.{Where, WhereFault, where_at, Any, any_at, IsNothing, NoFault, nothing_at}
+use Rattle.wl_module.specs.Ends.{ItemOf, EndedFault, ended_at}
+
+-- ---- the first bytes
+
+-- the first byte of each operator
+abbrev pub operator_code : ConstOperator → ℕ
+operator_code I32Const = 0x41
+operator_code I64Const = 0x42
+operator_code F32Const = 0x43
+operator_code F64Const = 0x44
+operator_code GlobalGet = 0x23
+operator_code RefNull = 0xd0
+operator_code RefFunc = 0xd2
+operator_code I32Add = 0x6a
+operator_code I32Sub = 0x6b
+operator_code I32Mul = 0x6c
+operator_code I64Add = 0x7c
+operator_code I64Sub = 0x7d
+operator_code I64Mul = 0x7e
+operator_code Vector = 0xfd
+
+-- an operator, or what ends them
+abbrev pub step_code : Option ConstOperator → ℕ
+step_code None = 0x0b
+step_code (Some o) = operator_code o
+
+-- all of them
+abbrev pub all_steps : List (Option ConstOperator)
+all_steps = None ∷ Some I32Const ∷ Some I64Const ∷ Some F32Const ∷ Some F64Const ∷ Some GlobalGet ∷ Some RefNull ∷ Some RefFunc
+    ∷ Some I32Add ∷ Some I32Sub ∷ Some I32Mul ∷ Some I64Add ∷ Some I64Sub ∷ Some I64Mul ∷ Some Vector ∷ []
+
+-- what begins with that byte
+abbrev pub step_of : ℕ → Option (Option ConstOperator)
+step_of b = find (λ o. step_code o == b) all_steps
+
+-- the first byte in front
+unfoldable pub first_at : Cursor → Result (Option ConstOperator × Cursor) ReadError
+first_at c = coded_at step_of (λ _. Unsupported OtherOperator) c
+
+-- ---- what stands behind them
+
+-- what is wrong where no signed number stands
+abbrev pub SignedNumberFault : Form → ReadError → Cursor → Type 0
+SignedNumberFault form = FaultOf read_error (SignedFault form)
+
+-- the signed number in front
+abbrev pub signed_number_at : Form → Cursor → Result (ℤ × Cursor) ReadError
+signed_number_at form c = error_of read_error (bytes.signed_at form c)
+
+-- the types of references
+abbrev pub is_reference : ValType → Bool
+is_reference I32 = false
+is_reference I64 = false
+is_reference F32 = false
+is_reference F64 = false
+is_reference V128 = false
+is_reference FuncRef = true
+is_reference ExternRef = true
+
+-- the byte of such a type
+abbrev pub IsReference : ℕ → ValType → List ℕ → Type 0
+IsReference = Where (IsCoded value_type_code) is_reference
+
+-- there is no byte, or another one
+abbrev pub ReferenceFault : ReadError → Cursor → Type 0
+ReferenceFault = WhereFault (IsCoded value_type_code) (CodedFault value_type_code (λ _. Unsupported Operator)) is_reference (Unsupported Operator)
+
+-- such a type in front
+unfoldable pub reference_at : Cursor → Result (Unit {0} × Cursor) ReadError
+reference_at c = any_at (where_at (coded_at value_type_of (λ _. Unsupported Operator)) is_reference (Unsupported Operator)) c
+
+-- the number of `v128.const` among the operators that begin as it does
+abbrev pub is_vector_const : ℕ → Bool
+is_vector_const n = n == 0x0c
+
+-- that number, and sixteen bytes
+abbrev pub IsVector : ℕ → ℕ × List ℕ → List ℕ → Type 0
+IsVector = Then (Where IsU32 is_vector_const) (λ _. IsStretch 16)
+
+-- the number is at fault, or another one, or the bytes end
+abbrev pub VectorFault : ReadError → Cursor → Type 0
+VectorFault = ThenFault (Where IsU32 is_vector_const) (WhereFault IsU32 NumberFault is_vector_const (Unsupported OtherOperator)) (λ _. StretchFault 16)
+
+-- both in front
+unfoldable pub vector_at : Cursor → Result (Unit {0} × Cursor) ReadError
+vector_at c = any_at (then_at (where_at number_at is_vector_const (Unsupported OtherOperator)) (λ _. stretch_at 16)) c
+
+-- what stands behind the first byte of each operator: a number, so many bytes, a type, or nothing
+abbrev pub IsImmediate : ConstOperator → ℕ → Unit {0} → List ℕ → Type 0
+IsImmediate I32Const = Any (IsSigned s32_form)
+IsImmediate I64Const = Any (IsSigned s64_form)
+IsImmediate F32Const = Any (IsStretch 4)
+IsImmediate F64Const = Any (IsStretch 8)
+IsImmediate GlobalGet = Any IsU32
+IsImmediate RefNull = Any IsReference
+IsImmediate RefFunc = Any IsU32
+IsImmediate I32Add = IsNothing
+IsImmediate I32Sub = IsNothing
+IsImmediate I32Mul = IsNothing
+IsImmediate I64Add = IsNothing
+IsImmediate I64Sub = IsNothing
+IsImmediate I64Mul = IsNothing
+IsImmediate Vector = Any IsVector
+
+-- what is wrong with it
+abbrev pub ImmediateFault : ConstOperator → ReadError → Cursor → Type 0
+ImmediateFault I32Const = SignedNumberFault s32_form
+ImmediateFault I64Const = SignedNumberFault s64_form
+ImmediateFault F32Const = StretchFault 4
+ImmediateFault F64Const = StretchFault 8
+ImmediateFault GlobalGet = NumberFault
+ImmediateFault RefNull = ReferenceFault
+ImmediateFault RefFunc = NumberFault
+ImmediateFault I32Add = NoFault
+ImmediateFault I32Sub = NoFault
+ImmediateFault I32Mul = NoFault
+ImmediateFault I64Add = NoFault
+ImmediateFault I64Sub = NoFault
+ImmediateFault I64Mul = NoFault
+ImmediateFault Vector = VectorFault
+
+-- what stands in front
+unfoldable pub immediate_at : ConstOperator → Cursor → Result (Unit {0} × Cursor) ReadError
+immediate_at I32Const c = any_at (signed_number_at s32_form) c
+immediate_at I64Const c = any_at (signed_number_at s64_form) c
+immediate_at F32Const c = any_at (stretch_at 4) c
+immediate_at F64Const c = any_at (stretch_at 8) c
+immediate_at GlobalGet c = any_at number_at c
+immediate_at RefNull c = reference_at c
+immediate_at RefFunc c = any_at number_at c
+immediate_at I32Add c = nothing_at c
+immediate_at I32Sub c = nothing_at c
+immediate_at I32Mul c = nothing_at c
+immediate_at I64Add c = nothing_at c
+immediate_at I64Sub c = nothing_at c
+immediate_at I64Mul c = nothing_at c
+immediate_at Vector c = vector_at c
+
+-- ---- operators
+
+-- an operator: its first byte, and what stands behind it
+abbrev pub IsOperator : ℕ → ConstOperator → List ℕ → Type 0
+IsOperator place o text = Then (IsCoded operator_code) IsImmediate place (o, tt) text
+
+-- behind the end nothing more belongs to the expression
+abbrev pub IsStepImmediate : Option ConstOperator → ℕ → Unit {0} → List ℕ → Type 0
+IsStepImmediate None = IsNothing
+IsStepImmediate (Some o) = IsImmediate o
+
+-- an operator, or the end
+abbrev pub IsStep : ℕ → Option ConstOperator → List ℕ → Type 0
+IsStep place o text = Then (IsCoded step_code) IsStepImmediate place (o, tt) text
+
+-- what is wrong behind the first byte
+abbrev pub StepImmediateFault : Option ConstOperator → ReadError → Cursor → Type 0
+StepImmediateFault None = NoFault
+StepImmediateFault (Some o) = ImmediateFault o
+
+-- there is no byte, or one that begins no operator and isn't the end; or what stands behind it is at fault
+abbrev pub StepFault : ReadError → Cursor → Type 0
+StepFault = ThenFault (IsCoded step_code) (CodedFault step_code (λ _. Unsupported OtherOperator)) StepImmediateFault
+
+-- what stands behind the first byte in front
+unfoldable pub step_immediate_at : Option ConstOperator → Cursor → Result (Unit {0} × Cursor) ReadError
+step_immediate_at None c = nothing_at c
+step_immediate_at (Some o) c = immediate_at o c
+
+-- the operator or the end in front
+unfoldable pub step_at : Cursor → Result (Option ConstOperator × Cursor) ReadError
+step_at c = map_at (λ p. p.0) (then_at first_at step_immediate_at) c
+
+-- ---- expressions
+
+-- operators, and then the byte 0x0b, which isn't told
+abbrev pub IsExpression : ℕ → List ℕ → List ℕ → Type 0
+IsExpression place body text = (os : List ConstOperator) × (text ≡ body ++ 0x0b ∷ []) × Items IsOperator place os body
+
+-- behind some operators stands neither another one nor the end
+abbrev pub ExpressionFault : ReadError → Cursor → Type 0
+ExpressionFault e from = (os : List ConstOperator) × (mid : Cursor) × Takes (Items IsOperator) os from mid × StepFault e mid
+
+-- the expression in front
+unfoldable pub expression_at : Cursor → Result (List ℕ × Cursor) ReadError
+expression_at c = ended_at step_at (Malformed Truncated) c >>= λ p. Ok (take (p.1.position - c.position - 1) c.rest, p.1)

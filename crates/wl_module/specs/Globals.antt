@@ -1,0 +1,79 @@
+-- Global types and the global section (core specification, "Global Types" and "Global Section").
+use Rattle.std.specs.Prelude.{ℕ, ◌==◌, Bool, true, false, List, [], ◌∷◌, Option, Result}
+use Rattle.std.specs.List.{find}
+use Rattle.wl_bytes.specs.Cursor.{Cursor}
+use Rattle.wl_bytes.specs.Grammar.{Then, ThenFault, then_at, map_at}
+use Rattle.wl_module.specs.declared.globals.GlobalType.{GlobalType}
+use Rattle.wl_module.specs.declared.error.Why.TheVariants.{BadByte}
+use Rattle.wl_module.specs.declared.error.ReadError.{ReadError}
+use Rattle.wl_module.specs.declared.error.ReadError.TheVariants.{Malformed}
+use Rattle.wl_module.specs.Lists.{IsCoded, CodedFault, coded_at, Listed, ListedFault, list_at, Whole, WholeFault, whole_of}
+use Rattle.wl_module.specs.Types.{IsValueType, ValueTypeFault}
+use Rattle.wl_module.specs.Reading.{value_type_at}
+use Rattle.wl_module.specs.Constants.{IsExpression, ExpressionFault, expression_at}
+
+-- ---- global types
+
+-- the byte that says whether a global may change
+abbrev pub mutability_code : Bool → ℕ
+mutability_code false = 0
+mutability_code true = 1
+
+-- what that byte says
+abbrev pub mutability_of : ℕ → Option Bool
+mutability_of b = find (λ m. mutability_code m == b) (false ∷ true ∷ [])
+
+-- that byte
+abbrev pub IsMutability : ℕ → Bool → List ℕ → Type 0
+IsMutability = IsCoded mutability_code
+
+-- there is no byte, or another one
+abbrev pub MutabilityFault : ReadError → Cursor → Type 0
+MutabilityFault = CodedFault mutability_code (λ _. Malformed BadByte)
+
+-- what the byte in front says
+unfoldable pub mutability_at : Cursor → Result (Bool × Cursor) ReadError
+mutability_at c = coded_at mutability_of (λ _. Malformed BadByte) c
+
+-- a value type, and whether it may change
+abbrev pub IsGlobalType : ℕ → GlobalType → List ℕ → Type 0
+IsGlobalType place g text = Then IsValueType (λ _. IsMutability) place (g.content_type, g.mutable) text
+
+-- the first of the two that is at fault
+abbrev pub GlobalTypeFault : ReadError → Cursor → Type 0
+GlobalTypeFault = ThenFault IsValueType ValueTypeFault (λ _. MutabilityFault)
+
+-- the global type in front
+unfoldable pub global_type_at : Cursor → Result (GlobalType × Cursor) ReadError
+global_type_at c = map_at (λ p. record { content_type = p.0; mutable = p.1 }) (then_at value_type_at (λ _. mutability_at)) c
+
+-- ---- the section
+
+-- a global as clauses see it: its type, and the expression that it starts with
+pub record DefinedGlobal : Type 0 where
+  pub ty : GlobalType
+  pub body : List ℕ
+
+-- its type, and the expression
+abbrev pub IsGlobal : ℕ → DefinedGlobal → List ℕ → Type 0
+IsGlobal place g text = Then IsGlobalType (λ _. IsExpression) place (g.ty, g.body) text
+
+-- the first of the two that is at fault
+abbrev pub GlobalFault : ReadError → Cursor → Type 0
+GlobalFault = ThenFault IsGlobalType GlobalTypeFault (λ _. ExpressionFault)
+
+-- the global in front
+unfoldable pub global_at : Cursor → Result (DefinedGlobal × Cursor) ReadError
+global_at c = map_at (λ p. record { ty = p.0; body = p.1 }) (then_at global_type_at (λ _. expression_at)) c
+
+-- the payload is a list of these globals
+abbrev pub AreGlobals : List DefinedGlobal → List ℕ → Type 0
+AreGlobals = Whole (Listed IsGlobal)
+
+-- what is wrong with a payload that is no list of globals
+abbrev pub GlobalsFault : ReadError → List ℕ → Type 0
+GlobalsFault = WholeFault (Listed IsGlobal) (ListedFault IsGlobal GlobalFault)
+
+-- the globals of a whole payload
+abbrev pub globals_of : List ℕ → Result (List DefinedGlobal) ReadError
+globals_of payload = whole_of (list_at global_at) payload

@@ -1,0 +1,129 @@
+-- The data section (core specification, "Data Section").
+use Rattle.std.specs.Prelude.{◌≡◌, ℕ, ◌+◌, ◌-◌, ◌==◌, List, [], ◌∷◌, ◌++◌, length, Option, Some, None, Result}
+use Rattle.std.specs.List.{find}
+use Rattle.wl_bytes.specs.Cursor.{Cursor}
+use Rattle.wl_bytes.specs.Leb.{IsU32}
+use Rattle.wl_bytes.specs.Items.{IsStretch}
+use Rattle.wl_bytes.specs.Grammar.{Then, ThenFault, then_at, map_at}
+use Rattle.wl_module.specs.declared.segments.DataKind.{DataKind}
+use Rattle.wl_module.specs.declared.segments.DataKind.TheVariants.{Passive, Active}
+use Rattle.wl_module.specs.declared.segments.SegmentFlag.{SegmentFlag}
+use Rattle.wl_module.specs.declared.segments.SegmentFlag.TheVariants.{InMemory, InNoMemory, InMemoryOf}
+use Rattle.wl_module.specs.declared.error.Why.TheVariants.{BadByte}
+use Rattle.wl_module.specs.declared.error.ReadError.{ReadError}
+use Rattle.wl_module.specs.declared.error.ReadError.TheVariants.{Malformed}
+use Rattle.wl_module.specs.Lists.{NumberFault, number_at, IsCoded, CodedFault, coded_at, Listed, ListedFault, list_at, Whole, WholeFault, whole_of}
+use Rattle.wl_module.specs.Bodies.{StretchFault}
+use Rattle.wl_module.specs.BodiesReading.{stretch_at}
+use Rattle.wl_module.specs.Checks.{IsNothing, NoFault, nothing_at, measured_at}
+use Rattle.wl_module.specs.Constants.{IsExpression, ExpressionFault, expression_at}
+
+-- ---- flags
+
+-- the byte in front of a segment
+abbrev pub segment_code : SegmentFlag → ℕ
+segment_code InMemory = 0
+segment_code InNoMemory = 1
+segment_code InMemoryOf = 2
+
+-- what that byte says
+abbrev pub segment_flag_of : ℕ → Option SegmentFlag
+segment_flag_of b = find (λ f. segment_code f == b) (InMemory ∷ InNoMemory ∷ InMemoryOf ∷ [])
+
+-- there is no byte, or another one
+abbrev pub SegmentFlagFault : ReadError → Cursor → Type 0
+SegmentFlagFault = CodedFault segment_code (λ _. Malformed BadByte)
+
+-- the flag in front
+unfoldable pub segment_flag_at : Cursor → Result (SegmentFlag × Cursor) ReadError
+segment_flag_at c = coded_at segment_flag_of (λ _. Malformed BadByte) c
+
+-- ---- where a segment goes
+
+-- the memory of an active segment, the first one where none is named, and the expression of its place
+abbrev pub IsTarget : SegmentFlag → ℕ → Option ℕ → List ℕ → Type 0
+IsTarget InMemory place m text = (m ≡ Some 0) × ((body : List ℕ) × IsExpression place body text)
+IsTarget InNoMemory place m text = (m ≡ None) × (text ≡ [])
+IsTarget InMemoryOf place m text = (n : ℕ) × (m ≡ Some n) × ((body : List ℕ) × Then IsU32 (λ _. IsExpression) place (n, body) text)
+
+-- what is wrong with it
+abbrev pub TargetFault : SegmentFlag → ReadError → Cursor → Type 0
+TargetFault InMemory = ExpressionFault
+TargetFault InNoMemory = NoFault
+TargetFault InMemoryOf = ThenFault IsU32 NumberFault (λ _. ExpressionFault)
+
+-- the memory that is named in front
+unfoldable pub target_at : SegmentFlag → Cursor → Result (Option ℕ × Cursor) ReadError
+target_at InMemory c = map_at (λ _. Some 0) expression_at c
+target_at InNoMemory c = map_at (λ _. None) nothing_at c
+target_at InMemoryOf c = map_at (λ p. Some p.0) (then_at number_at (λ _. expression_at)) c
+
+-- ---- the bytes
+
+-- their number, and then they
+abbrev pub AreCounted : ℕ → List ℕ → List ℕ → Type 0
+AreCounted place bytes text = (head : List ℕ) × (text ≡ head ++ bytes) × IsU32 place (length bytes) head
+
+-- the number is at fault, or fewer are left
+abbrev pub CountedFault : ReadError → Cursor → Type 0
+CountedFault = ThenFault IsU32 NumberFault StretchFault
+
+-- the bytes in front
+unfoldable pub counted_at : Cursor → Result (List ℕ × Cursor) ReadError
+counted_at c = map_at (λ p. p.1) (then_at number_at stretch_at) c
+
+-- ---- segments
+
+-- A segment as clauses see it: whether it goes into a memory when the module starts, and into which; its bytes; how many
+-- bytes of the section's payload lie before them; and how many bytes the whole segment takes.
+pub record Segment : Type 0 where
+  pub kind : DataKind
+  pub memory : Option ℕ
+  pub payload : List ℕ
+  pub section_offset : ℕ
+  pub encoded_size : ℕ
+
+-- which kind a flag says
+abbrev pub segment_kind : SegmentFlag → DataKind
+segment_kind InMemory = Active
+segment_kind InNoMemory = Passive
+segment_kind InMemoryOf = Active
+
+-- the flag, where it goes, and the bytes
+abbrev pub IsSegmentText : ℕ → SegmentFlag × (Option ℕ × List ℕ) → List ℕ → Type 0
+IsSegmentText = Then (IsCoded segment_code) (λ f. Then (IsTarget f) (λ _. AreCounted))
+
+-- that text; the payload ends where it ends
+abbrev pub IsSegment : ℕ → Segment → List ℕ → Type 0
+IsSegment place s text = (f : SegmentFlag) × IsSegmentText place (f, (s.memory, s.payload)) text
+    × (s.kind ≡ segment_kind f) × (s.section_offset + length s.payload ≡ place + length text) × (s.encoded_size ≡ length text)
+
+-- the first of the three that is at fault
+abbrev pub SegmentFault : ReadError → Cursor → Type 0
+SegmentFault = ThenFault (IsCoded segment_code) SegmentFlagFault (λ f. ThenFault (IsTarget f) (TargetFault f) (λ _. CountedFault))
+
+-- what was read as a segment of so many bytes, which stands at a place
+abbrev pub segment_from : ℕ → ℕ → SegmentFlag × (Option ℕ × List ℕ) → Segment
+segment_from place len p = record {
+  kind = segment_kind p.0;
+  memory = p.1.0;
+  payload = p.1.1;
+  section_offset = place + len - length p.1.1;
+  encoded_size = len;
+}
+
+-- the segment in front
+unfoldable pub segment_at : Cursor → Result (Segment × Cursor) ReadError
+segment_at c = measured_at segment_from (then_at segment_flag_at (λ f. then_at (target_at f) (λ _. counted_at))) c
+
+-- the payload is a list of these segments
+abbrev pub AreSegments : List Segment → List ℕ → Type 0
+AreSegments = Whole (Listed IsSegment)
+
+-- what is wrong with a payload that is no list of segments
+abbrev pub SegmentsFault : ReadError → List ℕ → Type 0
+SegmentsFault = WholeFault (Listed IsSegment) (ListedFault IsSegment SegmentFault)
+
+-- the segments of a whole payload
+abbrev pub segments_of : List ℕ → Result (List Segment) ReadError
+segments_of payload = whole_of (list_at segment_at) payload

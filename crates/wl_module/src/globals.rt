@@ -1,0 +1,114 @@
+//! The global section: the globals that a module defines.
+
+ghost use Rattle.std.specs.Prelude.{◌≡◌};
+ghost use Rattle.wl_bytes.specs.Cursor.{end_of};
+ghost use Rattle.wl_module.specs.Globals.{mutability_at, global_type_at, global_at, AreGlobals, GlobalsFault};
+ghost use Rattle.wl_module.specs.Outcome.{Yields, ReadsWhole, AreAlternatives};
+
+use crate::constants::read_expression;
+use crate::error::{ReadError, Why};
+use crate::items::{Item, read_payload};
+use crate::types::{ValType, read_value_type};
+use std::alloc::Global;
+use std::borrow::CowSlice;
+use std::marker::Model;
+use wl_bytes::Reader;
+
+/// The type of a global.
+#[derive(Clone, Copy, Debug, PartialEq, Eq)]
+pub struct GlobalType {
+    /// The type of its value.
+    pub content_type: ValType,
+    /// Whether its value may change.
+    pub mutable: bool,
+}
+
+/// A global that a module defines. Clauses see it as a `DefinedGlobal`, a record of its type and
+/// of the bytes as a list.
+#[derive(Drop)]
+pub struct OutputGlobal<'a> {
+    /// Its type.
+    pub ty: GlobalType,
+    /// The constant expression of the value that it starts with, without the byte 0x0b that ends
+    /// it.
+    pub init_expr_body: CowSlice<'a, u8>,
+}
+
+impl<'a> Model for OutputGlobal<'a> {
+    ghost use Rattle.std.specs.Cow.{cow_slice_items};
+    ghost use Rattle.wl_module.specs.Globals.{DefinedGlobal};
+
+    ghost Value = { DefinedGlobal };
+
+    ghost view = { λ g. record { ty = g.ty; body = cow_slice_items g.init_expr_body } };
+}
+
+impl<'a> Item<'a> for OutputGlobal<'a> {
+    ghost use Rattle.wl_module.specs.Globals.{global_at};
+
+    ghost item_at = { global_at };
+
+    ghost may_end = { λ _. Unit {0} };
+
+    fn read(_alloc: Global, reader: &mut Reader<'a>) -> Result<Self, ReadError> {
+        read_global(reader)
+    }
+}
+
+/// The byte that says whether a global may change.
+#[tactic(auto, unfolding(crate::specs::Globals::mutability_at))]
+fn read_mutability(reader: &mut Reader<'_>) -> Result<bool, ReadError>
+    ensures value { Yields (λ m. m) result reader.new (mutability_at reader.old) }
+    ensures end { end_of reader.new ≡ end_of reader.old }
+{
+    match reader.read_u8()? {
+        0 => Ok(false),
+        1 => Ok(true),
+        _ => Err(ReadError::Malformed(Why::BadByte)),
+    }
+}
+
+/// The global type in front.
+#[tactic(auto, unfolding(crate::specs::Globals::global_type_at))]
+pub(crate) fn read_global_type(reader: &mut Reader<'_>) -> Result<GlobalType, ReadError>
+    ensures value { Yields (λ g. g) result reader.new (global_type_at reader.old) }
+    ensures end { end_of reader.new ≡ end_of reader.old }
+{
+    let content_type = read_value_type(reader)?;
+    let mutable = read_mutability(reader)?;
+    Ok(GlobalType {
+        content_type,
+        mutable,
+    })
+}
+
+/// The global in front.
+#[tactic(auto, unfolding(crate::specs::Globals::global_at))]
+fn read_global<'a>(reader: &mut Reader<'a>) -> Result<OutputGlobal<'a>, ReadError>
+    ensures value { Yields (λ g. g) result reader.new (global_at reader.old) }
+    ensures end { end_of reader.new ≡ end_of reader.old }
+{
+    let ty = read_global_type(reader)?;
+    let body = read_expression(reader)?;
+    Ok(OutputGlobal {
+        ty,
+        init_expr_body: CowSlice::Borrowed(body),
+    })
+}
+
+/// Reads the payload of a global section (core specification, "Global Section"): the globals that
+/// the module defines, in order. Their expressions are slices of the payload.
+///
+/// A byte other than 0 and 1 behind the value type is `Malformed(BadByte)`, another operator than
+/// those of constant expressions `Unsupported(ConstOperator)`. The expressions aren't typed, and
+/// the indices in them aren't looked at.
+pub fn read_globals(alloc: Global, payload: &[u8]) -> Result<Vec<OutputGlobal<'_>>, ReadError>
+    ensures { ReadsWhole (λ v. v.items) AreGlobals GlobalsFault payload.now result }
+{
+    read_payload(alloc, payload)
+}
+
+/// Each payload spells one list of globals or has one fault, and never both.
+pub fn globals_or_fault()
+    ensures { AreAlternatives AreGlobals GlobalsFault }
+{}

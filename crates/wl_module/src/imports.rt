@@ -1,0 +1,253 @@
+//! The import section: what a module takes from others.
+
+ghost use Rattle.std.specs.Prelude.{◌≡◌, false};
+ghost use Rattle.wl_bytes.specs.Cursor.{end_of};
+ghost use Rattle.wl_module.specs.Chains.{times_after_at};
+ghost use Rattle.wl_module.specs.Imports.{kind_at, entity_at, import_at, is_memory, import_after_at, import_seen, imports_of, AreImports, ImportsFault, function_import, global_import};
+ghost use Rattle.wl_module.specs.Outcome.{Yields, Gives, ReadsWhole, AreAlternatives};
+
+use crate::error::{Form, ReadError, Why};
+use crate::globals::{GlobalType, read_global_type};
+use crate::limits::{MemoryType, TableType, read_memory_type, read_table_type};
+use std::alloc::Global;
+use std::marker::Model;
+use wl_bytes::Reader;
+
+/// What can be imported and exported.
+#[derive(Clone, Copy, Debug, PartialEq, Eq)]
+pub enum ExternalKind {
+    /// A function.
+    Func,
+    /// A table.
+    Table,
+    /// A memory.
+    Memory,
+    /// A global.
+    Global,
+}
+
+/// What is imported, with its type.
+#[derive(Clone, Copy, Debug, PartialEq, Eq)]
+pub enum ImportEntity {
+    /// A function, with the index of its type.
+    Func(u32),
+    /// A table of references to functions.
+    Table(TableType),
+    /// A memory.
+    Memory(MemoryType),
+    /// A global.
+    Global(GlobalType),
+}
+
+/// What a module takes from another one. Clauses see it as an `Imported`, a record with the names
+/// as lists.
+#[derive(Drop)]
+pub struct Import<'a> {
+    /// The name of the module that it is from.
+    pub module: &'a str,
+    /// The name that it has there.
+    pub name: &'a str,
+    /// What it is.
+    pub entity: ImportEntity,
+}
+
+impl<'a> Model for Import<'a> {
+    ghost use Rattle.wl_module.specs.Imports.{Imported};
+
+    ghost Value = { Imported };
+
+    ghost view = { λ i. record { origin = i.module.now; name = i.name.now; entity = i.entity } };
+}
+
+/// An imported function. Clauses see it as an `ImportedFunction`.
+#[derive(Drop)]
+pub struct WasmFunctionImport<'a> {
+    /// The name of the module that it is from.
+    pub module: &'a str,
+    /// The name that it has there.
+    pub name: &'a str,
+    /// The index of its type.
+    pub type_index: u32,
+}
+
+impl<'a> Model for WasmFunctionImport<'a> {
+    ghost use Rattle.wl_module.specs.Imports.{ImportedFunction};
+
+    ghost Value = { ImportedFunction };
+
+    ghost view = { λ i. record { origin = i.module.now; name = i.name.now; type_index = i.type_index } };
+}
+
+/// An imported global. Clauses see it as an `ImportedGlobal`.
+#[derive(Drop)]
+pub struct WasmGlobalImport<'a> {
+    /// The name of the module that it is from.
+    pub module: &'a str,
+    /// The name that it has there.
+    pub name: &'a str,
+    /// Its type.
+    pub ty: GlobalType,
+}
+
+impl<'a> Model for WasmGlobalImport<'a> {
+    ghost use Rattle.wl_module.specs.Imports.{ImportedGlobal};
+
+    ghost Value = { ImportedGlobal };
+
+    ghost view = { λ i. record { origin = i.module.now; name = i.name.now; ty = i.ty } };
+}
+
+impl<'a> Import<'a> {
+    /// The import as one of a function, where it is one.
+    pub fn as_function(&self) -> Option<WasmFunctionImport<'a>>
+        ensures { result ≡ function_import self.now }
+    {
+        match self.entity {
+            ImportEntity::Func(type_index) => Some(WasmFunctionImport {
+                module: self.module,
+                name: self.name,
+                type_index,
+            }),
+            ImportEntity::Table(_) | ImportEntity::Memory(_) | ImportEntity::Global(_) => None,
+        }
+    }
+
+    /// The import as one of a global, where it is one.
+    pub fn as_global(&self) -> Option<WasmGlobalImport<'a>>
+        ensures { result ≡ global_import self.now }
+    {
+        match self.entity {
+            ImportEntity::Global(ty) => Some(WasmGlobalImport {
+                module: self.module,
+                name: self.name,
+                ty,
+            }),
+            ImportEntity::Func(_) | ImportEntity::Table(_) | ImportEntity::Memory(_) => None,
+        }
+    }
+
+    /// Whether a memory is imported.
+    fn is_memory(&self) -> bool
+        ensures { result ≡ is_memory self.now.entity }
+    {
+        match self.entity {
+            ImportEntity::Memory(_) => true,
+            ImportEntity::Func(_) | ImportEntity::Table(_) | ImportEntity::Global(_) => false,
+        }
+    }
+}
+
+/// The byte that tells the kind of what is imported or exported.
+#[tactic(auto, unfolding(crate::specs::Imports::kind_at))]
+pub(crate) fn read_kind(reader: &mut Reader<'_>) -> Result<ExternalKind, ReadError>
+    ensures value { Yields (λ k. k) result reader.new (kind_at reader.old) }
+    ensures end { end_of reader.new ≡ end_of reader.old }
+{
+    match reader.read_u8()? {
+        0 => Ok(ExternalKind::Func),
+        1 => Ok(ExternalKind::Table),
+        2 => Ok(ExternalKind::Memory),
+        3 => Ok(ExternalKind::Global),
+        4 => Err(ReadError::Unsupported(Form::Tag)),
+        _ => Err(ReadError::Malformed(Why::BadByte)),
+    }
+}
+
+/// What is imported, of a kind that is known.
+#[tactic(auto, unfolding(crate::specs::Imports::entity_at))]
+fn read_entity(kind: ExternalKind, reader: &mut Reader<'_>) -> Result<ImportEntity, ReadError>
+    ensures { Yields (λ e. e) result reader.new (entity_at kind reader.old) }
+{
+    match kind {
+        ExternalKind::Func => Ok(ImportEntity::Func(reader.read_u32()?)),
+        ExternalKind::Table => Ok(ImportEntity::Table(read_table_type(reader)?)),
+        ExternalKind::Memory => Ok(ImportEntity::Memory(read_memory_type(reader)?)),
+        ExternalKind::Global => Ok(ImportEntity::Global(read_global_type(reader)?)),
+    }
+}
+
+/// The import in front.
+#[tactic(auto, unfolding(crate::specs::Imports::import_at))]
+fn read_import<'a>(reader: &mut Reader<'a>) -> Result<Import<'a>, ReadError>
+    ensures { Yields (λ i. i) result reader.new (import_at reader.old) }
+{
+    let module = reader.read_name()?;
+    let name = reader.read_name()?;
+    let kind = read_kind(reader)?;
+    let entity = read_entity(kind, reader)?;
+    Ok(Import {
+        module,
+        name,
+        entity,
+    })
+}
+
+/// The import in front, which may not be a memory where there is one.
+#[tactic(auto, unfolding(crate::specs::Imports::import_after_at))]
+fn read_import_after<'a>(seen: bool, reader: &mut Reader<'a>) -> Result<Import<'a>, ReadError>
+    ensures { Yields (λ i. i) result reader.new (import_after_at seen reader.old) }
+{
+    let import = read_import(reader)?;
+    if seen && import.is_memory() {
+        return Err(ReadError::Unsupported(Form::ManyMemories));
+    }
+    Ok(import)
+}
+
+/// Whether there is a memory behind one more import.
+fn seen_after(seen: bool, import: &Import<'_>) -> bool
+    ensures { result ≡ import_seen seen import.now }
+{
+    seen || import.is_memory()
+}
+
+/// So many imports, in a list that grows as they are read.
+fn imports_in<'a>(
+    alloc: Global,
+    reader: &mut Reader<'a>,
+    count: u32,
+) -> Result<Vec<Import<'a>>, ReadError>
+    ensures { Yields (λ v. v.items) result reader.new (times_after_at import_after_at import_seen count false reader.old) }
+{
+    let mut imports = Vec::new(alloc);
+    let mut seen = false;
+    for _ in 0..count {
+        let import = read_import_after(seen, reader)?;
+        seen = seen_after(seen, &import);
+        imports.push(import)?;
+    }
+    Ok(imports)
+}
+
+/// The imports of a whole payload.
+fn payload_imports(alloc: Global, payload: &[u8]) -> Result<Vec<Import<'_>>, ReadError>
+    ensures { Gives (λ v. v.items) result (imports_of payload.now) }
+{
+    let mut reader = Reader::new(payload);
+    let count = reader.read_u32()?;
+    let imports = imports_in(alloc, &mut reader, count)?;
+    if !reader.rest().is_empty() {
+        return Err(ReadError::Malformed(Why::Trailing));
+    }
+    Ok(imports)
+}
+
+/// Reads the payload of an import section (core specification, "Import Section"): the imports in
+/// order, their names slices of the payload. The indices of types aren't looked at.
+///
+/// Of an import the names are judged first, then its kind (`Malformed(BadByte)`, and
+/// `Unsupported(Tag)` for an exception tag), then its type. A table of other elements than
+/// `funcref` is `Unsupported(TableType)`, a shared or 64-bit one `Unsupported(TableForm)`; a memory
+/// with addresses of 64 bits `Unsupported(Memory64)`, with pages of another size
+/// `Unsupported(PageSize)`; limits that can't be are `Malformed(BadLimits)`. A second memory is
+/// `Unsupported(ManyMemories)`, once its limits are read.
+pub fn read_imports(alloc: Global, payload: &[u8]) -> Result<Vec<Import<'_>>, ReadError>
+    ensures { ReadsWhole (λ v. v.items) AreImports ImportsFault payload.now result }
+{
+    payload_imports(alloc, payload)
+}
+
+/// Each payload spells one list of imports or has one fault, and never both.
+pub fn imports_or_fault()
+    ensures { AreAlternatives AreImports ImportsFault }
+{}
