@@ -1,11 +1,15 @@
 -- Items under a condition are read as the items are.
-use Rattle.std.proofs.Common.{◌≡◌, ℕ, ◌+◌, ◌-◌, Bool, true, false, cond, List, [], ◌++◌, length, Option, Some, None, Result, Ok, Err, refl, sym, ap, subst, ◌∙◌, arith, inl, inr}
+use Rattle.std.proofs.Common.{◌≡◌, ℕ, ◌+◌, ◌-◌, ◌≤◌, Bool, true, false, cond, List, [], ◌++◌, length, Option, Some, None, Result, Ok, Err, refl, sym, ap, subst, ◌∙◌, arith, inl, inr, length-append}
 use Rattle.wl_bytes.specs.Cursor.{Cursor}
 use Rattle.wl_bytes.specs.Parse.{Takes, ◌>>=◌}
 use Rattle.wl_bytes.specs.Grammar.{map_at}
 use Rattle.wl_bytes.proofs.Steps.{bind_ok, bind_err, chosen, ok_is, err_is}
 use Rattle.wl_bytes.proofs.Readings.{IsReading}
 use Rattle.wl_bytes.proofs.GrammarLaws.{cursor_is, map_reading, seen_reading}
+use Rattle.wl_bytes.specs.Items.{IsName}
+use Rattle.wl_module.specs.Lists.{WordFault, word_at}
+use Rattle.wl_module.specs.Words.{IsPlacedName, placed_name, placed_name_at}
+use Rattle.wl_module.proofs.ListLaws.{word_reading}
 use Rattle.wl_module.specs.Checks.{Where, WhereFault, where_at, When, WhenFault, when_at, measured_at, Any, any_at, IsNothing, NoFault, nothing_at}
 
 -- ---- an item that passes a test
@@ -115,3 +119,26 @@ nothing_reading {E} = record {
   fault = λ c e is. absurd cc;
   fails = λ c e f. absurd f;
 }
+
+-- ---- names
+
+pub placed_name_reading : IsReading IsPlacedName WordFault placed_name_at
+unfolding placed_name_at
+placed_name_reading = measured_reading IsName IsPlacedName WordFault word_at placed_name
+    (λ place name text s. (s, omega (arith, within place name text s)))
+    (λ place w text s. (w.0, s.0, same place w text s))
+    word_reading
+  where
+    within : (place : ℕ) (name text : List ℕ) → IsName place name text → length name ≤ length text
+    within place name text s = omega (arith, ap length s.1, length-append s.0 name)
+
+    same : (place : ℕ) (w : List ℕ × ℕ) (text : List ℕ) → IsPlacedName place w text → placed_name place (length text) w.0 ≡ w
+    same place w text s = let at : place + length text - length w.0 ≡ w.1 = omega (arith, s.1) in rw at refl
+
+-- a name that was read tells its place
+pub name_placed : (c to : Cursor) (name : List ℕ) → word_at c ≡ Ok (name, to) → placed_name_at c ≡ Ok ((name, to.position - length name), to)
+unfolding placed_name_at
+name_placed c to name e =
+    let t = word_reading.found c name to e in
+    let at : c.position + (to.position - c.position) - length name ≡ to.position - length name = omega (arith, t.moved) in
+    rw (e, at) refl

@@ -17,13 +17,14 @@ use Rattle.wl_module.specs.declared.error.Form.TheVariants.{ManyMemories}
 use Rattle.wl_module.specs.declared.error.ReadError.{ReadError}
 use Rattle.wl_module.specs.declared.error.ReadError.TheVariants.{Unsupported}
 use Rattle.wl_module.specs.Lists.{NumberFault, number_at, WordFault, word_at, IsCoded, Listed, ListedFault, list_at}
+use Rattle.wl_module.specs.Words.{IsPlacedName, placed_name_at}
 use Rattle.wl_module.specs.Chains.{ListedAfter, ListedAfterFault, list_after_at}
 use Rattle.wl_module.specs.Limits.{IsTableType, TableTypeFault, table_type_at, IsMemoryType, MemoryTypeFault, memory_type_at}
 use Rattle.wl_module.specs.Globals.{IsGlobalType, GlobalTypeFault, global_type_at}
 use Rattle.wl_module.specs.Imports.{kind_code, kind_of_byte, kind_error, IsKind, KindFault, kind_at, entity_kind, IsEntityType, IsEntity, EntityFault, entity_at, Imported, IsImport, ImportFault, import_from, import_at, import_may_be, IsImportAfter, ImportAfterFault, import_after_at, import_seen, AreImports, ImportsFault, imports_of}
 use Rattle.wl_module.specs.Exports.{Exported, IsExport, ExportFault, export_from, export_at, AreExports, ExportsFault, exports_of}
 use Rattle.wl_module.proofs.ListLaws.{Decodes, found_code, coded_reading, number_reading, word_reading, list_reading, whole_reading, IsWholeReading}
-use Rattle.wl_module.proofs.CheckLaws.{where_reading}
+use Rattle.wl_module.proofs.CheckLaws.{where_reading, placed_name_reading}
 use Rattle.wl_module.proofs.AfterLaws.{list_after_reading}
 use Rattle.wl_module.proofs.LimitLaws.{memory_type_reading, table_type_reading}
 use Rattle.wl_module.proofs.GlobalLaws.{global_type_reading}
@@ -78,16 +79,16 @@ entity_reading Global = seen_reading IsGlobalType (IsEntity Global) GlobalTypeFa
 
 -- ---- imports
 
-abbrev ImportText : ℕ → List ℕ × (List ℕ × (ExternalKind × ImportEntity)) → List ℕ → Type 0
-ImportText = Then IsName (λ _. Then IsName (λ _. Then IsKind IsEntity))
+abbrev ImportText : ℕ → List ℕ × ((List ℕ × ℕ) × (ExternalKind × ImportEntity)) → List ℕ → Type 0
+ImportText = Then IsName (λ _. Then IsPlacedName (λ _. Then IsKind IsEntity))
 
 import_reading : IsReading IsImport ImportFault import_at
 unfolding import_at
-import_reading = map_reading ImportText IsImport ImportFault (then_at word_at (λ _. then_at word_at (λ _. then_at kind_at entity_at))) import_from (λ i. (i.origin, (i.name, (entity_kind i.entity, i.entity))))
+import_reading = map_reading ImportText IsImport ImportFault (then_at word_at (λ _. then_at placed_name_at (λ _. then_at kind_at entity_at))) import_from (λ i. (i.origin, ((i.name, i.name_offset), (entity_kind i.entity, i.entity))))
     (λ place p text s. subst (λ (k : ExternalKind). ImportText place (p.0, (p.1.0, (k, p.1.1.1))) text) (sym s.4.4.4.0) s)
     (λ place i text s. (s, refl))
-    (then_reading IsName (λ _. Then IsName (λ _. Then IsKind IsEntity)) WordFault (λ _. ThenFault IsName WordFault (λ _. ThenFault IsKind KindFault EntityFault)) word_at (λ _. then_at word_at (λ _. then_at kind_at entity_at)) word_reading
-    (λ _. then_reading IsName (λ _. Then IsKind IsEntity) WordFault (λ _. ThenFault IsKind KindFault EntityFault) word_at (λ _. then_at kind_at entity_at) word_reading
+    (then_reading IsName (λ _. Then IsPlacedName (λ _. Then IsKind IsEntity)) WordFault (λ _. ThenFault IsPlacedName WordFault (λ _. ThenFault IsKind KindFault EntityFault)) word_at (λ _. then_at placed_name_at (λ _. then_at kind_at entity_at)) word_reading
+    (λ _. then_reading IsPlacedName (λ _. Then IsKind IsEntity) WordFault (λ _. ThenFault IsKind KindFault EntityFault) placed_name_at (λ _. then_at kind_at entity_at) placed_name_reading
     (λ _. then_reading IsKind IsEntity KindFault EntityFault kind_at entity_at kind_reading entity_reading)))
 
 import_after_reading : (seen : Bool) → IsReading (IsImportAfter seen) (ImportAfterFault seen) (import_after_at seen)

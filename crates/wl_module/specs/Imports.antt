@@ -15,6 +15,7 @@ use Rattle.wl_module.specs.declared.error.Form.TheVariants.{Tag, ManyMemories}
 use Rattle.wl_module.specs.declared.error.ReadError.{ReadError}
 use Rattle.wl_module.specs.declared.error.ReadError.TheVariants.{Malformed, Unsupported}
 use Rattle.wl_module.specs.Lists.{NumberFault, number_at, WordFault, word_at, IsCoded, CodedFault, coded_at, Whole, WholeFault, whole_of}
+use Rattle.wl_module.specs.Words.{IsPlacedName, placed_name_at}
 use Rattle.wl_module.specs.Chains.{ListedAfter, ListedAfterFault, list_after_at}
 use Rattle.wl_module.specs.Checks.{Where, WhereFault, where_at}
 use Rattle.wl_module.specs.Limits.{IsTableType, TableTypeFault, table_type_at, IsMemoryType, MemoryTypeFault, memory_type_at}
@@ -85,27 +86,28 @@ entity_at Global c = map_at (λ g. AGlobal g) global_type_at c
 
 -- ---- imports
 
--- an import as clauses see it: from which module, under which name, and what
+-- an import as clauses see it: from which module, under which name, how many bytes lie before that, and what
 pub record Imported : Type 0 where
   pub origin : List ℕ
   pub name : List ℕ
+  pub name_offset : ℕ
   pub entity : ImportEntity
 
 -- two names, the kind, and the type
 abbrev pub IsImport : ℕ → Imported → List ℕ → Type 0
-IsImport place i text = Then IsName (λ _. Then IsName (λ _. Then IsKind IsEntity)) place (i.origin, (i.name, (entity_kind i.entity, i.entity))) text
+IsImport place i text = Then IsName (λ _. Then IsPlacedName (λ _. Then IsKind IsEntity)) place (i.origin, ((i.name, i.name_offset), (entity_kind i.entity, i.entity))) text
 
 -- the first of the four that is at fault
 abbrev pub ImportFault : ReadError → Cursor → Type 0
-ImportFault = ThenFault IsName WordFault (λ _. ThenFault IsName WordFault (λ _. ThenFault IsKind KindFault EntityFault))
+ImportFault = ThenFault IsName WordFault (λ _. ThenFault IsPlacedName WordFault (λ _. ThenFault IsKind KindFault EntityFault))
 
 -- what was read as an import
-abbrev pub import_from : List ℕ × (List ℕ × (ExternalKind × ImportEntity)) → Imported
-import_from p = record { origin = p.0; name = p.1.0; entity = p.1.1.1 }
+abbrev pub import_from : List ℕ × ((List ℕ × ℕ) × (ExternalKind × ImportEntity)) → Imported
+import_from p = record { origin = p.0; name = p.1.0.0; name_offset = p.1.0.1; entity = p.1.1.1 }
 
 -- the import in front
 unfoldable pub import_at : Cursor → Result (Imported × Cursor) ReadError
-import_at c = map_at import_from (then_at word_at (λ _. then_at word_at (λ _. then_at kind_at entity_at))) c
+import_at c = map_at import_from (then_at word_at (λ _. then_at placed_name_at (λ _. then_at kind_at entity_at))) c
 
 -- a memory is imported
 abbrev pub is_memory : ImportEntity → Bool

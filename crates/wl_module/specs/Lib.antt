@@ -8,6 +8,7 @@ pub mod BodiesReading
 pub mod Chains
 pub mod Checks
 pub mod Ends
+pub mod Words
 pub mod Constants
 pub mod Globals
 pub mod Memories

@@ -9,6 +9,7 @@ ghost use Rattle.wl_module.specs.Outcome.{Yields, Gives, ReadsWhole, AreAlternat
 use crate::error::{Form, ReadError, Why};
 use crate::globals::{GlobalType, read_global_type};
 use crate::limits::{MemoryType, TableType, read_memory_type, read_table_type};
+use crate::words::read_placed_name;
 use std::alloc::Global;
 use std::marker::Model;
 use wl_bytes::Reader;
@@ -49,6 +50,7 @@ pub struct Import<'a> {
     pub name: &'a str,
     /// What it is.
     pub entity: ImportEntity,
+    name_offset: usize,
 }
 
 impl<'a> Model for Import<'a> {
@@ -56,7 +58,12 @@ impl<'a> Model for Import<'a> {
 
     ghost Value = { Imported };
 
-    ghost view = { λ i. record { origin = i.module.now; name = i.name.now; entity = i.entity } };
+    ghost view = { λ i. record {
+      origin = i.module.now;
+      name = i.name.now;
+      name_offset = i.name_offset;
+      entity = i.entity;
+    } };
 }
 
 /// An imported function. Clauses see it as an `ImportedFunction`.
@@ -98,6 +105,13 @@ impl<'a> Model for WasmGlobalImport<'a> {
 }
 
 impl<'a> Import<'a> {
+    /// How many bytes of the section's payload lie before `name`.
+    pub fn name_offset(&self) -> usize
+        ensures { result ≡ self.now.name_offset }
+    {
+        self.name_offset
+    }
+
     /// The import as one of a function, where it is one.
     pub fn as_function(&self) -> Option<WasmFunctionImport<'a>>
         ensures { result ≡ function_import self.now }
@@ -172,13 +186,14 @@ fn read_import<'a>(reader: &mut Reader<'a>) -> Result<Import<'a>, ReadError>
     ensures { Yields (λ i. i) result reader.new (import_at reader.old) }
 {
     let module = reader.read_name()?;
-    let name = reader.read_name()?;
+    let (name, name_offset) = read_placed_name(reader)?;
     let kind = read_kind(reader)?;
     let entity = read_entity(kind, reader)?;
     Ok(Import {
         module,
         name,
         entity,
+        name_offset,
     })
 }
 

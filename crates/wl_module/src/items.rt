@@ -11,14 +11,15 @@ use crate::error::{ReadError, Why};
 use std::alloc::Global;
 use wl_bytes::Reader;
 
-/// What stands in a section, one behind the other.
-pub(crate) trait Item<'a>: Drop {
+/// What stands in a section or a part of one, one behind the other: its lists are read by
+/// [`read_list`] and [`read_payload`].
+pub trait Item<'a>: Drop {
     /// The item in front, on lists.
     ghost item_at: { Cursor → Result (Self × Cursor) ReadError };
     /// At which places the bytes may end: items that tell their place ask for a bound.
     ghost may_end: { ℕ → Type 0 };
 
-    /// Reads the item in front.
+    /// Reads the item in front. The errors are those of the item.
     fn read(alloc: Global, reader: &mut Reader<'a>) -> Result<Self, ReadError>
         requires { may_end (end_of reader.old) }
         ensures value { Yields (λ x. x) result reader.new (item_at reader.old) }
@@ -44,8 +45,9 @@ fn read_items<'a, T: Item<'a>>(
     Ok(items)
 }
 
-/// How many items there are, and the items.
-pub(crate) fn read_list<'a, T: Item<'a>>(
+/// Reads a list (core specification, "Vectors"): how many items there are, and the items. The list
+/// grows as they are read.
+pub fn read_list<'a, T: Item<'a>>(
     alloc: Global,
     reader: &mut Reader<'a>,
 ) -> Result<Vec<T>, ReadError>
@@ -57,11 +59,8 @@ pub(crate) fn read_list<'a, T: Item<'a>>(
     read_items(alloc, reader, count)
 }
 
-/// The list that a whole payload holds.
-pub(crate) fn read_payload<'a, T: Item<'a>>(
-    alloc: Global,
-    payload: &'a [u8],
-) -> Result<Vec<T>, ReadError>
+/// Reads a payload that is one list. Bytes behind it are `Malformed(Trailing)`.
+pub fn read_payload<'a, T: Item<'a>>(alloc: Global, payload: &'a [u8]) -> Result<Vec<T>, ReadError>
     requires { T.may_end (length payload.now) }
     ensures { Gives (λ v. v.items) result (whole_of (list_at T.item_at) payload.now) }
 {

@@ -19,6 +19,7 @@ mod memories;
 mod sections;
 mod segments;
 mod types;
+mod words;
 
 pub use code::{WasmFunctionBody, bodies_or_fault, read_bodies};
 pub use error::{Form, ReadError, Why};
@@ -29,6 +30,7 @@ pub use imports::{
     ExternalKind, Import, ImportEntity, WasmFunctionImport, WasmGlobalImport, imports_or_fault,
     read_imports,
 };
+pub use items::{Item, read_list, read_payload};
 pub use limits::{Limits, MemoryType, TableType};
 pub use memories::{data_count_or_fault, memories_or_fault, read_data_count, read_memories};
 pub use sections::{
@@ -37,6 +39,7 @@ pub use sections::{
 };
 pub use segments::{DataKind, WasmDataSegment, read_segments, segments_or_fault};
 pub use types::{FuncType, ValType, read_types, types_or_fault};
+pub use words::read_placed_name;
 
 #[cfg(test)]
 mod tests;
