@@ -39,4 +39,14 @@ pub use segments::{DataKind, WasmDataSegment, read_segments, segments_or_fault};
 pub use types::{FuncType, ValType, read_types, types_or_fault};
 
 #[cfg(test)]
+mod export_tests;
+#[cfg(test)]
+mod global_tests;
+#[cfg(test)]
+mod import_tests;
+#[cfg(test)]
+mod memory_tests;
+#[cfg(test)]
+mod segment_tests;
+#[cfg(test)]
 mod tests;
