@@ -42,4 +42,14 @@ pub use types::{FuncType, ValType, read_types, types_or_fault};
 pub use words::read_placed_name;
 
 #[cfg(test)]
+mod export_tests;
+#[cfg(test)]
+mod global_tests;
+#[cfg(test)]
+mod import_tests;
+#[cfg(test)]
+mod memory_tests;
+#[cfg(test)]
+mod segment_tests;
+#[cfg(test)]
 mod tests;
