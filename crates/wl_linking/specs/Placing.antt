@@ -1,36 +1,37 @@
--- Where the fields of relocations are looked for: bodies stand one behind the other.
+-- Where the fields of relocations are looked for: pieces stand one behind the other.
 use Rattle.std.specs.Prelude.{◌≡◌, ℕ, ◌+◌, ◌-◌, ◌≤◌, ◌&&◌, nat_le, if◌then◌else◌, List, [], ◌∷◌, length, take, drop, Option, Some, None, ⊤}
-use Rattle.wl_module.specs.Bodies.{Body}
 use Rattle.wl_module.specs.declared.error.ReadError.{ReadError}
 use Rattle.wl_module.specs.declared.error.ReadError.TheVariants.{Malformed}
 use Rattle.wl_module.specs.declared.error.Why.TheVariants.{Field}
-use Rattle.wl_linking.specs.Object.{is_padded, field_len, HasNoSite}
+use Rattle.wl_linking.specs.RelocationTypes.{form_of}
+use Rattle.wl_linking.specs.Sites.{PieceOf, has_form, field_len, HasNoSite}
+use Rattle.wl_linking.specs.declared.relocation_type.FieldForm.{FieldForm}
 use Rattle.wl_linking.specs.declared.relocations.WasmRelocation.{WasmRelocation}
 use Rattle.wl_linking.specs.declared.sites.Site.{Site}
 
--- where a body ends in its section
-abbrev pub body_end : Body → ℕ
-body_end body = body.code_offset + length body.bytes
+-- where a piece ends in its section
+abbrev pub piece_end : PieceOf → ℕ
+piece_end piece = piece.place + length piece.bytes
 
--- each body begins where the one before ends, or behind it
-abbrev pub Ascend : ℕ → List Body → Type 0
+-- each piece begins where the one before ends, or behind it
+abbrev pub Ascend : ℕ → List PieceOf → Type 0
 Ascend place [] = ⊤
-Ascend place (body ∷ bodies) = (place ≤ body.code_offset) × Ascend (body_end body) bodies
+Ascend place (piece ∷ pieces) = (place ≤ piece.place) × Ascend (piece_end piece) pieces
 
--- where in a body a field at that place of the section lies
-abbrev pub position_of : Body → ℕ → Option ℕ
-position_of body offset = if nat_le body.code_offset offset && is_padded (take field_len (drop (offset - body.code_offset) body.bytes)) then Some (offset - body.code_offset) else None
+-- where in a piece a field of that form lies at that place of the section
+abbrev pub position_of : PieceOf → FieldForm → ℕ → Option ℕ
+position_of piece form offset = if nat_le piece.place offset && has_form form (take (field_len form) (drop (offset - piece.place) piece.bytes)) then Some (offset - piece.place) else None
 
--- the site at that place of a body, if any
+-- the site at that place of a piece, if any
 abbrev pub site_in : ℕ → Option ℕ → Option Site
 site_in unit None = None
 site_in unit (Some position) = Some (record { unit = unit; position = position })
 
--- the site of a field among bodies, the first of which has that number
-abbrev pub site_of : ℕ → List Body → ℕ → Option Site
-site_of unit [] offset = None
-site_of unit (body ∷ bodies) offset = if nat_le (body_end body) offset then site_of (unit + 1) bodies offset else site_in unit (position_of body offset)
+-- the site of a field among pieces, the first of which has that number
+abbrev pub site_of : ℕ → List PieceOf → FieldForm → ℕ → Option Site
+site_of unit [] form offset = None
+site_of unit (piece ∷ pieces) form offset = if nat_le (piece_end piece) offset then site_of (unit + 1) pieces form offset else site_in unit (position_of piece form offset)
 
--- a field lies in no body
-abbrev pub FieldFault : List Body → List WasmRelocation → ReadError → Type 0
-FieldFault bodies relocations e = (e ≡ Malformed Field) × HasNoSite bodies relocations
+-- a field lies in no piece
+abbrev pub FieldFault : List PieceOf → List WasmRelocation → ReadError → Type 0
+FieldFault pieces relocations e = (e ≡ Malformed Field) × HasNoSite pieces relocations

@@ -1,67 +1,82 @@
 -- Relocation sections (object file linking, version 2, "Relocation Sections").
-use Rattle.std.specs.Prelude.{◌≡◌, ◌≢◌, ◌⊎◌, ℕ, ◌==◌, ◌&&◌, ◌||◌, Bool, true, false, nat_lt, nat_le, if◌then◌else◌, List, [], length, Result, Ok, Err, ⊤}
+use Rattle.std.specs.Prelude.{◌≡◌, ◌≢◌, ◌⊎◌, ℕ, ℤ, pos, ◌==◌, ◌&&◌, Bool, true, false, nat_lt, if◌then◌else◌, List, [], length, Option, Some, None, Result, Ok, Err}
 use Rattle.wl_bytes.specs.Cursor.{Cursor}
 use Rattle.wl_bytes.specs.Parse.{Takes, ◌>>=◌}
-use Rattle.wl_bytes.specs.Leb.{IsU32}
+use Rattle.wl_bytes.specs.Leb.{IsU32, s32_form, IsSigned}
 use Rattle.wl_bytes.specs.Items.{IsByte}
 use Rattle.wl_bytes.specs.Grammar.{Then, ThenFault, then_at, map_at}
 use Rattle.wl_module.specs.Lists.{NumberFault, ByteFault, Listed, ListedFault, number_at, one_byte_at, list_at, start}
+use Rattle.wl_module.specs.Constants.{SignedNumberFault, signed_number_at}
+use Rattle.wl_module.specs.Checks.{When, WhenFault, when_at}
 use Rattle.wl_module.specs.declared.error.ReadError.{ReadError}
 use Rattle.wl_module.specs.declared.error.ReadError.TheVariants.{Malformed, Unsupported}
 use Rattle.wl_module.specs.declared.error.Why.TheVariants.{Trailing, RelocType as UnknownType}
-use Rattle.wl_module.specs.declared.error.Form.TheVariants.{NotYet, RelocType}
-use Rattle.wl_linking.specs.Verdict.{Judged, JudgedFault, judged_at}
-use Rattle.wl_linking.specs.declared.relocations.RelocationType.{RelocationType}
-use Rattle.wl_linking.specs.declared.relocations.RelocationType.TheVariants.{FunctionIndexLeb}
+use Rattle.wl_module.specs.declared.error.Form.TheVariants.{RelocType}
+use Rattle.wl_linking.specs.Verdict.{Judged, JudgedFault, judged_at, Seen}
+use Rattle.wl_linking.specs.RelocationTypes.{relocation_type_of, has_addend}
+use Rattle.wl_linking.specs.declared.relocation_type.RelocationType.{RelocationType}
 use Rattle.wl_linking.specs.declared.relocations.WasmRelocation.{WasmRelocation}
+use Rattle.wl_linking.specs.declared.relocations.RelocHeld.{RelocHeld}
 use Rattle.wl_linking.specs.declared.relocations.Target.{Target}
 use Rattle.wl_linking.specs.declared.relocations.Target.TheVariants as target
-use Rattle.wl_linking.specs.declared.relocations.RelocSection.{RelocSection}
-use Rattle.wl_linking.specs.declared.relocations.RelocSection.TheVariants.{Code, Data, Debug}
 
 -- ---- an entry
 
--- the fields lie in the data section
-abbrev pub is_data : Target → Bool
-is_data target.Data = true
-is_data target.Code = false
-is_data target.Debug = false
+-- in the data section no slot is counted from the base of the table: type 12
+abbrev pub is_misplaced : Target → ℕ → Bool
+is_misplaced target.Code n = false
+is_misplaced target.Data n = n == 12
+is_misplaced target.Debug n = false
 
--- types that have no rule: offsets of functions and sections, tags, 64-bit forms, addresses relative to their field, and in data a relative slot of a table
-abbrev pub has_no_rule : Target → ℕ → Bool
-has_no_rule at ty = (nat_le 8 ty && nat_le ty 10) || (nat_le 14 ty && nat_le ty 19) || (nat_le 22 ty && nat_le ty 25) || ((ty == 12) && is_data at)
+-- there is a rule for the type, or none
+abbrev pub ruled : Option RelocationType → Result RelocationType ReadError
+ruled None = Err (Unsupported RelocType)
+ruled (Some ty) = Ok ty
 
--- the type of a relocation in that target: 26 is the last, and 0 the only one that is planned yet
+-- the type of a relocation in that target: 26 is the last number
 abbrev pub type_verdict : Target → ℕ → Result RelocationType ReadError
-type_verdict at ty =
-    if ty == 0 then Ok FunctionIndexLeb
-    else if nat_lt 26 ty then Err (Malformed UnknownType)
-    else if has_no_rule at ty then Err (Unsupported RelocType)
-    else Err (Unsupported NotYet)
+type_verdict at n =
+    if nat_lt 26 n then Err (Malformed UnknownType)
+    else if is_misplaced at n then Err (Unsupported RelocType)
+    else ruled (relocation_type_of n)
 
--- the parts of an entry as they stand: type, offset, index
+-- the addend that was found, or 0
+abbrev pub addend_or_zero : Option ℤ → ℤ
+addend_or_zero None = pos 0
+addend_or_zero (Some z) = z
+
+-- an addend where there is to be one
+abbrev pub IsAddendWhere : Bool → ℕ → ℤ → List ℕ → Type 0
+IsAddendWhere addend = Seen (When (IsSigned s32_form) addend) addend_or_zero
+
+-- an addend where there is to be one, read from a place
+unfoldable pub addend_where_at : Bool → Cursor → Result (ℤ × Cursor) ReadError
+addend_where_at addend c = map_at addend_or_zero (when_at (signed_number_at s32_form) addend) c
+
+-- the parts of an entry as they stand: type, offset, index, addend
 abbrev pub EntryParts : Type 0
-EntryParts = ℕ × (RelocationType × (ℕ × ℕ))
+EntryParts = ℕ × (RelocationType × (ℕ × (ℕ × ℤ)))
 
 -- the relocation of these parts
 abbrev pub relocation_of : EntryParts → WasmRelocation
-relocation_of p = record { ty = p.1.0; offset = p.1.1.0; index = p.1.1.1 }
+relocation_of p = record { ty = p.1.0; offset = p.1.1.0; index = p.1.1.1.0; addend = p.1.1.1.1 }
 
 -- these parts stand one behind the other
 abbrev pub AreEntryParts : Target → ℕ → EntryParts → List ℕ → Type 0
-AreEntryParts at = Then IsByte (λ ty. Then (Judged (type_verdict at ty)) (λ _. Then IsU32 (λ _. IsU32)))
+AreEntryParts at = Then IsByte (λ n. Then (Judged (type_verdict at n)) (λ ty. Then IsU32 (λ _. Then IsU32 (λ _. IsAddendWhere (has_addend ty)))))
 
--- a type byte, an offset and an index
+-- a type byte, an offset, an index, and an addend for addresses
 abbrev pub IsEntry : Target → ℕ → WasmRelocation → List ℕ → Type 0
-IsEntry at place r text = (p : EntryParts) × AreEntryParts at place p text × (relocation_of p ≡ r)
+IsEntry at = Seen (AreEntryParts at) relocation_of
 
 -- the first part at fault
 abbrev pub EntryFault : Target → ReadError → Cursor → Type 0
-EntryFault at = ThenFault IsByte ByteFault (λ ty. ThenFault (Judged (type_verdict at ty)) (JudgedFault (type_verdict at ty)) (λ _. ThenFault IsU32 NumberFault (λ _. NumberFault)))
+EntryFault at = ThenFault IsByte ByteFault (λ n. ThenFault (Judged (type_verdict at n)) (JudgedFault (type_verdict at n))
+    (λ ty. ThenFault IsU32 NumberFault (λ _. ThenFault IsU32 NumberFault (λ _. WhenFault (SignedNumberFault s32_form) (has_addend ty)))))
 
 -- the parts of an entry, read from a place
 abbrev pub entry_parts_at : Target → Cursor → Result (EntryParts × Cursor) ReadError
-entry_parts_at at c = then_at one_byte_at (λ ty. then_at (judged_at (type_verdict at ty)) (λ _. then_at number_at (λ _. number_at))) c
+entry_parts_at at c = then_at one_byte_at (λ n. then_at (judged_at (type_verdict at n)) (λ ty. then_at number_at (λ _. then_at number_at (λ _. addend_where_at (has_addend ty))))) c
 
 -- an entry, read from a place
 unfoldable pub entry_at : Target → Cursor → Result (WasmRelocation × Cursor) ReadError
@@ -85,11 +100,10 @@ entries_of at c = list_at (entry_at at) c >>= λ p. if length p.1.rest == 0 then
 -- ---- the section
 
 -- what stands behind the number of the section that it is for: nothing is read for a debug section
-abbrev pub Holds : Target → RelocSection → Cursor → Type 0
-Holds target.Code (Code entries) from = AreEntries target.Code entries from
-Holds target.Data (Data entries) from = AreEntries target.Data entries from
-Holds target.Debug Debug from = ⊤
-Holds _ _ from = ⊥
+abbrev pub Holds : Target → List WasmRelocation → Cursor → Type 0
+Holds target.Code entries from = AreEntries target.Code entries from
+Holds target.Data entries from = AreEntries target.Data entries from
+Holds target.Debug entries from = entries ≡ []
 
 -- what stands behind the number is at fault
 abbrev pub HoldsFault : Target → ReadError → Cursor → Type 0
@@ -98,14 +112,17 @@ HoldsFault target.Data e from = EntriesFault target.Data e from
 HoldsFault target.Debug e from = ⊥
 
 -- what stands behind the number, read from a place
-abbrev pub held_at : Target → Cursor → Result RelocSection ReadError
-held_at target.Code c = entries_of target.Code c >>= λ entries. Ok (Code entries)
-held_at target.Data c = entries_of target.Data c >>= λ entries. Ok (Data entries)
-held_at target.Debug c = Ok Debug
+abbrev pub held_at : Target → Cursor → Result (List WasmRelocation) ReadError
+held_at target.Code c = entries_of target.Code c
+held_at target.Data c = entries_of target.Data c
+held_at target.Debug c = Ok []
 
 -- a relocation section, where this is the verdict on each section that it may be for
-abbrev pub IsRelocSection : (ℕ → Result Target ReadError) → RelocSection → List ℕ → Type 0
-IsRelocSection verdict section payload = (number : ℕ) × (behind : Cursor) × Takes IsU32 number (start payload) behind × (at : Target) × (verdict number ≡ Ok at) × Holds at section behind
+pub record IsRelocSection (verdict : ℕ → Result Target ReadError) (held : RelocHeld) (payload : List ℕ) : Type 0 where
+  pub behind : Cursor
+  pub number : Takes IsU32 held.section.target_section (start payload) behind
+  pub target : verdict held.section.target_section ≡ Ok held.target
+  pub entries : Holds held.target held.section.relocations behind
 
 -- the number is at fault, or the section of that number, or what stands behind
 abbrev pub RelocSectionFault : (ℕ → Result Target ReadError) → ReadError → List ℕ → Type 0
@@ -114,5 +131,5 @@ RelocSectionFault verdict e payload = NumberFault e (start payload)
     × ((verdict number ≡ Err e) ⊎ ((at : Target) × (verdict number ≡ Ok at) × HoldsFault at e behind)))
 
 -- a relocation section, read from its payload
-abbrev pub reloc_section_of : (ℕ → Result Target ReadError) → List ℕ → Result RelocSection ReadError
-reloc_section_of verdict payload = number_at (start payload) >>= λ p. verdict p.0 >>= λ at. held_at at p.1
+abbrev pub reloc_section_of : (ℕ → Result Target ReadError) → List ℕ → Result RelocHeld ReadError
+reloc_section_of verdict payload = number_at (start payload) >>= λ p. verdict p.0 >>= λ at. held_at at p.1 >>= λ entries. Ok (record { target = at; section = record { target_section = p.0; relocations = entries } })

@@ -1,48 +1,49 @@
 -- What each section holds (core specification, "Sections"; object file linking, version 2): it is sound with its items, or foreign, or bad.
-use Rattle.std.specs.Prelude.{◌≡◌, ◌⊎◌, ℕ, Bool, true, false, List, [], ◌∷◌, ⊤, not, ◌==◌}
-use Rattle.std.specs.List.{list_any, list_all}
+use Rattle.std.specs.Prelude.{◌≡◌, ◌⊎◌, ◌≤◌, ℕ, Bool, true, false, List, [], ◌∷◌, length, ⊤}
+use Rattle.std.specs.List.{list_any}
+use Rattle.std.specs.Str.{IsUtf8}
 use Rattle.wl_module.specs.declared.sections.SectionHeader.{SectionHeader}
+use Rattle.wl_module.specs.declared.limits.MemoryType.{MemoryType}
 use Rattle.wl_module.specs.declared.error.Form.TheVariants as form
 use Rattle.wl_module.specs.declared.error.ReadError.{ReadError}
 use Rattle.wl_module.specs.declared.error.ReadError.TheVariants.{Malformed, Unsupported}
 use Rattle.wl_module.specs.declared.error.Why.TheVariants.{Repeated}
 use Rattle.wl_module.specs.Types.{FunctionType, AreTypes, TypesFault}
+use Rattle.wl_module.specs.Imports.{Imported, is_memory, AreImports, ImportsFault}
 use Rattle.wl_module.specs.Bodies.{Body, AreIndices, IndicesFault, AreBodies, BodiesFault}
+use Rattle.wl_module.specs.Memories.{AreMemories, MemoriesFault, IsDataCount, DataCountFault}
+use Rattle.wl_module.specs.Globals.{DefinedGlobal, AreGlobals, GlobalsFault}
+use Rattle.wl_module.specs.Exports.{Exported, AreExports, ExportsFault}
+use Rattle.wl_module.specs.Segments.{Segment, AreSegments, SegmentsFault}
+use Rattle.wl_linking.specs.Debug.{DebugInput, debug_of}
+use Rattle.wl_linking.specs.Infos.{SegmentInfo}
 use Rattle.wl_linking.specs.Symbols.{Symbol}
+use Rattle.wl_linking.specs.Features.{Feature, AreFeatures, FeaturesFault}
 use Rattle.wl_linking.specs.Linking.{IsLinking, LinkingFault}
 use Rattle.wl_linking.specs.Relocations.{IsRelocSection, RelocSectionFault}
-use Rattle.wl_linking.specs.Targets.{stretch, kind_of, numbered_verdict}
+use Rattle.wl_linking.specs.Targets.{payload_of, name_of, kind_of, numbered_verdict}
+use Rattle.wl_linking.specs.declared.infos.WasmInitFunc.{WasmInitFunc}
+use Rattle.wl_linking.specs.declared.linking.Linking.{Linking as LinkingHeld}
 use Rattle.wl_linking.specs.declared.kinds.SectionKind.{SectionKind}
 use Rattle.wl_linking.specs.declared.kinds.SectionKind.TheVariants as kind
 use Rattle.wl_linking.specs.declared.kinds.Seen.{Seen}
 use Rattle.wl_linking.specs.declared.relocations.WasmRelocation.{WasmRelocation}
-use Rattle.wl_linking.specs.declared.relocations.RelocSection.TheVariants as reloc
+use Rattle.wl_linking.specs.declared.relocations.WasmRelocSection.{WasmRelocSection}
+use Rattle.wl_linking.specs.declared.relocations.RelocHeld.{RelocHeld}
+use Rattle.wl_linking.specs.declared.relocations.Target.{Target}
+use Rattle.wl_linking.specs.declared.relocations.Target.TheVariants as target
 use Rattle.wl_linking.specs.declared.section.Section.{Section}
-use Rattle.wl_linking.specs.declared.section.Section.TheVariants.{Types, Functions, Code, Linking, Reloc, Skipped}
-
--- ---- code
-
--- a body without 0xfc, the first byte of the bulk memory operators (core specification, "Memory Instructions"), which have no plan yet
-abbrev pub is_plain : Body → Bool
-is_plain body = not (list_any (λ b. b == 0xfc) body.bytes)
-
--- bodies without that byte
-abbrev pub ArePlainBodies : List Body → List ℕ → Type 0
-ArePlainBodies bodies payload = AreBodies bodies payload × (list_all is_plain bodies ≡ true)
-
--- a body is at fault, or all stand there and one has that byte
-abbrev pub PlainBodiesFault : ReadError → List ℕ → Type 0
-PlainBodiesFault e payload = BodiesFault e payload ⊎ ((bodies : List Body) × AreBodies bodies payload × (list_all is_plain bodies ≡ false) × (e ≡ Unsupported form.NotYet))
+use Rattle.wl_linking.specs.declared.section.Section.TheVariants.{Types, Imports, Functions, Memories, Globals, Exports, DataCount, Code, Data, Linking, Reloc, Features, Debug, Skipped}
 
 -- ---- the linking section
 
--- the first linking section, with these symbols
-abbrev pub LinkingItems : Seen → List Symbol → List ℕ → Type 0
-LinkingItems seen symbols payload = (seen.linking ≡ false) × IsLinking symbols payload
+-- the first linking section, with this in it; so many bytes of the object lie before its payload
+abbrev pub LinkingItems : Seen → ℕ → LinkingHeld → List ℕ → Type 0
+LinkingItems seen base linking payload = (seen.linking ≡ false) × IsLinking base linking payload
 
 -- one came before, or the first one is at fault
-abbrev pub LinkingItemsFault : Seen → ReadError → List ℕ → Type 0
-LinkingItemsFault seen e payload = ((seen.linking ≡ true) × (e ≡ Malformed Repeated)) ⊎ ((seen.linking ≡ false) × LinkingFault e payload)
+abbrev pub LinkingItemsFault : Seen → ℕ → ReadError → List ℕ → Type 0
+LinkingItemsFault seen base e payload = ((seen.linking ≡ true) × (e ≡ Malformed Repeated)) ⊎ ((seen.linking ≡ false) × LinkingFault base e payload)
 
 -- ---- a section
 
@@ -51,63 +52,90 @@ abbrev pub Holding : {X : Type 0} → (X → Section) → (X → List ℕ → Ty
 Holding {X} make spells section payload = (x : X) × (section ≡ make x) × spells x payload
 
 -- what a section of this kind holds
-abbrev pub HoldsItems : SectionKind → List ℕ → List SectionHeader → Seen → Section → List ℕ → Type 0
-HoldsItems kind.Type bytes headers seen section payload = Holding Types AreTypes section payload
-HoldsItems kind.Function bytes headers seen section payload = Holding Functions AreIndices section payload
-HoldsItems kind.Code bytes headers seen section payload = Holding Code ArePlainBodies section payload
-HoldsItems kind.Linking bytes headers seen section payload = Holding Linking (LinkingItems seen) section payload
-HoldsItems kind.Reloc bytes headers seen section payload = Holding Reloc (IsRelocSection (numbered_verdict bytes headers seen)) section payload
-HoldsItems kind.Skipped bytes headers seen section payload = section ≡ Skipped
-HoldsItems kind.Table bytes headers seen section payload = ⊥
-HoldsItems kind.Start bytes headers seen section payload = ⊥
-HoldsItems kind.Tag bytes headers seen section payload = ⊥
-HoldsItems kind.Data bytes headers seen section payload = ⊥
-HoldsItems kind.Debug bytes headers seen section payload = ⊥
-HoldsItems kind.Later bytes headers seen section payload = ⊥
+abbrev pub HoldsItems : SectionKind → List ℕ → List SectionHeader → Seen → SectionHeader → Section → List ℕ → Type 0
+HoldsItems kind.Type bytes headers seen header = Holding Types AreTypes
+HoldsItems kind.Import bytes headers seen header = Holding Imports AreImports
+HoldsItems kind.Function bytes headers seen header = Holding Functions AreIndices
+HoldsItems kind.Memory bytes headers seen header = Holding Memories (AreMemories seen.memory)
+HoldsItems kind.Global bytes headers seen header = Holding Globals AreGlobals
+HoldsItems kind.Export bytes headers seen header = Holding Exports AreExports
+HoldsItems kind.DataCount bytes headers seen header = Holding DataCount IsDataCount
+HoldsItems kind.Code bytes headers seen header = Holding Code AreBodies
+HoldsItems kind.Data bytes headers seen header = Holding Data AreSegments
+HoldsItems kind.Linking bytes headers seen header = Holding Linking (LinkingItems seen header.payload_range.0)
+HoldsItems kind.Reloc bytes headers seen header = Holding Reloc (IsRelocSection (numbered_verdict bytes headers seen))
+HoldsItems kind.Features bytes headers seen header = Holding Features AreFeatures
+HoldsItems kind.Debug bytes headers seen header = λ section payload. section ≡ Debug (debug_of (name_of bytes header) payload)
+HoldsItems kind.Skipped bytes headers seen header = λ section payload. section ≡ Skipped
+HoldsItems kind.Table bytes headers seen header = λ section payload. ⊥
+HoldsItems kind.Start bytes headers seen header = λ section payload. ⊥
+HoldsItems kind.Tag bytes headers seen header = λ section payload. ⊥
 
 -- what is wrong with a section of this kind
-abbrev pub ItemsFault : SectionKind → List ℕ → List SectionHeader → Seen → ReadError → List ℕ → Type 0
-ItemsFault kind.Type bytes headers seen e payload = TypesFault e payload
-ItemsFault kind.Function bytes headers seen e payload = IndicesFault e payload
-ItemsFault kind.Code bytes headers seen e payload = PlainBodiesFault e payload
-ItemsFault kind.Linking bytes headers seen e payload = LinkingItemsFault seen e payload
-ItemsFault kind.Reloc bytes headers seen e payload = RelocSectionFault (numbered_verdict bytes headers seen) e payload
-ItemsFault kind.Skipped bytes headers seen e payload = ⊥
-ItemsFault kind.Table bytes headers seen e payload = e ≡ Unsupported form.TableDef
-ItemsFault kind.Start bytes headers seen e payload = e ≡ Unsupported form.Start
-ItemsFault kind.Tag bytes headers seen e payload = e ≡ Unsupported form.Tag
-ItemsFault kind.Data bytes headers seen e payload = e ≡ Unsupported form.NotYet
-ItemsFault kind.Debug bytes headers seen e payload = e ≡ Unsupported form.NotYet
-ItemsFault kind.Later bytes headers seen e payload = e ≡ Unsupported form.NotYet
-
--- the payload of a section
-abbrev pub payload_of : List ℕ → SectionHeader → List ℕ
-payload_of bytes header = stretch bytes header.payload_range
+abbrev pub ItemsFault : SectionKind → List ℕ → List SectionHeader → Seen → SectionHeader → ReadError → List ℕ → Type 0
+ItemsFault kind.Type bytes headers seen header = TypesFault
+ItemsFault kind.Import bytes headers seen header = ImportsFault
+ItemsFault kind.Function bytes headers seen header = IndicesFault
+ItemsFault kind.Memory bytes headers seen header = MemoriesFault seen.memory
+ItemsFault kind.Global bytes headers seen header = GlobalsFault
+ItemsFault kind.Export bytes headers seen header = ExportsFault
+ItemsFault kind.DataCount bytes headers seen header = DataCountFault
+ItemsFault kind.Code bytes headers seen header = BodiesFault
+ItemsFault kind.Data bytes headers seen header = SegmentsFault
+ItemsFault kind.Linking bytes headers seen header = LinkingItemsFault seen header.payload_range.0
+ItemsFault kind.Reloc bytes headers seen header = RelocSectionFault (numbered_verdict bytes headers seen)
+ItemsFault kind.Features bytes headers seen header = FeaturesFault
+ItemsFault kind.Debug bytes headers seen header = λ e payload. ⊥
+ItemsFault kind.Skipped bytes headers seen header = λ e payload. ⊥
+ItemsFault kind.Table bytes headers seen header = λ e payload. e ≡ Unsupported form.TableDef
+ItemsFault kind.Start bytes headers seen header = λ e payload. e ≡ Unsupported form.Start
+ItemsFault kind.Tag bytes headers seen header = λ e payload. e ≡ Unsupported form.Tag
 
 -- a sound section
 abbrev pub IsSound : List ℕ → List SectionHeader → Seen → SectionHeader → Section → Type 0
-IsSound bytes headers seen header section = HoldsItems (kind_of bytes header) bytes headers seen section (payload_of bytes header)
+IsSound bytes headers seen header section = HoldsItems (kind_of bytes header) bytes headers seen header section (payload_of bytes header)
 
 -- a section at fault
 abbrev pub IsFaulty : List ℕ → List SectionHeader → Seen → SectionHeader → ReadError → Type 0
-IsFaulty bytes headers seen header e = ItemsFault (kind_of bytes header) bytes headers seen e (payload_of bytes header)
+IsFaulty bytes headers seen header e = ItemsFault (kind_of bytes header) bytes headers seen header e (payload_of bytes header)
+
+-- the payload begins within the bytes, and the name is UTF-8
+pub record IsPlaced (bytes : List ℕ) (header : SectionHeader) : Type 0 where
+  pub begins : header.payload_range.0 ≤ length bytes
+  pub name : IsUtf8 (name_of bytes header)
 
 -- ---- all sections
 
+-- a memory is imported
+abbrev pub has_memory : List Imported → Bool
+has_memory imports = list_any (λ i. is_memory i.entity) imports
+
+-- what came before, after relocations of that target
+abbrev pub seen_then_reloc : Seen → Target → Seen
+seen_then_reloc seen target.Code = record seen { code_relocations = true }
+seen_then_reloc seen target.Data = record seen { data_relocations = true }
+seen_then_reloc seen target.Debug = seen
+
 -- what came before, after one more
 abbrev pub seen_then : Seen → Section → Seen
-seen_then seen (Linking symbols) = record seen { linking = true }
-seen_then seen (Reloc (reloc.Code entries)) = record seen { code_relocations = true }
-seen_then seen (Reloc (reloc.Data entries)) = record seen { data_relocations = true }
-seen_then seen (Reloc reloc.Debug) = seen
 seen_then seen (Types types) = seen
+seen_then seen (Imports imports) = record seen { memory = has_memory imports }
 seen_then seen (Functions functions) = seen
+seen_then seen (Memories memories) = seen
+seen_then seen (Globals globals) = seen
+seen_then seen (Exports exports) = seen
+seen_then seen (DataCount count) = seen
 seen_then seen (Code bodies) = seen
+seen_then seen (Data segments) = seen
+seen_then seen (Linking linking) = record seen { linking = true }
+seen_then seen (Reloc held) = seen_then_reloc seen held.target
+seen_then seen (Features features) = seen
+seen_then seen (Debug section) = seen
 seen_then seen Skipped = seen
 
 -- before the first section
 abbrev pub nothing_seen : Seen
-nothing_seen = record { linking = false; code_relocations = false; data_relocations = false }
+nothing_seen = record { memory = false; linking = false; code_relocations = false; data_relocations = false }
 
 -- each section is sound after those before it, in file order
 abbrev pub AreSound : List ℕ → List SectionHeader → Seen → List SectionHeader → List Section → Type 0
@@ -129,22 +157,94 @@ abbrev pub types_in : Section → List FunctionType
 types_in (Types types) = types
 types_in _ = []
 
+-- the imports of an import section
+abbrev pub imports_in : Section → List Imported
+imports_in (Imports imports) = imports
+imports_in _ = []
+
 -- the types of the functions of a function section, by number
 abbrev pub functions_in : Section → List ℕ
 functions_in (Functions functions) = functions
 functions_in _ = []
+
+-- the memories of a memory section
+abbrev pub memories_in : Section → List MemoryType
+memories_in (Memories memories) = memories
+memories_in _ = []
+
+-- the globals of a global section
+abbrev pub globals_in : Section → List DefinedGlobal
+globals_in (Globals globals) = globals
+globals_in _ = []
+
+-- the exports of an export section
+abbrev pub exports_in : Section → List Exported
+exports_in (Exports exports) = exports
+exports_in _ = []
+
+-- the number of a data count section
+abbrev pub data_counts_in : Section → List ℕ
+data_counts_in (DataCount count) = count ∷ []
+data_counts_in _ = []
 
 -- the bodies of a code section
 abbrev pub bodies_in : Section → List Body
 bodies_in (Code bodies) = bodies
 bodies_in _ = []
 
+-- the segments of a data section
+abbrev pub segments_in : Section → List Segment
+segments_in (Data segments) = segments
+segments_in _ = []
+
+-- what a linking section tells of segments
+abbrev pub infos_in : Section → List SegmentInfo
+infos_in (Linking linking) = linking.segment_infos
+infos_in _ = []
+
+-- the functions of a linking section that run at the start
+abbrev pub inits_in : Section → List WasmInitFunc
+inits_in (Linking linking) = linking.init_funcs
+inits_in _ = []
+
 -- the symbols of a linking section
 abbrev pub symbols_in : Section → List Symbol
-symbols_in (Linking symbols) = symbols
+symbols_in (Linking linking) = linking.symbols
 symbols_in _ = []
 
--- the relocations of the code section
-abbrev pub relocations_in : Section → List WasmRelocation
-relocations_in (Reloc (reloc.Code entries)) = entries
-relocations_in _ = []
+-- a relocation section
+abbrev pub reloc_sections_in : Section → List WasmRelocSection
+reloc_sections_in (Reloc held) = held.section ∷ []
+reloc_sections_in _ = []
+
+-- the entries of a relocation section that is for code
+abbrev pub code_of : Target → List WasmRelocation → List WasmRelocation
+code_of target.Code entries = entries
+code_of target.Data entries = []
+code_of target.Debug entries = []
+
+-- the entries of a relocation section that is for data
+abbrev pub data_of : Target → List WasmRelocation → List WasmRelocation
+data_of target.Code entries = []
+data_of target.Data entries = entries
+data_of target.Debug entries = []
+
+-- the relocations of code
+abbrev pub code_entries_in : Section → List WasmRelocation
+code_entries_in (Reloc held) = code_of held.target held.section.relocations
+code_entries_in _ = []
+
+-- the relocations of data
+abbrev pub data_entries_in : Section → List WasmRelocation
+data_entries_in (Reloc held) = data_of held.target held.section.relocations
+data_entries_in _ = []
+
+-- the features of a target features section
+abbrev pub features_in : Section → List Feature
+features_in (Features features) = features
+features_in _ = []
+
+-- a debug section
+abbrev pub debug_in : Section → List DebugInput
+debug_in (Debug section) = section ∷ []
+debug_in _ = []

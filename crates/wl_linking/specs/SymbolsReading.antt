@@ -1,26 +1,61 @@
 -- Reading a symbol table, on lists.
-use Rattle.std.specs.Prelude.{ℕ, List, Result}
+use Rattle.std.specs.Prelude.{ℕ, Bool, List, Result}
 use Rattle.wl_bytes.specs.Cursor.{Cursor}
-use Rattle.wl_bytes.specs.Reading as bytes
-use Rattle.wl_bytes.specs.Grammar.{then_at, map_at, error_of}
-use Rattle.wl_module.specs.Error.{read_error}
+use Rattle.wl_bytes.specs.Grammar.{then_at, map_at}
 use Rattle.wl_module.specs.Lists.{number_at, one_byte_at, list_at, whole_of}
+use Rattle.wl_module.specs.Checks.{when_at}
+use Rattle.wl_module.specs.Words.{placed_name_at}
 use Rattle.wl_module.specs.declared.error.ReadError.{ReadError}
 use Rattle.wl_linking.specs.Verdict.{judged_at}
-use Rattle.wl_linking.specs.Symbols.{Symbol, Parts, symbol_of, kind_verdict, flags_verdict}
+use Rattle.wl_linking.specs.Symbols.{Symbol, SymbolDetails, SymbolParts, symbol_of, kind_verdict, flags_verdict, based_name, name_or_none, extent_or_none, is_named, is_defined, numbered, located, sectioned}
+use Rattle.wl_linking.specs.declared.symbols.WasmSymbolKind.{WasmSymbolKind}
+use Rattle.wl_linking.specs.declared.symbols.WasmSymbolKind.TheVariants.{Func, Data, Global, Section, Event, Table}
 
--- a name, read from a place
-abbrev pub name_at : Cursor → Result (List ℕ × Cursor) ReadError
-name_at c = error_of read_error (bytes.name_at c)
+-- a name with its range, read from a place
+unfoldable pub based_name_at : ℕ → Cursor → Result ((List ℕ × (ℕ × ℕ)) × Cursor) ReadError
+based_name_at base c = map_at (based_name base) placed_name_at c
+
+-- a name where there is to be one, read from a place
+unfoldable pub name_where_at : ℕ → Bool → Cursor → Result ((List ℕ × (ℕ × ℕ)) × Cursor) ReadError
+name_where_at base named c = map_at name_or_none (when_at (based_name_at base) named) c
+
+-- three numbers, read from a place
+abbrev pub extent_at : Cursor → Result ((ℕ × (ℕ × ℕ)) × Cursor) ReadError
+extent_at c = then_at number_at (λ _. then_at number_at (λ _. number_at)) c
+
+-- three numbers where they are to be, read from a place
+unfoldable pub extent_where_at : Bool → Cursor → Result ((ℕ × (ℕ × ℕ)) × Cursor) ReadError
+extent_where_at defined c = map_at extent_or_none (when_at extent_at defined) c
+
+-- an index and perhaps a name, read from a place
+unfoldable pub numbered_at : ℕ → ℕ → Cursor → Result (SymbolDetails × Cursor) ReadError
+numbered_at base flags c = map_at numbered (then_at number_at (λ _. name_where_at base (is_named flags))) c
+
+-- a name and perhaps where data lies, read from a place
+unfoldable pub located_at : ℕ → ℕ → Cursor → Result (SymbolDetails × Cursor) ReadError
+located_at base flags c = map_at located (then_at (based_name_at base) (λ _. extent_where_at (is_defined flags))) c
+
+-- the number of a section, read from a place
+unfoldable pub section_at : Cursor → Result (SymbolDetails × Cursor) ReadError
+section_at c = map_at sectioned number_at c
+
+-- what stands behind the flags, read from a place
+abbrev pub details_at : ℕ → WasmSymbolKind → ℕ → Cursor → Result (SymbolDetails × Cursor) ReadError
+details_at base Func flags c = numbered_at base flags c
+details_at base Data flags c = located_at base flags c
+details_at base Global flags c = numbered_at base flags c
+details_at base Section flags c = section_at c
+details_at base Event flags c = section_at c
+details_at base Table flags c = numbered_at base flags c
 
 -- the parts of a symbol, read from a place
-abbrev pub parts_at : Cursor → Result (Parts × Cursor) ReadError
-parts_at c = then_at one_byte_at (λ kind. then_at (judged_at (kind_verdict kind)) (λ _. then_at number_at (λ flags. then_at (judged_at (flags_verdict flags)) (λ _. then_at number_at (λ _. name_at))))) c
+abbrev pub parts_at : ℕ → Cursor → Result (SymbolParts × Cursor) ReadError
+parts_at base c = then_at one_byte_at (λ byte. then_at (judged_at (kind_verdict byte)) (λ kind. then_at number_at (λ flags. then_at (judged_at (flags_verdict flags)) (λ _. details_at base kind flags)))) c
 
 -- a symbol, read from a place
-unfoldable pub symbol_at : Cursor → Result (Symbol × Cursor) ReadError
-symbol_at c = map_at symbol_of parts_at c
+unfoldable pub symbol_at : ℕ → Cursor → Result (Symbol × Cursor) ReadError
+symbol_at base c = map_at symbol_of (parts_at base) c
 
 -- a symbol table, read from its payload
-abbrev pub symbols_of : List ℕ → Result (List Symbol) ReadError
-symbols_of payload = whole_of (list_at symbol_at) payload
+abbrev pub symbols_of : ℕ → List ℕ → Result (List Symbol) ReadError
+symbols_of base payload = whole_of (list_at (symbol_at base)) payload

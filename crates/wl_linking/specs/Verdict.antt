@@ -30,3 +30,17 @@ abbrev pub HasCause : (ReadError → Type 0) → ReadError → Type 0
 HasCause Cause OutOfMemory = Unit {0}
 HasCause Cause (Malformed why) = Cause (Malformed why)
 HasCause Cause (Unsupported form) = Cause (Unsupported form)
+
+-- ---- the same seen otherwise
+
+-- the text spells x, and x is seen as y
+abbrev pub Seen : {X Y : Type 0} → (ℕ → X → List ℕ → Type 0) → (X → Y) → ℕ → Y → List ℕ → Type 0
+Seen {X} spells view place y text = (x : X) × spells place x text × (view x ≡ y)
+
+-- how many bytes lie before a place, and none of them
+abbrev pub IsHere : ℕ → ℕ → List ℕ → Type 0
+IsHere place n text = (text ≡ []) × (n ≡ place)
+
+-- how many bytes lie before
+abbrev pub here_at : {E : Type 0} → Cursor → Result (ℕ × Cursor) E
+here_at c = Ok (c.position, c)

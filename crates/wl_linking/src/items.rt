@@ -1,6 +1,6 @@
 //! A list in a record, which clauses see as the list.
 
-ghost use Rattle.std.specs.Prelude.{◌≡◌, [], ◌++◌, OnOk};
+ghost use Rattle.std.specs.Prelude.{◌≡◌, [], ◌∷◌, ◌++◌, OnOk};
 
 use std::alloc::{AllocError, Global};
 use std::marker::Model;
@@ -51,10 +51,27 @@ impl<T: Drop> Items<T> {
         self.list.append(&mut list)
     }
 
+    /// Puts one more thing at the end. Where memory runs out, the list is as it was.
+    pub fn push(&mut self, item: T) -> Result<(), AllocError>
+        ensures { OnOk result (self.new ≡ self.old ++ item ∷ []) }
+    {
+        self.list.push(item)?;
+        Ok(())
+    }
+
     /// The things in a vector of their own.
     pub fn into_vec(self) -> Vec<T>
         ensures { result.items ≡ self }
     {
         self.list
+    }
+}
+
+impl<T: Copy + Drop> Items<T> {
+    /// Puts copies of these things at the end. Where memory runs out, nothing is said of the list.
+    pub fn extend(&mut self, more: &[T]) -> Result<(), AllocError>
+        ensures { OnOk result (self.new ≡ self.old ++ more.now) }
+    {
+        self.list.extend_from_slice(more)
     }
 }

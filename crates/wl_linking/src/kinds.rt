@@ -3,31 +3,21 @@
 
 ghost use Rattle.std.specs.Prelude.{◌≡◌};
 ghost use Rattle.wl_module.specs.Outcome.{Gives};
-ghost use Rattle.wl_linking.specs.Targets.{stretch, custom_kind, standard_kind, kind_of, target_verdict, numbered_verdict};
+ghost use Rattle.wl_linking.specs.Targets.{stretch, name_of, custom_kind, standard_kind, kind_of, target_verdict, numbered_verdict, is_debug};
 
 use crate::relocations::Target;
 use wl_module::{Form, ReadError, SectionHeader, Why};
-
-/// The ids of the standard sections that are read, or refused by a form of their own.
-const TYPE: u8 = 1;
-
-const FUNCTION: u8 = 3;
-
-const TABLE: u8 = 4;
-
-const START: u8 = 8;
-
-const CODE: u8 = 10;
-
-const DATA: u8 = 11;
-
-const TAG: u8 = 13;
 
 /// What a section is.
 #[derive(Clone, Copy, Debug, PartialEq, Eq)]
 pub(crate) enum SectionKind {
     Type,
+    Import,
     Function,
+    Memory,
+    Global,
+    Export,
+    DataCount,
     Code,
     Data,
     Table,
@@ -36,15 +26,15 @@ pub(crate) enum SectionKind {
     Linking,
     Reloc,
     Debug,
-    /// A custom section that tells nothing of the plan.
+    Features,
+    /// A section that tells nothing of the plan: one of elements, or a custom one of another name.
     Skipped,
-    /// A section that this program has no plan for yet.
-    Later,
 }
 
-/// Which sections came before that may come once.
+/// Which sections came before that may come once, and whether a memory is imported.
 #[derive(Clone, Copy, Debug, Default, PartialEq, Eq)]
 pub(crate) struct Seen {
+    pub memory: bool,
     pub linking: bool,
     pub code_relocations: bool,
     pub data_relocations: bool,
@@ -60,6 +50,16 @@ pub(crate) fn stretch(bytes: &[u8], range: (u32, u32)) -> &[u8]
     rest.split_at(len).0
 }
 
+/// The name of a section; standard ones have none.
+pub(crate) fn name_of<'a>(bytes: &'a [u8], header: &SectionHeader) -> &'a [u8]
+    ensures { result.now ≡ name_of bytes.now header.now }
+{
+    match header.name_range {
+        None => &[],
+        Some(range) => stretch(bytes, range),
+    }
+}
+
 /// What a custom section of that name is.
 fn custom_kind(name: &[u8]) -> SectionKind
     ensures { result ≡ custom_kind name.now }
@@ -71,7 +71,7 @@ fn custom_kind(name: &[u8]) -> SectionKind
     } else if name.starts_with(b".debug_") {
         SectionKind::Debug
     } else if name == b"target_features".as_slice() {
-        SectionKind::Later
+        SectionKind::Features
     } else {
         SectionKind::Skipped
     }
@@ -82,14 +82,19 @@ fn standard_kind(id: u8) -> SectionKind
     ensures { result ≡ standard_kind id }
 {
     match id {
-        TYPE => SectionKind::Type,
-        FUNCTION => SectionKind::Function,
-        TABLE => SectionKind::Table,
-        START => SectionKind::Start,
-        CODE => SectionKind::Code,
-        DATA => SectionKind::Data,
-        TAG => SectionKind::Tag,
-        _ => SectionKind::Later,
+        1 => SectionKind::Type,
+        2 => SectionKind::Import,
+        3 => SectionKind::Function,
+        4 => SectionKind::Table,
+        5 => SectionKind::Memory,
+        6 => SectionKind::Global,
+        7 => SectionKind::Export,
+        8 => SectionKind::Start,
+        10 => SectionKind::Code,
+        11 => SectionKind::Data,
+        12 => SectionKind::DataCount,
+        13 => SectionKind::Tag,
+        _ => SectionKind::Skipped,
     }
 }
 
@@ -114,14 +119,19 @@ fn check_target(seen: Seen, kind: SectionKind) -> Result<Target, ReadError>
         SectionKind::Data => Ok(Target::Data),
         SectionKind::Debug => Ok(Target::Debug),
         SectionKind::Type
+        | SectionKind::Import
         | SectionKind::Function
+        | SectionKind::Memory
+        | SectionKind::Global
+        | SectionKind::Export
+        | SectionKind::DataCount
         | SectionKind::Table
         | SectionKind::Start
         | SectionKind::Tag
         | SectionKind::Linking
         | SectionKind::Reloc
-        | SectionKind::Skipped
-        | SectionKind::Later => Err(ReadError::Unsupported(Form::RelocTarget)),
+        | SectionKind::Features
+        | SectionKind::Skipped => Err(ReadError::Unsupported(Form::RelocTarget)),
     }
 }
 
@@ -138,4 +148,11 @@ pub(crate) fn target_of(
         None => Err(ReadError::Unsupported(Form::RelocTarget)),
         Some(header) => check_target(seen, kind_of(bytes, header)),
     }
+}
+
+/// Whether the section of this header is a debug section.
+pub(crate) fn is_debug(bytes: &[u8], header: &SectionHeader) -> bool
+    ensures { result ≡ is_debug bytes.now header.now }
+{
+    kind_of(bytes, header) == SectionKind::Debug
 }

@@ -1,25 +1,40 @@
 //! What a relocatable object holds: the sections of the core format, and those by which objects
 //! are linked (object file linking, version 2).
 //!
-//! [`parse_wasm_module`] reads an object, and its [`File`] tells what it holds.
+//! [`parse_wasm_module`] reads an object, and its [`File`] tells what it holds. [`LinkError`] says
+//! why objects can't be linked.
 #![tactic(auto)]
 
+mod debug;
+mod error;
+mod features;
+mod file;
+mod file_list;
+mod flags;
+mod infos;
 mod items;
 mod kinds;
 mod linking;
 mod object;
 mod parts;
+mod relocation_type;
 mod relocations;
 mod section;
 mod sites;
+mod slots;
+mod spaces;
 mod symbols;
 
+pub use debug::DebugSectionInput;
+pub use error::{LinkError, MemoryBound, Quantity, SharedMemoryNeed, UndefinedSymbol};
+pub use features::{WasmTargetFeature, features_or_fault, parse_target_features_payload};
+pub use file::File;
+pub use file_list::FileList;
+pub use flags::SymbolFlags;
+pub use infos::{WasmInitFunc, WasmSegmentInfo};
 pub use items::Items;
-pub use linking::read_linking;
-pub use object::{File, object_or_fault, parse_wasm_module};
-pub use relocations::{RelocationType, WasmRelocation};
+pub use object::{object_or_fault, parse_wasm_module};
+pub use relocation_type::{FieldForm, RelocationType, relocation_type_to_string};
+pub use relocations::{RelocationList, WasmRelocSection, WasmRelocation};
 pub use sites::Site;
-pub use symbols::WasmSymbol;
-
-#[cfg(test)]
-mod tests;
+pub use symbols::{WasmSymbol, WasmSymbolKind};

@@ -1,106 +1,201 @@
 //! The linking section (object file linking, version 2, "Linking Metadata Section").
 
-ghost use Rattle.std.specs.Prelude.{◌≡◌, MatchResult};
-ghost use Rattle.wl_module.specs.Outcome.{Yields, Gives, ReadsWhole, IsFault};
-ghost use Rattle.wl_linking.specs.Linking.{subsection_verdict, held_of, subsection_at, version_at, HaveSymbols, IsSubsectionsFault, IsLinking, LinkingFault, table_after};
+ghost use Rattle.std.specs.Prelude.{◌≡◌, ◌≤◌, ◌^◌, OnOk, [], length, MatchResult};
+ghost use Rattle.wl_bytes.specs.Cursor.{end_of};
+ghost use Rattle.wl_module.specs.Outcome.{Yields, Gives, IsFault};
+ghost use Rattle.wl_linking.specs.Linking.{subsection_kind, subsection_verdict, held_of, subsection_at, version_at, nothing_seen, seen_after, linking_of, with_subsection, HaveSubsections, IsSubsectionsFault, IsLinking, LinkingFault};
 
+use crate::infos::{WasmInitFunc, WasmSegmentInfo};
 use crate::items::Items;
 use crate::symbols::{WasmSymbol, read_symbols};
-use std::alloc::Global;
+use std::alloc::{AllocError, Global};
 use wl_bytes::Reader;
-use wl_module::{Form, ReadError, Why};
+use wl_module::{Form, ReadError, Why, read_payload};
+
+/// What a subsection is for.
+#[derive(Clone, Copy, Debug, PartialEq, Eq)]
+pub(crate) enum SubsectionKind {
+    SegmentInfo,
+    InitFuncs,
+    SymbolTable,
+    /// It is skipped.
+    Other,
+}
 
 /// What a subsection of a linking section holds.
 #[derive(Drop)]
 pub(crate) enum Subsection<'a> {
+    SegmentInfo(Items<WasmSegmentInfo<'a>>),
+    InitFuncs(Items<WasmInitFunc>),
     SymbolTable(Items<WasmSymbol<'a>>),
     Skipped,
 }
 
-/// The kinds of subsections that are read, or refused.
-const SEGMENT_INFO: u8 = 5;
+/// Which subsections came before that may come once.
+#[derive(Clone, Copy, Debug, Default, PartialEq, Eq)]
+pub(crate) struct SeenSubsections {
+    pub segment_info: bool,
+    pub init_funcs: bool,
+    pub symbol_table: bool,
+}
 
-const INIT_FUNCS: u8 = 6;
+/// What a linking section holds.
+#[derive(Drop)]
+pub(crate) struct Linking<'a> {
+    pub segment_infos: Items<WasmSegmentInfo<'a>>,
+    pub init_funcs: Items<WasmInitFunc>,
+    pub symbols: Items<WasmSymbol<'a>>,
+}
 
-const SYMBOL_TABLE: u8 = 8;
+impl<'a> Linking<'a> {
+    /// What no subsection holds.
+    fn empty(alloc: Global) -> Self
+        ensures { result ≡ linking_of [] }
+    {
+        Linking {
+            segment_infos: Items::empty(alloc),
+            init_funcs: Items::empty(alloc),
+            symbols: Items::empty(alloc),
+        }
+    }
+
+    /// Takes in what one more subsection holds.
+    fn add(&mut self, subsection: Subsection<'a>) -> Result<(), AllocError>
+        ensures { OnOk result (self.new ≡ with_subsection self.old subsection.entry) }
+    {
+        match subsection {
+            Subsection::SegmentInfo(infos) => self.segment_infos.append(infos),
+            Subsection::InitFuncs(functions) => self.init_funcs.append(functions),
+            Subsection::SymbolTable(symbols) => self.symbols.append(symbols),
+            Subsection::Skipped => Ok(()),
+        }
+    }
+}
 
 /// The version of the linking section that is read.
 const VERSION: u32 = 2;
 
-/// Whether a subsection of that kind is taken, where a symbol table was seen or not.
-fn check_kind(seen: bool, kind: u8) -> Result<(), ReadError>
+/// What a subsection of that number is for.
+fn subsection_kind(number: u8) -> SubsectionKind
+    ensures { result ≡ subsection_kind number }
+{
+    match number {
+        5 => SubsectionKind::SegmentInfo,
+        6 => SubsectionKind::InitFuncs,
+        8 => SubsectionKind::SymbolTable,
+        _ => SubsectionKind::Other,
+    }
+}
+
+/// Whether a subsection may come after those that were seen.
+fn check_kind(seen: SeenSubsections, kind: SubsectionKind) -> Result<(), ReadError>
     ensures { Gives (λ u. u) result (subsection_verdict seen kind) }
 {
-    match kind {
-        SEGMENT_INFO | INIT_FUNCS => Err(ReadError::Unsupported(Form::NotYet)),
-        SYMBOL_TABLE if seen => Err(ReadError::Malformed(Why::Repeated)),
-        _ => Ok(()),
+    let repeated = match kind {
+        SubsectionKind::SegmentInfo => seen.segment_info,
+        SubsectionKind::InitFuncs => seen.init_funcs,
+        SubsectionKind::SymbolTable => seen.symbol_table,
+        SubsectionKind::Other => false,
+    };
+    if repeated {
+        return Err(ReadError::Malformed(Why::Repeated));
     }
+    Ok(())
 }
 
-/// What the payload of a subsection of that kind holds.
-fn read_held(alloc: Global, kind: u8, payload: &[u8]) -> Result<Subsection<'_>, ReadError>
-    ensures { Gives (λ s. s) result (held_of kind payload.now) }
+/// What the payload of a subsection of that kind holds, where so many bytes of the object lie
+/// before it.
+fn read_held(
+    alloc: Global,
+    base: u32,
+    kind: SubsectionKind,
+    payload: &[u8],
+) -> Result<Subsection<'_>, ReadError>
+    requires base { base ≤ 2 ^ 31 }
+    requires len { length payload.now ≤ 2 ^ 30 }
+    ensures { Gives (λ s. s) result (held_of base kind payload.now) }
 {
-    if kind == SYMBOL_TABLE {
-        let symbols = read_symbols(alloc, payload)?;
-        Ok(Subsection::SymbolTable(symbols))
-    } else {
-        Ok(Subsection::Skipped)
+    match kind {
+        SubsectionKind::SegmentInfo => Ok(Subsection::SegmentInfo(Items::new(read_payload(
+            alloc, payload,
+        )?))),
+        SubsectionKind::InitFuncs => Ok(Subsection::InitFuncs(Items::new(read_payload(
+            alloc, payload,
+        )?))),
+        SubsectionKind::SymbolTable => {
+            Ok(Subsection::SymbolTable(read_symbols(alloc, base, payload)?))
+        }
+        SubsectionKind::Other => Ok(Subsection::Skipped),
     }
 }
 
-/// The subsection in front.
+/// The subsection in front, where so many bytes of the object lie before those of the section.
 #[tactic(auto, unfolding(crate::specs::Linking::subsection_at))]
 fn read_subsection<'a>(
     alloc: Global,
-    seen: bool,
+    base: u32,
+    seen: SeenSubsections,
     reader: &mut Reader<'a>,
 ) -> Result<Subsection<'a>, ReadError>
-    ensures { Yields (λ s. s) result reader.new (subsection_at seen reader.old) }
+    requires base { base ≤ 2 ^ 30 }
+    requires end { end_of reader.old ≤ 2 ^ 30 }
+    ensures value { Yields (λ s. s) result reader.new (subsection_at base seen reader.old) }
+    ensures end { end_of reader.new ≡ end_of reader.old }
 {
-    let kind = reader.read_u8()?;
+    let kind = subsection_kind(reader.read_u8()?);
     check_kind(seen, kind)?;
     let size = reader.read_u32()?;
+    let place = reader.position() as u32;
     let payload = reader.take(size as usize)?;
-    read_held(alloc, kind, payload)
+    read_held(alloc, base + place, kind, payload)
 }
 
-/// The table that was found, after one more subsection.
-fn with_subsection<'a>(
-    table: Option<Items<WasmSymbol<'a>>>,
-    subsection: Subsection<'a>,
-) -> Option<Items<WasmSymbol<'a>>>
-    ensures { result ≡ table_after table.entry subsection.entry }
+/// What was seen, with this subsection too.
+fn seen_after(seen: SeenSubsections, subsection: &Subsection<'_>) -> SeenSubsections
+    ensures { result ≡ seen_after seen subsection.now }
 {
     match subsection {
-        Subsection::SymbolTable(symbols) => Some(symbols),
-        Subsection::Skipped => table,
+        Subsection::SegmentInfo(_) => SeenSubsections {
+            segment_info: true,
+            ..seen
+        },
+        Subsection::InitFuncs(_) => SeenSubsections {
+            init_funcs: true,
+            ..seen
+        },
+        Subsection::SymbolTable(_) => SeenSubsections {
+            symbol_table: true,
+            ..seen
+        },
+        Subsection::Skipped => seen,
     }
 }
 
-/// The symbols of the subsections up to the end.
+/// What the subsections up to the end hold.
 fn read_subsections<'a>(
     alloc: Global,
+    base: u32,
     reader: &mut Reader<'a>,
-) -> Result<Items<WasmSymbol<'a>>, ReadError>
-    ensures { MatchResult result (λ symbols. HaveSymbols symbols reader.old) (IsSubsectionsFault reader.old) }
+) -> Result<Linking<'a>, ReadError>
+    requires base { base ≤ 2 ^ 30 }
+    requires end { end_of reader.old ≤ 2 ^ 30 }
+    ensures { MatchResult result (HaveSubsections base reader.old) (IsSubsectionsFault base reader.old) }
 {
-    let mut table = None;
+    let mut linking = Linking::empty(alloc);
+    let mut seen = SeenSubsections::default();
     while !reader.rest().is_empty() {
-        let subsection = read_subsection(alloc, table.is_some(), reader)?;
-        table = with_subsection(table, subsection);
+        let subsection = read_subsection(alloc, base, seen, reader)?;
+        seen = seen_after(seen, &subsection);
+        linking.add(subsection)?;
     }
-    match table {
-        Some(symbols) => Ok(symbols),
-        None => Ok(Items::empty(alloc)),
-    }
+    Ok(linking)
 }
 
 /// The version in front is the one that is read.
 #[tactic(auto, unfolding(crate::specs::Linking::version_at))]
 fn read_version(reader: &mut Reader<'_>) -> Result<(), ReadError>
-    ensures { Yields (λ _. (2, tt)) result reader.new (version_at reader.old) }
+    ensures value { Yields (λ _. (2, tt)) result reader.new (version_at reader.old) }
+    ensures end { end_of reader.new ≡ end_of reader.old }
 {
     if reader.read_u32()? == VERSION {
         Ok(())
@@ -109,22 +204,21 @@ fn read_version(reader: &mut Reader<'_>) -> Result<(), ReadError>
     }
 }
 
-/// The symbols of a whole payload.
-fn linking(alloc: Global, payload: &[u8]) -> Result<Items<WasmSymbol<'_>>, ReadError>
-    ensures { MatchResult result (λ symbols. IsLinking symbols payload.now) (IsFault LinkingFault payload.now) }
-{
-    let mut reader = Reader::new(payload);
-    read_version(&mut reader)?;
-    read_subsections(alloc, &mut reader)
-}
-
 /// Reads the payload of a linking section (object file linking, version 2, "Linking Metadata
-/// Section"): the symbols of its table in order, and none where it has no table.
+/// Section"), where so many bytes of the object lie before it.
 ///
 /// # Errors
 /// `Malformed` and `Unsupported` name the first thing at fault in the payload.
-pub fn read_linking(alloc: Global, payload: &[u8]) -> Result<Items<WasmSymbol<'_>>, ReadError>
-    ensures { ReadsWhole (λ symbols. symbols) IsLinking LinkingFault payload.now result }
+pub(crate) fn read_linking(
+    alloc: Global,
+    base: u32,
+    payload: &[u8],
+) -> Result<Linking<'_>, ReadError>
+    requires base { base ≤ 2 ^ 30 }
+    requires len { length payload.now ≤ 2 ^ 30 }
+    ensures { MatchResult result (λ linking. IsLinking base linking payload.now) (IsFault (LinkingFault base) payload.now) }
 {
-    linking(alloc, payload)
+    let mut reader = Reader::new(payload);
+    read_version(&mut reader)?;
+    read_subsections(alloc, base, &mut reader)
 }

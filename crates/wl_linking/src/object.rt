@@ -1,184 +1,125 @@
 //! A relocatable object: its sections, and what must hold across them.
 
-ghost use Rattle.std.specs.Prelude.{◌≡◌, ◌≤◌, ◌^◌, ℕ, List, length, MatchResult};
+ghost use Rattle.std.specs.Prelude.{◌≡◌, ◌≤◌, ◌^◌, ℕ, List, length, map, IfOk, MatchResult};
+ghost use Rattle.std.specs.List.{AllByRecursion};
+ghost use Rattle.std.specs.List.Sorted.{IsNonDecreasingBy};
 ghost use Rattle.wl_module.specs.Sections.{Framed, FrameFault};
-ghost use Rattle.wl_module.specs.declared.sections.SectionHeader.{SectionHeader};
-ghost use Rattle.wl_module.specs.declared.error.ReadError.{ReadError};
+ghost use Rattle.wl_module.specs.declared.sections.SectionHeader.{SectionHeader as Header};
+ghost use Rattle.wl_module.specs.declared.error.ReadError.{ReadError as Fault};
 ghost use Rattle.wl_linking.specs.Sections.{AreFaulty, nothing_seen};
-ghost use Rattle.wl_linking.specs.Object.{types_exist, functions_exist, symbols_exist, CrossFault, Object, IsObject, ObjectFault, ParsesObject};
-ghost use Rattle.wl_linking.specs.Fitting.{NamesExist, FitsParts, FitFault};
+ghost use Rattle.wl_linking.specs.Object.{Object};
+ghost use Rattle.wl_linking.specs.Slots.{IsNamedWithin, import_base};
+ghost use Rattle.wl_linking.specs.Sites.{body_piece, segment_piece, offset_of, LieApart, FieldsFault};
+ghost use Rattle.wl_linking.specs.Fitting.{HasItems, code_pieces, data_pieces, Fitted, CrossFault, FitsParts, PartsFault, IsObject, ObjectFault, ParsesObject};
 ghost use Rattle.wl_linking.specs.Placing.{Ascend};
 ghost use Rattle.wl_linking.specs.Verdict.{HasCause};
 
+use crate::file::File;
 use crate::items::Items;
 use crate::parts::{Parts, read_parts};
-use crate::relocations::WasmRelocation;
-use crate::sites::{Site, are_apart, find_sites, in_order};
-use crate::symbols::WasmSymbol;
-use std::alloc::Global;
-use std::marker::Model;
-use wl_module::{FuncType, ReadError, SectionHeader, WasmFunctionBody, Why, split_sections};
+use crate::sites::{Site, body_pieces, in_order, place_fields, segment_pieces};
+use crate::slots::{check_slots, import_base, name_symbols, slots_of};
+use crate::spaces::{check_names, spaces_of};
+use std::alloc::{AllocError, Global};
+use wl_module::{ExternalKind, ReadError, SectionHeader, split_sections};
 
-/// A relocatable object: what its sections hold, in file order (core specification, "Modules";
-/// object file linking, version 2). Names and bodies are slices of the bytes that it was read from.
-/// Clauses see it as an `Object`.
-#[derive(Drop)]
-pub struct File<'a> {
+/// The object of these items. The places of its fields aren't found yet.
+fn assemble<'a>(
+    alloc: Global,
+    bytes: &'a [u8],
     sections: Items<SectionHeader>,
-    types: Items<FuncType>,
-    functions: Items<u32>,
-    bodies: Items<WasmFunctionBody<'a>>,
-    symbols: Items<WasmSymbol<'a>>,
-    relocations: Items<WasmRelocation>,
-    sites: Items<Site>,
-}
-
-impl<'a> Model for File<'a> {
-    ghost use Rattle.wl_linking.specs.Object.{Object};
-
-    ghost Value = { Object };
-
-    ghost view = { λ f. record {
-      sections = f.sections;
-      types = f.types;
-      functions = f.functions;
-      bodies = f.bodies;
-      symbols = f.symbols;
-      relocations = f.relocations;
-      sites = f.sites;
-    } };
-}
-
-impl<'a> File<'a> {
-    /// Where each section stands in the bytes of the object, those that aren't read too.
-    pub fn sections(&self) -> &[SectionHeader]
-        ensures { result.now ≡ self.now.sections }
-    {
-        self.sections.as_slice()
-    }
-
-    /// The types of the type section (core specification, "Type Section").
-    pub fn types(&self) -> &[FuncType]
-        ensures { result.now ≡ self.now.types }
-    {
-        self.types.as_slice()
-    }
-
-    /// The type of each function that the object defines, as its number among the types (core
-    /// specification, "Function Section").
-    pub fn module_functions(&self) -> &[u32]
-        ensures { result.now ≡ self.now.functions }
-    {
-        self.functions.as_slice()
-    }
-
-    /// The body of each function that the object defines (core specification, "Code Section").
-    pub fn function_bodies(&self) -> &[WasmFunctionBody<'a>]
-        ensures { result.now ≡ self.now.bodies }
-    {
-        self.bodies.as_slice()
-    }
-
-    /// The symbols of the linking section (object file linking, version 2, "Symbol Table
-    /// Subsection").
-    pub fn symbols(&self) -> &[WasmSymbol<'a>]
-        ensures { result.now ≡ self.now.symbols }
-    {
-        self.symbols.as_slice()
-    }
-
-    /// The relocations of the code section, in order of their fields, whatever their order in the
-    /// object (object file linking, version 2, "Relocation Sections").
-    pub fn code_relocations(&self) -> &[WasmRelocation]
-        ensures { result.now ≡ self.now.relocations }
-    {
-        self.relocations.as_slice()
-    }
-
-    /// Where the field of each relocation of the code section lies, in the same order as these.
-    pub fn code_sites(&self) -> &[Site]
-        ensures { result.now ≡ self.now.sites }
-    {
-        self.sites.as_slice()
-    }
-}
-
-/// Each function has one of the types.
-fn types_exist(count: usize, functions: &[u32]) -> bool
-    ensures { result ≡ types_exist count functions.now }
+    parts: Parts<'a>,
+) -> Result<File<'a>, AllocError>
+    requires base { import_base sections ≤ 2 ^ 30 }
+    requires names { AllByRecursion IsNamedWithin parts.imports }
+    ensures { IfOk result (HasItems bytes.now sections parts.entry) }
 {
-    functions.iter().all(|ty| (*ty as usize) < count)
+    let base = import_base(sections.as_slice());
+    let imports = parts.imports.as_slice();
+    let functions = slots_of(alloc, ExternalKind::Func, base, imports)?;
+    let globals = slots_of(alloc, ExternalKind::Global, base, imports)?;
+    let symbols = name_symbols(alloc, &functions, &globals, parts.symbols)?;
+    let code_relocations = in_order(parts.code_entries)?;
+    let data_relocations = in_order(parts.data_entries)?;
+    Ok(File {
+        bytes,
+        sections,
+        types: parts.types,
+        imports: parts.imports,
+        functions: parts.functions,
+        memories: parts.memories,
+        globals: parts.globals,
+        exports: parts.exports,
+        data_counts: parts.data_counts,
+        bodies: parts.bodies,
+        segments: parts.segments,
+        segment_infos: parts.segment_infos,
+        init_funcs: parts.init_funcs,
+        symbols,
+        reloc_sections: parts.reloc_sections,
+        features: parts.features,
+        debug_sections: parts.debug_sections,
+        code_relocations,
+        code_sites: Items::empty(alloc),
+        data_relocations,
+        data_sites: Items::empty(alloc),
+    })
 }
 
-/// Each symbol names one of the functions.
-fn functions_exist(count: usize, symbols: &[WasmSymbol<'_>]) -> bool
-    ensures { result ≡ functions_exist count symbols.now }
+/// Where the fields of code lie: each in a body, and by itself.
+fn find_code_sites(alloc: Global, file: &File<'_>) -> Result<Items<Site>, ReadError>
+    requires bodies { Ascend 0 (code_pieces file.now) }
+    requires order { IsNonDecreasingBy offset_of file.now.code_relocations }
+    ensures { MatchResult result (LieApart (code_pieces file.now) file.now.code_relocations) (HasCause (FieldsFault (code_pieces file.now) file.now.code_relocations)) }
 {
-    symbols.iter().all(|symbol| (symbol.index as usize) < count)
+    let pieces = body_pieces(alloc, file.bodies())?;
+    place_fields(alloc, &pieces, file.code_relocations())
 }
 
-/// Each relocation names one of the symbols.
-fn symbols_exist(count: usize, relocations: &[WasmRelocation]) -> bool
-    ensures { result ≡ symbols_exist count relocations.now }
+/// Where the fields of data lie: each in a segment, and by itself.
+fn find_data_sites(alloc: Global, file: &File<'_>) -> Result<Items<Site>, ReadError>
+    requires segments { Ascend 0 (data_pieces file.now) }
+    requires order { IsNonDecreasingBy offset_of file.now.data_relocations }
+    ensures { MatchResult result (LieApart (data_pieces file.now) file.now.data_relocations) (HasCause (FieldsFault (data_pieces file.now) file.now.data_relocations)) }
 {
-    relocations
-        .iter()
-        .all(|relocation| (relocation.index as usize) < count)
+    let pieces = segment_pieces(alloc, file.segments())?;
+    place_fields(alloc, &pieces, file.data_relocations())
 }
 
-/// Each function has its body, and what is named exists.
-fn check_names(
-    types: &[FuncType],
-    functions: &[u32],
-    bodies: &[WasmFunctionBody<'_>],
-    symbols: &[WasmSymbol<'_>],
-    relocations: &[WasmRelocation],
-) -> Result<(), ReadError>
-    ensures { MatchResult result (λ _. NamesExist types.now functions.now bodies.now symbols.now relocations.now)
-        (CrossFault types.now functions.now bodies.now symbols.now relocations.now) }
+/// Sees that what the object names exists, that each import has one name, and that each field lies
+/// by itself; and takes down where the fields lie.
+fn fit_file(alloc: Global, file: &mut File<'_>) -> Result<(), ReadError>
+    requires bodies { Ascend 0 (code_pieces file.old) }
+    requires segments { Ascend 0 (data_pieces file.old) }
+    requires code { IsNonDecreasingBy offset_of file.old.code_relocations }
+    requires data_ { IsNonDecreasingBy offset_of file.old.data_relocations }
+    ensures { MatchResult result (λ _. Fitted file.old file.new) (HasCause (CrossFault file.old)) }
 {
-    if bodies.len() != functions.len() {
-        return Err(ReadError::Malformed(Why::Count));
-    }
-    if !types_exist(types.len(), functions)
-        || !functions_exist(functions.len(), symbols)
-        || !symbols_exist(symbols.len(), relocations)
-    {
-        return Err(ReadError::Malformed(Why::BadIndex));
-    }
+    check_names(file)?;
+    check_slots(alloc, spaces_of(file), file.symbols())?;
+    let code_sites = find_code_sites(alloc, file)?;
+    let data_sites = find_data_sites(alloc, file)?;
+    file.code_sites = code_sites;
+    file.data_sites = data_sites;
     Ok(())
 }
 
 /// The object of these items, where they fit together.
 fn fit<'a>(
     alloc: Global,
+    bytes: &'a [u8],
     sections: Items<SectionHeader>,
     parts: Parts<'a>,
 ) -> Result<File<'a>, ReadError>
-    requires { Ascend 0 parts.bodies }
-    ensures { MatchResult result (FitsParts sections parts.entry) (HasCause (FitFault parts.entry)) }
+    requires base { import_base sections ≤ 2 ^ 30 }
+    requires names { AllByRecursion IsNamedWithin parts.imports }
+    requires bodies { Ascend 0 (map body_piece parts.bodies) }
+    requires segments { Ascend 0 (map segment_piece parts.segments) }
+    ensures { MatchResult result (FitsParts bytes.now sections parts.entry) (HasCause (PartsFault bytes.now sections parts.entry)) }
 {
-    let relocations = in_order(parts.relocations)?;
-    check_names(
-        parts.types.as_slice(),
-        parts.functions.as_slice(),
-        parts.bodies.as_slice(),
-        parts.symbols.as_slice(),
-        relocations.as_slice(),
-    )?;
-    let sites = find_sites(alloc, parts.bodies.as_slice(), relocations.as_slice())?;
-    if !are_apart(relocations.as_slice()) {
-        return Err(ReadError::Malformed(Why::Overlap));
-    }
-    Ok(File {
-        sections,
-        types: parts.types,
-        functions: parts.functions,
-        bodies: parts.bodies,
-        symbols: parts.symbols,
-        relocations,
-        sites,
-    })
+    let mut file = assemble(alloc, bytes, sections, parts)?;
+    fit_file(alloc, &mut file)?;
+    Ok(file)
 }
 
 /// The object that the bytes are.
@@ -188,10 +129,11 @@ fn object(alloc: Global, bytes: &[u8]) -> Result<File<'_>, ReadError>
 {
     let headers = split_sections(alloc, bytes)?;
     let parts = read_parts(alloc, bytes, &headers)?;
-    fit(alloc, Items::new(headers), parts)
+    fit(alloc, bytes, Items::new(headers), parts)
 }
 
-/// Reads a relocatable object (core specification, "Modules"; object file linking, version 2).
+/// Reads a relocatable object (core specification, "Modules"; object file linking, version 2), of
+/// 2^30 bytes at most.
 ///
 /// # Errors
 /// `Malformed` and `Unsupported` say what is wrong with the bytes: their frame is judged first,
@@ -207,7 +149,7 @@ pub fn parse_wasm_module(alloc: Global, bytes: &[u8]) -> Result<File<'_>, ReadEr
 /// Bytes are one object at most, and never both an object and at fault.
 pub fn object_or_fault()
     ensures one { (bytes : List ℕ) (o p : Object) → IsObject o bytes → IsObject p bytes → o ≡ p }
-    ensures either { (bytes : List ℕ) (o : Object) (e : ReadError) → IsObject o bytes → ObjectFault e bytes → ⊥ }
-    ensures frame_first { (bytes : List ℕ) (e d : ReadError) → FrameFault e bytes → ObjectFault d bytes → d ≡ e }
-    ensures section_first { (bytes : List ℕ) (e d : ReadError) (headers : List SectionHeader) → Framed headers bytes → AreFaulty bytes headers nothing_seen headers e → ObjectFault d bytes → d ≡ e }
+    ensures either { (bytes : List ℕ) (o : Object) (e : Fault) → IsObject o bytes → ObjectFault e bytes → ⊥ }
+    ensures frame_first { (bytes : List ℕ) (e d : Fault) → FrameFault e bytes → ObjectFault d bytes → d ≡ e }
+    ensures section_first { (bytes : List ℕ) (e d : Fault) (headers : List Header) → Framed headers bytes → AreFaulty bytes headers nothing_seen headers e → ObjectFault d bytes → d ≡ e }
 {}

@@ -1,84 +1,119 @@
 //! Relocation sections (object file linking, version 2, "Relocation Sections").
 
-ghost use Rattle.std.specs.Prelude.{◌≡◌};
+ghost use Rattle.std.specs.Prelude.{◌≡◌, length};
 ghost use Rattle.wl_bytes.specs.Grammar.{times_at};
 ghost use Rattle.wl_module.specs.Outcome.{Yields, Gives};
-ghost use Rattle.wl_linking.specs.Relocations.{has_no_rule, type_verdict, entry_at, entries_of, held_at};
+ghost use Rattle.wl_linking.specs.Relocations.{type_verdict, addend_where_at, entry_at, entries_of, held_at};
 
 use crate::items::Items;
+use crate::relocation_type::RelocationType;
 use std::alloc::Global;
+use std::marker::Model;
 use wl_bytes::Reader;
 use wl_module::{Form, ReadError, Why};
 
-/// What a relocation puts into its field (object file linking, version 2, "Relocation Sections").
-#[derive(Clone, Copy, Debug, PartialEq, Eq)]
-pub enum RelocationType {
-    /// The number of a function, in five bytes of LEB128.
-    FunctionIndexLeb,
-}
-
-/// A place in a section's payload that names a symbol (object file linking, version 2,
-/// "Relocation Sections").
+/// A place in a section's payload that takes the value of a symbol or a type (object file linking,
+/// version 2, "Relocation Sections").
 #[derive(Clone, Copy, Debug, PartialEq, Eq)]
 pub struct WasmRelocation {
     /// What the field takes.
     pub ty: RelocationType,
     /// How many bytes of the section's payload lie before the field.
     pub offset: u32,
-    /// The number of the symbol in its object.
+    /// The number in its object of the symbol, or of the type for `TypeIndexLeb`.
     pub index: u32,
+    /// What is added to an address; 0 for other values.
+    pub addend: i64,
+}
+
+/// The entries of a relocation section, in file order. Clauses see it as a list.
+#[derive(Drop)]
+pub struct RelocationList {
+    list: Vec<WasmRelocation>,
+}
+
+impl Model for RelocationList {
+    ghost use Rattle.std.specs.Prelude.{List};
+    ghost use Rattle.wl_linking.specs.declared.relocations.WasmRelocation.{WasmRelocation as Relocation};
+
+    ghost Value = { List Relocation };
+
+    ghost view = { λ l. l.list.items };
+}
+
+impl RelocationList {
+    /// How many entries there are.
+    pub fn num_relocations(&self) -> usize
+        ensures { result ≡ length self.now }
+    {
+        self.list.len()
+    }
+
+    /// The entries as a slice.
+    pub fn as_slice(&self) -> &[WasmRelocation]
+        ensures { result.now ≡ self.now }
+    {
+        self.list.as_slice()
+    }
+}
+
+/// A relocation section (object file linking, version 2, "Relocation Sections").
+#[derive(Drop)]
+pub struct WasmRelocSection {
+    /// The number of the section that its entries are for, among all sections of the object.
+    pub target_section: u32,
+    /// Its entries in file order; none are read where they are for a debug section.
+    pub relocations: RelocationList,
 }
 
 /// What the fields of a relocation section lie in.
 #[derive(Clone, Copy, Debug, PartialEq, Eq)]
 pub(crate) enum Target {
+    /// The code section.
     Code,
+    /// The data section.
     Data,
+    /// A debug section.
     Debug,
 }
 
-/// What a relocation section holds; those of debug sections are not read.
+/// A relocation section, and what its fields lie in.
 #[derive(Drop)]
-pub(crate) enum RelocSection {
-    Code(Items<WasmRelocation>),
-    Data(Items<WasmRelocation>),
-    Debug,
+pub(crate) struct RelocHeld {
+    pub target: Target,
+    pub section: WasmRelocSection,
 }
-
-/// The types of relocations that are told apart from their neighbours.
-const FUNCTION_INDEX_LEB: u8 = 0;
-
-const TABLE_INDEX_REL_SLEB: u8 = 12;
 
 /// The greatest number of a type of relocation.
 const LAST_TYPE: u8 = 26;
 
-/// The type has no rule in that target.
-fn lacks_rule(target: Target, ty: u8) -> bool
-    ensures { result ≡ has_no_rule target ty }
+/// The type of that number, in that target.
+fn read_type(target: Target, number: u8) -> Result<RelocationType, ReadError>
+    ensures { Gives (λ t. t) result (type_verdict target number) }
 {
-    match ty {
-        // 8 to 10 are offsets of functions and sections, and tags. 23 is relative to its own field,
-        // and the others are forms of 64 bits.
-        8..=10 | 14..=19 | 22..=25 => true,
-        // Only code adds the base of its table to such a slot.
-        TABLE_INDEX_REL_SLEB => target == Target::Data,
-        _ => false,
+    if number > LAST_TYPE {
+        return Err(ReadError::Malformed(Why::RelocType));
+    }
+    // Only code adds the base of its table to a slot behind it.
+    match RelocationType::from_number(number) {
+        Some(RelocationType::TableIndexRelSleb) if target == Target::Data => {
+            Err(ReadError::Unsupported(Form::RelocType))
+        }
+        Some(ty) => Ok(ty),
+        None => Err(ReadError::Unsupported(Form::RelocType)),
     }
 }
 
-/// The type of that number, in that target.
-fn read_type(target: Target, ty: u8) -> Result<RelocationType, ReadError>
-    ensures { Gives (λ t. t) result (type_verdict target ty) }
+/// The addend in front, where the type has one.
+#[tactic(auto, unfolding(crate::specs::Relocations::addend_where_at))]
+fn read_addend_where(has_addend: bool, reader: &mut Reader<'_>) -> Result<i64, ReadError>
+    ensures { Yields (λ z. z) result reader.new (addend_where_at has_addend reader.old) }
 {
-    if ty == FUNCTION_INDEX_LEB {
-        Ok(RelocationType::FunctionIndexLeb)
-    } else if ty > LAST_TYPE {
-        Err(ReadError::Malformed(Why::RelocType))
-    } else if lacks_rule(target, ty) {
-        Err(ReadError::Unsupported(Form::RelocType))
+    if has_addend {
+        let addend = reader.read_s32()?;
+        Ok(i64::from(addend))
     } else {
-        Err(ReadError::Unsupported(Form::NotYet))
+        Ok(0)
     }
 }
 
@@ -87,11 +122,17 @@ fn read_type(target: Target, ty: u8) -> Result<RelocationType, ReadError>
 fn read_entry(target: Target, reader: &mut Reader<'_>) -> Result<WasmRelocation, ReadError>
     ensures { Yields (λ r. r) result reader.new (entry_at target reader.old) }
 {
-    let ty = reader.read_u8()?;
-    let ty = read_type(target, ty)?;
+    let number = reader.read_u8()?;
+    let ty = read_type(target, number)?;
     let offset = reader.read_u32()?;
     let index = reader.read_u32()?;
-    Ok(WasmRelocation { ty, offset, index })
+    let addend = read_addend_where(ty.has_addend(), reader)?;
+    Ok(WasmRelocation {
+        ty,
+        offset,
+        index,
+        addend,
+    })
 }
 
 /// So many entries, in a list that grows as they are read.
@@ -115,15 +156,15 @@ fn read_entries(
     alloc: Global,
     target: Target,
     reader: &mut Reader<'_>,
-) -> Result<Items<WasmRelocation>, ReadError>
-    ensures { Gives (λ entries. entries) result (entries_of target reader.old) }
+) -> Result<Vec<WasmRelocation>, ReadError>
+    ensures { Gives (λ v. v.items) result (entries_of target reader.old) }
 {
     let count = reader.read_u32()?;
     let entries = entries_in(alloc, target, reader, count)?;
     if !reader.rest().is_empty() {
         return Err(ReadError::Malformed(Why::Trailing));
     }
-    Ok(Items::new(entries))
+    Ok(entries)
 }
 
 /// What stands behind the number of the section that a relocation section is for.
@@ -131,12 +172,12 @@ pub(crate) fn read_held(
     alloc: Global,
     target: Target,
     reader: &mut Reader<'_>,
-) -> Result<RelocSection, ReadError>
-    ensures { Gives (λ section. section) result (held_at target reader.old) }
+) -> Result<RelocationList, ReadError>
+    ensures { Gives (λ l. l) result (held_at target reader.old) }
 {
-    match target {
-        Target::Code => Ok(RelocSection::Code(read_entries(alloc, target, reader)?)),
-        Target::Data => Ok(RelocSection::Data(read_entries(alloc, target, reader)?)),
-        Target::Debug => Ok(RelocSection::Debug),
-    }
+    let list = match target {
+        Target::Code | Target::Data => read_entries(alloc, target, reader)?,
+        Target::Debug => Vec::new(alloc),
+    };
+    Ok(RelocationList { list })
 }

@@ -1,23 +1,26 @@
 //! One section of an object.
 
-ghost use Rattle.std.specs.Prelude.{◌≡◌, ◌≤◌, ◌^◌, length, MatchResult};
-ghost use Rattle.std.specs.List.{list_all};
-ghost use Rattle.wl_module.specs.Outcome.{Gives, IsFault, ReadsWhole};
-ghost use Rattle.wl_linking.specs.Relocations.{IsRelocSection, RelocSectionFault, reloc_section_of};
-ghost use Rattle.wl_linking.specs.Sections.{is_plain, ArePlainBodies, PlainBodiesFault, HoldsItems, ItemsFault, IsSound, IsFaulty, LinkingItems, LinkingItemsFault, seen_then};
+ghost use Rattle.std.specs.Prelude.{◌≡◌, ◌≤◌, ◌^◌, length, Ok, MatchResult};
+ghost use Rattle.std.specs.Str.{IsUtf8};
+ghost use Rattle.wl_module.specs.Outcome.{Gives, IsFault};
+ghost use Rattle.wl_linking.specs.Relocations.{reloc_section_of};
+ghost use Rattle.wl_linking.specs.Sections.{HoldsItems, ItemsFault, IsSound, IsFaulty, LinkingItems, LinkingItemsFault, IsPlaced, has_memory, seen_then, seen_then_reloc};
+ghost use Rattle.wl_linking.specs.Debug.{debug_of};
 ghost use Rattle.wl_linking.specs.Verdict.{HasCause};
-ghost use Rattle.wl_linking.specs.Targets.{numbered_verdict};
+ghost use Rattle.wl_linking.specs.Targets.{numbered_verdict, payload_of};
 
+use crate::debug::DebugSectionInput;
+use crate::features::{WasmTargetFeature, parse_target_features_payload};
 use crate::items::Items;
-use crate::kinds::{SectionKind, Seen, kind_of, stretch, target_of};
-use crate::linking::read_linking;
-use crate::relocations::{RelocSection, read_held};
-use crate::symbols::WasmSymbol;
-use memchr::memchr;
+use crate::kinds::{SectionKind, Seen, kind_of, name_of, stretch, target_of};
+use crate::linking::{Linking, read_linking};
+use crate::relocations::{RelocHeld, Target, WasmRelocSection, read_held};
 use std::alloc::Global;
 use wl_bytes::Reader;
 use wl_module::{
-    Form, FuncType, ReadError, SectionHeader, WasmFunctionBody, Why, read_bodies, read_functions,
+    Form, FuncType, Import, ImportEntity, MemoryType, OutputExport, OutputGlobal, ReadError,
+    SectionHeader, WasmDataSegment, WasmFunctionBody, Why, read_bodies, read_data_count,
+    read_exports, read_functions, read_globals, read_imports, read_memories, read_segments,
     read_types,
 };
 
@@ -25,119 +28,128 @@ use wl_module::{
 #[derive(Drop)]
 pub(crate) enum Section<'a> {
     Types(Items<FuncType>),
+    Imports(Items<Import<'a>>),
     Functions(Items<u32>),
+    Memories(Items<MemoryType>),
+    Globals(Items<OutputGlobal<'a>>),
+    Exports(Items<OutputExport<'a>>),
+    DataCount(u32),
     Code(Items<WasmFunctionBody<'a>>),
-    Linking(Items<WasmSymbol<'a>>),
-    Reloc(RelocSection),
+    Data(Items<WasmDataSegment<'a>>),
+    Linking(Linking<'a>),
+    Reloc(RelocHeld),
+    Features(Items<WasmTargetFeature<'a>>),
+    Debug(DebugSectionInput<'a>),
     Skipped,
 }
 
-/// The first byte of the bulk memory operators.
-const BULK_MEMORY: u8 = 0xfc;
-
-/// The body holds no such byte.
-fn is_plain(body: &WasmFunctionBody<'_>) -> bool
-    ensures { result ≡ is_plain body.now }
-{
-    memchr(BULK_MEMORY, &body.bytes).is_none()
-}
-
-/// No body holds such a byte.
-fn are_plain(bodies: &[WasmFunctionBody<'_>]) -> bool
-    ensures { result ≡ list_all is_plain bodies.now }
-{
-    bodies.iter().all(|body| is_plain(body))
-}
-
-/// The bodies of a code section, unless one may hold a bulk memory operator.
-fn read_plain_bodies(
-    alloc: Global,
-    payload: &[u8],
-) -> Result<Items<WasmFunctionBody<'_>>, ReadError>
-    requires { length payload.now ≤ 2 ^ 30 }
-    ensures { MatchResult result (λ bodies. ArePlainBodies bodies payload.now) (IsFault PlainBodiesFault payload.now) }
-{
-    let bodies = read_bodies(alloc, payload)?;
-    if are_plain(&bodies) {
-        Ok(Items::new(bodies))
-    } else {
-        Err(ReadError::Unsupported(Form::NotYet))
-    }
-}
-
-/// The symbols of a linking section, unless one came before.
+/// What a linking section holds, unless one came before.
 fn read_first_linking(
     alloc: Global,
     seen: Seen,
+    base: u32,
     payload: &[u8],
-) -> Result<Items<WasmSymbol<'_>>, ReadError>
-    ensures { MatchResult result (λ symbols. LinkingItems seen symbols payload.now) (IsFault (LinkingItemsFault seen) payload.now) }
+) -> Result<Linking<'_>, ReadError>
+    requires base { base ≤ 2 ^ 30 }
+    requires len { length payload.now ≤ 2 ^ 30 }
+    ensures { MatchResult result (λ linking. LinkingItems seen base linking payload.now) (IsFault (LinkingItemsFault seen base) payload.now) }
 {
     if seen.linking {
         return Err(ReadError::Malformed(Why::Repeated));
     }
-    read_linking(alloc, payload)
+    read_linking(alloc, base, payload)
 }
 
 /// What a whole payload of a relocation section holds.
-fn reloc_section(
-    alloc: Global,
-    bytes: &[u8],
-    headers: &[SectionHeader],
-    seen: Seen,
-    payload: &[u8],
-) -> Result<RelocSection, ReadError>
-    ensures { Gives (λ s. s) result (reloc_section_of (numbered_verdict bytes.now headers.now seen) payload.now) }
-{
-    let mut reader = Reader::new(payload);
-    let number = reader.read_u32()?;
-    let target = target_of(bytes, headers, seen, number)?;
-    read_held(alloc, target, &mut reader)
-}
-
-/// Reads the payload of a relocation section, after the sections that were seen.
 fn read_reloc_section(
     alloc: Global,
     bytes: &[u8],
     headers: &[SectionHeader],
     seen: Seen,
     payload: &[u8],
-) -> Result<RelocSection, ReadError>
-    ensures { let verdict = numbered_verdict bytes.now headers.now seen in ReadsWhole (λ s. s) (IsRelocSection verdict) (RelocSectionFault verdict) payload.now result }
+) -> Result<RelocHeld, ReadError>
+    ensures { Gives (λ s. s) result (reloc_section_of (numbered_verdict bytes.now headers.now seen) payload.now) }
 {
-    reloc_section(alloc, bytes, headers, seen, payload)
+    let mut reader = Reader::new(payload);
+    let target_section = reader.read_u32()?;
+    let target = target_of(bytes, headers, seen, target_section)?;
+    let relocations = read_held(alloc, target, &mut reader)?;
+    Ok(RelocHeld {
+        target,
+        section: WasmRelocSection {
+            target_section,
+            relocations,
+        },
+    })
+}
+
+/// The debug section of that name and payload.
+fn debug_section<'a>(name: &'a [u8], payload: &'a [u8]) -> Result<DebugSectionInput<'a>, ReadError>
+    requires { IsUtf8 name.now }
+    ensures { result ≡ Ok (debug_of name.now payload.now) }
+{
+    match str::from_utf8(name) {
+        Ok(name) => Ok(DebugSectionInput {
+            name,
+            payload,
+            object_index: 0,
+        }),
+        Err(_) => Err(ReadError::Malformed(Why::BadUtf8)),
+    }
+}
+
+/// Whether a memory is among the imports.
+fn has_memory(imports: &[Import<'_>]) -> bool
+    ensures { result ≡ has_memory imports.now }
+{
+    imports
+        .iter()
+        .any(|import| matches!(import.entity, ImportEntity::Memory(_)))
 }
 
 /// Reads the payload of a section of that kind.
 fn read_items<'a>(
     alloc: Global,
     kind: SectionKind,
-    bytes: &[u8],
+    bytes: &'a [u8],
     headers: &[SectionHeader],
     seen: Seen,
-    payload: &'a [u8],
+    header: &SectionHeader,
 ) -> Result<Section<'a>, ReadError>
-    requires { length payload.now ≤ 2 ^ 30 }
-    ensures { MatchResult result (λ section. HoldsItems kind bytes.now headers.now seen section payload.now) (IsFault (ItemsFault kind bytes.now headers.now seen) payload.now) }
+    requires len { length bytes.now ≤ 2 ^ 30 }
+    requires placed { IsPlaced bytes.now header.now }
+    ensures { MatchResult result (λ section. HoldsItems kind bytes.now headers.now seen header.now section (payload_of bytes.now header.now))
+        (IsFault (ItemsFault kind bytes.now headers.now seen header.now) (payload_of bytes.now header.now)) }
 {
-    match kind {
-        SectionKind::Type => Ok(Section::Types(Items::new(read_types(alloc, payload)?))),
-        SectionKind::Function => Ok(Section::Functions(Items::new(read_functions(
-            alloc, payload,
-        )?))),
-        SectionKind::Code => Ok(Section::Code(read_plain_bodies(alloc, payload)?)),
-        SectionKind::Linking => Ok(Section::Linking(read_first_linking(alloc, seen, payload)?)),
-        SectionKind::Reloc => Ok(Section::Reloc(read_reloc_section(
-            alloc, bytes, headers, seen, payload,
-        )?)),
-        SectionKind::Skipped => Ok(Section::Skipped),
-        SectionKind::Table => Err(ReadError::Unsupported(Form::TableDef)),
-        SectionKind::Start => Err(ReadError::Unsupported(Form::Start)),
-        SectionKind::Tag => Err(ReadError::Unsupported(Form::Tag)),
-        SectionKind::Data | SectionKind::Debug | SectionKind::Later => {
-            Err(ReadError::Unsupported(Form::NotYet))
+    let payload = stretch(bytes, header.payload_range);
+    Ok(match kind {
+        SectionKind::Type => Section::Types(Items::new(read_types(alloc, payload)?)),
+        SectionKind::Import => Section::Imports(Items::new(read_imports(alloc, payload)?)),
+        SectionKind::Function => Section::Functions(Items::new(read_functions(alloc, payload)?)),
+        SectionKind::Memory => {
+            Section::Memories(Items::new(read_memories(alloc, seen.memory, payload)?))
         }
-    }
+        SectionKind::Global => Section::Globals(Items::new(read_globals(alloc, payload)?)),
+        SectionKind::Export => Section::Exports(Items::new(read_exports(alloc, payload)?)),
+        SectionKind::DataCount => Section::DataCount(read_data_count(payload)?),
+        SectionKind::Code => Section::Code(Items::new(read_bodies(alloc, payload)?)),
+        SectionKind::Data => Section::Data(Items::new(read_segments(alloc, payload)?)),
+        SectionKind::Table => return Err(ReadError::Unsupported(Form::TableDef)),
+        SectionKind::Start => return Err(ReadError::Unsupported(Form::Start)),
+        SectionKind::Tag => return Err(ReadError::Unsupported(Form::Tag)),
+        SectionKind::Linking => {
+            let base = header.payload_range.0;
+            Section::Linking(read_first_linking(alloc, seen, base, payload)?)
+        }
+        SectionKind::Reloc => {
+            Section::Reloc(read_reloc_section(alloc, bytes, headers, seen, payload)?)
+        }
+        SectionKind::Features => {
+            Section::Features(Items::new(parse_target_features_payload(alloc, payload)?))
+        }
+        SectionKind::Debug => Section::Debug(debug_section(name_of(bytes, header), payload)?),
+        SectionKind::Skipped => Section::Skipped,
+    })
 }
 
 /// Reads the section of this header, after the sections that were seen.
@@ -148,12 +160,12 @@ pub(crate) fn read_section<'a>(
     seen: Seen,
     header: &SectionHeader,
 ) -> Result<Section<'a>, ReadError>
-    requires { length bytes.now ≤ 2 ^ 30 }
+    requires len { length bytes.now ≤ 2 ^ 30 }
+    requires placed { IsPlaced bytes.now header.now }
     ensures { MatchResult result (λ section. IsSound bytes.now headers.now seen header.now section) (HasCause (λ e. IsFaulty bytes.now headers.now seen header.now e)) }
 {
     let kind = kind_of(bytes, header);
-    let payload = stretch(bytes, header.payload_range);
-    read_items(alloc, kind, bytes, headers, seen, payload)
+    read_items(alloc, kind, bytes, headers, seen, header)
 }
 
 /// What was seen, with this section too.
@@ -161,22 +173,42 @@ pub(crate) fn seen_then(seen: Seen, section: &Section<'_>) -> Seen
     ensures { result ≡ seen_then seen section.now }
 {
     match section {
+        Section::Imports(imports) => Seen {
+            memory: has_memory(imports.as_slice()),
+            ..seen
+        },
         Section::Linking(_) => Seen {
             linking: true,
             ..seen
         },
-        Section::Reloc(RelocSection::Code(_)) => Seen {
+        Section::Reloc(held) => seen_then_reloc(seen, held.target),
+        Section::Types(_)
+        | Section::Functions(_)
+        | Section::Memories(_)
+        | Section::Globals(_)
+        | Section::Exports(_)
+        | Section::DataCount(_)
+        | Section::Code(_)
+        | Section::Data(_)
+        | Section::Features(_)
+        | Section::Debug(_)
+        | Section::Skipped => seen,
+    }
+}
+
+/// What was seen, with relocations of that target too.
+fn seen_then_reloc(seen: Seen, target: Target) -> Seen
+    ensures { result ≡ seen_then_reloc seen target }
+{
+    match target {
+        Target::Code => Seen {
             code_relocations: true,
             ..seen
         },
-        Section::Reloc(RelocSection::Data(_)) => Seen {
+        Target::Data => Seen {
             data_relocations: true,
             ..seen
         },
-        Section::Reloc(RelocSection::Debug)
-        | Section::Types(_)
-        | Section::Functions(_)
-        | Section::Code(_)
-        | Section::Skipped => seen,
+        Target::Debug => seen,
     }
 }

@@ -1,27 +1,83 @@
 //! Where the fields of relocations lie (object file linking, version 2, "Relocation Sections").
 
-ghost use Rattle.std.specs.Prelude.{◌≡◌, nat_le, take, drop, IfOk, MatchResult, MatchBool};
+ghost use Rattle.std.specs.Prelude.{◌≡◌, nat_le, take, drop, map, IfOk, MatchResult, MatchBool};
 ghost use Rattle.std.specs.List.Sorted.{IsNonDecreasingBy};
-ghost use Rattle.wl_linking.specs.Object.{AreInOrder, AreSites, AreApart, HasOverlap, is_padded, offset_of};
-ghost use Rattle.wl_linking.specs.Placing.{body_end, position_of, site_of, Ascend, FieldFault};
+ghost use Rattle.wl_linking.specs.Sites.{AreInOrder, AreSites, AreApart, HasOverlap, LieApart, FieldsFault, body_piece, segment_piece, is_padded, has_form, field_len, offset_of};
+ghost use Rattle.wl_linking.specs.Placing.{piece_end, position_of, site_of, Ascend, FieldFault};
 ghost use Rattle.wl_linking.specs.Verdict.{HasCause};
 
 use crate::items::Items;
+use crate::relocation_type::FieldForm;
 use crate::relocations::WasmRelocation;
 use std::alloc::{AllocError, Global};
-use wl_module::{ReadError, WasmFunctionBody, Why};
+use std::marker::Model;
+use wl_module::{ReadError, WasmDataSegment, WasmFunctionBody, Why};
 
-/// A place in a function's body.
+/// A place in a function's body or in the bytes of a segment.
 #[derive(Clone, Copy, Debug, PartialEq, Eq)]
 pub struct Site {
-    /// The number of the function, among those that the object defines.
+    /// The number of the function, among those that the object defines, or of the segment.
     pub unit: usize,
-    /// How many bytes of its body lie before the field.
+    /// How many bytes of the body or the segment lie before the field.
     pub position: u32,
 }
 
-/// How many bytes a field has.
-const FIELD_LEN: usize = 5;
+/// Bytes of a section's payload in which fields may lie. Clauses see it as a `PieceOf`, with the
+/// bytes as a list.
+#[derive(Drop)]
+pub(crate) struct Piece<'a> {
+    /// How many bytes of the payload lie before them.
+    pub place: u32,
+    pub bytes: &'a [u8],
+}
+
+impl<'a> Model for Piece<'a> {
+    ghost use Rattle.wl_linking.specs.Sites.{PieceOf};
+
+    ghost Value = { PieceOf };
+
+    ghost view = { λ p. record { place = p.place; bytes = p.bytes.now } };
+}
+
+/// How many bytes a padded LEB128 number has.
+const PADDED_LEN: usize = 5;
+
+/// How many bytes a word has.
+const WORD_LEN: usize = 4;
+
+/// The bodies as the pieces in which fields of code lie.
+pub(crate) fn body_pieces<'a>(
+    alloc: Global,
+    bodies: &'a [WasmFunctionBody<'_>],
+) -> Result<Vec<Piece<'a>>, AllocError>
+    ensures { IfOk result (λ pieces. pieces.items ≡ map body_piece bodies.now) }
+{
+    let mut pieces = Vec::new(alloc);
+    for body in bodies {
+        pieces.push(Piece {
+            place: body.code_offset,
+            bytes: &body.bytes,
+        })?;
+    }
+    Ok(pieces)
+}
+
+/// The segments as the pieces in which fields of data lie.
+pub(crate) fn segment_pieces<'a>(
+    alloc: Global,
+    segments: &'a [WasmDataSegment<'_>],
+) -> Result<Vec<Piece<'a>>, AllocError>
+    ensures { IfOk result (λ pieces. pieces.items ≡ map segment_piece segments.now) }
+{
+    let mut pieces = Vec::new(alloc);
+    for segment in segments {
+        pieces.push(Piece {
+            place: segment.section_offset,
+            bytes: segment.payload,
+        })?;
+    }
+    Ok(pieces)
+}
 
 /// The relocations in order of their fields, those of one place in file order.
 pub(crate) fn in_order(entries: Items<WasmRelocation>) -> Result<Items<WasmRelocation>, AllocError>
@@ -32,7 +88,17 @@ pub(crate) fn in_order(entries: Items<WasmRelocation>) -> Result<Items<WasmReloc
     Ok(Items::new(list))
 }
 
-/// The bytes are a padded LEB128 number of five bytes.
+/// How many bytes a field of that form has.
+fn field_len(form: FieldForm) -> usize
+    ensures { result ≡ field_len form }
+{
+    match form {
+        FieldForm::PaddedUnsigned | FieldForm::PaddedSigned => PADDED_LEN,
+        FieldForm::Word => WORD_LEN,
+    }
+}
+
+/// The bytes are a padded LEB128 number.
 fn is_padded(text: &[u8]) -> bool
     ensures { result ≡ is_padded text.now }
 {
@@ -42,45 +108,55 @@ fn is_padded(text: &[u8]) -> bool
     }
 }
 
-/// The bytes from a place on, at most as many as a field has.
-fn field_at(bytes: &[u8], position: usize) -> &[u8]
-    ensures { result.now ≡ take FIELD_LEN (drop position bytes.now) }
+/// The bytes are a field of that form.
+fn has_form(form: FieldForm, text: &[u8]) -> bool
+    ensures { result ≡ has_form form text.now }
+{
+    match form {
+        FieldForm::PaddedUnsigned | FieldForm::PaddedSigned => is_padded(text),
+        FieldForm::Word => text.len() == WORD_LEN,
+    }
+}
+
+/// The bytes from a place on, at most so many.
+fn field_at(bytes: &[u8], position: usize, len: usize) -> &[u8]
+    ensures { result.now ≡ take len (drop position bytes.now) }
 {
     let rest = bytes.split_at(position.min(bytes.len())).1;
-    rest.split_at(FIELD_LEN.min(rest.len())).0
+    rest.split_at(len.min(rest.len())).0
 }
 
-/// The body ends at that place of the section or before it.
-fn ends_by(body: &WasmFunctionBody<'_>, offset: u32) -> bool
-    ensures { result ≡ nat_le (body_end body.now) offset }
+/// The piece ends at that place of the section or before it.
+fn ends_by(piece: &Piece<'_>, offset: u32) -> bool
+    ensures { result ≡ nat_le (piece_end piece.now) offset }
 {
-    offset >= body.code_offset && (offset - body.code_offset) as usize >= body.bytes.len()
+    offset >= piece.place && (offset - piece.place) as usize >= piece.bytes.len()
 }
 
-/// Where in the body a field at that place of the section lies.
-fn position_in(body: &WasmFunctionBody<'_>, offset: u32) -> Option<u32>
-    ensures { result ≡ position_of body.now offset }
+/// Where in the piece a field of that form lies at that place of the section.
+fn position_in(piece: &Piece<'_>, form: FieldForm, offset: u32) -> Option<u32>
+    ensures { result ≡ position_of piece.now form offset }
 {
-    if offset < body.code_offset {
+    if offset < piece.place {
         return None;
     }
-    let position = offset - body.code_offset;
-    if is_padded(field_at(&body.bytes, position as usize)) {
+    let position = offset - piece.place;
+    if has_form(form, field_at(piece.bytes, position as usize, field_len(form))) {
         Some(position)
     } else {
         None
     }
 }
 
-/// The site of a field, among the bodies from that one on.
-fn find_site(bodies: &[WasmFunctionBody<'_>], from: usize, offset: u32) -> Option<Site>
-    ensures { result ≡ site_of from (drop from bodies.now) offset }
+/// The site of a field, among the pieces from that one on.
+fn find_site(pieces: &[Piece<'_>], from: usize, form: FieldForm, offset: u32) -> Option<Site>
+    ensures { result ≡ site_of from (drop from pieces.now) form offset }
 {
     let mut unit = from;
-    while unit < bodies.len() {
-        let body = &bodies[unit];
-        if !ends_by(body, offset) {
-            return position_in(body, offset).map(|position| Site { unit, position });
+    while unit < pieces.len() {
+        let piece = &pieces[unit];
+        if !ends_by(piece, offset) {
+            return position_in(piece, form, offset).map(|position| Site { unit, position });
         }
         unit += 1;
     }
@@ -88,19 +164,20 @@ fn find_site(bodies: &[WasmFunctionBody<'_>], from: usize, offset: u32) -> Optio
 }
 
 /// The site of each relocation, in one pass over both lists.
-pub(crate) fn find_sites(
+fn find_sites(
     alloc: Global,
-    bodies: &[WasmFunctionBody<'_>],
+    pieces: &[Piece<'_>],
     relocations: &[WasmRelocation],
 ) -> Result<Items<Site>, ReadError>
-    requires bodies { Ascend 0 bodies.now }
+    requires pieces { Ascend 0 pieces.now }
     requires order { IsNonDecreasingBy offset_of relocations.now }
-    ensures { MatchResult result (AreSites bodies.now relocations.now) (HasCause (FieldFault bodies.now relocations.now)) }
+    ensures { MatchResult result (AreSites pieces.now relocations.now) (HasCause (FieldFault pieces.now relocations.now)) }
 {
     let mut sites = Vec::new(alloc);
     let mut unit = 0usize;
     for relocation in relocations {
-        let Some(site) = find_site(bodies, unit, relocation.offset) else {
+        let form = relocation.ty.field_form();
+        let Some(site) = find_site(pieces, unit, form, relocation.offset) else {
             return Err(ReadError::Malformed(Why::Field));
         };
         unit = site.unit;
@@ -110,17 +187,33 @@ pub(crate) fn find_sites(
 }
 
 /// No two fields share a byte.
-pub(crate) fn are_apart(relocations: &[WasmRelocation]) -> bool
+fn are_apart(relocations: &[WasmRelocation]) -> bool
     requires { IsNonDecreasingBy offset_of relocations.now }
     ensures { MatchBool result (AreApart relocations.now) (HasOverlap relocations.now) }
 {
     for i in 1..relocations.len() {
-        let past = relocations[i]
-            .offset
-            .saturating_sub(relocations[i - 1].offset);
-        if (past as usize) < FIELD_LEN {
+        let before = relocations[i - 1];
+        let past = relocations[i].offset.saturating_sub(before.offset);
+        if (past as usize) < field_len(before.ty.field_form()) {
             return false;
         }
     }
     true
+}
+
+/// The site of each relocation of a section, whose fields lie in these pieces, each by itself.
+pub(crate) fn place_fields(
+    alloc: Global,
+    pieces: &[Piece<'_>],
+    relocations: &[WasmRelocation],
+) -> Result<Items<Site>, ReadError>
+    requires pieces { Ascend 0 pieces.now }
+    requires order { IsNonDecreasingBy offset_of relocations.now }
+    ensures { MatchResult result (LieApart pieces.now relocations.now) (HasCause (FieldsFault pieces.now relocations.now)) }
+{
+    let sites = find_sites(alloc, pieces, relocations)?;
+    if !are_apart(relocations) {
+        return Err(ReadError::Malformed(Why::Overlap));
+    }
+    Ok(sites)
 }

@@ -1,27 +1,56 @@
 //! The symbol table of a linking section (object file linking, version 2, "Symbol Table
 //! Subsection").
 
+ghost use Rattle.std.specs.Prelude.{◌≡◌, ◌≤◌, ◌^◌, ◌-◌, length};
+ghost use Rattle.wl_bytes.specs.Cursor.{end_of};
 ghost use Rattle.wl_bytes.specs.Grammar.{times_at};
 ghost use Rattle.wl_module.specs.Outcome.{Yields, Gives};
-ghost use Rattle.wl_linking.specs.Symbols.{kind_verdict, flags_verdict};
-ghost use Rattle.wl_linking.specs.SymbolsReading.{symbol_at, symbols_of};
+ghost use Rattle.wl_linking.specs.Symbols.{kind_verdict, flags_verdict, has_flag, has_name, is_undefined, is_weak, is_local, named, range_of};
+ghost use Rattle.wl_linking.specs.SymbolsReading.{based_name_at, name_where_at, extent_where_at, numbered_at, located_at, section_at, details_at, symbol_at, symbols_of};
 
+use crate::flags::SymbolFlags;
 use crate::items::Items;
+use bitflags::Flags;
 use std::alloc::Global;
 use std::marker::Model;
 use wl_bytes::Reader;
 use wl_module::{Form, ReadError, Why};
 
-/// A symbol of a function that the object defines (object file linking, version 2, "Symbol Table
-/// Subsection"). Clauses see it as a `Symbol`, with its name as a list of bytes.
+/// What a symbol stands for (object file linking, version 2, "Symbol Table Subsection").
+#[derive(Clone, Copy, Debug, PartialEq, Eq)]
+pub enum WasmSymbolKind {
+    /// A function.
+    Func,
+    /// Bytes of a segment.
+    Data,
+    /// A global.
+    Global,
+    /// A section of the object.
+    Section,
+    /// An exception tag. No object that is read has one.
+    Event,
+    /// A table.
+    Table,
+}
+
+/// A symbol of an object (object file linking, version 2, "Symbol Table Subsection"). Clauses see
+/// it as a `Symbol`, with its name as a list of bytes.
 #[derive(Drop)]
 pub struct WasmSymbol<'a> {
-    /// The bits of the symbol's flags, as they stand in the object.
-    pub flags: u32,
-    /// The function's number in the object.
+    /// What it stands for.
+    pub kind: WasmSymbolKind,
+    /// Its flags, with bits that have no name.
+    pub flags: SymbolFlags,
+    /// The number of its function, global, table, section or segment in the object; 0 for data
+    /// that the object doesn't define.
     pub index: u32,
-    /// The symbol's name; an empty one is no name.
+    /// How many bytes of its segment lie before the data; 0 for other symbols.
+    pub offset: u32,
+    /// How many bytes the data has; 0 for other symbols.
+    pub size: u32,
+    /// Its name; an empty one is no name.
     pub name: &'a str,
+    name_range: (u32, u32),
 }
 
 impl<'a> Model for WasmSymbol<'a> {
@@ -29,91 +58,343 @@ impl<'a> Model for WasmSymbol<'a> {
 
     ghost Value = { Symbol };
 
-    ghost view = { λ s. record { flags = s.flags; index = s.index; name = s.name.now } };
+    ghost view = { λ s. record {
+      kind = s.kind;
+      flags = s.flags.0;
+      index = s.index;
+      offset = s.offset;
+      size = s.size;
+      name = s.name.now;
+      name_range = s.name_range;
+    } };
 }
 
-/// The kinds of symbols.
-const FUNCTION: u8 = 0;
+impl<'a> WasmSymbol<'a> {
+    /// Where the name stands in the object's bytes: the places of its first byte and of the one
+    /// behind it. Both are 0 where there is no name.
+    pub fn name_range(&self) -> (u32, u32)
+        ensures { result ≡ self.now.name_range }
+    {
+        self.name_range
+    }
 
-const DATA: u8 = 1;
+    /// Whether there is a name. An empty one is none.
+    pub fn has_name(&self) -> bool
+        ensures { result ≡ has_name self.now }
+    {
+        !self.name.is_empty()
+    }
 
-const GLOBAL: u8 = 2;
+    /// Whether the object doesn't define it.
+    pub fn is_undefined(&self) -> bool
+        ensures { result ≡ is_undefined self.now }
+    {
+        self.flags.contains(SymbolFlags::UNDEFINED)
+    }
 
-const SECTION: u8 = 3;
+    /// Whether another definition of the name comes before this one.
+    pub fn is_weak(&self) -> bool
+        ensures { result ≡ is_weak self.now }
+    {
+        self.flags.contains(SymbolFlags::WEAK)
+    }
 
-const TAG: u8 = 4;
+    /// Whether other objects don't see it.
+    pub fn is_local(&self) -> bool
+        ensures { result ≡ is_local self.now }
+    {
+        self.flags.contains(SymbolFlags::LOCAL)
+    }
 
-const TABLE: u8 = 5;
+    /// Whether its name isn't exported by itself.
+    pub fn is_hidden(&self) -> bool
+        ensures { result ≡ has_flag self.now.flags 4 }
+    {
+        self.flags.contains(SymbolFlags::HIDDEN)
+    }
 
-/// The flag of a symbol with an absolute address.
-const ABSOLUTE: u32 = 0x200;
-/// The flags of a symbol that is weak, 1, or undefined, 0x10.
-const WEAK_OR_UNDEFINED: u32 = 0x11;
+    /// Whether it has a name of its own where it is undefined, beside that of its import.
+    pub fn is_explicit_name(&self) -> bool
+        ensures { result ≡ has_flag self.now.flags 0x40 }
+    {
+        self.flags.contains(SymbolFlags::EXPLICIT_NAME)
+    }
 
-/// Functions alone have a plan so far.
-fn check_kind(kind: u8) -> Result<(), ReadError>
-    ensures { Gives (λ u. u) result (kind_verdict kind) }
+    /// The flags as they stand in the object.
+    pub fn raw_flags(&self) -> u32
+        ensures { result ≡ self.now.flags }
+    {
+        self.flags.bits()
+    }
+
+    /// The same symbol under a name, which stands at that range of the object's bytes.
+    pub(crate) fn named(self, name: &'a str, name_range: (u32, u32)) -> Self
+        ensures { result ≡ named self.entry name.now name_range }
+    {
+        WasmSymbol {
+            name,
+            name_range,
+            ..self
+        }
+    }
+}
+
+/// The kind of that number.
+fn read_kind(kind: u8) -> Result<WasmSymbolKind, ReadError>
+    ensures { Gives (λ k. k) result (kind_verdict kind) }
 {
     match kind {
-        FUNCTION => Ok(()),
-        TAG => Err(ReadError::Unsupported(Form::Tag)),
-        DATA | GLOBAL | SECTION | TABLE => Err(ReadError::Unsupported(Form::NotYet)),
+        0 => Ok(WasmSymbolKind::Func),
+        1 => Ok(WasmSymbolKind::Data),
+        2 => Ok(WasmSymbolKind::Global),
+        3 => Ok(WasmSymbolKind::Section),
+        4 => Err(ReadError::Unsupported(Form::Tag)),
+        5 => Ok(WasmSymbolKind::Table),
         _ => Err(ReadError::Malformed(Why::BadByte)),
     }
 }
 
-/// Strong symbols of what the object defines alone have a plan so far.
-fn check_flags(flags: u32) -> Result<(), ReadError>
-    ensures { Gives (λ u. u) result (flags_verdict flags) }
+/// Symbols of absolute addresses aren't taken.
+fn check_flags(flags: SymbolFlags) -> Result<(), ReadError>
+    ensures { Gives (λ u. u) result (flags_verdict flags.0) }
 {
-    if flags & ABSOLUTE != 0 {
+    if flags.contains(SymbolFlags::ABSOLUTE) {
         return Err(ReadError::Unsupported(Form::Absolute));
-    }
-    if flags & WEAK_OR_UNDEFINED != 0 {
-        return Err(ReadError::Unsupported(Form::NotYet));
     }
     Ok(())
 }
 
+/// What stands behind the flags of a symbol. Clauses see it as a record of the same fields, with
+/// the name as a list.
+#[derive(Drop)]
+struct Details<'a> {
+    index: u32,
+    offset: u32,
+    size: u32,
+    name: &'a str,
+    name_range: (u32, u32),
+}
+
+impl<'a> Model for Details<'a> {
+    ghost use Rattle.wl_linking.specs.Symbols.{SymbolDetails};
+
+    ghost Value = { SymbolDetails };
+
+    ghost view = { λ d. record {
+      index = d.index;
+      offset = d.offset;
+      size = d.size;
+      name = d.name.now;
+      name_range = d.name_range;
+    } };
+}
+
+/// Where a name of so many bytes stands in the object, by how many bytes of the object lie before
+/// the reader's, and how many of these before the end of the name.
+pub(crate) fn range_of(base: u32, end: usize, len: usize) -> (u32, u32)
+    requires base { base ≤ 2 ^ 31 }
+    requires end { end ≤ 2 ^ 30 }
+    requires len { len ≤ end }
+    ensures { result ≡ range_of base (end - len) len }
+{
+    if len == 0 {
+        return (0, 0);
+    }
+    let end = base + end as u32;
+    (end - len as u32, end)
+}
+
+/// The name in front, with its place in the object.
+#[tactic(auto, unfolding(crate::specs::SymbolsReading::based_name_at, wl_module::specs::Words::placed_name_at))]
+fn read_name<'a>(base: u32, reader: &mut Reader<'a>) -> Result<(&'a str, (u32, u32)), ReadError>
+    requires base { base ≤ 2 ^ 31 }
+    requires end { end_of reader.old ≤ 2 ^ 30 }
+    ensures value { Yields (λ w. (w.0.now, w.1)) result reader.new (based_name_at base reader.old) }
+    ensures end { end_of reader.new ≡ end_of reader.old }
+{
+    let name = reader.read_name()?;
+    let range = range_of(base, reader.position(), name.len());
+    Ok((name, range))
+}
+
+/// The name in front, where there is to be one.
+#[tactic(auto, unfolding(crate::specs::SymbolsReading::name_where_at))]
+fn read_name_where<'a>(
+    base: u32,
+    named: bool,
+    reader: &mut Reader<'a>,
+) -> Result<(&'a str, (u32, u32)), ReadError>
+    requires base { base ≤ 2 ^ 31 }
+    requires end { end_of reader.old ≤ 2 ^ 30 }
+    ensures value { Yields (λ w. (w.0.now, w.1)) result reader.new (name_where_at base named reader.old) }
+    ensures end { end_of reader.new ≡ end_of reader.old }
+{
+    if named {
+        read_name(base, reader)
+    } else {
+        Ok(("", (0, 0)))
+    }
+}
+
+/// Where the data in front lies: its segment, its offset there and its size.
+#[tactic(auto, unfolding(crate::specs::SymbolsReading::extent_where_at))]
+fn read_extent_where(
+    defined: bool,
+    reader: &mut Reader<'_>,
+) -> Result<(u32, (u32, u32)), ReadError>
+    ensures value { Yields (λ e. e) result reader.new (extent_where_at defined reader.old) }
+    ensures end { end_of reader.new ≡ end_of reader.old }
+{
+    if !defined {
+        return Ok((0, (0, 0)));
+    }
+    let segment = reader.read_u32()?;
+    let offset = reader.read_u32()?;
+    let size = reader.read_u32()?;
+    Ok((segment, (offset, size)))
+}
+
+/// An index, and a name where there is to be one.
+#[tactic(auto, unfolding(crate::specs::SymbolsReading::numbered_at))]
+fn read_numbered<'a>(
+    base: u32,
+    flags: SymbolFlags,
+    reader: &mut Reader<'a>,
+) -> Result<Details<'a>, ReadError>
+    requires base { base ≤ 2 ^ 31 }
+    requires end { end_of reader.old ≤ 2 ^ 30 }
+    ensures value { Yields (λ d. d) result reader.new (numbered_at base flags.0 reader.old) }
+    ensures end { end_of reader.new ≡ end_of reader.old }
+{
+    let index = reader.read_u32()?;
+    let named = !flags.contains(SymbolFlags::UNDEFINED) || flags.contains(SymbolFlags::EXPLICIT_NAME);
+    let (name, name_range) = read_name_where(base, named, reader)?;
+    Ok(Details {
+        index,
+        offset: 0,
+        size: 0,
+        name,
+        name_range,
+    })
+}
+
+/// A name, and where data lies that the object defines.
+#[tactic(auto, unfolding(crate::specs::SymbolsReading::located_at))]
+fn read_located<'a>(
+    base: u32,
+    flags: SymbolFlags,
+    reader: &mut Reader<'a>,
+) -> Result<Details<'a>, ReadError>
+    requires base { base ≤ 2 ^ 31 }
+    requires end { end_of reader.old ≤ 2 ^ 30 }
+    ensures value { Yields (λ d. d) result reader.new (located_at base flags.0 reader.old) }
+    ensures end { end_of reader.new ≡ end_of reader.old }
+{
+    let (name, name_range) = read_name(base, reader)?;
+    let defined = !flags.contains(SymbolFlags::UNDEFINED);
+    let (index, (offset, size)) = read_extent_where(defined, reader)?;
+    Ok(Details {
+        index,
+        offset,
+        size,
+        name,
+        name_range,
+    })
+}
+
+/// The number of a section.
+#[tactic(auto, unfolding(crate::specs::SymbolsReading::section_at))]
+fn read_section<'a>(reader: &mut Reader<'a>) -> Result<Details<'a>, ReadError>
+    ensures value { Yields (λ d. d) result reader.new (section_at reader.old) }
+    ensures end { end_of reader.new ≡ end_of reader.old }
+{
+    let index = reader.read_u32()?;
+    Ok(Details {
+        index,
+        offset: 0,
+        size: 0,
+        name: "",
+        name_range: (0, 0),
+    })
+}
+
+/// What stands behind the flags of a symbol of that kind.
+fn read_details<'a>(
+    base: u32,
+    kind: WasmSymbolKind,
+    flags: SymbolFlags,
+    reader: &mut Reader<'a>,
+) -> Result<Details<'a>, ReadError>
+    requires base { base ≤ 2 ^ 31 }
+    requires end { end_of reader.old ≤ 2 ^ 30 }
+    ensures value { Yields (λ d. d) result reader.new (details_at base kind flags.0 reader.old) }
+    ensures end { end_of reader.new ≡ end_of reader.old }
+{
+    match kind {
+        WasmSymbolKind::Func | WasmSymbolKind::Global | WasmSymbolKind::Table => {
+            read_numbered(base, flags, reader)
+        }
+        WasmSymbolKind::Data => read_located(base, flags, reader),
+        WasmSymbolKind::Section | WasmSymbolKind::Event => read_section(reader),
+    }
+}
+
 /// The symbol in front.
 #[tactic(auto, unfolding(crate::specs::SymbolsReading::symbol_at))]
-fn read_symbol<'a>(reader: &mut Reader<'a>) -> Result<WasmSymbol<'a>, ReadError>
-    ensures { Yields (λ s. s) result reader.new (symbol_at reader.old) }
+fn read_symbol<'a>(base: u32, reader: &mut Reader<'a>) -> Result<WasmSymbol<'a>, ReadError>
+    requires base { base ≤ 2 ^ 31 }
+    requires end { end_of reader.old ≤ 2 ^ 30 }
+    ensures value { Yields (λ s. s) result reader.new (symbol_at base reader.old) }
+    ensures end { end_of reader.new ≡ end_of reader.old }
 {
     let kind = reader.read_u8()?;
-    check_kind(kind)?;
-    let flags = reader.read_u32()?;
+    let kind = read_kind(kind)?;
+    let flags = SymbolFlags::from_bits_retain(reader.read_u32()?);
     check_flags(flags)?;
-    let index = reader.read_u32()?;
-    let name = reader.read_name()?;
-    Ok(WasmSymbol { flags, index, name })
+    let details = read_details(base, kind, flags, reader)?;
+    Ok(WasmSymbol {
+        kind,
+        flags,
+        index: details.index,
+        offset: details.offset,
+        size: details.size,
+        name: details.name,
+        name_range: details.name_range,
+    })
 }
 
 /// So many symbols, in a list that grows as they are read.
 fn symbols_in<'a>(
     alloc: Global,
+    base: u32,
     reader: &mut Reader<'a>,
     count: u32,
 ) -> Result<Vec<WasmSymbol<'a>>, ReadError>
-    ensures { Yields (λ v. v.items) result reader.new (times_at symbol_at count reader.old) }
+    requires base { base ≤ 2 ^ 31 }
+    requires end { end_of reader.old ≤ 2 ^ 30 }
+    ensures { Yields (λ v. v.items) result reader.new (times_at (symbol_at base) count reader.old) }
 {
     let mut symbols = Vec::new(alloc);
     for _ in 0..count {
-        symbols.push(read_symbol(reader)?)?;
+        symbols.push(read_symbol(base, reader)?)?;
     }
     Ok(symbols)
 }
 
-/// The symbols of a symbol table, in order.
+/// The symbols of a symbol table, in order, where so many bytes of the object lie before its
+/// payload.
 pub(crate) fn read_symbols(
     alloc: Global,
+    base: u32,
     payload: &[u8],
 ) -> Result<Items<WasmSymbol<'_>>, ReadError>
-    ensures { Gives (λ symbols. symbols) result (symbols_of payload.now) }
+    requires base { base ≤ 2 ^ 31 }
+    requires len { length payload.now ≤ 2 ^ 30 }
+    ensures { Gives (λ symbols. symbols) result (symbols_of base payload.now) }
 {
     let mut reader = Reader::new(payload);
     let count = reader.read_u32()?;
-    let symbols = symbols_in(alloc, &mut reader, count)?;
+    let symbols = symbols_in(alloc, base, &mut reader, count)?;
     if !reader.rest().is_empty() {
         return Err(ReadError::Malformed(Why::Trailing));
     }

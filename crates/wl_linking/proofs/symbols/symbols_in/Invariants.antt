@@ -1,8 +1,0 @@
-use Rattle.std.proofs.Common.{◌≡◌, ◌-◌}
-use Rattle.wl_bytes.specs.Grammar.{times_at}
-use Rattle.wl_module.proofs.Loops.{with_front}
-use Rattle.wl_linking.specs.SymbolsReading.{symbol_at}
-use Rattle.wl_linking.proofs.symbols.symbols_in.Given as goal
-
-abbrev pub invariant-loop : goal.invariant-loop
-invariant-loop l = with_front l.symbols.items (times_at symbol_at (l.count - l.counter) l.reader) ≡ times_at symbol_at l.count l.fn.reader

@@ -1,0 +1,113 @@
+-- The names of imports, which symbols refer to by slots: numbers among the imports of a kind (object file linking, version 2, "Symbol Table Subsection").
+use Rattle.std.specs.Prelude.{◌≡◌, ◌≢◌, ◌≤◌, ℕ, ◌+◌, ◌^◌, ◌==◌, ◌&&◌, Bool, true, false, not, nat_lt, if◌then◌else◌, List, [], ◌∷◌, length, map, Option, Some, None, slice_get, slice_set}
+use Rattle.std.specs.List.{filter, find, list_all}
+use Rattle.std.specs.Str.{bytes_eq}
+use Rattle.wl_module.specs.declared.imports.ExternalKind.{ExternalKind}
+use Rattle.wl_module.specs.declared.imports.ExternalKind.TheVariants as kind
+use Rattle.wl_module.specs.declared.sections.SectionHeader.{SectionHeader}
+use Rattle.wl_module.specs.declared.error.ReadError.{ReadError}
+use Rattle.wl_module.specs.declared.error.ReadError.TheVariants.{Malformed}
+use Rattle.wl_module.specs.declared.error.Why.TheVariants.{SlotNames}
+use Rattle.wl_module.specs.Imports.{Imported}
+use Rattle.wl_linking.specs.Spaces.{is_of}
+use Rattle.wl_linking.specs.Symbols.{Symbol, is_undefined, has_name, named, range_of}
+use Rattle.wl_linking.specs.declared.symbols.WasmSymbolKind.{WasmSymbolKind}
+use Rattle.wl_linking.specs.declared.symbols.WasmSymbolKind.TheVariants.{Func, Data, Global, Section, Event, Table}
+
+-- ---- the field names of imports
+
+-- the field name of an import, and where it stands in the object
+pub record Slot : Type 0 where
+  pub name : List ℕ
+  pub range : ℕ × ℕ
+
+-- where the payload of a section begins, if there is one
+abbrev pub begin_of : Option SectionHeader → ℕ
+begin_of None = 0
+begin_of (Some header) = header.payload_range.0
+
+-- how many bytes of the object lie before the payload of its import section, whose id is 2
+abbrev pub import_base : List SectionHeader → ℕ
+import_base headers = begin_of (find (λ (h : SectionHeader). h.id == 2) headers)
+
+-- the field name of an import, where so many bytes of the object lie before its section's payload
+abbrev pub slot_of : ℕ → Imported → Slot
+slot_of base i = record { name = i.name; range = range_of base i.name_offset (length i.name) }
+
+-- the field names of the imports of a kind, in order
+abbrev pub slots_of : ExternalKind → ℕ → List Imported → List Slot
+slots_of kind base imports = map (slot_of base) (filter (λ (i : Imported). is_of kind i.entity) imports)
+
+-- the field name of one import, if it is of that kind
+abbrev pub slots_from : ExternalKind → ℕ → Imported → List Slot
+slots_from kind base i = if is_of kind i.entity then slot_of base i ∷ [] else []
+
+-- the field name stands within 2^30 bytes
+abbrev pub IsNamedWithin : Imported → Type 0
+IsNamedWithin i = i.name_offset + length i.name ≤ 2 ^ 30
+
+-- ---- symbols that take them
+
+-- the same symbol with the name of a slot, if there is one
+abbrev pub with_slot : Symbol → Option Slot → Symbol
+with_slot s None = s
+with_slot s (Some slot) = named s slot.name slot.range
+
+-- the same symbol with the name of its import: functions and globals take it
+abbrev pub with_name_of : List Slot → List Slot → WasmSymbolKind → Symbol → Symbol
+with_name_of functions globals Func s = with_slot s (slice_get functions s.index)
+with_name_of functions globals Data s = s
+with_name_of functions globals Global s = with_slot s (slice_get globals s.index)
+with_name_of functions globals Section s = s
+with_name_of functions globals Event s = s
+with_name_of functions globals Table s = s
+
+-- undefined symbols without a name take that of their import
+abbrev pub with_import_name : List Slot → List Slot → Symbol → Symbol
+with_import_name functions globals s = if is_undefined s && not (has_name s) then with_name_of functions globals s.kind s else s
+
+-- ---- one name for each import
+
+-- a symbol of that kind has a name to compare: those of functions and globals took that of their import, even an empty one
+abbrev pub has_claim : WasmSymbolKind → WasmSymbolKind → Symbol → Bool
+has_claim Func Func s = true
+has_claim Global Global s = true
+has_claim Table Table s = has_name s
+has_claim _ _ s = false
+
+-- an undefined symbol of that kind, with a name to compare
+abbrev pub claims : WasmSymbolKind → Symbol → Bool
+claims kind s = is_undefined s && has_claim kind s.kind s
+
+-- two symbols that stand for one import, with names to compare
+pub record SharesSlot (kind : WasmSymbolKind) (s t : Symbol) : Type 0 where
+  pub one : claims kind s ≡ true
+  pub other : claims kind t ≡ true
+  pub slot : s.index ≡ t.index
+
+-- the symbols of one import of that kind have one name
+abbrev pub HasOneName : WasmSymbolKind → List Symbol → Type 0
+HasOneName kind symbols = (i j : ℕ) (s t : Symbol) → slice_get symbols i ≡ Some s → slice_get symbols j ≡ Some t → SharesSlot kind s t → s.name ≡ t.name
+
+-- two symbols of one import of that kind have different names
+abbrev pub HasTwoNames : WasmSymbolKind → List Symbol → Type 0
+HasTwoNames kind symbols = (i : ℕ) × (j : ℕ) × (s : Symbol) × (t : Symbol) × (slice_get symbols i ≡ Some s) × (slice_get symbols j ≡ Some t) × SharesSlot kind s t × (s.name ≢ t.name)
+
+-- symbols of that kind with a name to compare stand for one of so many imports
+abbrev pub is_within : WasmSymbolKind → ℕ → Symbol → Bool
+is_within kind count s = if claims kind s then nat_lt s.index count else true
+
+-- a known name stays, and an unknown one is taken down; whether the name is the one that is known then
+pub record Agrees (before after : List (Option (List ℕ))) (slot : ℕ) (name : List ℕ) (answer : Bool) : Type 0 where
+  pub none : slice_get before slot ≡ Some None → (answer ≡ true) × (after ≡ slice_set before slot (Some name))
+  pub some : (known : List ℕ) → slice_get before slot ≡ Some (Some known) → (after ≡ before) × (answer ≡ bytes_eq known name)
+
+-- each import has one name
+pub record AgreeOnNames (symbols : List Symbol) : Type 0 where
+  pub functions : HasOneName Func symbols
+  pub globals : HasOneName Global symbols
+  pub tables : HasOneName Table symbols
+
+-- some import has two
+abbrev pub SlotFault : List Symbol → ReadError → Type 0
+SlotFault symbols e = (e ≡ Malformed SlotNames) × ((kind : WasmSymbolKind) × HasTwoNames kind symbols)

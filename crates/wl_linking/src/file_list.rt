@@ -1,0 +1,74 @@
+//! The objects of a link.
+
+ghost use Rattle.std.specs.Prelude.{◌≡◌, ◌==◌, option_map, [], ◌∷◌, ◌++◌, length, slice_get, MatchResult};
+
+use crate::file::File;
+use std::alloc::Global;
+use std::marker::Model;
+
+/// The objects of a link, in order. Clauses see it as the list of these.
+#[derive(Drop)]
+pub struct FileList<'a> {
+    files: Vec<File<'a>>,
+}
+
+impl<'a> Model for FileList<'a> {
+    ghost use Rattle.std.specs.Prelude.{List};
+    ghost use Rattle.wl_linking.specs.Object.{Object};
+
+    ghost Value = { List Object };
+
+    ghost view = { λ l. l.files.items };
+}
+
+impl<'a> FileList<'a> {
+    /// No objects.
+    pub fn new(alloc: Global) -> Self
+        ensures { result ≡ [] }
+    {
+        FileList {
+            files: Vec::new(alloc),
+        }
+    }
+
+    /// Puts one more object at the end.
+    ///
+    /// # Errors
+    /// Where memory runs out the object is handed back, and the list is as it was.
+    pub fn push(&mut self, file: File<'a>) -> Result<(), File<'a>>
+        ensures { MatchResult result (λ _. self.new ≡ self.old ++ file.entry ∷ []) (λ back. (back ≡ file.entry) × (self.new ≡ self.old)) }
+    {
+        match self.files.push(file) {
+            Ok(()) => Ok(()),
+            Err(failed) => Err(failed.value),
+        }
+    }
+
+    /// How many objects there are.
+    pub fn len(&self) -> usize
+        ensures { result ≡ length self.now }
+    {
+        self.files.len()
+    }
+
+    /// Whether there are none.
+    pub fn is_empty(&self) -> bool
+        ensures { result ≡ (length self.now == 0) }
+    {
+        self.files.is_empty()
+    }
+
+    /// The object of that number, from 0.
+    pub fn get(&self, object: usize) -> Option<&File<'a>>
+        ensures { option_map (λ f. f.now) result ≡ slice_get self.now object }
+    {
+        self.files.get(object)
+    }
+
+    /// The objects as a slice.
+    pub fn as_slice(&self) -> &[File<'a>]
+        ensures { result.now ≡ self.now }
+    {
+        self.files.as_slice()
+    }
+}

@@ -1,0 +1,245 @@
+//! The names of imports, which symbols refer to by slots: numbers among the imports of a kind
+//! (object file linking, version 2, "Symbol Table Subsection").
+
+ghost use Rattle.std.specs.Prelude.{◌≡◌, ◌≤◌, ◌<◌, ◌+◌, ◌^◌, [], ◌∷◌, ◌++◌, length, map, true, None, slice_get, vec_len, OnOk, IfOk, MatchBool, MatchResult};
+ghost use Rattle.std.specs.List.{list_all, repeat, AllByRecursion};
+ghost use Rattle.wl_linking.specs.Slots.{IsNamedWithin, slot_of, slots_from, slots_of, with_slot, with_import_name, claims, Agrees, HasOneName, HasTwoNames, AgreeOnNames, SlotFault, is_within, import_base};
+ghost use Rattle.wl_linking.specs.declared.symbols.WasmSymbolKind.TheVariants.{Func, Global as GlobalKind, Table};
+ghost use Rattle.wl_linking.specs.Verdict.{HasCause};
+
+use crate::items::Items;
+use crate::spaces::{Spaces, is_of};
+use crate::symbols::{WasmSymbol, WasmSymbolKind, range_of};
+use std::alloc::{AllocError, Global};
+use std::marker::Model;
+use wl_module::{ExternalKind, Import, ReadError, SectionHeader, Why};
+
+/// The field name of an import. Clauses see it as a `Slot`, with the name as a list.
+#[derive(Drop)]
+pub(crate) struct SlotName<'a> {
+    name: &'a str,
+    /// Where the name stands in the object's bytes.
+    range: (u32, u32),
+}
+
+impl<'a> Model for SlotName<'a> {
+    ghost use Rattle.wl_linking.specs.Slots.{Slot};
+
+    ghost Value = { Slot };
+
+    ghost view = { λ s. record { name = s.name.now; range = s.range } };
+}
+
+/// The id of the import section.
+const IMPORT: u8 = 2;
+
+/// How many bytes of the object lie before the payload of its import section; 0 where there is
+/// none.
+pub(crate) fn import_base(headers: &[SectionHeader]) -> u32
+    ensures { result ≡ import_base headers.now }
+{
+    match headers.iter().find(|header| header.id == IMPORT) {
+        None => 0,
+        Some(header) => header.payload_range.0,
+    }
+}
+
+/// The field name of an import, where so many bytes of the object lie before its section's
+/// payload.
+fn slot_of<'a>(base: u32, import: &Import<'a>) -> SlotName<'a>
+    requires base { base ≤ 2 ^ 30 }
+    requires place { import.now.name_offset + length import.now.name ≤ 2 ^ 30 }
+    ensures { result ≡ slot_of base import.now }
+{
+    let name = import.name;
+    SlotName {
+        name,
+        range: range_of(base, import.name_offset() + name.len(), name.len()),
+    }
+}
+
+/// Adds the field name of an import that is of that kind.
+fn push_slot<'a>(
+    slots: &mut Vec<SlotName<'a>>,
+    kind: ExternalKind,
+    base: u32,
+    import: &Import<'a>,
+) -> Result<(), AllocError>
+    requires base { base ≤ 2 ^ 30 }
+    requires place { import.now.name_offset + length import.now.name ≤ 2 ^ 30 }
+    ensures { OnOk result (slots.new.items ≡ slots.old.items ++ slots_from kind base import.now) }
+{
+    if is_of(kind, &import.entity) {
+        slots.push(slot_of(base, import))?;
+    }
+    Ok(())
+}
+
+/// The field names of the imports of a kind, where so many bytes of the object lie before the
+/// payload of their section.
+pub(crate) fn slots_of<'a>(
+    alloc: Global,
+    kind: ExternalKind,
+    base: u32,
+    imports: &[Import<'a>],
+) -> Result<Vec<SlotName<'a>>, AllocError>
+    requires base { base ≤ 2 ^ 30 }
+    requires places { AllByRecursion IsNamedWithin imports.now }
+    ensures { IfOk result (λ slots. slots.items ≡ slots_of kind base imports.now) }
+{
+    let mut slots = Vec::new(alloc);
+    for import in imports {
+        push_slot(&mut slots, kind, base, import)?;
+    }
+    Ok(slots)
+}
+
+/// The same symbol with the name of its slot.
+fn with_slot<'a>(symbol: WasmSymbol<'a>, slots: &[SlotName<'a>]) -> WasmSymbol<'a>
+    ensures { result ≡ with_slot symbol.entry (slice_get slots.now symbol.entry.index) }
+{
+    match slots.get(symbol.index as usize) {
+        None => symbol,
+        Some(slot) => symbol.named(slot.name, slot.range),
+    }
+}
+
+/// The same symbol, with the name of its import where it is to take that.
+fn with_import_name<'a>(
+    functions: &[SlotName<'a>],
+    globals: &[SlotName<'a>],
+    symbol: WasmSymbol<'a>,
+) -> WasmSymbol<'a>
+    ensures { result ≡ with_import_name functions.now globals.now symbol.entry }
+{
+    if !symbol.is_undefined() || symbol.has_name() {
+        return symbol;
+    }
+    match symbol.kind {
+        WasmSymbolKind::Func => with_slot(symbol, functions),
+        WasmSymbolKind::Global => with_slot(symbol, globals),
+        WasmSymbolKind::Data
+        | WasmSymbolKind::Section
+        | WasmSymbolKind::Event
+        | WasmSymbolKind::Table => symbol,
+    }
+}
+
+/// The symbols, where those without a name have that of their import.
+pub(crate) fn name_symbols<'a>(
+    alloc: Global,
+    functions: &[SlotName<'a>],
+    globals: &[SlotName<'a>],
+    symbols: Items<WasmSymbol<'a>>,
+) -> Result<Items<WasmSymbol<'a>>, AllocError>
+    ensures { IfOk result (λ list. list ≡ map (with_import_name functions.now globals.now) symbols.entry) }
+{
+    let mut list = Vec::new(alloc);
+    for symbol in symbols.into_vec() {
+        list.push(with_import_name(functions, globals, symbol))?;
+    }
+    Ok(Items::new(list))
+}
+
+/// Whether a symbol stands for an import of that kind, with a name to compare.
+fn claims(kind: WasmSymbolKind, symbol: &WasmSymbol<'_>) -> bool
+    ensures { result ≡ claims kind symbol.now }
+{
+    if !symbol.is_undefined() || symbol.kind != kind {
+        return false;
+    }
+    match kind {
+        WasmSymbolKind::Func | WasmSymbolKind::Global => true,
+        WasmSymbolKind::Table => symbol.has_name(),
+        WasmSymbolKind::Data | WasmSymbolKind::Section | WasmSymbolKind::Event => false,
+    }
+}
+
+/// The name of an import as far as symbols have told it. Clauses see it as that list of bytes, if
+/// there is one.
+#[derive(Drop)]
+struct KnownName<'a> {
+    name: Option<&'a str>,
+}
+
+impl<'a> Model for KnownName<'a> {
+    ghost use Rattle.std.specs.Prelude.{List, ℕ, Option, option_map};
+
+    ghost Value = { Option (List ℕ) };
+
+    ghost view = { λ k. option_map (λ n. n.now) k.name };
+}
+
+/// No name for each of so many slots.
+fn no_names<'a>(alloc: Global, count: usize) -> Result<Vec<KnownName<'a>>, AllocError>
+    ensures { IfOk result (λ v. v.items ≡ repeat count (None ∷ [])) }
+{
+    let mut names = Vec::new(alloc);
+    for _ in 0..count {
+        names.push(KnownName { name: None })?;
+    }
+    Ok(names)
+}
+
+/// Takes down the name of a slot, and answers whether it is the one that was taken down before.
+fn agrees<'a>(names: &mut Vec<KnownName<'a>>, symbol: &WasmSymbol<'a>) -> bool
+    requires { symbol.now.index < vec_len names.old }
+    ensures { Agrees names.old.items names.new.items symbol.now.index symbol.now.name result }
+{
+    let slot = symbol.index as usize;
+    match names[slot].name {
+        None => {
+            names[slot] = KnownName {
+                name: Some(symbol.name),
+            };
+            true
+        }
+        Some(name) => name == symbol.name,
+    }
+}
+
+/// Whether the symbols of each import of that kind have one name.
+fn have_one_name(
+    alloc: Global,
+    kind: WasmSymbolKind,
+    count: usize,
+    symbols: &[WasmSymbol<'_>],
+) -> Result<bool, AllocError>
+    requires { list_all (is_within kind count) symbols.now ≡ true }
+    ensures { IfOk result (λ b. MatchBool b (HasOneName kind symbols.now) (HasTwoNames kind symbols.now)) }
+{
+    let mut names = no_names(alloc, count)?;
+    for symbol in symbols {
+        if claims(kind, symbol) && !agrees(&mut names, symbol) {
+            return Ok(false);
+        }
+    }
+    Ok(true)
+}
+
+/// Sees that the symbols of each import have one name, where so many functions, globals and tables
+/// are imported.
+pub(crate) fn check_slots(
+    alloc: Global,
+    spaces: Spaces,
+    symbols: &[WasmSymbol<'_>],
+) -> Result<(), ReadError>
+    requires functions { list_all (is_within Func spaces.imported_functions) symbols.now ≡ true }
+    requires globals { list_all (is_within GlobalKind spaces.imported_globals) symbols.now ≡ true }
+    requires tables { list_all (is_within Table spaces.imported_tables) symbols.now ≡ true }
+    ensures { MatchResult result (λ _. AgreeOnNames symbols.now) (HasCause (SlotFault symbols.now)) }
+{
+    let (functions, globals, tables) = (
+        spaces.imported_functions,
+        spaces.imported_globals,
+        spaces.imported_tables,
+    );
+    if have_one_name(alloc, WasmSymbolKind::Func, functions, symbols)?
+        && have_one_name(alloc, WasmSymbolKind::Global, globals, symbols)?
+        && have_one_name(alloc, WasmSymbolKind::Table, tables, symbols)?
+    {
+        Ok(())
+    } else {
+        Err(ReadError::Malformed(Why::SlotNames))
+    }
+}

@@ -1,0 +1,213 @@
+//! How many things of each kind an object has, and that what it names is among them (core
+//! specification, "Indices"; object file linking, version 2).
+
+ghost use Rattle.std.specs.Prelude.{◌≡◌, ◌+◌, nat_lt, MatchResult};
+ghost use Rattle.wl_linking.specs.Spaces.{is_of, count_imports, spaces_of, import_exists, export_exists, segment_exists, number_exists, symbol_exists, init_exists, relocation_exists, core_names_exist, linked_names_exist, counts_hold, NamesExist, NamesFault};
+ghost use Rattle.wl_linking.specs.Verdict.{HasCause};
+
+use crate::infos::WasmInitFunc;
+use crate::file::File;
+use crate::relocations::WasmRelocation;
+use crate::symbols::{WasmSymbol, WasmSymbolKind};
+use wl_module::{
+    ExternalKind, Import, ImportEntity, OutputExport, ReadError, WasmDataSegment, Why,
+};
+
+/// How many things of each kind an object has.
+#[derive(Clone, Copy, Debug, PartialEq, Eq)]
+pub(crate) struct Spaces {
+    pub types: usize,
+    pub imported_functions: usize,
+    pub functions: usize,
+    pub imported_tables: usize,
+    pub imported_memories: usize,
+    pub memories: usize,
+    pub imported_globals: usize,
+    pub globals: usize,
+    pub segments: usize,
+    pub symbols: usize,
+}
+
+/// Whether something of that kind is imported.
+pub(crate) fn is_of(kind: ExternalKind, entity: &ImportEntity) -> bool
+    ensures { result ≡ is_of kind entity.now }
+{
+    match entity {
+        ImportEntity::Func(_) => kind == ExternalKind::Func,
+        ImportEntity::Table(_) => kind == ExternalKind::Table,
+        ImportEntity::Memory(_) => kind == ExternalKind::Memory,
+        ImportEntity::Global(_) => kind == ExternalKind::Global,
+    }
+}
+
+/// How many of the imports are of that kind.
+pub(crate) fn count_imports(kind: ExternalKind, imports: &[Import<'_>]) -> usize
+    ensures { result ≡ count_imports kind imports.now }
+{
+    imports
+        .iter()
+        .filter(|import| is_of(kind, &import.entity))
+        .count()
+}
+
+/// How many things of each kind an object has.
+pub(crate) fn spaces_of(file: &File<'_>) -> Spaces
+    ensures { result ≡ spaces_of file.now }
+{
+    let imports = file.imports();
+    Spaces {
+        types: file.types().len(),
+        imported_functions: count_imports(ExternalKind::Func, imports),
+        functions: file.functions().len(),
+        imported_tables: count_imports(ExternalKind::Table, imports),
+        imported_memories: count_imports(ExternalKind::Memory, imports),
+        memories: file.memory_types().len(),
+        imported_globals: count_imports(ExternalKind::Global, imports),
+        globals: file.globals().len(),
+        segments: file.segments().len(),
+        symbols: file.symbols().len(),
+    }
+}
+
+/// Whether a thing of that number is imported or defined, where these many are. Imported ones
+/// come first.
+fn is_in_space(imported: usize, defined: usize, index: u32) -> bool
+    ensures { result ≡ nat_lt index (imported + defined) }
+{
+    let index = index as usize;
+    index < imported || index - imported < defined
+}
+
+/// Whether the thing of that number is imported where the symbol is undefined, and else defined.
+fn number_exists(undefined: bool, imported: usize, defined: usize, index: u32) -> bool
+    ensures { result ≡ number_exists undefined imported defined index }
+{
+    let index = index as usize;
+    if undefined {
+        index < imported
+    } else {
+        index >= imported && index - imported < defined
+    }
+}
+
+/// Whether an imported function's type is there.
+fn import_exists(spaces: Spaces, import: &Import<'_>) -> bool
+    ensures { result ≡ import_exists spaces import.now }
+{
+    match import.entity {
+        ImportEntity::Func(ty) => (ty as usize) < spaces.types,
+        ImportEntity::Table(_) | ImportEntity::Memory(_) | ImportEntity::Global(_) => true,
+    }
+}
+
+/// Whether what is exported is there.
+fn export_exists(spaces: Spaces, export: &OutputExport<'_>) -> bool
+    ensures { result ≡ export_exists spaces export.now }
+{
+    let (imported, defined) = match export.kind {
+        ExternalKind::Func => (spaces.imported_functions, spaces.functions),
+        ExternalKind::Table => (spaces.imported_tables, 0),
+        ExternalKind::Memory => (spaces.imported_memories, spaces.memories),
+        ExternalKind::Global => (spaces.imported_globals, spaces.globals),
+    };
+    is_in_space(imported, defined, export.index)
+}
+
+/// Whether the memory that an active segment goes to is there.
+fn segment_exists(spaces: Spaces, segment: &WasmDataSegment<'_>) -> bool
+    ensures { result ≡ segment_exists spaces segment.now }
+{
+    match segment.memory_index() {
+        None => true,
+        Some(memory) => is_in_space(spaces.imported_memories, spaces.memories, memory),
+    }
+}
+
+/// Whether what a symbol stands for is there. That of a section isn't looked at.
+fn symbol_exists(spaces: Spaces, symbol: &WasmSymbol<'_>) -> bool
+    ensures { result ≡ symbol_exists spaces symbol.now }
+{
+    let undefined = symbol.is_undefined();
+    match symbol.kind {
+        WasmSymbolKind::Func => number_exists(
+            undefined,
+            spaces.imported_functions,
+            spaces.functions,
+            symbol.index,
+        ),
+        WasmSymbolKind::Global => number_exists(
+            undefined,
+            spaces.imported_globals,
+            spaces.globals,
+            symbol.index,
+        ),
+        WasmSymbolKind::Table => {
+            number_exists(undefined, spaces.imported_tables, 0, symbol.index)
+        }
+        WasmSymbolKind::Data => undefined || (symbol.index as usize) < spaces.segments,
+        WasmSymbolKind::Section | WasmSymbolKind::Event => true,
+    }
+}
+
+/// Whether the type or the symbol of a relocation is there.
+fn relocation_exists(spaces: Spaces, relocation: &WasmRelocation) -> bool
+    ensures { result ≡ relocation_exists spaces relocation.now }
+{
+    let count = if relocation.ty.names_a_type() {
+        spaces.types
+    } else {
+        spaces.symbols
+    };
+    (relocation.index as usize) < count
+}
+
+/// Whether the symbol of a function that runs at the start is there.
+fn init_exists(spaces: Spaces, function: &WasmInitFunc) -> bool
+    ensures { result ≡ init_exists spaces function.now }
+{
+    (function.symbol_index as usize) < spaces.symbols
+}
+
+/// Whether all that the core sections name is there.
+fn core_names_exist(spaces: Spaces, file: &File<'_>) -> bool
+    ensures { result ≡ core_names_exist spaces file.now }
+{
+    file.imports().iter().all(|i| import_exists(spaces, i))
+        && file.functions().iter().all(|ty| (*ty as usize) < spaces.types)
+        && file.exports().iter().all(|x| export_exists(spaces, x))
+        && file.segments().iter().all(|s| segment_exists(spaces, s))
+}
+
+/// Whether all that the linking section and the relocations name is there.
+fn linked_names_exist(spaces: Spaces, file: &File<'_>) -> bool
+    ensures { result ≡ linked_names_exist spaces file.now }
+{
+    file.symbols().iter().all(|s| symbol_exists(spaces, s))
+        && file.init_funcs().iter().all(|f| init_exists(spaces, f))
+        && file.code_relocations().iter().all(|r| relocation_exists(spaces, r))
+        && file.data_relocations().iter().all(|r| relocation_exists(spaces, r))
+}
+
+/// Whether each function has its body, and the data count, where there is one, is how many
+/// segments there are.
+fn counts_hold(spaces: Spaces, file: &File<'_>) -> bool
+    ensures { result ≡ counts_hold spaces file.now }
+{
+    file.bodies().len() == spaces.functions
+        && file.data_counts.as_slice().iter().all(|count| *count as usize == spaces.segments)
+}
+
+/// Sees that each function has its body, that the data count is right, and that what is named
+/// exists.
+pub(crate) fn check_names(file: &File<'_>) -> Result<(), ReadError>
+    ensures { MatchResult result (λ _. NamesExist file.now) (HasCause (NamesFault file.now)) }
+{
+    let spaces = spaces_of(file);
+    if !counts_hold(spaces, file) {
+        return Err(ReadError::Malformed(Why::Count));
+    }
+    if !core_names_exist(spaces, file) || !linked_names_exist(spaces, file) {
+        return Err(ReadError::Malformed(Why::BadIndex));
+    }
+    Ok(())
+}
