@@ -3,8 +3,8 @@ use Rattle.std.specs.Prelude.{◌≡◌, ℕ, List, ⊤}
 use Rattle.wl_module.specs.declared.error.ReadError.{ReadError}
 use Rattle.wl_module.specs.declared.error.ReadError.TheVariants as read
 use Rattle.wl_module.specs.declared.error.Form.TheVariants.{NotYet}
-use Rattle.wl_plan.specs.declared.error.LinkError.{LinkError}
-use Rattle.wl_plan.specs.declared.error.LinkError.TheVariants.{OutOfMemory, Malformed, Unsupported, DuplicateSymbol, TooLarge}
+use Rattle.wl_linking.specs.declared.error.LinkError.{LinkError}
+use Rattle.wl_linking.specs.declared.error.LinkError.TheVariants.{OutOfMemory, Malformed, Unsupported}
 use Rattle.wildplan.specs.Plan.{IsRefusedAt, HasNoPlanYet}
 use Rattle.wildplan.specs.declared.words.WasmArgs.{WasmArgs}
 
@@ -19,8 +19,7 @@ abbrev pub IsBadObject : List (List ℕ) → LinkError → Type 0
 IsBadObject objects OutOfMemory = ⊤
 IsBadObject objects (Malformed object why) = IsRefusedAt objects object (read.Malformed why)
 IsBadObject objects (Unsupported object form) = IsRefusedAt objects object (read.Unsupported form)
-IsBadObject objects (DuplicateSymbol name first_object first_symbol second_object second_symbol) = ⊥
-IsBadObject objects (TooLarge what) = ⊥
+IsBadObject objects _ = ⊥
 
 -- units are to be dropped, or an entry is asked for
 abbrev pub IsBadMode : WasmArgs → LinkError → Type 0

@@ -1,11 +1,12 @@
 //! The words of the texts for the cases of enumerations.
 
 ghost use Rattle.std.specs.Prelude.{◌≡◌};
-ghost use Rattle.wildplan.specs.Listing.{value_type_name, made_name, kind_name, place_name, relocation_name, why_name, form_name, quantity_name};
+ghost use Rattle.wildplan.specs.Listing.{value_type_name, made_name, kind_name, place_name};
+ghost use Rattle.wildplan.specs.Refusals.{why_name, form_name, quantity_name, bound_name};
 
-use wl_linking::RelocationType;
-use wl_module::{Form, ValType, Why};
-use wl_plan::{ExternalKind, FixupPlace, MadeGlobal, Quantity};
+use wl_linking::{MemoryBound, Quantity};
+use wl_module::{ExternalKind, Form, ValType, Why};
+use wl_plan::{FixupPlace, MadeGlobal};
 
 /// A value type, as the text format writes it.
 pub fn value_type_name_of(value_type: ValType) -> &'static str
@@ -49,15 +50,6 @@ pub fn place_name_of(place: FixupPlace) -> &'static str
 {
     match place {
         FixupPlace::Code => "code",
-    }
-}
-
-/// A type of relocation, as the conventions for linking name it.
-pub fn relocation_name_of(relocation_type: RelocationType) -> &'static str
-    ensures { result.now ≡ relocation_name relocation_type }
-{
-    match relocation_type {
-        RelocationType::FunctionIndexLeb => "R_WASM_FUNCTION_INDEX_LEB",
     }
 }
 
@@ -123,5 +115,18 @@ pub fn quantity_name_of(quantity: Quantity) -> &'static str
     match quantity {
         Quantity::Object => "Object",
         Quantity::Space => "Space",
+        Quantity::Address => "Address",
+        Quantity::Size => "Size",
+        Quantity::HeapEnd => "HeapEnd",
+    }
+}
+
+/// Which size of a memory.
+pub fn bound_name_of(bound: MemoryBound) -> &'static str
+    ensures { result.now ≡ bound_name bound }
+{
+    match bound {
+        MemoryBound::Initial => "Initial",
+        MemoryBound::Maximum => "Maximum",
     }
 }

@@ -21,7 +21,7 @@ pub fn push_decimal(text: &mut Vec<u8>, word: &[u8], number: u64) -> Result<(), 
 }
 
 /// A word and the number behind it, which has a sign if it is below 0.
-pub fn push_signed(text: &mut Vec<u8>, word: &[u8], number: i32) -> Result<(), AllocError>
+pub fn push_signed(text: &mut Vec<u8>, word: &[u8], number: i64) -> Result<(), AllocError>
     ensures { OnOk result (text.new.items ≡ text.old.items ++ word.now ++ signed_decimal number) }
 {
     let mut buffer = Buffer::new();

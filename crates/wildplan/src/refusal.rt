@@ -1,40 +1,167 @@
 //! The line of a refusal.
 
-ghost use Rattle.std.specs.Prelude.{◌≡◌, ◌++◌, IfOk, codes, decimal};
-ghost use Rattle.wildplan.specs.Listing.{error_line, quoted};
+ghost use Rattle.std.specs.Prelude.{◌≡◌, [], ◌∷◌, ◌++◌, IfOk, OnOk, codes, decimal, string_bytes};
+ghost use Rattle.std.specs.List.{flat_map};
+ghost use Rattle.wildplan.specs.Listing.{quoted};
+ghost use Rattle.wildplan.specs.Refusals.{numbers_text, need_text, undefined_text, refusal_line, named_text, error_line};
 
-use crate::names::{form_name_of, quantity_name_of, why_name_of};
-use crate::pieces::{push_decimal, push_quoted};
+use crate::names::{bound_name_of, form_name_of, quantity_name_of, why_name_of};
+use crate::pieces::{push_decimal, push_quoted, push_signed};
 use std::alloc::{AllocError, Global};
-use wl_plan::LinkError;
+use wl_linking::{LinkError, SharedMemoryNeed, UndefinedSymbol};
 
-/// The line of a refusal that is an object's.
-fn object_line(
-    alloc: Global,
-    refusal: &str,
-    object: usize,
-    name: &str,
-) -> Result<Vec<u8>, AllocError>
-    ensures { IfOk result (λ text. text.items ≡ codes "error: " ++ refusal.now ++ codes " " ++ decimal object ++ codes " " ++ name.now ++ codes "\n") }
+/// The line of a refusal by its name, as far as that.
+fn begin_line(alloc: Global, name: &str) -> Result<Vec<u8>, AllocError>
+    ensures { IfOk result (λ text. text.items ≡ codes "error: " ++ name.now) }
 {
-    Ok(format!(in alloc; "error: {refusal} {object} {name}\n")?.into_bytes())
+    let mut text = Vec::from_slice(alloc, b"error: ")?;
+    text.extend_from_slice(name.as_bytes())?;
+    Ok(text)
 }
 
-/// The line of two symbols of one name, each an object's number and the symbol's.
-fn duplicate_line(
+/// Numbers, each behind a blank.
+fn push_numbers(text: &mut Vec<u8>, numbers: &[u64]) -> Result<(), AllocError>
+    ensures { OnOk result (text.new.items ≡ text.old.items ++ numbers_text numbers.now) }
+{
+    for number in numbers {
+        push_decimal(text, b" ", *number)?;
+    }
+    Ok(())
+}
+
+/// The line of a refusal that tells numbers.
+fn numbers_line(alloc: Global, refusal: &str, numbers: &[u64]) -> Result<Vec<u8>, AllocError>
+    ensures { IfOk result (λ text. text.items ≡ refusal_line refusal.now (numbers_text numbers.now)) }
+{
+    let mut text = begin_line(alloc, refusal)?;
+    push_numbers(&mut text, numbers)?;
+    text.push(b'\n')?;
+    Ok(text)
+}
+
+/// The line of a refusal that tells a name and numbers.
+fn named_line(
     alloc: Global,
+    refusal: &str,
+    name: &str,
+    numbers: &[u64],
+) -> Result<Vec<u8>, AllocError>
+    ensures { IfOk result (λ text. text.items ≡ refusal_line refusal.now (named_text name.now numbers.now)) }
+{
+    let mut text = begin_line(alloc, refusal)?;
+    text.push(b' ')?;
+    push_quoted(&mut text, name)?;
+    push_numbers(&mut text, numbers)?;
+    text.push(b'\n')?;
+    Ok(text)
+}
+
+/// The line of two things under one name, each an object's number and its own there.
+fn pair_line(
+    alloc: Global,
+    refusal: &str,
     name: &str,
     first: (usize, usize),
     second: (usize, usize),
 ) -> Result<Vec<u8>, AllocError>
-    ensures { IfOk result (λ text. text.items ≡ codes "error: DuplicateSymbol " ++ quoted name.now ++ codes " " ++ decimal first.0 ++ codes " " ++ decimal first.1 ++ codes " " ++ decimal second.0 ++ codes " " ++ decimal second.1 ++ codes "\n") }
+    ensures { IfOk result (λ text. text.items ≡ refusal_line refusal.now (named_text name.now (first.0 ∷ first.1 ∷ second.0 ∷ second.1 ∷ []))) }
 {
-    let mut text = Vec::from_slice(alloc, b"error: DuplicateSymbol ")?;
-    push_quoted(&mut text, name)?;
-    push_decimal(&mut text, b" ", first.0 as u64)?;
-    push_decimal(&mut text, b" ", first.1 as u64)?;
-    push_decimal(&mut text, b" ", second.0 as u64)?;
-    push_decimal(&mut text, b" ", second.1 as u64)?;
+    let numbers = [
+        first.0 as u64,
+        first.1 as u64,
+        second.0 as u64,
+        second.1 as u64,
+    ];
+    named_line(alloc, refusal, name, &numbers)
+}
+
+/// The line of a refusal that tells an object and a word.
+fn object_line(
+    alloc: Global,
+    refusal: &str,
+    object: usize,
+    word: &str,
+) -> Result<Vec<u8>, AllocError>
+    ensures { IfOk result (λ text. text.items ≡ refusal_line refusal.now (codes " " ++ decimal object ++ codes " " ++ word.now)) }
+{
+    Ok(format!(in alloc; "error: {refusal} {object} {word}\n")?.into_bytes())
+}
+
+/// The line of a refusal that tells a word and numbers.
+fn word_line(
+    alloc: Global,
+    refusal: &str,
+    word: &str,
+    numbers: &[u64],
+) -> Result<Vec<u8>, AllocError>
+    ensures { IfOk result (λ text. text.items ≡ refusal_line refusal.now (codes " " ++ word.now ++ numbers_text numbers.now)) }
+{
+    let mut text = begin_line(alloc, refusal)?;
+    text.push(b' ')?;
+    text.extend_from_slice(word.as_bytes())?;
+    push_numbers(&mut text, numbers)?;
+    text.push(b'\n')?;
+    Ok(text)
+}
+
+/// The line of a feature that an object disallows.
+fn conflict_line(alloc: Global, object: usize, feature: &str) -> Result<Vec<u8>, AllocError>
+    ensures { IfOk result (λ text. text.items ≡ refusal_line (codes "FeatureConflict") (codes " " ++ decimal object ++ codes " " ++ quoted feature.now)) }
+{
+    let mut text = begin_line(alloc, "FeatureConflict")?;
+    push_decimal(&mut text, b" ", object as u64)?;
+    text.push(b' ')?;
+    push_quoted(&mut text, feature)?;
+    text.push(b'\n')?;
+    Ok(text)
+}
+
+/// The line of what shared memory lacks.
+fn need_line(alloc: Global, need: SharedMemoryNeed) -> Result<Vec<u8>, AllocError>
+    ensures { IfOk result (λ text. text.items ≡ refusal_line (codes "SharedMemoryFeature") (codes " " ++ need_text need)) }
+{
+    match need {
+        SharedMemoryNeed::Disallowed(object) => {
+            word_line(alloc, "SharedMemoryFeature", "Disallowed", &[object as u64])
+        }
+        SharedMemoryNeed::Atomics => word_line(alloc, "SharedMemoryFeature", "Atomics", &[]),
+        SharedMemoryNeed::BulkMemory => word_line(alloc, "SharedMemoryFeature", "BulkMemory", &[]),
+    }
+}
+
+/// An object's number and the name that it refers to.
+fn push_undefined(text: &mut Vec<u8>, symbol: &UndefinedSymbol) -> Result<(), AllocError>
+    ensures { OnOk result (text.new.items ≡ text.old.items ++ undefined_text symbol.now) }
+{
+    push_decimal(text, b" ", symbol.object as u64)?;
+    text.push(b' ')?;
+    push_quoted(text, symbol.name.as_str())
+}
+
+/// The line of names that nothing defines.
+fn undefined_line(alloc: Global, symbols: &[UndefinedSymbol]) -> Result<Vec<u8>, AllocError>
+    ensures { IfOk result (λ text. text.items ≡ refusal_line (codes "UndefinedSymbols") (flat_map undefined_text symbols.now)) }
+{
+    let mut text = begin_line(alloc, "UndefinedSymbols")?;
+    for symbol in symbols {
+        push_undefined(&mut text, symbol)?;
+    }
+    text.push(b'\n')?;
+    Ok(text)
+}
+
+/// The line of a value that doesn't fit its field.
+fn range_line(
+    alloc: Global,
+    object: usize,
+    offset: u32,
+    value: i64,
+) -> Result<Vec<u8>, AllocError>
+    ensures { IfOk result (λ text. text.items ≡ refusal_line (codes "RelocationRange") (numbers_text (object ∷ offset ∷ []) ++ codes " " ++ signed_decimal value)) }
+{
+    let mut text = begin_line(alloc, "RelocationRange")?;
+    push_numbers(&mut text, &[object as u64, u64::from(offset)])?;
+    push_signed(&mut text, b" ", value)?;
     text.push(b'\n')?;
     Ok(text)
 }
@@ -57,14 +184,69 @@ pub fn error_text(alloc: Global, error: &LinkError) -> Result<Vec<u8>, AllocErro
             first_symbol,
             second_object,
             second_symbol,
-        } => duplicate_line(
+        } => pair_line(
             alloc,
+            "DuplicateSymbol",
             name.as_str(),
             (*first_object, *first_symbol),
             (*second_object, *second_symbol),
         ),
+        LinkError::ConflictingTypes {
+            name,
+            first_object,
+            first_slot,
+            second_object,
+            second_slot,
+        } => pair_line(
+            alloc,
+            "ConflictingTypes",
+            name.as_str(),
+            (*first_object, *first_slot),
+            (*second_object, *second_slot),
+        ),
+        LinkError::BadFeature { object, prefix } => {
+            numbers_line(alloc, "BadFeature", &[*object as u64, u64::from(*prefix)])
+        }
+        LinkError::SharedMemoryFeature { need } => need_line(alloc, *need),
+        LinkError::FeatureConflict { object, feature } => {
+            conflict_line(alloc, *object, feature.as_str())
+        }
+        LinkError::EntryNotDefined { name } => {
+            named_line(alloc, "EntryNotDefined", name.as_str(), &[])
+        }
+        LinkError::WrongKind { object, symbol } => {
+            numbers_line(alloc, "WrongKind", &[*object as u64, *symbol as u64])
+        }
+        LinkError::UndefinedSymbols(symbols) => undefined_line(alloc, symbols),
+        LinkError::BadStackSize(size) => {
+            numbers_line(alloc, "BadStackSize", &[u64::from(*size)])
+        }
         LinkError::TooLarge { what } => {
-            Ok(format!(in alloc; "error: TooLarge {}\n", quantity_name_of(*what))?.into_bytes())
+            word_line(alloc, "TooLarge", quantity_name_of(*what), &[])
+        }
+        LinkError::BadMemorySize {
+            which,
+            requested,
+            needed,
+        } => word_line(
+            alloc,
+            "BadMemorySize",
+            bound_name_of(*which),
+            &[*requested, *needed],
+        ),
+        LinkError::RelocationRange {
+            object,
+            offset,
+            value,
+        } => range_line(alloc, *object, *offset, *value),
+        LinkError::ConstantRange { value } => {
+            numbers_line(alloc, "ConstantRange", &[u64::from(*value)])
+        }
+        LinkError::ExportNotFound { name } => {
+            named_line(alloc, "ExportNotFound", name.as_str(), &[])
+        }
+        LinkError::DuplicateExport { name } => {
+            named_line(alloc, "DuplicateExport", name.as_str(), &[])
         }
     }
 }

@@ -5,9 +5,9 @@ use Rattle.wl_module.specs.Types.{FunctionType}
 use Rattle.wl_linking.specs.Object.{Object}
 use Rattle.wl_plan.specs.Types.{same_type}
 use Rattle.wl_plan.specs.Plan.{max_entries}
-use Rattle.wl_plan.specs.declared.error.LinkError.{LinkError}
-use Rattle.wl_plan.specs.declared.error.LinkError.TheVariants.{OutOfMemory, Malformed, Unsupported, DuplicateSymbol, TooLarge}
-use Rattle.wl_plan.specs.declared.error.Quantity.TheVariants.{Space}
+use Rattle.wl_linking.specs.declared.error.LinkError.{LinkError}
+use Rattle.wl_linking.specs.declared.error.LinkError.TheVariants.{OutOfMemory, TooLarge}
+use Rattle.wl_linking.specs.declared.error.Quantity.TheVariants.{Space}
 
 -- the place of a type in the list, if it is there
 abbrev pub Finds : List FunctionType → FunctionType → Option ℕ → Type 0
@@ -18,9 +18,7 @@ Finds types ty (Some place) = (place < length types) × (list_any (λ t. same_ty
 abbrev pub IsFull : List FunctionType → LinkError → Type 0
 IsFull types OutOfMemory = ⊤
 IsFull types (TooLarge what) = (what ≡ Space) × (max_entries < length types)
-IsFull types (Malformed object why) = ⊥
-IsFull types (Unsupported object form) = ⊥
-IsFull types (DuplicateSymbol name first_object first_symbol second_object second_symbol) = ⊥
+IsFull types _ = ⊥
 
 -- each local type that a function has is led to itself
 pub record LeadsToTypes (types : List FunctionType) (o : Object) (indices : List ℕ) : Type 0 where

@@ -1,9 +1,9 @@
 -- The names by which objects refer to what other objects define.
-use Rattle.std.specs.Prelude.{◌≡◌, ◌≢◌, ◌⊎◌, ◌<◌, ℕ, ◌+◌, Bool, not, ◌&&◌, if◌then◌else◌, nat_lt, List, length, [], ◌∷◌, ◌++◌, take, Some, slice_get, string_bytes}
-use Rattle.wl_linking.specs.Symbols.{Symbol, has_flag}
+use Rattle.std.specs.Prelude.{◌≡◌, ◌≢◌, ◌⊎◌, ◌<◌, ℕ, ◌+◌, Bool, not, ◌&&◌, if◌then◌else◌, List, [], ◌∷◌, ◌++◌, take, Some, slice_get, string_bytes}
+use Rattle.wl_linking.specs.Symbols.{Symbol, is_undefined, is_weak, is_local, has_name}
 use Rattle.wl_linking.specs.Object.{Object}
-use Rattle.wl_plan.specs.declared.error.LinkError.{LinkError}
-use Rattle.wl_plan.specs.declared.error.LinkError.TheVariants.{OutOfMemory, Malformed, Unsupported, DuplicateSymbol, TooLarge}
+use Rattle.wl_linking.specs.declared.error.LinkError.{LinkError}
+use Rattle.wl_linking.specs.declared.error.LinkError.TheVariants.{OutOfMemory, DuplicateSymbol}
 
 -- a strong symbol: its name, its object and its number there
 pub record Strong : Type 0 where
@@ -11,9 +11,9 @@ pub record Strong : Type 0 where
   pub object : ℕ
   pub symbol : ℕ
 
--- a symbol is strong: it has a name that is known outside its object, and, as all that are planned yet, isn't weak
+-- a symbol is strong: it has a name that is known outside its object, and its object defines it and doesn't call it weak
 abbrev pub is_strong : Symbol → Bool
-is_strong s = not (has_flag s.flags 2) && nat_lt 0 (length s.name)
+is_strong s = has_name s && not (is_local s) && not (is_undefined s) && not (is_weak s)
 
 -- the strong symbols of an object, the first of whose symbols has number k
 abbrev pub strong_from : ℕ → ℕ → List Symbol → List Strong
@@ -47,10 +47,7 @@ HasDistinctNames objects = AreDistinct (strong_of 0 objects)
 abbrev pub Tells : Strong → Strong → LinkError → Type 0
 Tells s t (DuplicateSymbol name first_object first_symbol second_object second_symbol) = (string_bytes name ≡ t.name)
     × (first_object ≡ s.object) × (first_symbol ≡ s.symbol) × (second_object ≡ t.object) × (second_symbol ≡ t.symbol)
-Tells s t OutOfMemory = ⊥
-Tells s t (Malformed object why) = ⊥
-Tells s t (Unsupported object form) = ⊥
-Tells s t (TooLarge what) = ⊥
+Tells s t _ = ⊥
 
 -- the refusal is of the earliest symbol of these objects that repeats a name
 abbrev pub IsDuplicate : List Object → LinkError → Type 0

@@ -6,18 +6,19 @@ use Rattle.wl_module.specs.Types.{FunctionType}
 use Rattle.wl_module.specs.Bodies.{Body}
 use Rattle.wl_module.specs.declared.types.ValType.TheVariants.{I32}
 use Rattle.wl_linking.specs.Symbols.{Symbol}
+use Rattle.wl_linking.specs.Debug.{DebugInput}
 use Rattle.wl_linking.specs.Object.{Object}
 use Rattle.wl_linking.specs.declared.relocations.WasmRelocation.{WasmRelocation}
 use Rattle.wl_linking.specs.declared.sites.Site.{Site}
-use Rattle.wl_plan.specs.declared.error.LinkError.{LinkError}
-use Rattle.wl_plan.specs.declared.error.LinkError.TheVariants.{OutOfMemory, Malformed, Unsupported, DuplicateSymbol, TooLarge}
-use Rattle.wl_plan.specs.declared.error.Quantity.TheVariants.{Space}
+use Rattle.wl_linking.specs.declared.error.LinkError.{LinkError}
+use Rattle.wl_linking.specs.declared.error.LinkError.TheVariants.{OutOfMemory, TooLarge}
+use Rattle.wl_linking.specs.declared.error.Quantity.TheVariants.{Space}
 use Rattle.wl_plan.specs.declared.layout.FunctionOrigin.{FunctionOrigin}
 use Rattle.wl_plan.specs.declared.layout.FunctionOrigin.TheVariants as origin
 use Rattle.wl_plan.specs.declared.layout.OutputFunction.{OutputFunction}
 use Rattle.wl_plan.specs.declared.layout.MadeGlobal.TheVariants.{StackPointer}
 use Rattle.wl_plan.specs.declared.layout.PlannedGlobal.{PlannedGlobal}
-use Rattle.wl_plan.specs.declared.layout.ExternalKind.TheVariants.{Memory}
+use Rattle.wl_module.specs.declared.imports.ExternalKind.TheVariants.{Memory}
 use Rattle.wl_plan.specs.declared.layout.OutputExport.{OutputExport}
 use Rattle.wl_plan.specs.declared.layout.LinkPlan.{LinkPlan}
 use Rattle.wl_plan.specs.declared.layout.Fixup.{Fixup}
@@ -44,6 +45,11 @@ HasItsType objects types f = (ty : FunctionType) × (slice_get types f.type_inde
 abbrev pub bodies_of : ℕ → List Object → List Body
 bodies_of i [] = []
 bodies_of i (o ∷ objects) = map (λ (body : Body). record body { object_index = i }) o.bodies ++ bodies_of (i + 1) objects
+
+-- the debug sections of the objects, the first of which has number i
+abbrev pub debug_of : ℕ → List Object → List DebugInput
+debug_of i [] = []
+debug_of i (o ∷ objects) = map (λ (section : DebugInput). record section { object_index = i }) o.debug_sections ++ debug_of (i + 1) objects
 
 -- ---- what the linker makes
 
@@ -89,7 +95,7 @@ AreFixupsIn space i o _ _ _ = ⊥
 abbrev pub AreFixups : List FunctionOrigin → ℕ → List Object → List Fixup → Type 0
 AreFixups space i [] fixups = fixups ≡ []
 AreFixups space i (o ∷ objects) fixups = (front : List Fixup) × (back : List Fixup) × (fixups ≡ front ++ back)
-    × AreFixupsIn space i o o.relocations o.sites front × AreFixups space (i + 1) objects back
+    × AreFixupsIn space i o o.code_relocations o.code_sites front × AreFixups space (i + 1) objects back
 
 -- ---- the plan
 
@@ -111,12 +117,11 @@ pub record IsPlan (objects : List Object) (plan : LinkPlan) : Type 0 where
   pub globals : (g : PlannedGlobal) × (plan.layout.globals ≡ g ∷ []) × IsStackPointer g
   pub memory : plan.layout.memory ≡ record { initial = 2; maximum = None; shared = false }
   pub exports : (e : OutputExport) × (plan.layout.exports ≡ e ∷ []) × IsMemoryExport e
+  pub debug_sections : plan.layout.debug_sections ≡ debug_of 0 objects
   pub fixups : AreFixups (function_space objects) 0 objects plan.fixups
 
 -- memory ran out, or a space has too many entries
 abbrev pub PlanFault : List Object → LinkError → Type 0
 PlanFault objects OutOfMemory = ⊤
 PlanFault objects (TooLarge what) = (what ≡ Space) × HasTooMany objects
-PlanFault objects (Malformed object why) = ⊥
-PlanFault objects (Unsupported object form) = ⊥
-PlanFault objects (DuplicateSymbol name first_object first_symbol second_object second_symbol) = ⊥
+PlanFault objects _ = ⊥

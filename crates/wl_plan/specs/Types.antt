@@ -1,6 +1,6 @@
 -- The types of the output: those of the functions, each once, by first occurrence.
-use Rattle.std.specs.Prelude.{ℕ, ◌+◌, ◌==◌, ◌&&◌, Bool, List, [], ◌∷◌, ◌++◌, if◌then◌else◌}
-use Rattle.std.specs.List.{list_any, flat_map}
+use Rattle.std.specs.Prelude.{ℕ, ◌+◌, ◌==◌, ◌&&◌, Bool, nat_lt, List, [], ◌∷◌, ◌++◌, if◌then◌else◌}
+use Rattle.std.specs.List.{list_any, list_all, flat_map}
 use Rattle.std.specs.Cmp.Lexicographic.{pointwise}
 use Rattle.wl_module.specs.Types.{FunctionType, value_type_code}
 use Rattle.wl_module.specs.declared.types.ValType.{ValType}
@@ -22,6 +22,10 @@ add_new seen ty = if list_any (λ t. same_type t ty) seen then seen else seen ++
 abbrev pub firsts_onto : List FunctionType → List FunctionType → List FunctionType
 firsts_onto seen [] = seen
 firsts_onto seen (ty ∷ types) = firsts_onto (add_new seen ty) types
+
+-- each function has one of so many types
+abbrev pub types_exist : ℕ → List ℕ → Bool
+types_exist count functions = list_all (λ t. nat_lt t count) functions
 
 -- those of the types, the first of which has number k, that a function has
 abbrev pub used_from : ℕ → List FunctionType → List ℕ → List FunctionType

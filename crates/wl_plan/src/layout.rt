@@ -1,8 +1,8 @@
 //! The plan of the output module: what it holds, and what each relocation becomes.
 
 use std::alloc::Global;
-use wl_linking::{Items, RelocationType};
-use wl_module::{FuncType, ValType, WasmFunctionBody};
+use wl_linking::{DebugSectionInput, Items, RelocationType};
+use wl_module::{ExternalKind, FuncType, MemoryType, ValType, WasmFunctionBody};
 
 /// Where a function of the output is from.
 #[derive(Clone, Copy, Debug, PartialEq, Eq)]
@@ -33,23 +33,6 @@ pub struct PlannedGlobal<'a> {
     /// The operators of its first value, without the end.
     pub init_expr_body: &'a [u8],
     pub made: MadeGlobal,
-}
-
-/// A memory: its sizes in pages of 64 KiB.
-#[derive(Clone, Copy, Debug, PartialEq, Eq)]
-pub struct MemoryType {
-    pub initial: u64,
-    pub maximum: Option<u64>,
-    pub shared: bool,
-}
-
-/// What an export leads to.
-#[derive(Clone, Copy, Debug, PartialEq, Eq)]
-pub enum ExternalKind {
-    Func,
-    Table,
-    Memory,
-    Global,
 }
 
 /// An export of the output.
@@ -99,6 +82,8 @@ pub struct WasmLayout<'a> {
     pub globals: Items<PlannedGlobal<'a>>,
     pub memory: MemoryType,
     pub exports: Items<OutputExport<'a>>,
+    /// The debug sections of all objects, by object and place.
+    pub debug_sections: Items<DebugSectionInput<'a>>,
 }
 
 /// The plan of one output module.

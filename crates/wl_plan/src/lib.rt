@@ -1,21 +1,21 @@
 //! The plan of the output module.
 #![tactic(auto)]
 
-mod error;
 mod layout;
 mod merge;
 mod names;
 mod plan;
+mod planned;
 mod spaces;
 mod types;
 
-pub use error::{LinkError, Quantity};
 pub use layout::{
-    ExternalKind, Fixup, FixupPlace, FixupTo, FunctionOrigin, LinkPlan, MadeGlobal, MemoryType,
-    OutputExport, OutputFunction, PlannedGlobal, WasmLayout,
+    Fixup, FixupPlace, FixupTo, FunctionOrigin, LinkPlan, MadeGlobal, OutputExport, OutputFunction,
+    PlannedGlobal, WasmLayout,
 };
 pub use names::check_names;
 pub use plan::plan_objects;
+pub use planned::check_planned;
 pub use types::TypeMerger;
 
 #[cfg(test)]

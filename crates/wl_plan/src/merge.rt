@@ -2,14 +2,13 @@
 
 ghost use Rattle.std.specs.Prelude.{◌≡◌, ◌≤◌, ◌<◌, ◌==◌, ℕ, length, true, IfOk, IfErr, Some, slice_get, slice_index_or, if◌then◌else◌, Bool};
 ghost use Rattle.std.specs.List.{list_any};
-ghost use Rattle.wl_linking.specs.Object.{types_exist};
+ghost use Rattle.wl_plan.specs.Types.{types_exist};
 ghost use Rattle.wl_plan.specs.Types.{add_new, firsts_onto, live_types};
 ghost use Rattle.wl_plan.specs.Merging.{IsFull, LeadsToTypes};
 
-use crate::error::LinkError;
 use crate::types::TypeMerger;
 use std::alloc::{AllocError, Global};
-use wl_linking::File;
+use wl_linking::{File, LinkError};
 use wl_module::FuncType;
 
 /// The index of what the output doesn't hold.
@@ -49,7 +48,7 @@ pub(crate) fn merge_types(
     ensures err { IfErr result (IsFull (firsts_onto merger.old (live_types file.now))) }
 {
     let types = file.types();
-    let used = used_types(alloc, types.len(), file.module_functions())?;
+    let used = used_types(alloc, types.len(), file.functions())?;
     let mut indices = Vec::new(alloc);
     for (local, ty) in types.iter().enumerate() {
         let index = merge_type(merger, ty, used[local])?;

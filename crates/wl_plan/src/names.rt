@@ -3,13 +3,9 @@
 ghost use Rattle.std.specs.Prelude.{◌≡◌, ◌++◌, OnOk, IfOk, IfErr, MatchOption};
 ghost use Rattle.wl_plan.specs.Names.{is_strong, strong_from, strong_of, HasDistinctNames, NameFault, LacksName, HasName, Tells};
 
-use crate::error::LinkError;
 use std::alloc::{AllocError, Global};
 use std::marker::Model;
-use wl_linking::{File, WasmSymbol};
-
-/// The flag of a symbol that is known in its object alone.
-const LOCAL: u32 = 2;
+use wl_linking::{File, LinkError, WasmSymbol};
 
 /// A symbol by whose name other objects may refer to what its object defines.
 #[derive(Drop)]
@@ -27,11 +23,12 @@ impl<'a> Model for StrongSymbol<'a> {
     ghost view = { λ s. record { name = s.name.now; object = s.object; symbol = s.symbol } };
 }
 
-/// The symbol has a name that is known outside its object.
-fn is_named_outside(symbol: &WasmSymbol<'_>) -> bool
+/// The symbol has a name that is known outside its object, and its object defines it and doesn't
+/// call it weak.
+fn is_strong(symbol: &WasmSymbol<'_>) -> bool
     ensures { result ≡ is_strong symbol.now }
 {
-    symbol.flags & LOCAL == 0 && !symbol.name.is_empty()
+    symbol.has_name() && !symbol.is_local() && !symbol.is_undefined() && !symbol.is_weak()
 }
 
 /// Adds the strong symbols of an object.
@@ -43,7 +40,7 @@ fn push_strong<'a>(
     ensures { OnOk result (strong.new.items ≡ strong.old.items ++ strong_from object 0 symbols.now) }
 {
     for (i, symbol) in symbols.iter().enumerate() {
-        if is_named_outside(symbol) {
+        if is_strong(symbol) {
             strong.push(StrongSymbol {
                 name: symbol.name,
                 object,

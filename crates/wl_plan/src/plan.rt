@@ -1,24 +1,23 @@
 //! The plan of the output module.
 
-ghost use Rattle.std.specs.Prelude.{◌≡◌, [], ◌∷◌, OnOk, IfOk, IfErr};
+ghost use Rattle.std.specs.Prelude.{◌≡◌, true, [], ◌∷◌, OnOk, IfOk, IfErr};
 ghost use Rattle.std.specs.List.{AllByRecursion};
-ghost use Rattle.wl_linking.specs.Object.{IsFitting};
+ghost use Rattle.wl_linking.specs.Fitting.{IsFitting};
+ghost use Rattle.wl_plan.specs.Planned.{is_planned, AllPlanned};
 ghost use Rattle.wl_plan.specs.Building.{AddsObject, LacksRoom, IsEmpty, AreSpaces};
 ghost use Rattle.wl_plan.specs.Plan.{IsPlan, PlanFault, IsStackPointer, IsMemoryExport};
 ghost use Rattle.wl_plan.specs.declared.layout.PlannedGlobal.{PlannedGlobal as SpecGlobal};
 ghost use Rattle.wl_plan.specs.declared.layout.OutputExport.{OutputExport as SpecExport};
 
-use crate::error::{LinkError, Quantity};
 use crate::layout::{
-    ExternalKind, Fixup, LinkPlan, MadeGlobal, MemoryType, OutputExport, OutputFunction,
-    PlannedGlobal, WasmLayout,
+    Fixup, LinkPlan, MadeGlobal, OutputExport, OutputFunction, PlannedGlobal, WasmLayout,
 };
 use crate::merge::merge_types;
-use crate::spaces::{push_bodies, push_fixups, push_functions};
+use crate::spaces::{push_bodies, push_debug_sections, push_fixups, push_functions};
 use crate::types::{MAX_ENTRIES, TypeMerger};
 use std::alloc::{AllocError, Global};
-use wl_linking::{File, Items};
-use wl_module::{ValType, WasmFunctionBody};
+use wl_linking::{DebugSectionInput, File, Items, LinkError, Quantity};
+use wl_module::{ExternalKind, MemoryType, ValType, WasmFunctionBody};
 
 /// What the objects so far add to the output.
 #[derive(Drop)]
@@ -26,6 +25,7 @@ struct Spaces<'a> {
     merger: TypeMerger,
     functions: Vec<OutputFunction>,
     bodies: Vec<WasmFunctionBody<'a>>,
+    debug_sections: Vec<DebugSectionInput<'a>>,
     fixups: Vec<Fixup>,
 }
 
@@ -37,17 +37,19 @@ impl<'a> Spaces<'a> {
             merger: TypeMerger::new(alloc),
             functions: Vec::new(alloc),
             bodies: Vec::new(alloc),
+            debug_sections: Vec::new(alloc),
             fixups: Vec::new(alloc),
         }
     }
 
     /// Adds what the next object holds.
     fn add_object(&mut self, alloc: Global, object: usize, file: &File<'a>) -> Result<(), LinkError>
-        requires { IsFitting file.now }
+        requires fits { IsFitting file.now }
+        requires planned { is_planned file.now ≡ true }
         ensures ok { OnOk result (AddsObject self.old self.new object file.now) }
         ensures err { IfErr result (LacksRoom self.old file.now) }
     {
-        let local = file.module_functions();
+        let local = file.functions();
         let base = self.functions.len();
         if base > MAX_ENTRIES || local.len() > MAX_ENTRIES - base {
             return Err(LinkError::TooLarge {
@@ -56,7 +58,8 @@ impl<'a> Spaces<'a> {
         }
         let indices = merge_types(alloc, &mut self.merger, file)?;
         push_functions(&mut self.functions, object, local, &indices)?;
-        push_bodies(alloc, &mut self.bodies, object, file.function_bodies())?;
+        push_bodies(alloc, &mut self.bodies, object, file.bodies())?;
+        push_debug_sections(&mut self.debug_sections, object, file.debug_inputs())?;
         push_fixups(&mut self.fixups, object, base as u32, file)?;
         Ok(())
     }
@@ -101,7 +104,8 @@ const MEMORY: MemoryType = MemoryType {
 
 /// The spaces of all objects.
 fn add_objects<'a>(alloc: Global, files: &[File<'a>]) -> Result<Spaces<'a>, LinkError>
-    requires { AllByRecursion IsFitting files.now }
+    requires fits { AllByRecursion IsFitting files.now }
+    requires planned { AllPlanned files.now }
     ensures ok { IfOk result (AreSpaces files.now) }
     ensures err { IfErr result (PlanFault files.now) }
 {
@@ -117,7 +121,8 @@ fn add_objects<'a>(alloc: Global, files: &[File<'a>]) -> Result<Spaces<'a>, Link
 /// # Errors
 /// `TooLarge` where a space would get more than 4294967294 entries.
 pub fn plan_objects<'a>(alloc: Global, files: &[File<'a>]) -> Result<LinkPlan<'a>, LinkError>
-    requires { AllByRecursion IsFitting files.now }
+    requires fits { AllByRecursion IsFitting files.now }
+    requires planned { AllPlanned files.now }
     ensures ok { IfOk result (IsPlan files.now) }
     ensures err { IfErr result (PlanFault files.now) }
 {
@@ -129,6 +134,7 @@ pub fn plan_objects<'a>(alloc: Global, files: &[File<'a>]) -> Result<LinkPlan<'a
             output_types: spaces.merger.into_types(),
             functions: Items::new(spaces.functions),
             function_bodies: Items::new(spaces.bodies),
+            debug_sections: Items::new(spaces.debug_sections),
             globals,
             memory: MEMORY,
             exports,

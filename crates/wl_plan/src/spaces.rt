@@ -1,15 +1,15 @@
 //! What each object adds to the spaces of the output.
 
 ghost use Rattle.std.specs.Prelude.{◌≡◌, ◌≤◌, ◌<◌, ◌+◌, ◌++◌, length, map, true, OnOk, IfOk, vec_len, slice_index_or};
-ghost use Rattle.wl_linking.specs.Object.{types_exist};
+ghost use Rattle.wl_plan.specs.Types.{types_exist};
 ghost use Rattle.wl_linking.specs.declared.relocations.WasmRelocation.{WasmRelocation as SpecRelocation};
 ghost use Rattle.wl_linking.specs.declared.sites.Site.{Site as SpecSite};
-ghost use Rattle.wl_plan.specs.Building.{outputs_from, body_in, fixup_of, fixups_from, HasRoom};
+ghost use Rattle.wl_plan.specs.Building.{outputs_from, body_in, debug_in, fixup_of, fixups_from, HasRoom};
 
 use crate::layout::{Fixup, FixupPlace, FixupTo, FunctionOrigin, OutputFunction};
 use std::alloc::{AllocError, Global};
 use std::borrow::CowSlice;
-use wl_linking::File;
+use wl_linking::{DebugSectionInput, File};
 use wl_module::WasmFunctionBody;
 
 /// Adds the functions of an object, whose local types the indices lead to the output types.
@@ -69,11 +69,29 @@ pub(crate) fn push_bodies<'a>(
     Ok(())
 }
 
+/// Adds the debug sections of an object.
+pub(crate) fn push_debug_sections<'a>(
+    sections: &mut Vec<DebugSectionInput<'a>>,
+    object: usize,
+    more: &[DebugSectionInput<'a>],
+) -> Result<(), AllocError>
+    ensures { OnOk result (sections.new.items ≡ sections.old.items ++ map (debug_in object) more.now) }
+{
+    for section in more {
+        sections.push(DebugSectionInput {
+            name: section.name,
+            payload: section.payload,
+            object_index: object,
+        })?;
+    }
+    Ok(())
+}
+
 /// What a relocation of an object becomes, whose functions stand in the space from `base` on.
 fn fixup_at(object: usize, base: u32, file: &File<'_>, i: usize) -> Fixup
     requires room { HasRoom base file.now }
-    requires within { i < length file.now.relocations }
-    ensures { (r : SpecRelocation) (s : SpecSite) → result ≡ fixup_of base object file.now (slice_index_or file.now.relocations i r) (slice_index_or file.now.sites i s) }
+    requires within { i < length file.now.code_relocations }
+    ensures { (r : SpecRelocation) (s : SpecSite) → result ≡ fixup_of base object file.now (slice_index_or file.now.code_relocations i r) (slice_index_or file.now.code_sites i s) }
 {
     let relocation = file.code_relocations()[i];
     let site = file.code_sites()[i];
@@ -99,7 +117,7 @@ pub(crate) fn push_fixups(
     file: &File<'_>,
 ) -> Result<(), AllocError>
     requires { HasRoom base file.now }
-    ensures { OnOk result (fixups.new.items ≡ fixups.old.items ++ fixups_from base object file.now file.now.relocations file.now.sites) }
+    ensures { OnOk result (fixups.new.items ≡ fixups.old.items ++ fixups_from base object file.now file.now.code_relocations file.now.code_sites) }
 {
     for i in 0..file.code_relocations().len() {
         fixups.push(fixup_at(object, base, file, i))?;

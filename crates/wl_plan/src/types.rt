@@ -6,10 +6,10 @@ ghost use Rattle.wl_plan.specs.Types.{same_type, add_new};
 ghost use Rattle.wl_plan.specs.Merging.{IsFull, Finds};
 ghost use Rattle.wl_plan.specs.Plan.{max_entries};
 
-use crate::error::{LinkError, Quantity};
+
 use std::alloc::{AllocError, Global};
 use std::marker::Model;
-use wl_linking::Items;
+use wl_linking::{Items, LinkError, Quantity};
 use wl_module::{FuncType, ValType};
 
 /// The two have the same parameters and results, in order.
