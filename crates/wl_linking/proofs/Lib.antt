@@ -1,0 +1,4 @@
+pub mod Exact
+pub mod SymbolLaws
+pub mod InfoLaws
+pub mod FeatureLaws
