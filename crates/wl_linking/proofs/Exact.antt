@@ -84,7 +84,7 @@ pub seen_as : {X Y : Type 0} (spells : ℕ → X → List ℕ → Type 0) (wrong
 seen_as spells wrong read view law = seen_reading spells (Seen spells view) wrong read view (λ place x text s. (x, s, refl)) (λ place y text s. s) law
 
 -- how many bytes lie before is read of no byte
-pub here_reading : IsReading IsHere NoFault here_at
+pub here_reading : IsReading {E = ReadError} IsHere NoFault here_at
 here_reading = record {
   found = λ c n to e. let p = ok_is {E = ReadError} (c.position, c) (n, to) e in subst (λ (r : ℕ × Cursor). Takes IsHere r.0 c r.1) p (record { text = []; spelled = (refl, refl); parts = refl; moved = omega arith });
   again = λ c n to t.

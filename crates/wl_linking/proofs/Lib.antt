@@ -2,3 +2,4 @@ pub mod Exact
 pub mod SymbolLaws
 pub mod InfoLaws
 pub mod FeatureLaws
+pub mod LinkingLaws
