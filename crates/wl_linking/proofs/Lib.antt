@@ -1,1 +1,6 @@
 pub mod OnceLaws
+pub mod Exact
+pub mod SymbolLaws
+pub mod InfoLaws
+pub mod FeatureLaws
+pub mod LinkingLaws
