@@ -4,3 +4,5 @@ pub mod SymbolLaws
 pub mod InfoLaws
 pub mod FeatureLaws
 pub mod LinkingLaws
+pub mod RelocationLaws
+pub mod SiteLaws
