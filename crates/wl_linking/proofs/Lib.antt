@@ -6,3 +6,4 @@ pub mod FeatureLaws
 pub mod LinkingLaws
 pub mod RelocationLaws
 pub mod SiteLaws
+pub mod SectionLaws
