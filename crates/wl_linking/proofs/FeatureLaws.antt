@@ -6,7 +6,7 @@ use Rattle.wl_bytes.proofs.Readings.{IsReading}
 use Rattle.wl_bytes.proofs.GrammarLaws.{then_reading, map_reading}
 use Rattle.wl_module.specs.Lists.{ByteFault, one_byte_at, WordFault, word_at, Listed, ListedFault, list_at}
 use Rattle.wl_module.proofs.ListLaws.{one_byte_reading, word_reading, list_reading, whole_reading, IsWholeReading}
-use Rattle.wl_linking.specs.Features.{Feature, IsFeature, FeatureFault, feature_from, feature_at, AreFeatures, FeaturesFault, features_of}
+use Rattle.wl_linking.specs.Features.{IsFeature, FeatureFault, feature_from, feature_at, AreFeatures, FeaturesFault, features_of}
 
 feature_reading : IsReading IsFeature FeatureFault feature_at
 unfolding feature_at

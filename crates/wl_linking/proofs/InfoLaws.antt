@@ -10,7 +10,7 @@ use Rattle.wl_module.specs.declared.error.Why.TheVariants.{BadAlignment}
 use Rattle.wl_module.specs.declared.error.ReadError.TheVariants.{Malformed}
 use Rattle.wl_module.proofs.ListLaws.{number_reading, word_reading, list_reading, whole_reading, IsWholeReading}
 use Rattle.wl_module.proofs.CheckLaws.{where_reading}
-use Rattle.wl_linking.specs.Infos.{SegmentInfo, is_exponent, IsAlignment, AlignmentFault, alignment_at, IsInfo, InfoFault, info_from, info_at, AreInfos, InfosFault, infos_of, IsInit, InitFault, init_from, init_at, AreInits, InitsFault, inits_of}
+use Rattle.wl_linking.specs.Infos.{is_exponent, IsAlignment, AlignmentFault, alignment_at, IsInfo, InfoFault, info_from, info_at, AreInfos, InfosFault, infos_of, IsInit, InitFault, init_from, init_at, AreInits, InitsFault, inits_of}
 use Rattle.wl_linking.specs.declared.infos.WasmInitFunc.{WasmInitFunc}
 
 -- ---- segments

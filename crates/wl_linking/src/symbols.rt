@@ -238,10 +238,7 @@ fn read_name_where<'a>(
 
 /// Where the data in front lies: its segment, its offset there and its size.
 #[tactic(auto, unfolding(crate::specs::SymbolsReading::extent_where_at))]
-fn read_extent_where(
-    defined: bool,
-    reader: &mut Reader<'_>,
-) -> Result<(u32, (u32, u32)), ReadError>
+fn read_extent_where(defined: bool, reader: &mut Reader<'_>) -> Result<(u32, (u32, u32)), ReadError>
     ensures value { Yields (λ e. e) result reader.new (extent_where_at defined reader.old) }
     ensures end { end_of reader.new ≡ end_of reader.old }
 {
@@ -267,7 +264,8 @@ fn read_numbered<'a>(
     ensures end { end_of reader.new ≡ end_of reader.old }
 {
     let index = reader.read_u32()?;
-    let named = !flags.contains(SymbolFlags::UNDEFINED) || flags.contains(SymbolFlags::EXPLICIT_NAME);
+    let named = !flags.contains(SymbolFlags::UNDEFINED)
+        || flags.contains(SymbolFlags::EXPLICIT_NAME);
     let (name, name_range) = read_name_where(base, named, reader)?;
     Ok(Details {
         index,
