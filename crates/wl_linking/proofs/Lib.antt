@@ -7,3 +7,4 @@ pub mod LinkingLaws
 pub mod RelocationLaws
 pub mod SiteLaws
 pub mod SectionLaws
+pub mod PartLaws

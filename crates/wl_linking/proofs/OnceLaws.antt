@@ -83,6 +83,9 @@ all_good test id items_in Good law bytes all seen last place (s ∷ hs) text [] 
 all_good test id items_in Good law bytes all seen last place (s ∷ hs) text (x ∷ held) (front, back, parts, here, rest) h =
     by_kind (test (kind_of bytes s)) refl (all_good test id items_in Good law bytes all (seen_then seen x) (next last s) (place + length front) hs back held rest h.1)
   where
+    not_zero : (b : Bool) → eqb (rank s.id) 0 ≡ b → rank s.id ≡ rank id → eqb (rank s.id) 0 ≡ false
+    not_zero false is e = is
+    not_zero true is e = absurd (omega (arith, eqb-true (rank s.id) 0 is, e, law.ranked))
     by_kind : (b : Bool) → test (kind_of bytes s) ≡ b → Good (flat_map items_in held) → Good (items_in x ++ flat_map items_in held)
     by_kind false is more = rw (law.others (kind_of bytes s) bytes all seen s x (payload_of bytes s) is h.0) more
     by_kind true is more =
@@ -91,9 +94,6 @@ all_good test id items_in Good law bytes all seen last place (s ∷ hs) text (x 
         let past : IsPast (rank id) (next last s) = rw (some, rank_is) (omega arith) in
         let none = none_of_all test id items_in Good law bytes all (seen_then seen x) hs held (no_second test id items_in Good law bytes (next last s) (place + length front) hs back past rest) h.1 in
         rw (none, append-nil (items_in x)) (law.good (kind_of bytes s) bytes all seen s x (payload_of bytes s) is h.0)
-    not_zero : (b : Bool) → eqb (rank s.id) 0 ≡ b → rank s.id ≡ rank id → eqb (rank s.id) 0 ≡ false
-    not_zero false is e = is
-    not_zero true is e = absurd (omega (arith, eqb-true (rank s.id) 0 is, e, law.ranked))
 
 -- ---- the bodies of one section
 
@@ -120,7 +120,7 @@ segment_begins place s text (f, (flag, behind, parts, coded, (target, counted, p
 segments_from : (place : ℕ) (segments : List Segment) (text : List ℕ) → Items IsSegment place segments text → Ascend place (map segment_piece segments)
 segments_from place [] text h = tt
 segments_from place (s ∷ segments) text (front, back, parts, here, rest) =
-    let ends : place + length front ≡ piece_end (segment_piece s) = sym here.3.0 in
+    let ends : place + length front ≡ piece_end (segment_piece s) = sym here.3 in
     (segment_begins place s front here, subst (λ (n : ℕ). Ascend n (map segment_piece segments)) ends (segments_from (place + length front) segments back rest))
 
 segments_ascend : (segments : List Segment) (payload : List ℕ) → AreSegments segments payload → Ascend 0 (map segment_piece segments)

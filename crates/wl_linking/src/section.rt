@@ -2,8 +2,8 @@
 
 ghost use Rattle.std.specs.Prelude.{◌≡◌, ◌≤◌, ◌^◌, length, Ok, MatchResult};
 ghost use Rattle.std.specs.Str.{IsUtf8};
-ghost use Rattle.wl_module.specs.Outcome.{Gives, IsFault};
-ghost use Rattle.wl_linking.specs.Relocations.{reloc_section_of};
+ghost use Rattle.wl_module.specs.Outcome.{Gives, IsFault, ReadsWhole};
+ghost use Rattle.wl_linking.specs.Relocations.{IsRelocSection, RelocSectionFault, reloc_section_of};
 ghost use Rattle.wl_linking.specs.Sections.{HoldsItems, ItemsFault, IsSound, IsFaulty, LinkingItems, LinkingItemsFault, IsPlaced, has_memory, seen_then, seen_then_reloc};
 ghost use Rattle.wl_linking.specs.Debug.{debug_of};
 ghost use Rattle.wl_linking.specs.Verdict.{HasCause};
@@ -61,7 +61,7 @@ fn read_first_linking(
 }
 
 /// What a whole payload of a relocation section holds.
-fn read_reloc_section(
+fn reloc_section(
     alloc: Global,
     bytes: &[u8],
     headers: &[SectionHeader],
@@ -81,6 +81,19 @@ fn read_reloc_section(
             relocations,
         },
     })
+}
+
+/// Reads the payload of a relocation section, after the sections that were seen.
+fn read_reloc_section(
+    alloc: Global,
+    bytes: &[u8],
+    headers: &[SectionHeader],
+    seen: Seen,
+    payload: &[u8],
+) -> Result<RelocHeld, ReadError>
+    ensures { let verdict = numbered_verdict bytes.now headers.now seen in ReadsWhole (λ s. s) (IsRelocSection verdict) (RelocSectionFault verdict) payload.now result }
+{
+    reloc_section(alloc, bytes, headers, seen, payload)
 }
 
 /// The debug section of that name and payload.
@@ -122,34 +135,38 @@ fn read_items<'a>(
         (IsFault (ItemsFault kind bytes.now headers.now seen header.now) (payload_of bytes.now header.now)) }
 {
     let payload = stretch(bytes, header.payload_range);
-    Ok(match kind {
-        SectionKind::Type => Section::Types(Items::new(read_types(alloc, payload)?)),
-        SectionKind::Import => Section::Imports(Items::new(read_imports(alloc, payload)?)),
-        SectionKind::Function => Section::Functions(Items::new(read_functions(alloc, payload)?)),
-        SectionKind::Memory => {
-            Section::Memories(Items::new(read_memories(alloc, seen.memory, payload)?))
-        }
-        SectionKind::Global => Section::Globals(Items::new(read_globals(alloc, payload)?)),
-        SectionKind::Export => Section::Exports(Items::new(read_exports(alloc, payload)?)),
-        SectionKind::DataCount => Section::DataCount(read_data_count(payload)?),
-        SectionKind::Code => Section::Code(Items::new(read_bodies(alloc, payload)?)),
-        SectionKind::Data => Section::Data(Items::new(read_segments(alloc, payload)?)),
-        SectionKind::Table => return Err(ReadError::Unsupported(Form::TableDef)),
-        SectionKind::Start => return Err(ReadError::Unsupported(Form::Start)),
-        SectionKind::Tag => return Err(ReadError::Unsupported(Form::Tag)),
+    match kind {
+        SectionKind::Type => Ok(Section::Types(Items::new(read_types(alloc, payload)?))),
+        SectionKind::Import => Ok(Section::Imports(Items::new(read_imports(alloc, payload)?))),
+        SectionKind::Function => Ok(Section::Functions(Items::new(read_functions(
+            alloc, payload,
+        )?))),
+        SectionKind::Memory => Ok(Section::Memories(Items::new(read_memories(
+            alloc,
+            seen.memory,
+            payload,
+        )?))),
+        SectionKind::Global => Ok(Section::Globals(Items::new(read_globals(alloc, payload)?))),
+        SectionKind::Export => Ok(Section::Exports(Items::new(read_exports(alloc, payload)?))),
+        SectionKind::DataCount => Ok(Section::DataCount(read_data_count(payload)?)),
+        SectionKind::Code => Ok(Section::Code(Items::new(read_bodies(alloc, payload)?))),
+        SectionKind::Data => Ok(Section::Data(Items::new(read_segments(alloc, payload)?))),
+        SectionKind::Table => Err(ReadError::Unsupported(Form::TableDef)),
+        SectionKind::Start => Err(ReadError::Unsupported(Form::Start)),
+        SectionKind::Tag => Err(ReadError::Unsupported(Form::Tag)),
         SectionKind::Linking => {
             let base = header.payload_range.0;
-            Section::Linking(read_first_linking(alloc, seen, base, payload)?)
+            Ok(Section::Linking(read_first_linking(alloc, seen, base, payload)?))
         }
-        SectionKind::Reloc => {
-            Section::Reloc(read_reloc_section(alloc, bytes, headers, seen, payload)?)
-        }
-        SectionKind::Features => {
-            Section::Features(Items::new(parse_target_features_payload(alloc, payload)?))
-        }
-        SectionKind::Debug => Section::Debug(debug_section(name_of(bytes, header), payload)?),
-        SectionKind::Skipped => Section::Skipped,
-    })
+        SectionKind::Reloc => Ok(Section::Reloc(read_reloc_section(
+            alloc, bytes, headers, seen, payload,
+        )?)),
+        SectionKind::Features => Ok(Section::Features(Items::new(
+            parse_target_features_payload(alloc, payload)?,
+        ))),
+        SectionKind::Debug => Ok(Section::Debug(debug_section(name_of(bytes, header), payload)?)),
+        SectionKind::Skipped => Ok(Section::Skipped),
+    }
 }
 
 /// Reads the section of this header, after the sections that were seen.

@@ -1,0 +1,1 @@
+-- Bytes are one object at most, or something is wrong with them, and never both.
