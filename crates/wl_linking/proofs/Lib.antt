@@ -1,3 +1,4 @@
 pub mod Exact
 pub mod RelocationLaws
 pub mod SiteLaws
+pub mod OrderLaws
