@@ -6,8 +6,8 @@ ghost use Rattle.std.specs.List.{list_all};
 ghost use Rattle.wl_linking.specs.Spaces.{is_of, count_imports, spaces_of, import_exists, export_exists, segment_exists, number_exists, symbol_exists, init_exists, relocation_exists, core_names_exist, linked_names_exist, counts_hold, NamesExist, NamesFault};
 ghost use Rattle.wl_linking.specs.Verdict.{HasCause};
 
-use crate::infos::WasmInitFunc;
 use crate::file::File;
+use crate::infos::WasmInitFunc;
 use crate::relocations::WasmRelocation;
 use crate::symbols::{WasmSymbol, WasmSymbolKind};
 use wl_module::{
@@ -194,7 +194,9 @@ fn exports_exist(spaces: Spaces, exports: &[OutputExport<'_>]) -> bool
 fn segments_exist(spaces: Spaces, segments: &[WasmDataSegment<'_>]) -> bool
     ensures { result ≡ list_all (segment_exists spaces) segments.now }
 {
-    segments.iter().all(|segment| segment_exists(spaces, segment))
+    segments
+        .iter()
+        .all(|segment| segment_exists(spaces, segment))
 }
 
 /// Whether what each symbol stands for is there.
@@ -208,7 +210,9 @@ fn symbols_exist(spaces: Spaces, symbols: &[WasmSymbol<'_>]) -> bool
 fn inits_exist(spaces: Spaces, functions: &[WasmInitFunc]) -> bool
     ensures { result ≡ list_all (init_exists spaces) functions.now }
 {
-    functions.iter().all(|function| init_exists(spaces, function))
+    functions
+        .iter()
+        .all(|function| init_exists(spaces, function))
 }
 
 /// Whether each type or symbol that a relocation names is there.
