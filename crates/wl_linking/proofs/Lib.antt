@@ -8,3 +8,4 @@ pub mod RelocationLaws
 pub mod SiteLaws
 pub mod SectionLaws
 pub mod PartLaws
+pub mod OrderLaws

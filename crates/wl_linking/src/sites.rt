@@ -141,7 +141,10 @@ fn position_in(piece: &Piece<'_>, form: FieldForm, offset: u32) -> Option<u32>
         return None;
     }
     let position = offset - piece.place;
-    if has_form(form, field_at(piece.bytes, position as usize, field_len(form))) {
+    if has_form(
+        form,
+        field_at(piece.bytes, position as usize, field_len(form)),
+    ) {
         Some(position)
     } else {
         None

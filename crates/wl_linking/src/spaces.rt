@@ -1,12 +1,13 @@
 //! How many things of each kind an object has, and that what it names is among them (core
 //! specification, "Indices"; object file linking, version 2).
 
-ghost use Rattle.std.specs.Prelude.{◌≡◌, ◌+◌, nat_lt, MatchResult};
+ghost use Rattle.std.specs.Prelude.{◌≡◌, ◌+◌, ◌==◌, nat_lt, MatchResult};
+ghost use Rattle.std.specs.List.{list_all};
 ghost use Rattle.wl_linking.specs.Spaces.{is_of, count_imports, spaces_of, import_exists, export_exists, segment_exists, number_exists, symbol_exists, init_exists, relocation_exists, core_names_exist, linked_names_exist, counts_hold, NamesExist, NamesFault};
 ghost use Rattle.wl_linking.specs.Verdict.{HasCause};
 
-use crate::infos::WasmInitFunc;
 use crate::file::File;
+use crate::infos::WasmInitFunc;
 use crate::relocations::WasmRelocation;
 use crate::symbols::{WasmSymbol, WasmSymbolKind};
 use wl_module::{
@@ -168,24 +169,88 @@ fn init_exists(spaces: Spaces, function: &WasmInitFunc) -> bool
     (function.symbol_index as usize) < spaces.symbols
 }
 
+/// Whether the type of each imported function is there.
+fn imports_exist(spaces: Spaces, imports: &[Import<'_>]) -> bool
+    ensures { result ≡ list_all (import_exists spaces) imports.now }
+{
+    imports.iter().all(|import| import_exists(spaces, import))
+}
+
+/// Whether the type of each function that the object defines is there.
+fn types_exist(spaces: Spaces, functions: &[u32]) -> bool
+    ensures { result ≡ list_all (λ t. nat_lt t spaces.types) functions.now }
+{
+    functions.iter().all(|ty| (*ty as usize) < spaces.types)
+}
+
+/// Whether all that is exported is there.
+fn exports_exist(spaces: Spaces, exports: &[OutputExport<'_>]) -> bool
+    ensures { result ≡ list_all (export_exists spaces) exports.now }
+{
+    exports.iter().all(|export| export_exists(spaces, export))
+}
+
+/// Whether each memory that an active segment goes to is there.
+fn segments_exist(spaces: Spaces, segments: &[WasmDataSegment<'_>]) -> bool
+    ensures { result ≡ list_all (segment_exists spaces) segments.now }
+{
+    segments
+        .iter()
+        .all(|segment| segment_exists(spaces, segment))
+}
+
+/// Whether what each symbol stands for is there.
+fn symbols_exist(spaces: Spaces, symbols: &[WasmSymbol<'_>]) -> bool
+    ensures { result ≡ list_all (symbol_exists spaces) symbols.now }
+{
+    symbols.iter().all(|symbol| symbol_exists(spaces, symbol))
+}
+
+/// Whether the symbol of each function that runs at the start is there.
+fn inits_exist(spaces: Spaces, functions: &[WasmInitFunc]) -> bool
+    ensures { result ≡ list_all (init_exists spaces) functions.now }
+{
+    functions
+        .iter()
+        .all(|function| init_exists(spaces, function))
+}
+
+/// Whether each type or symbol that a relocation names is there.
+fn relocations_exist(spaces: Spaces, relocations: &[WasmRelocation]) -> bool
+    ensures { result ≡ list_all (relocation_exists spaces) relocations.now }
+{
+    relocations
+        .iter()
+        .all(|relocation| relocation_exists(spaces, relocation))
+}
+
 /// Whether all that the core sections name is there.
 fn core_names_exist(spaces: Spaces, file: &File<'_>) -> bool
     ensures { result ≡ core_names_exist spaces file.now }
 {
-    file.imports().iter().all(|i| import_exists(spaces, i))
-        && file.functions().iter().all(|ty| (*ty as usize) < spaces.types)
-        && file.exports().iter().all(|x| export_exists(spaces, x))
-        && file.segments().iter().all(|s| segment_exists(spaces, s))
+    imports_exist(spaces, file.imports())
+        && types_exist(spaces, file.functions())
+        && exports_exist(spaces, file.exports())
+        && segments_exist(spaces, file.segments())
 }
 
 /// Whether all that the linking section and the relocations name is there.
 fn linked_names_exist(spaces: Spaces, file: &File<'_>) -> bool
     ensures { result ≡ linked_names_exist spaces file.now }
 {
-    file.symbols().iter().all(|s| symbol_exists(spaces, s))
-        && file.init_funcs().iter().all(|f| init_exists(spaces, f))
-        && file.code_relocations().iter().all(|r| relocation_exists(spaces, r))
-        && file.data_relocations().iter().all(|r| relocation_exists(spaces, r))
+    symbols_exist(spaces, file.symbols())
+        && inits_exist(spaces, file.init_funcs())
+        && relocations_exist(spaces, file.code_relocations())
+        && relocations_exist(spaces, file.data_relocations())
+}
+
+/// Whether each count is how many segments there are.
+fn are_segments(spaces: Spaces, counts: &[u32]) -> bool
+    ensures { result ≡ list_all (λ count. count == spaces.segments) counts.now }
+{
+    counts
+        .iter()
+        .all(|count| *count as usize == spaces.segments)
 }
 
 /// Whether each function has its body, and the data count, where there is one, is how many
@@ -193,8 +258,7 @@ fn linked_names_exist(spaces: Spaces, file: &File<'_>) -> bool
 fn counts_hold(spaces: Spaces, file: &File<'_>) -> bool
     ensures { result ≡ counts_hold spaces file.now }
 {
-    file.bodies().len() == spaces.functions
-        && file.data_counts.as_slice().iter().all(|count| *count as usize == spaces.segments)
+    file.bodies().len() == spaces.functions && are_segments(spaces, file.data_counts.as_slice())
 }
 
 /// Sees that each function has its body, that the data count is right, and that what is named
