@@ -1,28 +1,16 @@
 -- The laws of the names of imports.
-use Rattle.std.proofs.Common.{◌≡◌, ◌≢◌, ℕ, zero, suc, ◌+◌, ◌<◌, ◌≤◌, Bool, true, false, cond, ltb, ◌&&◌, List, [], ◌∷◌, ◌++◌, length, set, map, filter, Option, Some, None, refl, sym, ap, subst, ◌∙◌, arith, inl, inr, length-set}
+use Rattle.std.proofs.Common.{◌≡◌, ◌≢◌, ℕ, zero, suc, ◌+◌, ◌<◌, ◌≤◌, Bool, true, false, cond, ltb, ◌&&◌, List, [], ◌∷◌, ◌++◌, length, set, Option, Some, None, refl, sym, ap, subst, ◌∙◌, arith, inl, inr, length-set}
 use Rattle.std.specs.List.{list_all, repeat, slice_get}
 use Rattle.std.proofs.lemmas.Option.{slice_get_within}
 use Rattle.std.proofs.lemmas.Bool.{cases_lt, cases_eq, ltb-true}
 use Rattle.std.proofs.lemmas.Slice.Eq.{bytes_eq-Decides}
-use Rattle.wl_module.specs.declared.imports.ExternalKind.{ExternalKind}
-use Rattle.wl_module.specs.Imports.{Imported}
 use Rattle.wl_linking.specs.declared.symbols.WasmSymbolKind.{WasmSymbolKind}
-use Rattle.wl_linking.specs.Spaces.{is_of}
 use Rattle.wl_linking.specs.Symbols.{Symbol}
-use Rattle.wl_linking.specs.Slots.{Slot, slot_of, slots_of, slots_from, claims, is_within, Agrees, HasOneName, HasTwoNames}
-
--- ---- the names of imports
-
--- the names of some imports come from the first one and from the others
-pub slots_first : (kind : ExternalKind) (base : ℕ) (import : Imported) (imports : List Imported) → slots_of kind base (import ∷ imports) ≡ slots_from kind base import ++ slots_of kind base imports
-slots_first kind base import imports = split (is_of kind import.entity)
-  where
-    split : (b : Bool) → map (slot_of base) (cond b (import ∷ filter (λ (i : Imported). is_of kind i.entity) imports) (filter (λ (i : Imported). is_of kind i.entity) imports)) ≡ cond b (slot_of base import ∷ []) [] ++ slots_of kind base imports
-    split true = refl
-    split false = refl
+use Rattle.wl_linking.specs.Slots.{claims, is_within, Agrees, HasOneName, HasTwoNames}
 
 -- ---- symbols and their imports
 
+-- two tests that both pass
 both : (b c : Bool) → (b && c) ≡ true → (b ≡ true) × (c ≡ true)
 both true c e = (refl, e)
 both false c e = absurd cc
@@ -33,11 +21,13 @@ all_at test [] i x all here = absurd cc
 all_at test (y ∷ xs) zero x all here = let same : y ≡ x = cc in let b = both (test y) (list_all test xs) all in subst (λ (z : _). test z ≡ true) same b.0
 all_at test (y ∷ xs) (suc i) x all here = let b = both (test y) (list_all test xs) all in all_at test xs i x b.1 here
 
+-- what was put at a place is there
 pub get_set_same : {X : Type 0} (xs : List X) (i : ℕ) (x : X) → i < length xs → slice_get (set xs i x) i ≡ Some x
 get_set_same [] i x lt = absurd (omega arith)
 get_set_same (y ∷ xs) zero x lt = refl
 get_set_same (y ∷ xs) (suc i) x lt = get_set_same xs i x (omega arith)
 
+-- another place has what it had
 pub get_set_other : {X : Type 0} (xs : List X) (i j : ℕ) (x : X) → j ≢ i → slice_get (set xs i x) j ≡ slice_get xs j
 get_set_other [] i j x other = refl
 get_set_other (y ∷ xs) zero zero x other = absurd (other refl)
@@ -68,6 +58,7 @@ pub record Know (kind : WasmSymbolKind) (count : ℕ) (symbols : List Symbol) (i
   pub known : (j : ℕ) (s : Symbol) → j < i → slice_get symbols j ≡ Some s → claims kind s ≡ true → slice_get names s.index ≡ Some (Some s.name)
   pub told : (slot : ℕ) (name : List ℕ) → slice_get names slot ≡ Some (Some name) → Tells kind symbols i slot name
 
+-- no name
 abbrev Untold : Option (List ℕ)
 Untold = None
 

@@ -1,7 +1,7 @@
-use Rattle.std.proofs.Common.{◌≡◌, ◌<◌, true, false, Some, length, slice_get, refl, sym, subst, ◌∙◌, arith}
+use Rattle.std.proofs.Common.{◌≡◌, true, Some, length, slice_get, refl, sym, ◌∙◌, arith}
 use Rattle.std.proofs.lemmas.Option.{slice_get_read}
-use Rattle.wl_linking.specs.Slots.{Agrees, claims}
-use Rattle.wl_linking.proofs.SlotLaws.{Know, know_none, know_more, know_agreed, two_names, one_name, claims_within}
+use Rattle.wl_linking.specs.Slots.{claims}
+use Rattle.wl_linking.proofs.SlotLaws.{know_none, know_more, know_agreed, two_names, one_name, claims_within}
 use Rattle.wl_linking.proofs.slots.have_one_name.Goals as goal
 use Rattle.wl_linking.proofs.slots.have_one_name.Goals.{else-claims-via-then-claims+else-not-agrees, else-claims-via-else-claims}
 

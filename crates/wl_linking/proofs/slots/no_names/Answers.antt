@@ -1,4 +1,3 @@
-use Rattle.std.proofs.Common.{◌∙◌, ap, ◌++◌, ◌∷◌, []}
 use Rattle.wl_linking.proofs.SlotLaws.{repeat_more}
 use Rattle.wl_linking.proofs.slots.no_names.Goals as goal
 
