@@ -9,3 +9,4 @@ pub mod SiteLaws
 pub mod SectionLaws
 pub mod PartLaws
 pub mod OrderLaws
+pub mod SlotLaws
