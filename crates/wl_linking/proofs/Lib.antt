@@ -10,3 +10,5 @@ pub mod SectionLaws
 pub mod PartLaws
 pub mod OrderLaws
 pub mod SlotLaws
+pub mod ImportPlaces
+pub mod ObjectLaws
