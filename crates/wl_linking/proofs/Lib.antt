@@ -12,3 +12,4 @@ pub mod OrderLaws
 pub mod SlotLaws
 pub mod ImportPlaces
 pub mod ObjectLaws
+pub mod FitLaws

@@ -11,7 +11,7 @@ use Rattle.wl_linking.specs.Slots.{claims, is_within, Agrees, HasOneName, HasTwo
 -- ---- symbols and their imports
 
 -- two tests that both pass
-both : (b c : Bool) → (b && c) ≡ true → (b ≡ true) × (c ≡ true)
+pub both : (b c : Bool) → (b && c) ≡ true → (b ≡ true) × (c ≡ true)
 both true c e = (refl, e)
 both false c e = absurd cc
 
