@@ -1,5 +1,5 @@
 -- The laws of where sections stand: their payloads begin within the bytes, and their names are UTF-8.
-use Rattle.std.proofs.Common.{◌≡◌, ℕ, zero, suc, ◌+◌, ◌-◌, ◌^◌, ◌≤◌, Bool, true, false, cond, eqb, List, [], ◌∷◌, ◌++◌, length, take, drop, Option, Some, None, refl, sym, ap, subst, ◌∙◌, arith, append_assoc, length-append}
+use Rattle.std.proofs.Common.{◌≡◌, ℕ, zero, suc, ◌+◌, ◌-◌, ◌^◌, ◌≤◌, Bool, true, false, cond, eqb, List, [], ◌∷◌, ◌++◌, length, Option, Some, refl, sym, ap, subst, ◌∙◌, arith, append_assoc, length-append}
 use Rattle.std.specs.List.{AllByRecursion, find}
 use Rattle.std.specs.Str.{IsUtf8}
 use Rattle.std.proofs.lemmas.List.{drop_at, take_at, append-nil}
@@ -47,6 +47,7 @@ stretch_is bytes text place h =
 
 -- ---- the names of sections
 
+-- the name in the content of a section is UTF-8
 content_named : (bytes : List ℕ) (id place : ℕ) (r : Ranges) (text : List ℕ) → IsContent id place r text → StandsAt bytes text place → IsUtf8 (name_in bytes r.0)
 content_named bytes zero place r text (head, name, payload, parts, len, utf8, name_is, payload_is) h =
     let rest = back_stands bytes head (name ++ payload) place (subst (λ (t : List ℕ). StandsAt bytes t place) parts h) in
@@ -54,12 +55,14 @@ content_named bytes zero place r text (head, name, payload, parts, len, utf8, na
     subst (λ (o : Option (ℕ × ℕ)). IsUtf8 (name_in bytes o)) (sym name_is) (subst IsUtf8 (sym (stretch_is bytes name (place + length head) there)) utf8)
 content_named bytes (suc id) place r text (name_is, payload_is) h = subst (λ (o : Option (ℕ × ℕ)). IsUtf8 (name_in bytes o)) (sym name_is) IsUtf8-nil
 
+-- the name of a section is UTF-8
 section_named : (bytes : List ℕ) (last place : ℕ) (s : SectionHeader) (text : List ℕ) → IsSection last place s text → StandsAt bytes text place → IsUtf8 (name_in bytes s.name_range)
 section_named bytes last place s text (size, (front, back, parts, id, (head, content, parts', number, (len, may, is)))) h =
     let behind_id = back_stands bytes front back place (subst (λ (t : List ℕ). StandsAt bytes t place) parts h) in
     let behind_size = back_stands bytes head content (place + length front) (subst (λ (t : List ℕ). StandsAt bytes t (place + length front)) parts' behind_id) in
     content_named bytes s.id (place + length front + length head) (s.name_range, s.payload_range) content is behind_size
 
+-- each section of some in a row is placed
 chain_placed : (bytes : List ℕ) (last place : ℕ) (ss : List SectionHeader) (text : List ℕ) → Chain IsSection next last place ss text → StandsAt bytes text place → AllByRecursion (LiesWithin (length bytes)) ss → AllByRecursion (IsPlaced bytes) ss
 chain_placed bytes last place [] text chain h within = tt
 chain_placed bytes last place (s ∷ ss) text (front, back, parts, first, others) h within =
@@ -78,6 +81,7 @@ placed_headers bytes headers framed =
 
 -- ---- where the import section begins
 
+-- the payload of a section that is found begins within the bytes
 begins_within : (n : ℕ) (test : SectionHeader → Bool) (headers : List SectionHeader) → AllByRecursion (LiesWithin n) headers → begin_of (find test headers) ≤ n
 begins_within n test [] within = omega arith
 begins_within n test (s ∷ headers) within = split (test s) (begins_within n test headers within.1)
