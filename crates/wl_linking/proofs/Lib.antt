@@ -14,3 +14,5 @@ pub mod ImportPlaces
 pub mod ObjectLaws
 pub mod FitLaws
 pub mod PlacedLaws
+pub mod NameLaws
+pub mod ImportNameLaws

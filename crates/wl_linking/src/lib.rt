@@ -33,7 +33,7 @@ pub use file_list::FileList;
 pub use flags::SymbolFlags;
 pub use infos::{WasmInitFunc, WasmSegmentInfo};
 pub use items::Items;
-pub use object::{object_or_fault, parse_wasm_module};
+pub use object::{names_stand, object_or_fault, parse_wasm_module};
 pub use relocation_type::{FieldForm, RelocationType, relocation_type_to_string};
 pub use relocations::{RelocationList, WasmRelocSection, WasmRelocation};
 pub use sites::Site;
