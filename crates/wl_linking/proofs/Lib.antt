@@ -10,3 +10,4 @@ pub mod SectionLaws
 pub mod PartLaws
 pub mod OrderLaws
 pub mod SlotLaws
+pub mod RawNameLaws
