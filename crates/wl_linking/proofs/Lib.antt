@@ -10,4 +10,8 @@ pub mod SectionLaws
 pub mod PartLaws
 pub mod OrderLaws
 pub mod SlotLaws
+pub mod ImportPlaces
+pub mod ObjectLaws
+pub mod FitLaws
+pub mod PlacedLaws
 pub mod RawNameLaws

@@ -1,0 +1,80 @@
+-- The laws of what must hold across sections.
+use Rattle.std.proofs.Common.{◌≡◌, ℕ, Bool, true, false, cond, ltb, ◌&&◌, List, [], ◌∷◌, refl}
+use Rattle.std.specs.List.{list_all}
+use Rattle.wl_linking.specs.declared.spaces.Spaces.{Spaces}
+use Rattle.wl_linking.specs.declared.symbols.WasmSymbolKind.{WasmSymbolKind}
+use Rattle.wl_linking.specs.declared.symbols.WasmSymbolKind.TheVariants.{Func, Data, Global, Section, Event, Table}
+use Rattle.wl_linking.specs.Object.{Object}
+use Rattle.wl_linking.specs.Spaces.{NamesExist, spaces_of, symbol_exists, init_exists, relocation_exists, thing_exists}
+use Rattle.wl_linking.specs.Symbols.{Symbol, is_undefined, has_name}
+use Rattle.wl_linking.specs.Slots.{has_claim, is_within}
+use Rattle.wl_linking.proofs.SlotLaws.{both}
+
+-- ---- symbols that exist are within their imports
+
+-- what passes a test where it is looked at
+where_true : (b c : Bool) → c ≡ true → cond b c true ≡ true
+where_true true c e = e
+where_true false c e = refl
+
+-- an undefined function that exists is one of those imported
+function_at : (spaces : Spaces) (kind : WasmSymbolKind) (s : Symbol) → thing_exists spaces kind true s.index ≡ true → cond (has_claim Func kind s) (ltb s.index spaces.imported_functions) true ≡ true
+function_at spaces Func s e = e
+function_at spaces Data s e = refl
+function_at spaces Global s e = refl
+function_at spaces Section s e = refl
+function_at spaces Event s e = refl
+function_at spaces Table s e = refl
+
+-- an undefined global that exists is one of those imported
+global_at : (spaces : Spaces) (kind : WasmSymbolKind) (s : Symbol) → thing_exists spaces kind true s.index ≡ true → cond (has_claim Global kind s) (ltb s.index spaces.imported_globals) true ≡ true
+global_at spaces Func s e = refl
+global_at spaces Data s e = refl
+global_at spaces Global s e = e
+global_at spaces Section s e = refl
+global_at spaces Event s e = refl
+global_at spaces Table s e = refl
+
+-- an undefined table that exists is one of those imported, whether or not it has a name
+table_at : (spaces : Spaces) (kind : WasmSymbolKind) (s : Symbol) → thing_exists spaces kind true s.index ≡ true → cond (has_claim Table kind s) (ltb s.index spaces.imported_tables) true ≡ true
+table_at spaces Func s e = refl
+table_at spaces Data s e = refl
+table_at spaces Global s e = refl
+table_at spaces Section s e = refl
+table_at spaces Event s e = refl
+table_at spaces Table s e = where_true (has_name s) (ltb s.index spaces.imported_tables) e
+
+-- only undefined symbols claim an import
+undefined_within : (undefined claim within : Bool) → (undefined ≡ true → cond claim within true ≡ true) → cond (undefined && claim) within true ≡ true
+undefined_within true claim within h = h refl
+undefined_within false claim within h = refl
+
+-- the symbols that exist pass a test, where those that are undefined and exist do
+within_from_exists : (kind : WasmSymbolKind) (count : ℕ) (spaces : Spaces) → ((k : WasmSymbolKind) (s : Symbol) → thing_exists spaces k true s.index ≡ true → cond (has_claim kind k s) (ltb s.index count) true ≡ true)
+    → (symbols : List Symbol) → list_all (symbol_exists spaces) symbols ≡ true → list_all (is_within kind count) symbols ≡ true
+within_from_exists kind count spaces h [] all = refl
+within_from_exists kind count spaces h (s ∷ symbols) all =
+    let b = both (symbol_exists spaces s) (list_all (symbol_exists spaces) symbols) all in
+    let here : is_within kind count s ≡ true = undefined_within (is_undefined s) (has_claim kind s.kind s) (ltb s.index count) (λ e. h s.kind s (rw e at b.0)) in
+    rw (here, within_from_exists kind count spaces h symbols b.1) refl
+
+-- the symbols of an object exist
+symbols_exist : (o : Object) → NamesExist o → list_all (symbol_exists (spaces_of o)) o.symbols ≡ true
+symbols_exist o names =
+    let spaces = spaces_of o in
+    let symbols = list_all (symbol_exists spaces) o.symbols in
+    let inits = list_all (init_exists spaces) o.init_funcs in
+    let code = list_all (relocation_exists spaces) o.code_relocations in
+    (both symbols inits (both (symbols && inits) code (both (symbols && inits && code) (list_all (relocation_exists spaces) o.data_relocations) names.linked).0).0).0
+
+-- the functions that are claimed are among those imported
+pub functions_within : (o : Object) → NamesExist o → list_all (is_within Func (spaces_of o).imported_functions) o.symbols ≡ true
+functions_within o names = within_from_exists Func (spaces_of o).imported_functions (spaces_of o) (function_at (spaces_of o)) o.symbols (symbols_exist o names)
+
+-- the globals that are claimed are among those imported
+pub globals_within : (o : Object) → NamesExist o → list_all (is_within Global (spaces_of o).imported_globals) o.symbols ≡ true
+globals_within o names = within_from_exists Global (spaces_of o).imported_globals (spaces_of o) (global_at (spaces_of o)) o.symbols (symbols_exist o names)
+
+-- the tables that are claimed are among those imported
+pub tables_within : (o : Object) → NamesExist o → list_all (is_within Table (spaces_of o).imported_tables) o.symbols ≡ true
+tables_within o names = within_from_exists Table (spaces_of o).imported_tables (spaces_of o) (table_at (spaces_of o)) o.symbols (symbols_exist o names)
