@@ -16,3 +16,4 @@ pub mod FitLaws
 pub mod PlacedLaws
 pub mod NameLaws
 pub mod ImportNameLaws
+pub mod RawNameLaws
