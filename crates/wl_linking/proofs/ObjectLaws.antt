@@ -38,9 +38,44 @@ with_sites o p = record o { code_sites = p.code_sites; data_sites = p.data_sites
 -- two objects of the same items are the same but for the places of fields
 items_one : (bytes : List ℕ) (headers : List SectionHeader) (parts : Parts) (o p : Object) → HasItems bytes headers parts o → HasItems bytes headers parts p → with_sites o p ≡ p
 items_one bytes headers parts o p h k =
-    rw (h.bytes_are, h.sections, h.types, h.imports, h.functions, h.memories, h.globals, h.exports, h.data_counts, h.bodies, h.segments, h.segment_infos, h.init_funcs, h.symbols, h.reloc_sections, h.features, h.debug_sections,
-    order_one parts.code_entries o.code_relocations p.code_relocations h.code k.code, order_one parts.data_entries o.data_relocations p.data_relocations h.data_ k.data_,
-    k.bytes_are, k.sections, k.types, k.imports, k.functions, k.memories, k.globals, k.exports, k.data_counts, k.bodies, k.segments, k.segment_infos, k.init_funcs, k.symbols, k.reloc_sections, k.features, k.debug_sections) refl
+    rw (
+      h.bytes_are,
+      h.sections,
+      h.types,
+      h.imports,
+      h.functions,
+      h.memories,
+      h.globals,
+      h.exports,
+      h.data_counts,
+      h.bodies,
+      h.segments,
+      h.segment_infos,
+      h.init_funcs,
+      h.symbols,
+      h.reloc_sections,
+      h.features,
+      h.debug_sections,
+      order_one parts.code_entries o.code_relocations p.code_relocations h.code k.code,
+      order_one parts.data_entries o.data_relocations p.data_relocations h.data_ k.data_,
+      k.bytes_are,
+      k.sections,
+      k.types,
+      k.imports,
+      k.functions,
+      k.memories,
+      k.globals,
+      k.exports,
+      k.data_counts,
+      k.bodies,
+      k.segments,
+      k.segment_infos,
+      k.init_funcs,
+      k.symbols,
+      k.reloc_sections,
+      k.features,
+      k.debug_sections,
+    ) refl
 
 -- what two objects of the same bytes hold
 held_same : (bytes : List ℕ) (hs ks : List SectionHeader) (xs ys : List Section) → Framed hs bytes → Framed ks bytes → AreSound bytes hs nothing_seen hs xs → AreSound bytes ks nothing_seen ks ys → (hs ≡ ks) × (xs ≡ ys)

@@ -86,6 +86,7 @@ all_good test id items_in Good law bytes all seen last place (s ∷ hs) text (x 
     not_zero : (b : Bool) → eqb (rank s.id) 0 ≡ b → rank s.id ≡ rank id → eqb (rank s.id) 0 ≡ false
     not_zero false is e = is
     not_zero true is e = absurd (omega (arith, eqb-true (rank s.id) 0 is, e, law.ranked))
+
     by_kind : (b : Bool) → test (kind_of bytes s) ≡ b → Good (flat_map items_in held) → Good (items_in x ++ flat_map items_in held)
     by_kind false is more = rw (law.others (kind_of bytes s) bytes all seen s x (payload_of bytes s) is h.0) more
     by_kind true is more =
