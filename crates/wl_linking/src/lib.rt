@@ -58,4 +58,6 @@ mod slot_tests;
 #[cfg(test)]
 mod symbol_tests;
 #[cfg(test)]
+mod target_tests;
+#[cfg(test)]
 mod test_bytes;

@@ -5,7 +5,9 @@ use crate::RelocationType::{
     MemoryAddrLeb, MemoryAddrRelSleb, MemoryAddrSleb, MemoryAddrTlsSleb, TableIndexI32,
     TableIndexRelSleb, TableIndexSleb, TableNumberLeb, TypeIndexLeb,
 };
-use crate::test_bytes::{BODIES, CODE, DATA, Row, SEGMENTS, fault_of, object_of, relocated};
+use crate::test_bytes::{
+    BODIES, CODE, DATA, Row, SEGMENTS, assert_relocations, fault_of, object_of, relocated,
+};
 use crate::{
     FieldForm, RelocationType, WasmRelocation, parse_wasm_module, relocation_type_to_string,
 };
@@ -18,10 +20,6 @@ use wl_module::{Form, ReadError, Why};
 const RELOC_TYPE: Option<ReadError> = Some(Malformed(Why::RelocType));
 
 const NO_RULE: Option<ReadError> = Some(Unsupported(Form::RelocType));
-
-const RELOC_TARGET: Option<ReadError> = Some(Unsupported(Form::RelocTarget));
-
-const REPEATED: Option<ReadError> = Some(Malformed(Why::Repeated));
 
 const TRUNCATED: Option<ReadError> = Some(Malformed(Why::Truncated));
 
@@ -151,20 +149,11 @@ fn reads_entries_of_each_type(rt: HostRuntime) -> Result<(), Fail> {
     assert_entry(&rt, rt.alloc(), CODE, (12, TableIndexRelSleb, b"", 0))
 }
 
-// Each relocation section is at fault as told, or is sound.
-fn assert_contents(rt: &impl Abort, alloc: Global, rows: &[Row<'_>]) -> Result<(), Fail> {
-    for (content, want) in rows {
-        let object = relocated(rt, alloc, BODIES, SEGMENTS, &[*content])?;
-        assert_eq!(rt; fault_of(rt, alloc, &object), *want, "at {content:?}");
-    }
-    Ok(())
-}
-
 #[test]
 fn judges_types_of_relocations(rt: HostRuntime) -> Result<(), Fail> {
     // In the code for which there are rules, and in the data but for type 12.
     for number in [8, 9, 10, 14, 15, 16, 17, 18, 19, 22, 23, 24, 25] {
-        assert_contents(
+        assert_relocations(
             &rt,
             rt.alloc(),
             &[
@@ -174,7 +163,7 @@ fn judges_types_of_relocations(rt: HostRuntime) -> Result<(), Fail> {
             ],
         )?;
     }
-    assert_contents(
+    assert_relocations(
         &rt,
         rt.alloc(),
         &[
@@ -213,7 +202,7 @@ fn refuses_relocation_sections(rt: HostRuntime) -> Result<(), Fail> {
         (b"\xff\xff\xff\xff\x1f", BAD_LEB),
         (b"\x03\x01\0\x83\x80\0\x81\x80\0", None),
     ];
-    assert_contents(&rt, rt.alloc(), &rows)
+    assert_relocations(&rt, rt.alloc(), &rows)
 }
 
 #[test]
@@ -230,7 +219,7 @@ fn relocations_name_symbols_and_types(rt: HostRuntime) -> Result<(), Fail> {
         (b"\x04\x01\x05\x03\x02\0", BAD_INDEX),
         (b"\x04\x01\x06\x03\xff\xff\xff\xff\x0f", BAD_INDEX),
     ];
-    assert_contents(&rt, rt.alloc(), &rows)
+    assert_relocations(&rt, rt.alloc(), &rows)
 }
 
 #[test]
@@ -252,68 +241,5 @@ fn a_type_needs_no_symbol(rt: HostRuntime) -> Result<(), Fail> {
         let object = object_of(&rt, rt.alloc(), &sections)?;
         assert_eq!(rt; fault_of(&rt, rt.alloc(), &object), want, "at {reloc:?}");
     }
-    Ok(())
-}
-
-#[test]
-fn relocations_are_for_code_data_and_debug_sections(rt: HostRuntime) -> Result<(), Fail> {
-    // Sections 0 to 7 are those of types, functions, a memory, code, data, `linking`, `.debug_x`
-    // and the relocations themselves.
-    let rows: [Row<'_>; 10] = [
-        (b"\0\0", RELOC_TARGET),
-        (b"\x01\0", RELOC_TARGET),
-        (b"\x02", RELOC_TARGET),
-        (b"\x03\0", None),
-        (b"\x04\0", None),
-        (b"\x05\x01\x1b", RELOC_TARGET),
-        // Behind the number of a debug section nothing is read.
-        (b"\x06\xff\xff\xff\xff\x1f", None),
-        (b"\x07\0", RELOC_TARGET),
-        (b"\x08\0", RELOC_TARGET),
-        (b"\xff\xff\xff\xff\x0f", RELOC_TARGET),
-    ];
-    assert_contents(&rt, rt.alloc(), &rows)
-}
-
-#[test]
-fn code_and_data_have_one_relocation_section(rt: HostRuntime) -> Result<(), Fail> {
-    let rows: [(&[u8], &[u8], Option<ReadError>); 9] = [
-        (b"\x03\x01\0\x03\0", b"\x04\x01\0\x03\0", None),
-        (b"\x04\x01\0\x03\0", b"\x03\x01\0\x03\0", None),
-        (b"\x03\x01\0\x03\0", b"\x03\x01\0\x0a\0", REPEATED),
-        (b"\x04\x01\0\x03\0", b"\x04\x01\x02\x12\0", REPEATED),
-        (b"\x03\0", b"\x03\0", REPEATED),
-        (b"\x04\0", b"\x04\0", REPEATED),
-        // The second one isn't read.
-        (b"\x03\0", b"\x03\x01\x1b", REPEATED),
-        (b"\x03\0", b"\x03", REPEATED),
-        (b"\x06", b"\x06", None),
-    ];
-    for (first, second, want) in rows {
-        let object = relocated(&rt, rt.alloc(), BODIES, SEGMENTS, &[first, second])?;
-        assert_eq!(rt;
-            fault_of(&rt, rt.alloc(), &object),
-            want,
-            "at {first:?} {second:?}"
-        );
-    }
-    Ok(())
-}
-
-#[test]
-fn relocations_may_stand_in_front_of_their_section(rt: HostRuntime) -> Result<(), Fail> {
-    let sections: [(u8, &[u8]); 5] = [
-        (0, b"\x0areloc.CODE\x03\x01\x06\x03\0"),
-        (1, b"\x01\x60\0\0"),
-        (3, b"\x01\0"),
-        (10, b"\x01\x07\0\x80\x80\x80\x80\0\x0b"),
-        (0, b"\x0areloc.CODE\x03\0"),
-    ];
-    let object = object_of(&rt, rt.alloc(), &sections[..4])?;
-    assert!(rt; object.len() < 1000);
-    let file = parse_wasm_module(rt.alloc(), &object)?;
-    assert_eq!(rt; file.code_relocations().len(), 1);
-    let object = object_of(&rt, rt.alloc(), &sections)?;
-    assert_eq!(rt; fault_of(&rt, rt.alloc(), &object), REPEATED);
     Ok(())
 }

@@ -153,3 +153,17 @@ pub(crate) fn relocated(
     }
     Ok(bytes)
 }
+
+/// Each relocation section of an object of these bodies and segments is at fault as told, or is
+/// sound.
+pub(crate) fn assert_relocations(
+    rt: &impl Abort,
+    alloc: Global,
+    rows: &[Row<'_>],
+) -> Result<(), Fail> {
+    for (content, want) in rows {
+        let object = relocated(rt, alloc, BODIES, SEGMENTS, &[*content])?;
+        assert_eq!(rt; fault_of(rt, alloc, &object), *want, "at {content:?}");
+    }
+    Ok(())
+}
