@@ -17,6 +17,7 @@ where_true : (b c : Bool) → c ≡ true → cond b c true ≡ true
 where_true true c e = e
 where_true false c e = refl
 
+-- an undefined function that exists is one of those imported
 function_at : (spaces : Spaces) (kind : WasmSymbolKind) (s : Symbol) → thing_exists spaces kind true s.index ≡ true → cond (has_claim Func kind s) (ltb s.index spaces.imported_functions) true ≡ true
 function_at spaces Func s e = e
 function_at spaces Data s e = refl
@@ -25,6 +26,7 @@ function_at spaces Section s e = refl
 function_at spaces Event s e = refl
 function_at spaces Table s e = refl
 
+-- an undefined global that exists is one of those imported
 global_at : (spaces : Spaces) (kind : WasmSymbolKind) (s : Symbol) → thing_exists spaces kind true s.index ≡ true → cond (has_claim Global kind s) (ltb s.index spaces.imported_globals) true ≡ true
 global_at spaces Func s e = refl
 global_at spaces Data s e = refl
@@ -33,6 +35,7 @@ global_at spaces Section s e = refl
 global_at spaces Event s e = refl
 global_at spaces Table s e = refl
 
+-- an undefined table that exists is one of those imported, whether or not it has a name
 table_at : (spaces : Spaces) (kind : WasmSymbolKind) (s : Symbol) → thing_exists spaces kind true s.index ≡ true → cond (has_claim Table kind s) (ltb s.index spaces.imported_tables) true ≡ true
 table_at spaces Func s e = refl
 table_at spaces Data s e = refl
@@ -64,11 +67,14 @@ symbols_exist o names =
     let code = list_all (relocation_exists spaces) o.code_relocations in
     (both symbols inits (both (symbols && inits) code (both (symbols && inits && code) (list_all (relocation_exists spaces) o.data_relocations) names.linked).0).0).0
 
+-- the functions that are claimed are among those imported
 pub functions_within : (o : Object) → NamesExist o → list_all (is_within Func (spaces_of o).imported_functions) o.symbols ≡ true
 functions_within o names = within_from_exists Func (spaces_of o).imported_functions (spaces_of o) (function_at (spaces_of o)) o.symbols (symbols_exist o names)
 
+-- the globals that are claimed are among those imported
 pub globals_within : (o : Object) → NamesExist o → list_all (is_within Global (spaces_of o).imported_globals) o.symbols ≡ true
 globals_within o names = within_from_exists Global (spaces_of o).imported_globals (spaces_of o) (global_at (spaces_of o)) o.symbols (symbols_exist o names)
 
+-- the tables that are claimed are among those imported
 pub tables_within : (o : Object) → NamesExist o → list_all (is_within Table (spaces_of o).imported_tables) o.symbols ≡ true
 tables_within o names = within_from_exists Table (spaces_of o).imported_tables (spaces_of o) (table_at (spaces_of o)) o.symbols (symbols_exist o names)

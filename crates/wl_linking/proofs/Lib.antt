@@ -13,3 +13,4 @@ pub mod SlotLaws
 pub mod ImportPlaces
 pub mod ObjectLaws
 pub mod FitLaws
+pub mod PlacedLaws

@@ -14,7 +14,7 @@ use Rattle.wl_module.specs.Sections.{rank, MayCome, IsSection, next, next_rank, 
 use Rattle.wl_module.specs.declared.sections.SectionHeader.{SectionHeader}
 use Rattle.wl_linking.specs.Sites.{PieceOf, body_piece, segment_piece}
 use Rattle.wl_linking.specs.Placing.{Ascend, piece_end}
-use Rattle.wl_linking.specs.Targets.{stretch, custom_kind, standard_kind, named_kind, kind_of, payload_of}
+use Rattle.wl_linking.specs.Targets.{stretch, named_kind, kind_of, payload_of}
 use Rattle.wl_linking.specs.Sections.{AreSound, HoldsItems, seen_then, nothing_seen, bodies_in, segments_in}
 use Rattle.wl_linking.specs.declared.kinds.SectionKind.{SectionKind}
 use Rattle.wl_linking.specs.declared.kinds.SectionKind.TheVariants as kind

@@ -1,7 +1,7 @@
 -- The laws of the names of imports.
-use Rattle.std.proofs.Common.{◌≡◌, ◌≢◌, ℕ, zero, suc, ◌+◌, ◌<◌, ◌≤◌, Bool, true, false, cond, ltb, ◌&&◌, List, [], ◌∷◌, ◌++◌, length, set, Option, Some, None, refl, sym, ap, subst, ◌∙◌, arith, inl, inr, length-set}
+use Rattle.std.proofs.Common.{◌≡◌, ◌≢◌, ℕ, zero, suc, ◌+◌, ◌<◌, ◌≤◌, Bool, true, false, cond, ltb, ◌&&◌, List, [], ◌∷◌, ◌++◌, length, get_or, set, Option, Some, None, refl, sym, ap, subst, ◌∙◌, arith, inl, inr, length-set}
 use Rattle.std.specs.List.{list_all, repeat, slice_get}
-use Rattle.std.proofs.lemmas.Option.{slice_get_within}
+use Rattle.std.proofs.lemmas.Option.{slice_get_within, slice_get_read}
 use Rattle.std.proofs.lemmas.Bool.{cases_lt, cases_eq, ltb-true}
 use Rattle.std.proofs.lemmas.Slice.Eq.{bytes_eq-Decides}
 use Rattle.wl_linking.specs.declared.symbols.WasmSymbolKind.{WasmSymbolKind}
@@ -20,6 +20,10 @@ pub all_at : {X : Type 0} (test : X → Bool) (xs : List X) (i : ℕ) (x : X) �
 all_at test [] i x all here = absurd cc
 all_at test (y ∷ xs) zero x all here = let same : y ≡ x = cc in let b = both (test y) (list_all test xs) all in subst (λ (z : _). test z ≡ true) same b.0
 all_at test (y ∷ xs) (suc i) x all here = let b = both (test y) (list_all test xs) all in all_at test xs i x b.1 here
+
+-- what a loop sees at a place is there
+pub seen_at : {X : Type 0} (xs : List X) (i : ℕ) (x : X) → i < length xs → x ≡ get_or xs i x → slice_get xs i ≡ Some x
+seen_at xs i x lt is = slice_get_read xs (length xs) i x refl lt is
 
 -- what was put at a place is there
 pub get_set_same : {X : Type 0} (xs : List X) (i : ℕ) (x : X) → i < length xs → slice_get (set xs i x) i ≡ Some x
@@ -105,20 +109,26 @@ some_at [] i lt = absurd (omega arith)
 some_at (x ∷ xs) zero lt = (x, refl)
 some_at (x ∷ xs) (suc i) lt = some_at xs i (omega arith)
 
+-- a symbol that claims an import has its number among so many
+claims_within : (kind : WasmSymbolKind) (count : ℕ) (symbols : List Symbol) (i : ℕ) (s : Symbol) → list_all (is_within kind count) symbols ≡ true → slice_get symbols i ≡ Some s → claims kind s ≡ true → s.index < count
+claims_within kind count symbols i s all here claim =
+    let within : cond (claims kind s) (ltb s.index count) true ≡ true = all_at (is_within kind count) symbols i s all here in
+    ltb-true s.index count (subst (λ (b : Bool). cond b (ltb s.index count) true ≡ true) claim within)
+
 -- a symbol that agrees is known too
-pub know_agreed : (kind : WasmSymbolKind) (count : ℕ) (symbols : List Symbol) (i : ℕ) (before after : List (Option (List ℕ))) (s : Symbol) → slice_get symbols i ≡ Some s → claims kind s ≡ true → s.index < count → Agrees before after s.index s.name true → Know kind count symbols i before → Know kind count symbols (i + 1) after
-know_agreed kind count symbols i before after s here claim lt agrees know =
+pub know_agreed : (kind : WasmSymbolKind) (count : ℕ) (symbols : List Symbol) (i : ℕ) (before after : List (Option (List ℕ))) (s : Symbol) → list_all (is_within kind count) symbols ≡ true → slice_get symbols i ≡ Some s → claims kind s ≡ true → Agrees before after s.index s.name true → Know kind count symbols i before → Know kind count symbols (i + 1) after
+know_agreed kind count symbols i before after s all here claim agrees know =
     let len = know.len in
+    let lt = claims_within kind count symbols i s all here claim in
     let found = some_at before s.index (omega arith) in
     split found.0 found.1
   where
     split : (o : Option (List ℕ)) → slice_get before s.index ≡ Some o → Know kind count symbols (i + 1) after
     split None is =
         let new : after ≡ set before s.index (Some s.name) = (agrees.none is).1 in
-        let len = know.len in
-        let within : s.index < length before = omega arith in
+        let within = slice_get_within before s.index None is in
         subst (λ (names : List (Option (List ℕ))). Know kind count symbols (i + 1) names) (sym new) (record {
-          len = length-set before s.index (Some s.name) ∙ len;
+          len = length-set before s.index (Some s.name) ∙ know.len;
           known = λ j t lt' at claim'. elim (cases_lt j i) [
             | inl old ↦
                 let k = know.known j t old at claim' in
@@ -155,9 +165,10 @@ know_agreed kind count symbols i before after s here claim lt agrees know =
         })
 
 -- where a symbol doesn't agree, an import has two names
-pub two_names : (kind : WasmSymbolKind) (count : ℕ) (symbols : List Symbol) (i : ℕ) (before after : List (Option (List ℕ))) (s : Symbol) → slice_get symbols i ≡ Some s → claims kind s ≡ true → s.index < count → Agrees before after s.index s.name false → Know kind count symbols i before → HasTwoNames kind symbols
-two_names kind count symbols i before after s here claim lt agrees know =
+pub two_names : (kind : WasmSymbolKind) (count : ℕ) (symbols : List Symbol) (i : ℕ) (before after : List (Option (List ℕ))) (s : Symbol) → list_all (is_within kind count) symbols ≡ true → slice_get symbols i ≡ Some s → claims kind s ≡ true → Agrees before after s.index s.name false → Know kind count symbols i before → HasTwoNames kind symbols
+two_names kind count symbols i before after s all here claim agrees know =
     let len = know.len in
+    let lt = claims_within kind count symbols i s all here claim in
     let found = some_at before s.index (omega arith) in
     split found.0 found.1
   where
@@ -178,9 +189,3 @@ one_name kind count symbols n names le know i j s t at there shares =
     let b = know.known j t (omega arith) there shares.other in
     let b' = subst (λ (n : ℕ). slice_get names n ≡ Some (Some t.name)) (sym shares.slot) b in
     cc
-
--- a symbol that claims an import has its number among so many
-pub claims_within : (kind : WasmSymbolKind) (count : ℕ) (symbols : List Symbol) (i : ℕ) (s : Symbol) → list_all (is_within kind count) symbols ≡ true → slice_get symbols i ≡ Some s → claims kind s ≡ true → s.index < count
-claims_within kind count symbols i s all here claim =
-    let within : cond (claims kind s) (ltb s.index count) true ≡ true = all_at (is_within kind count) symbols i s all here in
-    ltb-true s.index count (subst (λ (b : Bool). cond b (ltb s.index count) true ≡ true) claim within)
