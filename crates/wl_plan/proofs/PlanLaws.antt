@@ -16,8 +16,8 @@ use Rattle.wl_plan.specs.Space.{functions_from, functions_of, function_space}
 use Rattle.wl_plan.specs.Plan.{HasItsType, bodies_of, target_of, AreFixupsIn, AreFixups, PlanFault, max_entries}
 use Rattle.wl_plan.specs.Merging.{LeadsToTypes}
 use Rattle.wl_plan.specs.Building.{outputs_from, body_in, index_of, fixups_from, IsEmpty, AddsObject, LacksRoom, AreSpaces}
-use Rattle.wl_plan.specs.declared.error.LinkError.{LinkError}
-use Rattle.wl_plan.specs.declared.error.LinkError.TheVariants.{OutOfMemory, Malformed, Unsupported, DuplicateSymbol, TooLarge}
+use Rattle.wl_linking.specs.declared.error.LinkError.{LinkError}
+use Rattle.wl_linking.specs.declared.error.LinkError.TheVariants.{OutOfMemory, Malformed, Unsupported, DuplicateSymbol, TooLarge}
 use Rattle.wl_plan.specs.declared.layout.FunctionOrigin.{FunctionOrigin}
 use Rattle.wl_plan.specs.declared.layout.FunctionOrigin.TheVariants as origin
 use Rattle.wl_plan.specs.declared.layout.OutputFunction.{OutputFunction}
