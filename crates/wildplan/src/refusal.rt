@@ -1,6 +1,7 @@
 //! The line of a refusal.
 
 ghost use Rattle.std.specs.Prelude.{◌≡◌, [], ◌∷◌, ◌++◌, IfOk, OnOk, codes, decimal, string_bytes};
+ghost use Rattle.std.specs.Fmt.{signed_decimal};
 ghost use Rattle.std.specs.List.{flat_map};
 ghost use Rattle.wildplan.specs.Listing.{quoted};
 ghost use Rattle.wildplan.specs.Refusals.{numbers_text, need_text, undefined_text, refusal_line, named_text, error_line};
