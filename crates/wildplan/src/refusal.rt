@@ -152,12 +152,7 @@ fn undefined_line(alloc: Global, symbols: &[UndefinedSymbol]) -> Result<Vec<u8>,
 }
 
 /// The line of a value that doesn't fit its field.
-fn range_line(
-    alloc: Global,
-    object: usize,
-    offset: u32,
-    value: i64,
-) -> Result<Vec<u8>, AllocError>
+fn range_line(alloc: Global, object: usize, offset: u32, value: i64) -> Result<Vec<u8>, AllocError>
     ensures { IfOk result (λ text. text.items ≡ refusal_line (codes "RelocationRange") (numbers_text (object ∷ offset ∷ []) ++ codes " " ++ signed_decimal value)) }
 {
     let mut text = begin_line(alloc, "RelocationRange")?;
