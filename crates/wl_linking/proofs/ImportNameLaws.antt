@@ -1,5 +1,5 @@
 -- The field name of each import stands at its range of the object's bytes, and so do the names that symbols take from there.
-use Rattle.std.proofs.Common.{◌≡◌, ℕ, zero, suc, ◌+◌, ◌≤◌, Bool, true, false, cond, eqb, List, [], ◌∷◌, ◌++◌, ◌&&◌, length, map, not, Option, Some, None, slice_get, refl, sym, ap, subst, ◌∙◌, arith, inl, inr, length-append}
+use Rattle.std.proofs.Common.{◌≡◌, ℕ, zero, suc, ◌+◌, Bool, true, false, cond, eqb, List, [], ◌∷◌, ◌++◌, ◌&&◌, length, map, not, Option, Some, None, slice_get, refl, ap, subst, arith, length-append}
 use Rattle.std.specs.List.{AllByRecursion, flat_map, filter, find, starts_with}
 use Rattle.std.specs.Str.{bytes_eq}
 use Rattle.std.specs.Prelude.{codes, nat_eq}
@@ -7,17 +7,16 @@ use Rattle.std.proofs.lemmas.Bool.{eqb-true}
 use Rattle.std.proofs.lemmas.List.{append-nil}
 use Rattle.wl_module.specs.Chains.{Chain}
 use Rattle.wl_module.specs.Imports.{Imported, IsImport, IsImportAfter, import_seen, AreImports}
-use Rattle.wl_module.specs.Sections.{rank, IsSection, next, Framed}
+use Rattle.wl_module.specs.Sections.{rank, IsSection, next}
 use Rattle.wl_module.specs.declared.sections.SectionHeader.{SectionHeader}
 use Rattle.wl_module.specs.declared.imports.ExternalKind.{ExternalKind}
 use Rattle.wl_module.specs.declared.imports.ExternalKind.TheVariants.{Func as FuncImport, Global as GlobalImport}
-use Rattle.wl_linking.specs.Symbols.{Symbol, is_undefined, has_name, named, range_of}
+use Rattle.wl_linking.specs.Symbols.{Symbol, is_undefined, has_name, range_of}
 use Rattle.wl_linking.specs.Spaces.{is_of}
 use Rattle.wl_linking.specs.Slots.{Slot, slot_of, slots_of, begin_of, import_base, with_slot, with_name_of, with_import_name}
 use Rattle.wl_linking.specs.Targets.{stretch, kind_of, named_kind, payload_of}
 use Rattle.wl_linking.specs.Sections.{HoldsItems, IsPlaced, AreSound, seen_then, nothing_seen, imports_in, symbols_in}
 use Rattle.wl_linking.specs.Object.{Object}
-use Rattle.wl_linking.specs.Parts.{parts_of}
 use Rattle.wl_linking.specs.Fitting.{IsObject, NameStands}
 use Rattle.wl_linking.specs.declared.kinds.SectionKind.{SectionKind}
 use Rattle.wl_linking.specs.declared.kinds.SectionKind.TheVariants as kind
@@ -26,8 +25,8 @@ use Rattle.wl_linking.specs.declared.section.Section.{Section}
 use Rattle.wl_linking.specs.declared.symbols.WasmSymbolKind.{WasmSymbolKind}
 use Rattle.wl_linking.specs.declared.symbols.WasmSymbolKind.TheVariants.{Func, Data, Global, Section as SectionSymbol, Event, Table}
 use Rattle.wl_linking.proofs.PlacedLaws.{StandsAt, placed_headers}
-use Rattle.wl_linking.proofs.OnceLaws.{ComesOnce, IsPast, NoneOf, rank_of, no_second, none_of_all, custom_by, standard_by}
-use Rattle.wl_linking.proofs.NameLaws.{Stands, SymbolStands, all_stands, behind_stands, before_stands, outer_stands, name_stands, payload_stands, all_append, sections_stand}
+use Rattle.wl_linking.proofs.OnceLaws.{ComesOnce, IsPast, rank_of, no_second, none_of_all, custom_by, standard_by}
+use Rattle.wl_linking.proofs.NameLaws.{Stands, SymbolStands, all_stands, behind_stands, before_stands, outer_stands, name_stands, payload_stands, sections_stand}
 
 -- ---- the imports of a section
 
@@ -45,9 +44,10 @@ import_stands bytes base place i text h (origin, behind, parts, first, (front, b
 
 chain_stands : (bytes : List ℕ) (base : ℕ) (seen : Bool) (place : ℕ) (xs : List Imported) (text : List ℕ) → StandsAt bytes text place → Chain IsImportAfter import_seen seen place xs text → AllByRecursion (ImportStands bytes base) xs
 chain_stands bytes base seen place [] text h s = tt
-chain_stands bytes base seen place (x ∷ xs) text h (front, back, parts, here, rest) =
-    (import_stands bytes base place x front (before_stands bytes text front back place parts h) here.0,
-      chain_stands bytes base (import_seen seen x) (place + length front) xs back (behind_stands bytes text front back place parts h) rest)
+chain_stands bytes base seen place (x ∷ xs) text h (front, back, parts, here, rest) = (
+  import_stands bytes base place x front (before_stands bytes text front back place parts h) here.0,
+  chain_stands bytes base (import_seen seen x) (place + length front) xs back (behind_stands bytes text front back place parts h) rest,
+)
 
 payload_imports_stand : (base : ℕ) (xs : List Imported) (payload : List ℕ) → AreImports xs payload → AllByRecursion (ImportStands payload base) xs
 payload_imports_stand base xs payload (head, body, parts, count, chain) =

@@ -1,17 +1,14 @@
 -- The name of each symbol stands at its range of the object's bytes.
-use Rattle.std.proofs.Common.{◌≡◌, ℕ, ◌+◌, ◌-◌, ◌≤◌, Bool, true, false, cond, eqb, List, [], ◌∷◌, ◌++◌, length, map, take, drop, Option, Some, None, slice_get, refl, sym, ap, subst, ◌∙◌, arith, append_assoc, length-append}
-use Rattle.std.specs.List.{AllByRecursion, flat_map, filter, find}
+use Rattle.std.proofs.Common.{◌≡◌, ℕ, ◌+◌, ◌-◌, ◌≤◌, Bool, true, false, eqb, List, [], ◌∷◌, ◌++◌, length, take, drop, Option, Some, None, refl, sym, ap, subst, ◌∙◌, arith, append_assoc, length-append}
+use Rattle.std.specs.List.{AllByRecursion, flat_map}
 use Rattle.std.proofs.lemmas.Bool.{eqb-true}
 use Rattle.std.proofs.lemmas.List.{append-nil, nil_from_length, length-take-le, take-append-drop}
-use Rattle.wl_bytes.specs.Cursor.{Cursor}
 use Rattle.wl_bytes.specs.Grammar.{Items}
-use Rattle.wl_module.specs.Lists.{start}
 use Rattle.wl_module.specs.Chains.{Chain}
 use Rattle.wl_module.specs.Checks.{When}
-use Rattle.wl_module.specs.Words.{IsPlacedName}
 use Rattle.wl_module.specs.declared.sections.SectionHeader.{SectionHeader}
-use Rattle.wl_linking.specs.Symbols.{Symbol, SymbolDetails, range_of, based_name, IsBasedName, name_or_none, IsNameWhere, is_named, IsNumbered, IsLocated, IsDetails, IsSymbol, AreSymbols}
-use Rattle.wl_linking.specs.Linking.{subsection_kind, IsHeld, IsSubsection, seen_after, nothing_seen as no_subsection_seen, table_in, IsLinking, linking_of}
+use Rattle.wl_linking.specs.Symbols.{Symbol, SymbolDetails, range_of, IsBasedName, name_or_none, IsNameWhere, is_named, IsNumbered, IsLocated, IsDetails, IsSymbol, AreSymbols}
+use Rattle.wl_linking.specs.Linking.{subsection_kind, IsHeld, IsSubsection, seen_after, nothing_seen as no_subsection_seen, table_in, IsLinking}
 use Rattle.wl_linking.specs.Targets.{stretch, kind_of, payload_of}
 use Rattle.wl_linking.specs.Sections.{HoldsItems, IsPlaced, AreSound, seen_then, symbols_in}
 use Rattle.wl_linking.specs.declared.kinds.SectionKind.{SectionKind}
@@ -120,9 +117,10 @@ symbol_stands bytes base place s text h (p, (f1, b1, e1, byte, (f2, b2, e2, judg
 
 items_stand : (bytes : List ℕ) (base place : ℕ) (symbols : List Symbol) (text : List ℕ) → StandsAt bytes text place → Items (IsSymbol base) place symbols text → AllByRecursion (SymbolStands bytes base) symbols
 items_stand bytes base place [] text h s = tt
-items_stand bytes base place (x ∷ symbols) text h (front, back, parts, here, rest) =
-    (symbol_stands bytes base place x front (before_stands bytes text front back place parts h) here,
-      items_stand bytes base (place + length front) symbols back (behind_stands bytes text front back place parts h) rest)
+items_stand bytes base place (x ∷ symbols) text h (front, back, parts, here, rest) = (
+  symbol_stands bytes base place x front (before_stands bytes text front back place parts h) here,
+  items_stand bytes base (place + length front) symbols back (behind_stands bytes text front back place parts h) rest,
+)
 
 table_stands : (base : ℕ) (symbols : List Symbol) (payload : List ℕ) → AreSymbols base symbols payload → AllByRecursion (SymbolStands payload base) symbols
 table_stands base symbols payload (head, body, parts, count, items) =
