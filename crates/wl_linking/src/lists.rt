@@ -43,8 +43,8 @@ fn copy_global<'a>(alloc: Global, global: &OutputGlobal<'a>) -> Result<OutputGlo
     })
 }
 
-/// Lists of what an object holds, for callers that keep or change them. They hold what the lists of
-/// the object hold, and the bytes in them are the object's, not copies.
+/// Lists of what an object holds, for callers that keep or change them. Bytes that the object borrows
+/// are borrowed in them too.
 impl<'a> File<'a> {
     /// The body of each function that the object defines, as [`bodies`](File::bodies) shows them
     /// (core specification, "Code Section").

@@ -1,11 +1,13 @@
 //! Names as bytes, and the lists of a small object.
 
-use crate::{RawSymbolName, parse_wasm_module, wasm_symbol_name_str};
+use crate::{File, RawSymbolName, parse_wasm_module, wasm_symbol_name_str};
+use std::alloc::Global;
 use std::test::Fail;
+use wl_module::ReadError;
 
 /// A function `a` with its body, a memory of two pages, a global that starts as 7, and a debug
 /// section that holds 9.
-const OBJECT: [u8; 68] = [
+const OBJECT: &[u8; 68] = &[
     0, 0x61, 0x73, 0x6d, 1, 0, 0, 0, // header
     1, 4, 1, 0x60, 0, 0, // one type
     3, 2, 1, 0, // one function
@@ -16,6 +18,11 @@ const OBJECT: [u8; 68] = [
     0, 17, 7, 0x6c, 0x69, 0x6e, 0x6b, 0x69, 0x6e, 0x67, 2, // linking, version 2
     8, 6, 1, 0, 0, 0, 1, 0x61, // one symbol
 ];
+
+// The object, read.
+fn read_object(alloc: Global) -> Result<File<'static>, ReadError> {
+    parse_wasm_module(alloc, OBJECT)
+}
 
 #[test]
 fn prints_names(rt: HostRuntime) -> Result<(), Fail> {
@@ -39,10 +46,10 @@ fn keeps_the_bytes_of_a_name(rt: HostRuntime) -> Result<(), Fail> {
 
 #[test]
 fn finds_the_name_of_a_symbol(rt: HostRuntime) -> Result<(), Fail> {
-    let file = parse_wasm_module(rt.alloc(), &OBJECT)?;
+    let file = read_object(rt.alloc())?;
     let symbol = file.symbols().first().ok_or("no symbol")?;
     assert_eq!(rt; symbol.name_range(), (67, 68));
-    assert_eq!(rt; wasm_symbol_name_str(&OBJECT, symbol), Some("a"));
+    assert_eq!(rt; wasm_symbol_name_str(OBJECT, symbol), Some("a"));
     assert_eq!(rt; wasm_symbol_name_str(&OBJECT[..67], symbol), None);
     assert_eq!(rt; wasm_symbol_name_str(&[0xff; 68], symbol), None);
     Ok(())
@@ -50,7 +57,7 @@ fn finds_the_name_of_a_symbol(rt: HostRuntime) -> Result<(), Fail> {
 
 #[test]
 fn lists_functions(rt: HostRuntime) -> Result<(), Fail> {
-    let file = parse_wasm_module(rt.alloc(), &OBJECT)?;
+    let file = read_object(rt.alloc())?;
     let functions = file.module_functions(rt.alloc())?;
     assert_eq!(rt; functions.as_slice(), [0].as_slice());
     let bodies = file.function_bodies(rt.alloc())?;
@@ -62,7 +69,7 @@ fn lists_functions(rt: HostRuntime) -> Result<(), Fail> {
 
 #[test]
 fn lists_memories_and_globals(rt: HostRuntime) -> Result<(), Fail> {
-    let file = parse_wasm_module(rt.alloc(), &OBJECT)?;
+    let file = read_object(rt.alloc())?;
     let memories = file.memories(rt.alloc())?;
     assert_eq!(rt; memories.len(), 1);
     assert_eq!(rt; memories[0].initial, 2);
@@ -75,7 +82,7 @@ fn lists_memories_and_globals(rt: HostRuntime) -> Result<(), Fail> {
 
 #[test]
 fn lists_debug_sections(rt: HostRuntime) -> Result<(), Fail> {
-    let file = parse_wasm_module(rt.alloc(), &OBJECT)?;
+    let file = read_object(rt.alloc())?;
     let sections = file.debug_sections(rt.alloc())?;
     assert_eq!(rt; sections.len(), 1);
     assert_eq!(rt; sections[0].name, ".debug_x");
