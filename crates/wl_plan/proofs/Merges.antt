@@ -10,8 +10,8 @@ use Rattle.wl_module.specs.Types.{FunctionType}
 use Rattle.wl_linking.specs.Object.{Object}
 use Rattle.wl_plan.specs.Types.{same_type, add_new, firsts_onto, used_from, live_types}
 use Rattle.wl_plan.specs.Merging.{IsFull, LeadsToTypes}
-use Rattle.wl_plan.specs.declared.error.LinkError.{LinkError}
-use Rattle.wl_plan.specs.declared.error.LinkError.TheVariants.{OutOfMemory, Malformed, Unsupported, DuplicateSymbol, TooLarge}
+use Rattle.wl_linking.specs.declared.error.LinkError.{LinkError}
+use Rattle.wl_linking.specs.declared.error.LinkError.TheVariants.{OutOfMemory, TooLarge}
 
 -- ---- which types a function has
 
@@ -134,15 +134,13 @@ merges_all before o i merger indices all h =
 pub full_later : (before : List FunctionType) (o : Object) (i : ℕ) (merger : List FunctionType) (indices : List ℕ) (ty : FunctionType) (used : Bool) (e : LinkError) → i < length o.types → ty ≡ get_or o.types i ty → used ≡ list_any (λ f. eqb f i) o.functions
     → MergesOn before o i merger indices → (used ≡ true) × IsFull (add_new merger ty) e → IsFull (firsts_onto before (live_types o)) e
 full_later before o i merger indices ty used OutOfMemory lt ty-is is h f = tt
-full_later before o i merger indices ty used (Malformed object why) lt ty-is is h f = f.1
-full_later before o i merger indices ty used (Unsupported object form) lt ty-is is h f = f.1
-full_later before o i merger indices ty used (DuplicateSymbol name first_object first_symbol second_object second_symbol) lt ty-is is h f = f.1
 full_later before o i merger indices ty used (TooLarge what) lt ty-is is h f =
     let now = merged used merger ty in
     let later = grows_all now (used_from (i + 1) (drop (i + 1) o.types) o.functions) in
     let same = step before o i merger indices ty used lt ty-is is h in
     let now-is : now ≡ add_new merger ty = rw f.0 refl in
     (f.1.0, omega (arith, f.1.1, later, ap length same, ap length now-is))
+full_later before o i merger indices ty used _ lt ty-is is h f = f.1
 
 -- what passes for each passes for one
 pub below_all : (count : ℕ) (xs : List ℕ) (i : ℕ) → list_all (λ t. ltb t count) xs ≡ true → i < length xs → get_or xs i 0 < count

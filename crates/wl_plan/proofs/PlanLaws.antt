@@ -1,6 +1,6 @@
 -- Objects that are added to the spaces in turn.
 use Rattle.std.proofs.Common.{◌≡◌, ◌<◌, ◌≤◌, ◌+◌, ◌++◌, ◌&&◌, ℕ, zero, suc, Bool, true, false, eqb, ltb, List, [], ◌∷◌, length, get_or, drop, take, map, Some, refl, sym, ap, subst, ◌∙◌, arith, slice_get, add-one, drop-cons, append_assoc, length-append, inl, inr, eq-eqb, append-nil}
-use Rattle.std.specs.List.{AllByRecursion, list_any, flat_map}
+use Rattle.std.specs.List.{AllByRecursion, list_all, list_any, flat_map}
 use Rattle.std.proofs.Math.Seq.{take-suc}
 use Rattle.std.proofs.lemmas.Bool.{cases_Bool, ltb-true}
 use Rattle.std.proofs.lemmas.List.{length-map, length-take, map-append, take_all, drop_all}
@@ -8,21 +8,26 @@ use Rattle.std.proofs.lemmas.List.Folds.{list_all_at, list_any_at}
 use Rattle.std.proofs.lemmas.Option.{slice_get-get_or, slice_get_within, get_or_from_slice_get}
 use Rattle.wl_module.specs.Types.{FunctionType}
 use Rattle.wl_linking.specs.Symbols.{Symbol}
-use Rattle.wl_linking.specs.Object.{Object, AreSites, IsFitting, types_exist, functions_exist, symbols_exist}
+use Rattle.wl_linking.specs.Object.{Object}
+use Rattle.wl_linking.specs.Fitting.{IsFitting, code_pieces}
+use Rattle.wl_linking.specs.Sites.{AreSites}
 use Rattle.wl_linking.specs.declared.relocations.WasmRelocation.{WasmRelocation}
 use Rattle.wl_linking.specs.declared.sites.Site.{Site}
-use Rattle.wl_plan.specs.Types.{firsts_onto, live_types, output_types}
+use Rattle.wl_plan.specs.Types.{types_exist, firsts_onto, live_types, output_types}
+use Rattle.wl_plan.specs.Planned.{is_planned, is_planned_relocation, AllPlanned}
 use Rattle.wl_plan.specs.Space.{functions_from, functions_of, function_space}
-use Rattle.wl_plan.specs.Plan.{HasItsType, bodies_of, target_of, AreFixupsIn, AreFixups, PlanFault, max_entries}
+use Rattle.wl_plan.specs.Plan.{HasItsType, bodies_of, debug_of, target_of, AreFixupsIn, AreFixups, PlanFault, max_entries}
 use Rattle.wl_plan.specs.Merging.{LeadsToTypes}
-use Rattle.wl_plan.specs.Building.{outputs_from, body_in, index_of, fixups_from, IsEmpty, AddsObject, LacksRoom, AreSpaces}
-use Rattle.wl_plan.specs.declared.error.LinkError.{LinkError}
-use Rattle.wl_plan.specs.declared.error.LinkError.TheVariants.{OutOfMemory, Malformed, Unsupported, DuplicateSymbol, TooLarge}
+use Rattle.wl_plan.specs.Building.{outputs_from, body_in, debug_in, index_of, fixups_from, IsEmpty, AddsObject, LacksRoom, AreSpaces}
+use Rattle.wl_linking.specs.declared.error.LinkError.{LinkError}
+use Rattle.wl_linking.specs.declared.error.LinkError.TheVariants.{OutOfMemory, TooLarge}
 use Rattle.wl_plan.specs.declared.layout.FunctionOrigin.{FunctionOrigin}
 use Rattle.wl_plan.specs.declared.layout.FunctionOrigin.TheVariants as origin
 use Rattle.wl_plan.specs.declared.layout.OutputFunction.{OutputFunction}
 use Rattle.wl_plan.specs.declared.layout.Fixup.{Fixup}
 use Rattle.wl_plan.specs.declared.plan.Spaces.{Spaces}
+use Rattle.wl_linking.proofs.SlotLaws.{both, all_at}
+use Rattle.wl_plan.proofs.PlannedLaws.{functions_typed, function_named, relocations_planned, code_sited}
 use Rattle.wl_plan.proofs.Merges.{stays_all, grows_all, onto_append, below_all}
 
 -- ---- functions
@@ -77,48 +82,28 @@ function_at object k (ty ∷ functions) rest zero lt = let z : k + 0 ≡ k = ome
 function_at object k (ty ∷ functions) rest (suc j) lt =
     let z : k + suc j ≡ k + 1 + j = omega arith in rw z (function_at object (k + 1) functions rest j (omega arith))
 
-symbol_found : (o : Object) (symbols : List Symbol) (index : ℕ) (count : ℕ) → functions_exist count symbols ≡ true → index < length symbols → (symbol : Symbol) × (slice_get symbols index ≡ Some symbol) × (symbol.index < count)
-symbol_found o symbols index count all lt =
-    let d : Symbol = record { flags = 0; index = 0; name = [] } in
-    let symbol = get_or symbols index d in (
-      symbol,
-      slice_get-get_or symbols index d lt,
-      elim (cases_Bool (ltb symbol.index count)) [
-        | inl is ↦ ltb-true symbol.index count is
-        | inr not ↦ absurd (let fails = list_all_at (λ (s : Symbol). ltb s.index count) symbols index d lt not in cc)
-      ],
-    )
-
-value_is : (front : List FunctionOrigin) (i : ℕ) (o : Object) (rest : List FunctionOrigin) (r : WasmRelocation) → functions_exist (length o.functions) o.symbols ≡ true → r.index < length o.symbols
+value_is : (front : List FunctionOrigin) (i : ℕ) (o : Object) (rest : List FunctionOrigin) (r : WasmRelocation) → IsFitting o → is_planned o ≡ true → is_planned_relocation o.symbols r ≡ true
     → slice_get (front ++ (functions_from i 0 o.functions ++ rest)) (length front + index_of (slice_get o.symbols r.index)) ≡ target_of i o r
-value_is front i o rest r exist lt =
-    let s = symbol_found o o.symbols r.index (length o.functions) exist lt in
+value_is front i o rest r fits planned here =
+    let s = function_named o r fits planned here in
     let z : 0 + s.0.index ≡ s.0.index = omega arith in
     rw s.1 (slice_get_behind front (functions_from i 0 o.functions ++ rest) s.0.index ∙ function_at i 0 o.functions rest s.0.index s.2 ∙ rw z refl)
 
--- the symbol of the first relocation exists, and those of the others
-symbols_first : (count : ℕ) (r : WasmRelocation) (rs : List WasmRelocation) → symbols_exist count (r ∷ rs) ≡ true → (r.index < count) × (symbols_exist count rs ≡ true)
-symbols_first count r rs all = by_test (ltb r.index count) refl all
-  where
-    by_test : (b : Bool) → ltb r.index count ≡ b → (b && symbols_exist count rs) ≡ true → (r.index < count) × (symbols_exist count rs ≡ true)
-    by_test true is e = (ltb-true r.index count is, e)
-    by_test false is e = absurd cc
-
-fixups_are : (front : List FunctionOrigin) (i : ℕ) (o : Object) (rest : List FunctionOrigin) (rs : List WasmRelocation) (ss : List Site) → functions_exist (length o.functions) o.symbols ≡ true → symbols_exist (length o.symbols) rs ≡ true → AreSites o.bodies rs ss
+fixups_are : (front : List FunctionOrigin) (i : ℕ) (o : Object) (rest : List FunctionOrigin) (rs : List WasmRelocation) (ss : List Site) → IsFitting o → is_planned o ≡ true → list_all (is_planned_relocation o.symbols) rs ≡ true → AreSites (code_pieces o) rs ss
     → AreFixupsIn (front ++ (functions_from i 0 o.functions ++ rest)) i o rs ss (fixups_from (length front) i o rs ss)
-fixups_are front i o rest [] [] exist symbols sited = tt
-fixups_are front i o rest [] (s ∷ ss) exist symbols sited = absurd sited
-fixups_are front i o rest (r ∷ rs) [] exist symbols sited = absurd sited
-fixups_are front i o rest (r ∷ rs) (s ∷ ss) exist symbols sited =
-    let first = symbols_first (length o.symbols) r rs symbols in (
-      record { object = refl; place = refl; unit = refl; position = refl; ty = refl; value = (refl, value_is front i o rest r exist first.0) },
-      fixups_are front i o rest rs ss exist first.1 sited.1,
+fixups_are front i o rest [] [] fits planned all sited = tt
+fixups_are front i o rest [] (s ∷ ss) fits planned all sited = absurd sited
+fixups_are front i o rest (r ∷ rs) [] fits planned all sited = absurd sited
+fixups_are front i o rest (r ∷ rs) (s ∷ ss) fits planned all sited =
+    let each = both (is_planned_relocation o.symbols r) (list_all (is_planned_relocation o.symbols) rs) all in (
+      record { object = refl; place = refl; unit = refl; position = refl; ty = refl; value = (refl, value_is front i o rest r fits planned each.0) },
+      fixups_are front i o rest rs ss fits planned each.1 sited.1,
     )
 
-fixups_push : (space : List FunctionOrigin) (j i : ℕ) (objects : List Object) (o : Object) (fs front : List Fixup) → j + length objects ≡ i → AreFixups space j objects fs → AreFixupsIn space i o o.relocations o.sites front → AreFixups space j (objects ++ o ∷ []) (fs ++ front)
+fixups_push : (space : List FunctionOrigin) (j i : ℕ) (objects : List Object) (o : Object) (fs front : List Fixup) → j + length objects ≡ i → AreFixups space j objects fs → AreFixupsIn space i o o.code_relocations o.code_sites front → AreFixups space j (objects ++ o ∷ []) (fs ++ front)
 fixups_push space j i [] o fs front at h new =
     let z : i ≡ j = omega (arith, at) in
-    (front, [], rw h (sym (append-nil front)), subst (λ (n : ℕ). AreFixupsIn space n o o.relocations o.sites front) z new, refl)
+    (front, [], rw h (sym (append-nil front)), subst (λ (n : ℕ). AreFixupsIn space n o o.code_relocations o.code_sites front) z new, refl)
 fixups_push space j i (p ∷ objects) o fs front at (a, b, parts, first, rest) new =
     (a, b ++ front, rw parts (append_assoc a b front), first, fixups_push space (j + 1) i objects o b front (omega (arith, at)) rest new)
 
@@ -131,6 +116,7 @@ pub record PlansOn (objects : List Object) (i : ℕ) (spaces : Spaces) : Type 0 
   pub functions : map origin_of spaces.functions.items ++ functions_of i (drop i objects) ≡ function_space objects
   pub typed : AllByRecursion (HasItsType objects spaces.merger) spaces.functions.items
   pub bodies : spaces.bodies.items ++ bodies_of i (drop i objects) ≡ bodies_of 0 objects
+  pub debug_sections : spaces.debug_sections.items ++ debug_of i (drop i objects) ≡ debug_of 0 objects
   pub fixups : AreFixups (function_space objects) 0 (take i objects) spaces.fixups.items
 
 pub plans_at_start : (objects : List Object) (spaces : Spaces) → IsEmpty spaces → PlansOn objects 0 spaces
@@ -140,6 +126,7 @@ plans_at_start objects spaces h = record {
   functions = rw h.functions refl;
   typed = rw h.functions tt;
   bodies = rw h.bodies refl;
+  debug_sections = rw h.debug_sections refl;
   fixups = rw h.fixups refl;
 }
 
@@ -157,18 +144,18 @@ functions_step : (objects : List Object) (i : ℕ) (o : Object) (old : Spaces) �
 functions_step objects i o old lt is h =
     sym (ap (λ (os : List Object). map origin_of old.functions.items ++ functions_of i os) (splits objects i o lt is)) ∙ h.functions
 
-pub plans_more : (objects : List Object) (i : ℕ) (o : Object) (old new : Spaces) → i < length objects → o ≡ get_or objects i o → IsFitting o → AddsObject old new i o → PlansOn objects i old → PlansOn objects (i + 1) new
-plans_more objects i o old new lt is fits add h =
+pub plans_more : (objects : List Object) (i : ℕ) (o : Object) (old new : Spaces) → i < length objects → o ≡ get_or objects i o → IsFitting o → is_planned o ≡ true → AddsObject old new i o → PlansOn objects i old → PlansOn objects (i + 1) new
+plans_more objects i o old new lt is fits planned add h =
     let here : slice_get objects i ≡ Some o = slice_get-get_or objects i o lt ∙ ap (λ (x : Object). Some x) (sym is) in
     let origins : map origin_of new.functions.items ≡ map origin_of old.functions.items ++ functions_from i 0 o.functions =
     ap (map origin_of) add.functions ∙ map-append origin_of old.functions.items (outputs_from i 0 o.functions add.indices) ∙ ap (λ (fs : List FunctionOrigin). map origin_of old.functions.items ++ fs) (outputs_origins i 0 o.functions add.indices) in
     let split = splits objects i o lt is in
     let space = functions_step objects i o old lt is h in
     let base : length (map origin_of old.functions.items) ≡ length old.functions.items = length-map old.functions.items origin_of in
-    let made : AreFixupsIn (function_space objects) i o o.relocations o.sites (fixups_from (length old.functions.items) i o o.relocations o.sites) =
-    subst (λ (n : ℕ). AreFixupsIn (function_space objects) i o o.relocations o.sites (fixups_from n i o o.relocations o.sites)) base
-    (subst (λ (fs : List FunctionOrigin). AreFixupsIn fs i o o.relocations o.sites (fixups_from (length (map origin_of old.functions.items)) i o o.relocations o.sites)) space
-    (fixups_are (map origin_of old.functions.items) i o (functions_of (i + 1) (drop (i + 1) objects)) o.relocations o.sites fits.functions fits.symbols fits.sited)) in
+    let made : AreFixupsIn (function_space objects) i o o.code_relocations o.code_sites (fixups_from (length old.functions.items) i o o.code_relocations o.code_sites) =
+    subst (λ (n : ℕ). AreFixupsIn (function_space objects) i o o.code_relocations o.code_sites (fixups_from n i o o.code_relocations o.code_sites)) base
+    (subst (λ (fs : List FunctionOrigin). AreFixupsIn fs i o o.code_relocations o.code_sites (fixups_from (length (map origin_of old.functions.items)) i o o.code_relocations o.code_sites)) space
+    (fixups_are (map origin_of old.functions.items) i o (functions_of (i + 1) (drop (i + 1) objects)) o.code_relocations o.code_sites fits planned (relocations_planned o planned) (code_sited o fits))) in
     let first : take (i + 1) objects ≡ take i objects ++ o ∷ [] = rw (add-one, take-suc objects i o) (ap (λ (x : Object). take i objects ++ x ∷ []) (sym is)) in
     record {
       room = omega (arith, add.room, ap length origins, length-map new.functions.items origin_of, length-append (map origin_of old.functions.items) (functions_from i 0 o.functions), base, length-functions_from i 0 o.functions);
@@ -176,9 +163,10 @@ plans_more objects i o old new lt is fits add h =
       functions = rw origins (append_assoc (map origin_of old.functions.items) (functions_from i 0 o.functions) (functions_of (i + 1) (drop (i + 1) objects)) ∙ space);
       typed = rw add.functions (all_append (HasItsType objects new.merger) old.functions.items (outputs_from i 0 o.functions add.indices)
           (rw add.types (typed_stays objects old.merger (live_types o) old.functions.items h.typed))
-          (typed_outputs objects new.merger i 0 o add.indices o.functions here (λ j ty e. let z : 0 + j ≡ j = omega arith in rw z e) fits.types add.places));
+          (typed_outputs objects new.merger i 0 o add.indices o.functions here (λ j ty e. let z : 0 + j ≡ j = omega arith in rw z e) (functions_typed o fits) add.places));
       bodies = rw add.bodies (append_assoc old.bodies.items (map (body_in i) o.bodies) (bodies_of (i + 1) (drop (i + 1) objects)) ∙ sym (ap (λ (os : List Object). old.bodies.items ++ bodies_of i os) split) ∙ h.bodies);
-      fixups = rw (first, add.fixups) (fixups_push (function_space objects) 0 i (take i objects) o old.fixups.items (fixups_from (length old.functions.items) i o o.relocations o.sites) (omega (arith, length-take i objects)) h.fixups made);
+      debug_sections = rw add.debug_sections (append_assoc old.debug_sections.items (map (debug_in i) o.debug_sections) (debug_of (i + 1) (drop (i + 1) objects)) ∙ sym (ap (λ (os : List Object). old.debug_sections.items ++ debug_of i os) split) ∙ h.debug_sections);
+      fixups = rw (first, add.fixups) (fixups_push (function_space objects) 0 i (take i objects) o old.fixups.items (fixups_from (length old.functions.items) i o o.code_relocations o.code_sites) (omega (arith, length-take i objects)) h.fixups made);
     }
 
 pub plans_all : (objects : List Object) (i : ℕ) (spaces : Spaces) → length objects ≤ i → PlansOn objects i spaces → AreSpaces objects spaces
@@ -190,21 +178,25 @@ plans_all objects i spaces le h =
       functions = sym (ap (λ (os : List Object). map origin_of spaces.functions.items ++ functions_of i os) none ∙ append-nil (map origin_of spaces.functions.items)) ∙ h.functions;
       typed = h.typed;
       bodies = sym (ap (λ (os : List Object). spaces.bodies.items ++ bodies_of i os) none ∙ append-nil spaces.bodies.items) ∙ h.bodies;
+      debug_sections = sym (ap (λ (os : List Object). spaces.debug_sections.items ++ debug_of i os) none ∙ append-nil spaces.debug_sections.items) ∙ h.debug_sections;
       fixups = subst (λ (os : List Object). AreFixups (function_space objects) 0 os spaces.fixups.items) (take_all i objects le) h.fixups;
     }
 
 pub plan_fault : (objects : List Object) (i : ℕ) (o : Object) (spaces : Spaces) (e : LinkError) → i < length objects → o ≡ get_or objects i o → PlansOn objects i spaces → LacksRoom spaces o e → PlanFault objects e
 plan_fault objects i o spaces OutOfMemory lt is h f = tt
-plan_fault objects i o spaces (Malformed object why) lt is h f = f
-plan_fault objects i o spaces (Unsupported object form) lt is h f = f
-plan_fault objects i o spaces (DuplicateSymbol name first_object first_symbol second_object second_symbol) lt is h f = f
 plan_fault objects i o spaces (TooLarge what) lt is h (what-is, inl types) =
     (what-is, inl (omega (arith, types, ap length (types_step objects i o spaces lt is h), grows_all (firsts_onto spaces.merger (live_types o)) (flat_map live_types (drop (i + 1) objects)))))
 plan_fault objects i o spaces (TooLarge what) lt is h (what-is, inr functions) =
     let rest = functions_of (i + 1) (drop (i + 1) objects) in
     (what-is, inr (omega (arith, functions, ap length (functions_step objects i o spaces lt is h), length-append (map origin_of spaces.functions.items) (functions_from i 0 o.functions ++ rest), length-append (functions_from i 0 o.functions) rest, length-functions_from i 0 o.functions, length-map spaces.functions.items origin_of)))
+plan_fault objects i o spaces _ lt is h f = f
+
+-- ---- what holds of all objects
 
 pub fits_at : (objects : List Object) (i : ℕ) (d : Object) → AllByRecursion IsFitting objects → i < length objects → IsFitting (get_or objects i d)
 fits_at [] i d h lt = absurd (omega arith)
 fits_at (o ∷ objects) zero d h lt = h.0
 fits_at (o ∷ objects) (suc i) d h lt = fits_at objects i d h.1 (omega arith)
+
+pub planned_at : (objects : List Object) (i : ℕ) (d : Object) → AllPlanned objects → i < length objects → is_planned (get_or objects i d) ≡ true
+planned_at objects i d h lt = all_at is_planned objects i (get_or objects i d) h (slice_get-get_or objects i d lt)

@@ -59,17 +59,37 @@ fn has_planned_kinds(file: &File<'_>) -> bool
         && file.target_features().is_empty()
 }
 
+/// No body holds such a byte.
+fn are_plain(bodies: &[WasmFunctionBody<'_>]) -> bool
+    ensures { result ≡ list_all is_plain bodies.now }
+{
+    bodies.iter().all(|body| is_plain(body))
+}
+
+/// Every symbol is planned.
+fn are_planned_symbols(symbols: &[WasmSymbol<'_>]) -> bool
+    ensures { result ≡ list_all is_planned_symbol symbols.now }
+{
+    symbols.iter().all(|symbol| is_planned_symbol(symbol))
+}
+
+/// Every relocation takes the number of a function.
+fn are_planned_relocations(symbols: &[WasmSymbol<'_>], relocations: &[WasmRelocation]) -> bool
+    ensures { result ≡ list_all (is_planned_relocation symbols.now) relocations.now }
+{
+    relocations
+        .iter()
+        .all(|relocation| is_planned_relocation(symbols, relocation))
+}
+
 /// The object holds what can be planned alone.
 fn is_planned(file: &File<'_>) -> bool
     ensures { result ≡ is_planned file.now }
 {
     has_planned_kinds(file)
-        && file.bodies().iter().all(|body| is_plain(body))
-        && file.symbols().iter().all(|symbol| is_planned_symbol(symbol))
-        && file
-            .code_relocations()
-            .iter()
-            .all(|relocation| is_planned_relocation(file.symbols(), relocation))
+        && are_plain(file.bodies())
+        && are_planned_symbols(file.symbols())
+        && are_planned_relocations(file.symbols(), file.code_relocations())
 }
 
 /// Sees that the objects hold what can be planned alone: types, functions, sections of elements,

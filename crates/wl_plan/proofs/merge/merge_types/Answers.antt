@@ -12,7 +12,7 @@ returns-in_err-index-clause-err c =
     let ty = c.index-types-local.result in
     let lt : i < length o.types = rw c.types-types.ensures at c.loop-local-test.true in
     let ty-is : ty ≡ get_or o.types i ty = rw c.types-types.ensures at c.index-types-local.is in
-    let used : c.index.result.now ≡ list_any (λ f. eqb f i) o.functions = c.index.ensures ∙ (rw c.module_functions.ensures at (c.in_ok-used.ensures.marks i c.index.result.now c.loop-local-test.true)) in
+    let used : c.index.result.now ≡ list_any (λ f. eqb f i) o.functions = c.index.ensures ∙ (rw c.functions.ensures at (c.in_ok-used.ensures.marks i c.index.result.now c.loop-local-test.true)) in
     rw (p.1, p.2) (full_later c.args.merger.now o i c.loop-local.merger c.loop-local.indices.items ty c.index.result.now c.in_err-index.field-0.0 lt ty-is used c.loop-local.invariant c.in_err-index.ensures.err)
 
 pub loop-local-preserved : goal.loop-local-preserved
@@ -22,5 +22,5 @@ loop-local-preserved c =
     let ty = c.index-types-local.result in
     let lt : i < length o.types = rw c.types-types.ensures at c.loop-local-test.true in
     let ty-is : ty ≡ get_or o.types i ty = rw c.types-types.ensures at c.index-types-local.is in
-    let used : c.index.result.now ≡ list_any (λ f. eqb f i) o.functions = c.index.ensures ∙ (rw c.module_functions.ensures at (c.in_ok-used.ensures.marks i c.index.result.now c.loop-local-test.true)) in
+    let used : c.index.result.now ≡ list_any (λ f. eqb f i) o.functions = c.index.ensures ∙ (rw c.functions.ensures at (c.in_ok-used.ensures.marks i c.index.result.now c.loop-local-test.true)) in
     rw (c.in_ok-push.ensures.items, c.in_ok-index.ensures.merged) (merges_more c.args.merger.now o i c.loop-local.merger c.loop-local.indices.items ty c.index.result.now c.in_ok-index.index lt ty-is used (λ e. rw c.in_ok-index.ensures.merged at (c.in_ok-index.ensures.place e)) c.loop-local.invariant)

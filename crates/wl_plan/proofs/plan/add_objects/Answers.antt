@@ -1,6 +1,8 @@
+use Rattle.std.proofs.Common.{◌≡◌, true}
 use Rattle.std.proofs.lemmas.Result.{err_from_is_err_and}
-use Rattle.wl_linking.specs.Object.{IsFitting}
-use Rattle.wl_plan.proofs.PlanLaws.{plans_more, plan_fault, fits_at}
+use Rattle.wl_linking.specs.Fitting.{IsFitting}
+use Rattle.wl_plan.specs.Planned.{is_planned}
+use Rattle.wl_plan.proofs.PlanLaws.{plans_more, plan_fault, fits_at, planned_at}
 use Rattle.wl_plan.proofs.plan.add_objects.Goals as goal
 
 pub returns-in_err-add_object-clause-err : goal.returns-in_err-add_object-clause-err
@@ -11,5 +13,6 @@ returns-in_err-add_object-clause-err c =
 pub loop-object-preserved : goal.loop-object-preserved
 loop-object-preserved c =
     let object = c.index-files-object.result in
-    let fits : IsFitting object = rw c.index-files-object.is (fits_at c.args.files.now c.loop-object.object object c.requires c.loop-object-test.true) in
-    plans_more c.args.files.now c.loop-object.object object c.loop-object.spaces c.add_object.new.self c.loop-object-test.true c.index-files-object.is fits c.in_ok-add_object.ensures.ok c.loop-object.invariant
+    let fits : IsFitting object = rw c.index-files-object.is (fits_at c.args.files.now c.loop-object.object object c.requires.fits c.loop-object-test.true) in
+    let planned : is_planned object ≡ true = rw c.index-files-object.is (planned_at c.args.files.now c.loop-object.object object c.requires.planned c.loop-object-test.true) in
+    plans_more c.args.files.now c.loop-object.object object c.loop-object.spaces c.add_object.new.self c.loop-object-test.true c.index-files-object.is fits planned c.in_ok-add_object.ensures.ok c.loop-object.invariant

@@ -1,0 +1,130 @@
+-- Laws of objects that fit together and are planned: what they name is their own.
+use Rattle.std.proofs.Common.{◌≡◌, ◌<◌, ◌≤◌, ◌+◌, ◌-◌, ℕ, zero, suc, Bool, true, false, not, eqb, ltb, leb, ◌&&◌, List, [], ◌∷◌, length, get_or, take, map, Option, Some, None, refl, sym, ap, ◌∙◌, arith, slice_get, inl, inr}
+use Rattle.std.specs.List.{list_all}
+use Rattle.std.proofs.lemmas.Bool.{eqb-true, ltb-true}
+use Rattle.std.proofs.lemmas.List.{length-map}
+use Rattle.std.proofs.lemmas.List.Sums.{count_by-le-length}
+use Rattle.std.proofs.lemmas.Option.{slice_get-get_or, slice_get_within, get_or_from_slice_get}
+use Rattle.wl_module.specs.Imports.{Imported}
+use Rattle.wl_module.specs.declared.imports.ExternalKind.TheVariants as kind
+use Rattle.wl_linking.specs.Symbols.{Symbol, is_undefined, is_weak}
+use Rattle.wl_linking.specs.Object.{Object}
+use Rattle.wl_linking.specs.Spaces.{is_of, spaces_of, count_imports, symbol_exists, thing_exists, number_exists}
+use Rattle.wl_linking.specs.Fitting.{IsFitting}
+use Rattle.wl_linking.specs.Sites.{PieceOf, AreSites, body_piece}
+use Rattle.wl_linking.specs.declared.relocations.WasmRelocation.{WasmRelocation}
+use Rattle.wl_linking.specs.declared.sites.Site.{Site}
+use Rattle.wl_linking.specs.declared.symbols.WasmSymbolKind.{WasmSymbolKind}
+use Rattle.wl_linking.specs.declared.symbols.WasmSymbolKind.TheVariants.{Func, Data, Global, Section, Event, Table}
+use Rattle.wl_linking.proofs.SlotLaws.{both, all_at}
+use Rattle.wl_plan.specs.Types.{types_exist}
+use Rattle.wl_plan.specs.Planned.{is_planned_kind, is_planned_symbol, is_planned_type, is_function_kind, is_function, is_planned_relocation, has_planned_kinds, is_planned}
+
+-- ---- the parts of what holds
+
+-- each function has one of the types
+pub functions_typed : (o : Object) → IsFitting o → types_exist (length o.types) o.functions ≡ true
+functions_typed o fits = (both _ _ (both _ _ (both _ _ fits.names.core).0).0).1
+
+-- there are as many bodies as functions
+pub as_many_bodies : (o : Object) → IsFitting o → length o.bodies ≡ length o.functions
+as_many_bodies o fits = eqb-true (length o.bodies) (length o.functions) (both _ _ fits.names.counts).0
+
+-- what each symbol stands for exists
+symbols_exist : (o : Object) → IsFitting o → list_all (symbol_exists (spaces_of o)) o.symbols ≡ true
+symbols_exist o fits = (both _ _ (both _ _ (both _ _ fits.names.linked).0).0).0
+
+-- the relocations of code are planned
+pub relocations_planned : (o : Object) → is_planned o ≡ true → list_all (is_planned_relocation o.symbols) o.code_relocations ≡ true
+relocations_planned o planned = (both _ _ planned).1
+
+-- the symbols are planned
+symbols_planned : (o : Object) → is_planned o ≡ true → list_all is_planned_symbol o.symbols ≡ true
+symbols_planned o planned = (both _ _ (both _ _ planned).0).1
+
+-- nothing of another kind is there
+kinds_planned : (o : Object) → is_planned o ≡ true → has_planned_kinds o ≡ true
+kinds_planned o planned = (both _ _ (both _ _ (both _ _ planned).0).0).0
+
+-- nothing is imported
+nothing_imported : (o : Object) → has_planned_kinds o ≡ true → length o.imports ≡ 0
+nothing_imported o kinds = eqb-true (length o.imports) 0 (both _ _ (both _ _ (both _ _ (both _ _ (both _ _ (both _ _ kinds).0).0).0).0).0).0
+
+-- ---- the functions that relocations name
+
+-- what isn't undefined
+defined_from : (undefined : Bool) → not undefined ≡ true → undefined ≡ false
+defined_from true e = absurd cc
+defined_from false e = refl
+
+-- the number of a definition is below their count, where nothing is imported
+below_count : (undefined : Bool) (imported count index : ℕ) → undefined ≡ false → imported ≡ 0 → number_exists undefined imported count index ≡ true → index < count
+below_count true imported count index defined none e = absurd cc
+below_count false imported count index defined none e = omega (arith, none, ltb-true (index - imported) count (both (leb imported index) (ltb (index - imported) count) e).1)
+
+-- a planned symbol of a function that exists is that of one of the object's functions
+function_below : (o : Object) (s : Symbol) (k : WasmSymbolKind) → is_function_kind k ≡ true → is_planned_kind k s ≡ true → thing_exists (spaces_of o) k (is_undefined s) s.index ≡ true → count_imports kind.Func o.imports ≡ 0 → s.index < length o.functions
+function_below o s Func is planned exists none = below_count (is_undefined s) (count_imports kind.Func o.imports) (length o.functions) s.index (defined_from (is_undefined s) (both (not (is_undefined s)) (not (is_weak s)) planned).0) none exists
+function_below o s Data is planned exists none = absurd cc
+function_below o s Global is planned exists none = absurd cc
+function_below o s Section is planned exists none = absurd cc
+function_below o s Event is planned exists none = absurd cc
+function_below o s Table is planned exists none = absurd cc
+
+-- a planned relocation has the symbol of one of the object's functions
+pub function_named : (o : Object) (r : WasmRelocation) → IsFitting o → is_planned o ≡ true → is_planned_relocation o.symbols r ≡ true → (s : Symbol) × (slice_get o.symbols r.index ≡ Some s) × (s.index < length o.functions)
+function_named o r fits planned here = by_symbol (slice_get o.symbols r.index) refl (both (is_planned_type r.ty) (is_function (slice_get o.symbols r.index)) here).1
+  where
+    none : count_imports kind.Func o.imports ≡ 0
+    none = omega (arith, nothing_imported o (kinds_planned o planned), count_by-le-length (λ (i : Imported). is_of kind.Func i.entity) o.imports)
+
+    by_symbol : (found : Option Symbol) → slice_get o.symbols r.index ≡ found → is_function found ≡ true → (s : Symbol) × (slice_get o.symbols r.index ≡ Some s) × (s.index < length o.functions)
+    by_symbol None at is = absurd cc
+    by_symbol (Some s) at is = (
+      s,
+      at,
+      function_below o s s.kind is (all_at is_planned_symbol o.symbols r.index s (symbols_planned o planned) at) (all_at (symbol_exists (spaces_of o)) o.symbols r.index s (symbols_exist o fits) at) none,
+    )
+
+-- the relocation of that number has a symbol
+pub symbol_within : (o : Object) (i : ℕ) (d : WasmRelocation) → IsFitting o → is_planned o ≡ true → i < length o.code_relocations → (get_or o.code_relocations i d).index < length o.symbols
+symbol_within o i d fits planned lt =
+    let r = get_or o.code_relocations i d in
+    let h = function_named o r fits planned (all_at (is_planned_relocation o.symbols) o.code_relocations i r (relocations_planned o planned) (slice_get-get_or o.code_relocations i d lt)) in
+    slice_get_within o.symbols r.index h.0 h.1
+
+-- and that is the symbol of one of the object's functions
+pub function_within : (o : Object) (i : ℕ) (d : WasmRelocation) (e : Symbol) → IsFitting o → is_planned o ≡ true → i < length o.code_relocations → (get_or o.symbols (get_or o.code_relocations i d).index e).index < length o.functions
+function_within o i d e fits planned lt =
+    let r = get_or o.code_relocations i d in
+    let h = function_named o r fits planned (all_at (is_planned_relocation o.symbols) o.code_relocations i r (relocations_planned o planned) (slice_get-get_or o.code_relocations i d lt)) in
+    rw (get_or_from_slice_get o.symbols r.index h.0 e h.1) h.2
+
+-- ---- the sites of relocations
+
+-- each relocation of code has a site in one of the bodies
+pub code_sited : (o : Object) → IsFitting o → AreSites (map body_piece o.bodies) o.code_relocations o.code_sites
+code_sited o fits = fits.code.sited
+
+as_many_in : (pieces : List PieceOf) (rs : List WasmRelocation) (ss : List Site) → AreSites pieces rs ss → length ss ≡ length rs
+as_many_in pieces [] [] h = refl
+as_many_in pieces [] (s ∷ ss) h = absurd h
+as_many_in pieces (r ∷ rs) [] h = absurd h
+as_many_in pieces (r ∷ rs) (s ∷ ss) h = ap suc (as_many_in pieces rs ss h.1)
+
+-- there are as many sites as relocations
+pub as_many_sites : (o : Object) → IsFitting o → length o.code_sites ≡ length o.code_relocations
+as_many_sites o fits = as_many_in (map body_piece o.bodies) o.code_relocations o.code_sites (code_sited o fits)
+
+site_in : (pieces : List PieceOf) (rs : List WasmRelocation) (ss : List Site) (i : ℕ) (d : Site) → AreSites pieces rs ss → i < length ss → (get_or ss i d).unit < length pieces
+site_in pieces [] [] i d h lt = absurd (omega arith)
+site_in pieces [] (s ∷ ss) i d h lt = absurd h
+site_in pieces (r ∷ rs) [] i d h lt = absurd (omega arith)
+site_in pieces (r ∷ rs) (s ∷ ss) zero d h lt = slice_get_within pieces s.unit h.0.piece h.0.here
+site_in pieces (r ∷ rs) (s ∷ ss) (suc i) d h lt = site_in pieces rs ss i d h.1 (omega arith)
+
+-- a site lies in the body of one of the object's functions
+pub site_within : (o : Object) (i : ℕ) (d : Site) → IsFitting o → i < length o.code_sites → (get_or o.code_sites i d).unit < length o.functions
+site_within o i d fits lt =
+    let within = site_in (map body_piece o.bodies) o.code_relocations o.code_sites i d (code_sited o fits) lt in
+    omega (arith, within, length-map o.bodies body_piece, as_many_bodies o fits)

@@ -1,0 +1,6 @@
+use Rattle.std.proofs.Common.{take}
+use Rattle.wl_plan.specs.Planned.{AllPlanned}
+use Rattle.wl_plan.proofs.planned.check_planned.Given as goal
+
+abbrev pub invariant-loop-object : goal.invariant-loop-object
+invariant-loop-object l = AllPlanned (take l.object l.files)
