@@ -64,6 +64,18 @@ fn assert_payloads(
     Ok(())
 }
 
+/// Sections, and what is wrong with an object of these.
+type ObjectRow<'a> = (&'a [Section<'a>], Option<ReadError>);
+
+// The objects of these sections are at fault as told, or are sound.
+fn assert_objects(rt: &impl Abort, alloc: Global, rows: &[ObjectRow<'_>]) -> Result<(), Fail> {
+    for (sections, want) in rows {
+        let object = object_of(rt, alloc, sections)?;
+        assert_eq!(rt; fault_of(rt, alloc, &object), *want, "at {sections:?}");
+    }
+    Ok(())
+}
+
 #[test]
 fn each_function_has_a_body(rt: HostRuntime) -> Result<(), Fail> {
     assert_payloads(
@@ -114,17 +126,13 @@ fn the_data_count_is_right(rt: HostRuntime) -> Result<(), Fail> {
 
 #[test]
 fn a_data_count_may_be_missing(rt: HostRuntime) -> Result<(), Fail> {
-    let rows: [(&[Section<'_>], Option<ReadError>); 4] = [
+    let rows: [ObjectRow<'_>; 4] = [
         (&[(11, b"\x01\x01\0")], None),
         (&[(12, b"\x01"), (11, b"\x01\x01\0")], None),
         (&[(12, b"\x01")], COUNT),
         (&[(12, b"\0")], None),
     ];
-    for (sections, want) in rows {
-        let object = object_of(&rt, rt.alloc(), sections)?;
-        assert_eq!(rt; fault_of(&rt, rt.alloc(), &object), want);
-    }
-    Ok(())
+    assert_objects(&rt, rt.alloc(), &rows)
 }
 
 #[test]
@@ -178,7 +186,7 @@ fn imports_have_types_that_exist(rt: HostRuntime) -> Result<(), Fail> {
 
 #[test]
 fn an_active_segment_needs_a_memory(rt: HostRuntime) -> Result<(), Fail> {
-    let rows: [(&[Section<'_>], Option<ReadError>); 4] = [
+    let rows: [ObjectRow<'_>; 4] = [
         (&[(11, b"\x01\0\x0b\0")], BAD_INDEX),
         (&[(11, b"\x01\x01\0")], None),
         (&[(5, b"\x01\0\x01"), (11, b"\x01\0\x0b\0")], None),
@@ -187,26 +195,18 @@ fn an_active_segment_needs_a_memory(rt: HostRuntime) -> Result<(), Fail> {
             BAD_INDEX,
         ),
     ];
-    for (sections, want) in rows {
-        let object = object_of(&rt, rt.alloc(), sections)?;
-        assert_eq!(rt; fault_of(&rt, rt.alloc(), &object), want);
-    }
-    Ok(())
+    assert_objects(&rt, rt.alloc(), &rows)
 }
 
 #[test]
 fn an_object_has_one_memory(rt: HostRuntime) -> Result<(), Fail> {
     let many = Some(ReadError::Unsupported(Form::ManyMemories));
-    let rows: [(&[Section<'_>], Option<ReadError>); 3] = [
+    let rows: [ObjectRow<'_>; 3] = [
         (&[(2, b"\x01\0\0\x02\0\x01"), (5, b"\0")], None),
         (&[(2, b"\x01\0\0\x02\0\x01"), (5, b"\x01\0\x01")], many),
         (&[(5, b"\x02\0\x01\0\x01")], many),
     ];
-    for (sections, want) in rows {
-        let object = object_of(&rt, rt.alloc(), sections)?;
-        assert_eq!(rt; fault_of(&rt, rt.alloc(), &object), want);
-    }
-    Ok(())
+    assert_objects(&rt, rt.alloc(), &rows)
 }
 
 #[test]

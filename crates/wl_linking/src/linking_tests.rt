@@ -2,6 +2,8 @@
 
 use crate::test_bytes::{Row, fault_of, linked, object_of};
 use crate::{WasmInitFunc, parse_wasm_module};
+use std::alloc::Global;
+use std::process::Abort;
 use std::test::Fail;
 use wl_module::ReadError::{Malformed, Unsupported};
 use wl_module::{Form, ReadError, Why};
@@ -18,6 +20,15 @@ const BAD_ALIGNMENT: Option<ReadError> = Some(Malformed(Why::BadAlignment));
 
 const BAD_INDEX: Option<ReadError> = Some(Malformed(Why::BadIndex));
 
+// Each content of a linking section is at fault as told, or is sound.
+fn assert_contents(rt: &impl Abort, alloc: Global, rows: &[Row<'_>]) -> Result<(), Fail> {
+    for (content, want) in rows {
+        let object = linked(rt, alloc, content)?;
+        assert_eq!(rt; fault_of(rt, alloc, &object), *want, "at {content:?}");
+    }
+    Ok(())
+}
+
 #[test]
 fn judges_the_version(rt: HostRuntime) -> Result<(), Fail> {
     let rows: [Row<'_>; 8] = [
@@ -31,11 +42,7 @@ fn judges_the_version(rt: HostRuntime) -> Result<(), Fail> {
         (b"\x03\x08\x02\0\0", VERSION),
         (b"\xff\xff\xff\xff\x1f", Some(Malformed(Why::BadLeb))),
     ];
-    for (content, want) in rows {
-        let object = linked(&rt, rt.alloc(), content)?;
-        assert_eq!(rt; fault_of(&rt, rt.alloc(), &object), want, "at {content:?}");
-    }
-    Ok(())
+    assert_contents(&rt, rt.alloc(), &rows)
 }
 
 #[test]
@@ -61,11 +68,7 @@ fn judges_subsections(rt: HostRuntime) -> Result<(), Fail> {
         (b"\x02\x07\x02\0", TRUNCATED),
         (b"\x02\0\xff\xff\xff\xff\x1f", Some(Malformed(Why::BadLeb))),
     ];
-    for (content, want) in rows {
-        let object = linked(&rt, rt.alloc(), content)?;
-        assert_eq!(rt; fault_of(&rt, rt.alloc(), &object), want, "at {content:?}");
-    }
-    Ok(())
+    assert_contents(&rt, rt.alloc(), &rows)
 }
 
 #[test]
@@ -122,11 +125,7 @@ fn judges_what_is_told_of_segments(rt: HostRuntime) -> Result<(), Fail> {
         ),
         (b"\x02\x05\x05\xff\xff\xff\xff\x0f", TRUNCATED),
     ];
-    for (content, want) in rows {
-        let object = linked(&rt, rt.alloc(), content)?;
-        assert_eq!(rt; fault_of(&rt, rt.alloc(), &object), want, "at {content:?}");
-    }
-    Ok(())
+    assert_contents(&rt, rt.alloc(), &rows)
 }
 
 #[test]
@@ -161,9 +160,5 @@ fn functions_that_run_at_the_start_have_symbols(rt: HostRuntime) -> Result<(), F
         (b"\x02\x06\x03\x01\0\0", BAD_INDEX),
         (b"\x02\x06\x02\x01\0", TRUNCATED),
     ];
-    for (content, want) in rows {
-        let object = linked(&rt, rt.alloc(), content)?;
-        assert_eq!(rt; fault_of(&rt, rt.alloc(), &object), want, "at {content:?}");
-    }
-    Ok(())
+    assert_contents(&rt, rt.alloc(), &rows)
 }

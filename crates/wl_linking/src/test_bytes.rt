@@ -124,11 +124,11 @@ pub(crate) const SEGMENTS: &[u8; 22] =
 
 /// An object of this code and this data, with two types and two symbols, and with relocation
 /// sections of these contents behind the number of their section: 3 for the code, 4 for the data.
-pub(crate) fn relocated(
+pub(crate) fn relocated<'a>(
     rt: &impl Abort,
     alloc: Global,
-    code: &[u8],
-    data: &[u8],
+    code: &'a [u8],
+    data: &'a [u8],
     contents: &[&[u8]],
 ) -> Result<Vec<u8>, Fail> {
     let mut bytes = object_of(
