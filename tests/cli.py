@@ -9,6 +9,7 @@ import tempfile
 
 ROOT = pathlib.Path(__file__).resolve().parent.parent
 EXAMPLES = ROOT / "examples"
+OBJECTS = ROOT / "tests" / "objects"
 FLAGS = ["--no-gc-sections", "--no-entry"]
 LARGEST = 1 << 30
 
@@ -86,6 +87,33 @@ def refusals(folder):
     check("an entry asked for", run([made, "--no-gc-sections"]), 1, err=b"error: Unsupported 0 NotYet\n")
 
 
+def compiled(folder):
+    """Objects that clang made are read whole: they are refused for what has no plan yet, and for nothing else."""
+    bare = EXAMPLES / "bare_module.o"
+    for made in sorted(OBJECTS.glob("*.o")):
+        check(made.name, run([*FLAGS, made]), 1, err=b"error: Unsupported 0 NotYet\n")
+        check(f"{made.name}, second", run([*FLAGS, bare, made]), 1, err=b"error: Unsupported 1 NotYet\n")
+        cut = folder / "cut.o"
+        cut.write_bytes(made.read_bytes()[:-1])
+        check(f"{made.name}, cut off", run([*FLAGS, bare, cut]), 1, err=b"error: Malformed 1 Truncated\n")
+
+
+def debug_sections(folder):
+    """Debug sections are listed, and other custom sections skipped."""
+
+    def section(name, payload):
+        content = bytes([len(name)]) + name + payload
+        return b"\0" + bytes([len(content)]) + content
+
+    made = folder / "debug.o"
+    sections = [(b"producers", b"ignore me"), (b".debug_str", b"hello"), (b".debug_info", b"world!")]
+    bare = (EXAMPLES / "bare_module.o").read_bytes()
+    made.write_bytes(bare + b"".join(section(*named) for named in sections))
+    listing = (EXAMPLES / "bare_module.plan").read_bytes()
+    lines = b'debug 0 ".debug_str" 5\ndebug 0 ".debug_info" 6\n'
+    check("debug sections", run([*FLAGS, made]), 0, listing.replace(b"end\n", lines + b"end\n"))
+
+
 def sizes(folder):
     """An object may have 1 GiB, and not a byte more."""
     made = folder / "large.o"
@@ -129,6 +157,8 @@ def main():
         folder = pathlib.Path(name)
         reads(folder)
         refusals(folder)
+        compiled(folder)
+        debug_sections(folder)
         sizes(folder)
     writes()
     print(f"{passed} passed, {failed} failed")

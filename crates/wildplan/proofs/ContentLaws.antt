@@ -1,6 +1,7 @@
 -- Bytes of objects, by their number.
 use Rattle.std.proofs.Common.{◌≡◌, ◌<◌, ◌≤◌, ◌+◌, ℕ, zero, suc, List, [], ◌∷◌, ◌++◌, length, get_or, take, Some, None, refl, sym, ap, subst, arith, slice_get, Vec, Global, add-one}
-use Rattle.wl_linking.specs.Object.{Object, IsObject, ObjectFault, IsFitting}
+use Rattle.wl_linking.specs.Object.{Object}
+use Rattle.wl_linking.specs.Fitting.{IsObject, ObjectFault, IsFitting}
 use Rattle.std.specs.List.{AllByRecursion}
 use Rattle.wl_module.specs.declared.error.ReadError.{ReadError}
 use Rattle.wl_module.specs.declared.error.ReadError.TheVariants as read

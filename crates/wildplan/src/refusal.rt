@@ -1,6 +1,7 @@
 //! The line of a refusal.
 
 ghost use Rattle.std.specs.Prelude.{◌≡◌, [], ◌∷◌, ◌++◌, IfOk, OnOk, codes, decimal, string_bytes};
+ghost use Rattle.std.specs.Fmt.{signed_decimal};
 ghost use Rattle.std.specs.List.{flat_map};
 ghost use Rattle.wildplan.specs.Listing.{quoted};
 ghost use Rattle.wildplan.specs.Refusals.{numbers_text, need_text, undefined_text, refusal_line, named_text, error_line};
@@ -151,12 +152,7 @@ fn undefined_line(alloc: Global, symbols: &[UndefinedSymbol]) -> Result<Vec<u8>,
 }
 
 /// The line of a value that doesn't fit its field.
-fn range_line(
-    alloc: Global,
-    object: usize,
-    offset: u32,
-    value: i64,
-) -> Result<Vec<u8>, AllocError>
+fn range_line(alloc: Global, object: usize, offset: u32, value: i64) -> Result<Vec<u8>, AllocError>
     ensures { IfOk result (λ text. text.items ≡ refusal_line (codes "RelocationRange") (numbers_text (object ∷ offset ∷ []) ++ codes " " ++ signed_decimal value)) }
 {
     let mut text = begin_line(alloc, "RelocationRange")?;

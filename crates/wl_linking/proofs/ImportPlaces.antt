@@ -1,5 +1,5 @@
 -- The names of imports stand within the bytes of their object.
-use Rattle.std.proofs.Common.{◌≡◌, ℕ, ◌+◌, ◌-◌, ◌≤◌, ◌^◌, Bool, false, List, [], ◌∷◌, ◌++◌, ◌∙◌, length, take, drop, sym, ap, subst, arith, length-append}
+use Rattle.std.proofs.Common.{◌≡◌, ℕ, ◌+◌, ◌-◌, ◌≤◌, ◌^◌, Bool, false, List, [], ◌∷◌, ◌++◌, ◌∙◌, length, drop, sym, ap, subst, arith, length-append}
 use Rattle.std.proofs.lemmas.List.{length-take, length-drop}
 use Rattle.std.specs.List.{flat_map, AllByRecursion}
 use Rattle.wl_module.specs.Chains.{Chain}

@@ -14,3 +14,6 @@ pub mod ImportPlaces
 pub mod ObjectLaws
 pub mod FitLaws
 pub mod PlacedLaws
+pub mod NameLaws
+pub mod ImportNameLaws
+pub mod RawNameLaws

@@ -1,6 +1,6 @@
 -- Bytes are one object at most, or something is wrong with them, and never both.
-use Rattle.std.proofs.Common.{◌≡◌, ℕ, ◌≤◌, ◌^◌, List, [], ◌∷◌, length, map, Result, Ok, Err, Bool, true, false, ◌&&◌, refl, sym, ap, subst, ◌∙◌, inl, inr}
-use Rattle.std.specs.List.{flat_map, AllByRecursion}
+use Rattle.std.proofs.Common.{◌≡◌, ℕ, ◌≤◌, ◌^◌, List, length, map, Result, Ok, Err, Bool, true, false, ◌&&◌, refl, sym, ap, subst, ◌∙◌, inl, inr}
+use Rattle.std.specs.List.{AllByRecursion}
 use Rattle.std.specs.Prelude.{MatchResult}
 use Rattle.wl_module.specs.declared.sections.SectionHeader.{SectionHeader}
 use Rattle.wl_module.specs.declared.error.Why.TheVariants as why
@@ -21,7 +21,6 @@ use Rattle.wl_linking.specs.Fitting.{HasItems, IsFitting, CrossFault, FitsParts,
 use Rattle.wl_linking.specs.declared.parts.Parts.{Parts}
 use Rattle.wl_linking.specs.declared.section.Section.{Section}
 use Rattle.wl_linking.specs.declared.sites.Site.{Site}
-use Rattle.wl_linking.specs.declared.relocations.WasmRelocation.{WasmRelocation}
 use Rattle.wl_linking.specs.declared.symbols.WasmSymbolKind.{WasmSymbolKind}
 use Rattle.wl_linking.specs.declared.symbols.WasmSymbolKind.TheVariants.{Func, Data, Global, Section as SectionSymbol, Event, Table}
 use Rattle.wl_linking.proofs.SectionLaws.{sections_one, sections_either, sections_one_fault}
@@ -38,9 +37,44 @@ with_sites o p = record o { code_sites = p.code_sites; data_sites = p.data_sites
 -- two objects of the same items are the same but for the places of fields
 items_one : (bytes : List ℕ) (headers : List SectionHeader) (parts : Parts) (o p : Object) → HasItems bytes headers parts o → HasItems bytes headers parts p → with_sites o p ≡ p
 items_one bytes headers parts o p h k =
-    rw (h.bytes_are, h.sections, h.types, h.imports, h.functions, h.memories, h.globals, h.exports, h.data_counts, h.bodies, h.segments, h.segment_infos, h.init_funcs, h.symbols, h.reloc_sections, h.features, h.debug_sections,
-    order_one parts.code_entries o.code_relocations p.code_relocations h.code k.code, order_one parts.data_entries o.data_relocations p.data_relocations h.data_ k.data_,
-    k.bytes_are, k.sections, k.types, k.imports, k.functions, k.memories, k.globals, k.exports, k.data_counts, k.bodies, k.segments, k.segment_infos, k.init_funcs, k.symbols, k.reloc_sections, k.features, k.debug_sections) refl
+    rw (
+      h.bytes_are,
+      h.sections,
+      h.types,
+      h.imports,
+      h.functions,
+      h.memories,
+      h.globals,
+      h.exports,
+      h.data_counts,
+      h.bodies,
+      h.segments,
+      h.segment_infos,
+      h.init_funcs,
+      h.symbols,
+      h.reloc_sections,
+      h.features,
+      h.debug_sections,
+      order_one parts.code_entries o.code_relocations p.code_relocations h.code k.code,
+      order_one parts.data_entries o.data_relocations p.data_relocations h.data_ k.data_,
+      k.bytes_are,
+      k.sections,
+      k.types,
+      k.imports,
+      k.functions,
+      k.memories,
+      k.globals,
+      k.exports,
+      k.data_counts,
+      k.bodies,
+      k.segments,
+      k.segment_infos,
+      k.init_funcs,
+      k.symbols,
+      k.reloc_sections,
+      k.features,
+      k.debug_sections,
+    ) refl
 
 -- what two objects of the same bytes hold
 held_same : (bytes : List ℕ) (hs ks : List SectionHeader) (xs ys : List Section) → Framed hs bytes → Framed ks bytes → AreSound bytes hs nothing_seen hs xs → AreSound bytes ks nothing_seen ks ys → (hs ≡ ks) × (xs ≡ ys)

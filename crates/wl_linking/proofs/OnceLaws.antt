@@ -14,7 +14,7 @@ use Rattle.wl_module.specs.Sections.{rank, MayCome, IsSection, next, next_rank, 
 use Rattle.wl_module.specs.declared.sections.SectionHeader.{SectionHeader}
 use Rattle.wl_linking.specs.Sites.{PieceOf, body_piece, segment_piece}
 use Rattle.wl_linking.specs.Placing.{Ascend, piece_end}
-use Rattle.wl_linking.specs.Targets.{stretch, custom_kind, standard_kind, named_kind, kind_of, payload_of}
+use Rattle.wl_linking.specs.Targets.{stretch, named_kind, kind_of, payload_of}
 use Rattle.wl_linking.specs.Sections.{AreSound, HoldsItems, seen_then, nothing_seen, bodies_in, segments_in}
 use Rattle.wl_linking.specs.declared.kinds.SectionKind.{SectionKind}
 use Rattle.wl_linking.specs.declared.kinds.SectionKind.TheVariants as kind
@@ -24,11 +24,11 @@ use Rattle.wl_linking.specs.declared.section.Section.{Section}
 -- ---- a section that comes once at most
 
 -- where it came before, the rank is at least its own
-abbrev IsPast : ℕ → ℕ → Type 0
+abbrev pub IsPast : ℕ → ℕ → Type 0
 IsPast r last = r ≤ last
 
 -- no section of that kind among them
-abbrev NoneOf : (SectionKind → Bool) → List ℕ → List SectionHeader → Type 0
+abbrev pub NoneOf : (SectionKind → Bool) → List ℕ → List SectionHeader → Type 0
 NoneOf test bytes [] = Unit {0}
 NoneOf test bytes (h ∷ hs) = (test (kind_of bytes h) ≡ false) × NoneOf test bytes hs
 
@@ -45,17 +45,17 @@ past_stays r last id past (inr after) =
     ]
 
 -- what is known of the sections of a kind: they are those of an id, which has a rank, and they alone have such items
-record ComesOnce {X : Type 0} (test : SectionKind → Bool) (id : ℕ) (items_in : Section → List X) (Good : List X → Type 0) : Type 0 where
-  ranked : 1 ≤ rank id
-  by_id : (bytes : List ℕ) (s : SectionHeader) → test (kind_of bytes s) ≡ true → s.id ≡ id
-  none : Good []
-  good : (k : SectionKind) (bytes : List ℕ) (all : List SectionHeader) (seen : Seen) (s : SectionHeader) (section : Section) (payload : List ℕ) → test k ≡ true → HoldsItems k bytes all seen s section payload → Good (items_in section)
-  others : (k : SectionKind) (bytes : List ℕ) (all : List SectionHeader) (seen : Seen) (s : SectionHeader) (section : Section) (payload : List ℕ) → test k ≡ false → HoldsItems k bytes all seen s section payload → items_in section ≡ []
+pub record ComesOnce {X : Type 0} (test : SectionKind → Bool) (id : ℕ) (items_in : Section → List X) (Good : List X → Type 0) : Type 0 where
+  pub ranked : 1 ≤ rank id
+  pub by_id : (bytes : List ℕ) (s : SectionHeader) → test (kind_of bytes s) ≡ true → s.id ≡ id
+  pub none : Good []
+  pub good : (k : SectionKind) (bytes : List ℕ) (all : List SectionHeader) (seen : Seen) (s : SectionHeader) (section : Section) (payload : List ℕ) → test k ≡ true → HoldsItems k bytes all seen s section payload → Good (items_in section)
+  pub others : (k : SectionKind) (bytes : List ℕ) (all : List SectionHeader) (seen : Seen) (s : SectionHeader) (section : Section) (payload : List ℕ) → test k ≡ false → HoldsItems k bytes all seen s section payload → items_in section ≡ []
 
-rank_of : (id n : ℕ) → n ≡ id → rank n ≡ rank id
+pub rank_of : (id n : ℕ) → n ≡ id → rank n ≡ rank id
 rank_of id n e = rw e refl
 
-no_second : {X : Type 0} (test : SectionKind → Bool) (id : ℕ) (items_in : Section → List X) (Good : List X → Type 0) → ComesOnce test id items_in Good
+pub no_second : {X : Type 0} (test : SectionKind → Bool) (id : ℕ) (items_in : Section → List X) (Good : List X → Type 0) → ComesOnce test id items_in Good
     → (bytes : List ℕ) (last place : ℕ) (ss : List SectionHeader) (text : List ℕ) → IsPast (rank id) last → Chain IsSection next last place ss text → NoneOf test bytes ss
 no_second test id items_in Good law bytes last place [] text past h = tt
 no_second test id items_in Good law bytes last place (s ∷ ss) text past (front, back, parts, here, rest) =
@@ -67,7 +67,7 @@ no_second test id items_in Good law bytes last place (s ∷ ss) text past (front
     not_again true is (inl free) = absurd (let r = rank_of id s.id (law.by_id bytes s is) in omega (arith, r, free, law.ranked))
     not_again true is (inr after) = absurd (let r = rank_of id s.id (law.by_id bytes s is) in omega (arith, r, after, past))
 
-none_of_all : {X : Type 0} (test : SectionKind → Bool) (id : ℕ) (items_in : Section → List X) (Good : List X → Type 0) → ComesOnce test id items_in Good
+pub none_of_all : {X : Type 0} (test : SectionKind → Bool) (id : ℕ) (items_in : Section → List X) (Good : List X → Type 0) → ComesOnce test id items_in Good
     → (bytes : List ℕ) (all : List SectionHeader) (seen : Seen) (hs : List SectionHeader) (held : List Section) → NoneOf test bytes hs → AreSound bytes all seen hs held → flat_map items_in held ≡ []
 none_of_all test id items_in Good law bytes all seen [] [] free h = refl
 none_of_all test id items_in Good law bytes all seen [] (x ∷ held) free h = absurd h
@@ -86,6 +86,7 @@ all_good test id items_in Good law bytes all seen last place (s ∷ hs) text (x 
     not_zero : (b : Bool) → eqb (rank s.id) 0 ≡ b → rank s.id ≡ rank id → eqb (rank s.id) 0 ≡ false
     not_zero false is e = is
     not_zero true is e = absurd (omega (arith, eqb-true (rank s.id) 0 is, e, law.ranked))
+
     by_kind : (b : Bool) → test (kind_of bytes s) ≡ b → Good (flat_map items_in held) → Good (items_in x ++ flat_map items_in held)
     by_kind false is more = rw (law.others (kind_of bytes s) bytes all seen s x (payload_of bytes s) is h.0) more
     by_kind true is more =
@@ -136,7 +137,7 @@ abbrev is_data : SectionKind → Bool
 is_data kind.Data = true
 is_data _ = false
 
-abbrev custom_by : Bool → Bool → Bool → Bool → SectionKind
+abbrev pub custom_by : Bool → Bool → Bool → Bool → SectionKind
 custom_by a b c d = cond a kind.Linking (cond b kind.Reloc (cond c kind.Debug (cond d kind.Features kind.Skipped)))
 
 custom_no_code : (a b c d : Bool) → is_code (custom_by a b c d) ≡ false
@@ -154,7 +155,7 @@ custom_no_data false false false true = refl
 custom_no_data false false false false = refl
 
 -- the kind of a standard section, by what its id is
-abbrev standard_by : (a b c d e f g h i j k l : Bool) → SectionKind
+abbrev pub standard_by : (a b c d e f g h i j k l : Bool) → SectionKind
 standard_by a b c d e f g h i j k l =
     cond a kind.Type (cond b kind.Import (cond c kind.Function (cond d kind.Table (cond e kind.Memory (cond f kind.Global
     (cond g kind.Export (cond h kind.Start (cond i kind.Code (cond j kind.Data (cond k kind.DataCount (cond l kind.Tag kind.Skipped)))))))))))

@@ -15,14 +15,14 @@ use Rattle.wl_linking.specs.Slots.{begin_of, import_base}
 -- ---- a text that stands in the bytes
 
 -- the text stands at that place of the bytes
-record StandsAt (bytes text : List ℕ) (place : ℕ) : Type 0 where
-  front : List ℕ
-  back : List ℕ
-  whole : bytes ≡ front ++ (text ++ back)
-  len : length front ≡ place
+pub record StandsAt (bytes text : List ℕ) (place : ℕ) : Type 0 where
+  pub front : List ℕ
+  pub back : List ℕ
+  pub whole : bytes ≡ front ++ (text ++ back)
+  pub len : length front ≡ place
 
 -- its front stands there too
-front_stands : (bytes xs ys : List ℕ) (place : ℕ) → StandsAt bytes (xs ++ ys) place → StandsAt bytes xs place
+pub front_stands : (bytes xs ys : List ℕ) (place : ℕ) → StandsAt bytes (xs ++ ys) place → StandsAt bytes xs place
 front_stands bytes xs ys place h = record {
   front = h.front;
   back = ys ++ h.back;
@@ -31,7 +31,7 @@ front_stands bytes xs ys place h = record {
 }
 
 -- and what is behind that stands behind it
-back_stands : (bytes xs ys : List ℕ) (place : ℕ) → StandsAt bytes (xs ++ ys) place → StandsAt bytes ys (place + length xs)
+pub back_stands : (bytes xs ys : List ℕ) (place : ℕ) → StandsAt bytes (xs ++ ys) place → StandsAt bytes ys (place + length xs)
 back_stands bytes xs ys place h = record {
   front = h.front ++ xs;
   back = h.back;
@@ -40,7 +40,7 @@ back_stands bytes xs ys place h = record {
 }
 
 -- the stretch of so many bytes from there is the text
-stretch_is : (bytes text : List ℕ) (place : ℕ) → StandsAt bytes text place → stretch bytes (place, place + length text) ≡ text
+pub stretch_is : (bytes text : List ℕ) (place : ℕ) → StandsAt bytes text place → stretch bytes (place, place + length text) ≡ text
 stretch_is bytes text place h =
     let many : place + length text - place ≡ length text = omega arith in
     rw (many, h.whole, drop_at h.front (text ++ h.back) place h.len, take_at text h.back (length text) refl) refl

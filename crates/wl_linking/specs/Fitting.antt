@@ -7,6 +7,8 @@ use Rattle.wl_module.specs.declared.error.ReadError.{ReadError}
 use Rattle.wl_module.specs.Sections.{Framed, FrameFault}
 use Rattle.wl_module.specs.Outcome.{Gives}
 use Rattle.wl_linking.specs.Verdict.{HasCause}
+use Rattle.wl_linking.specs.Symbols.{Symbol}
+use Rattle.wl_linking.specs.Targets.{stretch}
 use Rattle.wl_linking.specs.Object.{Object}
 use Rattle.wl_linking.specs.Sections.{AreSound, AreFaulty, nothing_seen}
 use Rattle.wl_linking.specs.Parts.{parts_of}
@@ -74,6 +76,10 @@ FitsParts bytes headers parts o = HasItems bytes headers parts o × IsFitting o
 -- the items don't fit together
 abbrev pub PartsFault : List ℕ → List SectionHeader → Parts → ReadError → Type 0
 PartsFault bytes headers parts e = (o : Object) × HasItems bytes headers parts o × CrossFault o e
+
+-- the name of a symbol is what stands at its range of the bytes
+abbrev pub NameStands : List ℕ → Symbol → Type 0
+NameStands bytes s = stretch bytes s.name_range ≡ s.name
 
 -- ---- the object of some bytes
 

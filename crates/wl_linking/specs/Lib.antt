@@ -16,3 +16,4 @@ pub mod Slots
 pub mod Sites
 pub mod Placing
 pub mod Fitting
+pub mod RawNames

@@ -3,7 +3,6 @@ use Rattle.std.specs.Prelude.{◌≡◌, ℕ, ◌+◌, ◌-◌, ◌≤◌, ◌&&
 use Rattle.wl_module.specs.declared.error.ReadError.{ReadError}
 use Rattle.wl_module.specs.declared.error.ReadError.TheVariants.{Malformed}
 use Rattle.wl_module.specs.declared.error.Why.TheVariants.{Field}
-use Rattle.wl_linking.specs.RelocationTypes.{form_of}
 use Rattle.wl_linking.specs.Sites.{PieceOf, has_form, field_len, HasNoSite}
 use Rattle.wl_linking.specs.declared.relocation_type.FieldForm.{FieldForm}
 use Rattle.wl_linking.specs.declared.relocations.WasmRelocation.{WasmRelocation}

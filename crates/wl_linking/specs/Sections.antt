@@ -29,7 +29,6 @@ use Rattle.wl_linking.specs.declared.kinds.SectionKind.TheVariants as kind
 use Rattle.wl_linking.specs.declared.kinds.Seen.{Seen}
 use Rattle.wl_linking.specs.declared.relocations.WasmRelocation.{WasmRelocation}
 use Rattle.wl_linking.specs.declared.relocations.WasmRelocSection.{WasmRelocSection}
-use Rattle.wl_linking.specs.declared.relocations.RelocHeld.{RelocHeld}
 use Rattle.wl_linking.specs.declared.relocations.Target.{Target}
 use Rattle.wl_linking.specs.declared.relocations.Target.TheVariants as target
 use Rattle.wl_linking.specs.declared.section.Section.{Section}

@@ -1,5 +1,5 @@
 -- How many things of each kind an object has, and that what it names is among them (core specification, "Indices"; object file linking, version 2).
-use Rattle.std.specs.Prelude.{◌≡◌, ◌≢◌, ◌⊎◌, ℕ, zero, ◌+◌, ◌-◌, ◌==◌, ◌&&◌, ◌||◌, Bool, true, false, nat_lt, nat_le, if◌then◌else◌, List, length, Option, Some, None}
+use Rattle.std.specs.Prelude.{◌≡◌, ◌⊎◌, ℕ, ◌+◌, ◌-◌, ◌==◌, ◌&&◌, ◌||◌, Bool, true, false, nat_lt, nat_le, if◌then◌else◌, List, length, Option, Some, None}
 use Rattle.std.specs.List.{list_all, count_by}
 use Rattle.wl_module.specs.declared.imports.ImportEntity.{ImportEntity}
 use Rattle.wl_module.specs.declared.imports.ImportEntity.TheVariants as entity

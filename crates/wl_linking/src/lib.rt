@@ -15,8 +15,10 @@ mod infos;
 mod items;
 mod kinds;
 mod linking;
+mod lists;
 mod object;
 mod parts;
+mod raw_name;
 mod relocation_type;
 mod relocations;
 mod section;
@@ -33,8 +35,34 @@ pub use file_list::FileList;
 pub use flags::SymbolFlags;
 pub use infos::{WasmInitFunc, WasmSegmentInfo};
 pub use items::Items;
-pub use object::{object_or_fault, parse_wasm_module};
+pub use object::{names_stand, object_or_fault, parse_wasm_module};
+pub use raw_name::{RawSymbolName, wasm_symbol_name_str};
 pub use relocation_type::{FieldForm, RelocationType, relocation_type_to_string};
 pub use relocations::{RelocationList, WasmRelocSection, WasmRelocation};
 pub use sites::Site;
 pub use symbols::{WasmSymbol, WasmSymbolKind};
+
+#[cfg(test)]
+mod core_tests;
+#[cfg(test)]
+mod feature_tests;
+#[cfg(test)]
+mod field_tests;
+#[cfg(test)]
+mod linking_tests;
+#[cfg(test)]
+mod list_tests;
+#[cfg(test)]
+mod name_tests;
+#[cfg(test)]
+mod object_tests;
+#[cfg(test)]
+mod relocation_tests;
+#[cfg(test)]
+mod slot_tests;
+#[cfg(test)]
+mod symbol_tests;
+#[cfg(test)]
+mod target_tests;
+#[cfg(test)]
+mod test_bytes;

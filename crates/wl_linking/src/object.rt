@@ -10,7 +10,7 @@ ghost use Rattle.wl_linking.specs.Sections.{AreFaulty, nothing_seen};
 ghost use Rattle.wl_linking.specs.Object.{Object};
 ghost use Rattle.wl_linking.specs.Slots.{IsNamedWithin, import_base};
 ghost use Rattle.wl_linking.specs.Sites.{body_piece, segment_piece, offset_of, LieApart, FieldsFault};
-ghost use Rattle.wl_linking.specs.Fitting.{HasItems, code_pieces, data_pieces, Fitted, CrossFault, FitsParts, PartsFault, IsObject, ObjectFault, ParsesObject};
+ghost use Rattle.wl_linking.specs.Fitting.{HasItems, NameStands, code_pieces, data_pieces, Fitted, CrossFault, FitsParts, PartsFault, IsObject, ObjectFault, ParsesObject};
 ghost use Rattle.wl_linking.specs.Placing.{Ascend};
 ghost use Rattle.wl_linking.specs.Verdict.{HasCause};
 
@@ -152,4 +152,9 @@ pub fn object_or_fault()
     ensures either { (bytes : List ℕ) (o : Object) (e : Fault) → IsObject o bytes → ObjectFault e bytes → ⊥ }
     ensures frame_first { (bytes : List ℕ) (e d : Fault) → FrameFault e bytes → ObjectFault d bytes → d ≡ e }
     ensures section_first { (bytes : List ℕ) (e d : Fault) (headers : List Header) → Framed headers bytes → AreFaulty bytes headers nothing_seen headers e → ObjectFault d bytes → d ≡ e }
+{}
+
+/// The name of each symbol is what stands at its range of the object's bytes.
+pub fn names_stand()
+    ensures { (bytes : List ℕ) (o : Object) → IsObject o bytes → AllByRecursion (NameStands bytes) o.symbols }
 {}

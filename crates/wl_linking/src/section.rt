@@ -161,9 +161,9 @@ fn read_items<'a>(
         SectionKind::Reloc => Ok(Section::Reloc(read_reloc_section(
             alloc, bytes, headers, seen, payload,
         )?)),
-        SectionKind::Features => Ok(Section::Features(Items::new(
-            parse_target_features_payload(alloc, payload)?,
-        ))),
+        SectionKind::Features => Ok(Section::Features(Items::new(parse_target_features_payload(
+            alloc, payload,
+        )?))),
         SectionKind::Debug => Ok(Section::Debug(debug_section(name_of(bytes, header), payload)?)),
         SectionKind::Skipped => Ok(Section::Skipped),
     }

@@ -1,0 +1,214 @@
+-- The name of each symbol stands at its range of the object's bytes.
+use Rattle.std.proofs.Common.{◌≡◌, ℕ, ◌+◌, ◌-◌, ◌≤◌, Bool, true, false, eqb, List, [], ◌∷◌, ◌++◌, length, take, drop, Option, Some, None, refl, sym, ap, subst, ◌∙◌, arith, append_assoc, length-append}
+use Rattle.std.specs.List.{AllByRecursion, flat_map}
+use Rattle.std.proofs.lemmas.Bool.{eqb-true}
+use Rattle.std.proofs.lemmas.List.{append-nil, nil_from_length, length-take-le, take-append-drop}
+use Rattle.wl_bytes.specs.Grammar.{Items}
+use Rattle.wl_module.specs.Chains.{Chain}
+use Rattle.wl_module.specs.Checks.{When}
+use Rattle.wl_module.specs.declared.sections.SectionHeader.{SectionHeader}
+use Rattle.wl_linking.specs.Symbols.{Symbol, SymbolDetails, range_of, IsBasedName, name_or_none, IsNameWhere, is_named, IsNumbered, IsLocated, IsDetails, IsSymbol, AreSymbols}
+use Rattle.wl_linking.specs.Linking.{subsection_kind, IsHeld, IsSubsection, seen_after, nothing_seen as no_subsection_seen, table_in, IsLinking}
+use Rattle.wl_linking.specs.Targets.{stretch, kind_of, payload_of}
+use Rattle.wl_linking.specs.Sections.{HoldsItems, IsPlaced, AreSound, seen_then, symbols_in}
+use Rattle.wl_linking.specs.declared.kinds.SectionKind.{SectionKind}
+use Rattle.wl_linking.specs.declared.kinds.SectionKind.TheVariants as kind
+use Rattle.wl_linking.specs.declared.kinds.Seen.{Seen}
+use Rattle.wl_linking.specs.declared.linking.Linking.{Linking}
+use Rattle.wl_linking.specs.declared.linking.SeenSubsections.{SeenSubsections}
+use Rattle.wl_linking.specs.declared.linking.Subsection.{Subsection}
+use Rattle.wl_linking.specs.declared.linking.SubsectionKind.{SubsectionKind}
+use Rattle.wl_linking.specs.declared.linking.SubsectionKind.TheVariants as part
+use Rattle.wl_linking.specs.declared.section.Section.{Section}
+use Rattle.wl_linking.specs.declared.symbols.WasmSymbolKind.{WasmSymbolKind}
+use Rattle.wl_linking.specs.declared.symbols.WasmSymbolKind.TheVariants.{Func, Data, Global, Section as SectionSymbol, Event, Table}
+use Rattle.wl_linking.proofs.PlacedLaws.{StandsAt, front_stands, back_stands, stretch_is}
+
+-- ---- texts in texts
+
+pub all_stands : (bytes : List ℕ) → StandsAt bytes bytes 0
+all_stands bytes = record { front = []; back = []; whole = sym (append-nil bytes); len = refl }
+
+inside_stands : (bytes text inner : List ℕ) (place at : ℕ) → StandsAt bytes text place → StandsAt text inner at → StandsAt bytes inner (place + at)
+inside_stands bytes text inner place at h k = record {
+  front = h.front ++ k.front;
+  back = k.back ++ h.back;
+  whole = h.whole ∙ ap (λ (t : List ℕ). h.front ++ (t ++ h.back)) k.whole
+      ∙ ap (λ (t : List ℕ). h.front ++ t) (append_assoc k.front (inner ++ k.back) h.back ∙ ap (λ (t : List ℕ). k.front ++ t) (append_assoc inner k.back h.back))
+      ∙ sym (append_assoc h.front k.front (inner ++ (k.back ++ h.back)));
+  len = omega (arith, length-append h.front k.front, h.len, k.len);
+}
+
+-- the part behind a front
+pub behind_stands : (bytes text front back : List ℕ) (place : ℕ) → text ≡ front ++ back → StandsAt bytes text place → StandsAt bytes back (place + length front)
+behind_stands bytes text front back place parts h = back_stands bytes front back place (subst (λ (t : List ℕ). StandsAt bytes t place) parts h)
+
+pub before_stands : (bytes text front back : List ℕ) (place : ℕ) → text ≡ front ++ back → StandsAt bytes text place → StandsAt bytes front place
+before_stands bytes text front back place parts h = front_stands bytes front back place (subst (λ (t : List ℕ). StandsAt bytes t place) parts h)
+
+-- ---- names
+
+-- a name stands in the bytes, before which so many of the object's lie, and this is its range there
+pub record Stands (bytes : List ℕ) (base : ℕ) (name : List ℕ) (range : ℕ × ℕ) : Type 0 where
+  pub at : ℕ
+  pub there : StandsAt bytes name at
+  pub range_is : range ≡ range_of base at (length name)
+
+no_name_stands : (bytes : List ℕ) (base : ℕ) → Stands bytes base [] (0, 0)
+no_name_stands bytes base = record { at = 0; there = record { front = []; back = bytes; whole = refl; len = refl }; range_is = refl }
+
+pub outer_stands : (bytes text name : List ℕ) (base : ℕ) (range : ℕ × ℕ) → StandsAt bytes text base → Stands text base name range → Stands bytes 0 name range
+outer_stands bytes text name base range h s =
+    let none : 0 + (base + s.at) ≡ base + s.at = omega arith in
+    record { at = base + s.at; there = inside_stands bytes text name base s.at h s.there; range_is = s.range_is ∙ rw none refl }
+
+pub name_stands : (bytes name : List ℕ) (range : ℕ × ℕ) → Stands bytes 0 name range → stretch bytes range ≡ name
+name_stands bytes name range s = by_length (eqb (length name) 0) refl (subst (λ (r : ℕ × ℕ). r ≡ range) s.range_is refl)
+  where
+    by_length : (b : Bool) → eqb (length name) 0 ≡ b → range_of 0 s.at (length name) ≡ range → stretch bytes range ≡ name
+    by_length true is e =
+        let none : name ≡ [] = nil_from_length name (eqb-true (length name) 0 is) in
+        rw (← e, is, none) refl
+    by_length false is e =
+        let none : s.at ≡ 0 + s.at = omega arith in
+        rw (← e, is) (stretch_is bytes name (0 + s.at) (subst (λ (n : ℕ). StandsAt bytes name n) none s.there))
+
+-- the same of a symbol
+abbrev pub SymbolStands : List ℕ → ℕ → Symbol → Type 0
+SymbolStands bytes base s = Stands bytes base s.name s.name_range
+
+based_stands : (bytes : List ℕ) (base place : ℕ) (n : List ℕ × (ℕ × ℕ)) (text : List ℕ) → StandsAt bytes text place → IsBasedName base place n text → Stands bytes base n.0 n.1
+based_stands bytes base place n text h (w, ((head, whole, number, utf8), ends), is) =
+    let there = behind_stands bytes text head w.0 place whole h in
+    let at : place + length head ≡ w.1 = omega (arith, ends, ap length whole, length-append head w.0) in
+    subst (λ (m : List ℕ × (ℕ × ℕ)). Stands bytes base m.0 m.1) is (record { at = w.1; there = subst (λ (k : ℕ). StandsAt bytes w.0 k) at there; range_is = refl })
+
+found_stands : (bytes : List ℕ) (base place : ℕ) (named : Bool) (o : Option (List ℕ × (ℕ × ℕ))) (text : List ℕ) → StandsAt bytes text place → When (IsBasedName base) named place o text → Stands bytes base (name_or_none o).0 (name_or_none o).1
+found_stands bytes base place false o text h w = subst (λ (x : Option (List ℕ × (ℕ × ℕ))). Stands bytes base (name_or_none x).0 (name_or_none x).1) (sym w.0) (no_name_stands bytes base)
+found_stands bytes base place true None text h w = absurd w
+found_stands bytes base place true (Some n) text h w = based_stands bytes base place n text h w
+
+where_stands : (bytes : List ℕ) (base place : ℕ) (named : Bool) (n : List ℕ × (ℕ × ℕ)) (text : List ℕ) → StandsAt bytes text place → IsNameWhere base named place n text → Stands bytes base n.0 n.1
+where_stands bytes base place named n text h (o, found, is) = subst (λ (m : List ℕ × (ℕ × ℕ)). Stands bytes base m.0 m.1) is (found_stands bytes base place named o text h found)
+
+numbered_stands : (bytes : List ℕ) (base place flags : ℕ) (d : SymbolDetails) (text : List ℕ) → StandsAt bytes text place → IsNumbered base flags place d text → Stands bytes base d.name d.name_range
+numbered_stands bytes base place flags d text h (q, (front, back, parts, number, named), is) =
+    subst (λ (x : SymbolDetails). Stands bytes base x.name x.name_range) is (where_stands bytes base (place + length front) (is_named flags) q.1 back (behind_stands bytes text front back place parts h) named)
+
+located_stands : (bytes : List ℕ) (base place flags : ℕ) (d : SymbolDetails) (text : List ℕ) → StandsAt bytes text place → IsLocated base flags place d text → Stands bytes base d.name d.name_range
+located_stands bytes base place flags d text h (q, (front, back, parts, named, extent), is) =
+    subst (λ (x : SymbolDetails). Stands bytes base x.name x.name_range) is (based_stands bytes base place q.0 front (before_stands bytes text front back place parts h) named)
+
+details_stand : (bytes : List ℕ) (base place : ℕ) (k : WasmSymbolKind) (flags : ℕ) (d : SymbolDetails) (text : List ℕ) → StandsAt bytes text place → IsDetails base k flags place d text → Stands bytes base d.name d.name_range
+details_stand bytes base place Func flags d text h s = numbered_stands bytes base place flags d text h s
+details_stand bytes base place Data flags d text h s = located_stands bytes base place flags d text h s
+details_stand bytes base place Global flags d text h s = numbered_stands bytes base place flags d text h s
+details_stand bytes base place SectionSymbol flags d text h s = subst (λ (x : SymbolDetails). Stands bytes base x.name x.name_range) s.2 (no_name_stands bytes base)
+details_stand bytes base place Event flags d text h s = subst (λ (x : SymbolDetails). Stands bytes base x.name x.name_range) s.2 (no_name_stands bytes base)
+details_stand bytes base place Table flags d text h s = numbered_stands bytes base place flags d text h s
+
+symbol_stands : (bytes : List ℕ) (base place : ℕ) (s : Symbol) (text : List ℕ) → StandsAt bytes text place → IsSymbol base place s text → SymbolStands bytes base s
+symbol_stands bytes base place s text h (p, (f1, b1, e1, byte, (f2, b2, e2, judged, (f3, b3, e3, number, (f4, b4, e4, taken, details)))), is) =
+    let h1 = behind_stands bytes text f1 b1 place e1 h in
+    let h2 = behind_stands bytes b1 f2 b2 (place + length f1) e2 h1 in
+    let h3 = behind_stands bytes b2 f3 b3 (place + length f1 + length f2) e3 h2 in
+    let h4 = behind_stands bytes b3 f4 b4 (place + length f1 + length f2 + length f3) e4 h3 in
+    subst (λ (x : Symbol). SymbolStands bytes base x) is (details_stand bytes base (place + length f1 + length f2 + length f3 + length f4) p.1.0 p.1.1.0 p.1.1.1.1 b4 h4 details)
+
+items_stand : (bytes : List ℕ) (base place : ℕ) (symbols : List Symbol) (text : List ℕ) → StandsAt bytes text place → Items (IsSymbol base) place symbols text → AllByRecursion (SymbolStands bytes base) symbols
+items_stand bytes base place [] text h s = tt
+items_stand bytes base place (x ∷ symbols) text h (front, back, parts, here, rest) = (
+  symbol_stands bytes base place x front (before_stands bytes text front back place parts h) here,
+  items_stand bytes base (place + length front) symbols back (behind_stands bytes text front back place parts h) rest,
+)
+
+table_stands : (base : ℕ) (symbols : List Symbol) (payload : List ℕ) → AreSymbols base symbols payload → AllByRecursion (SymbolStands payload base) symbols
+table_stands base symbols payload (head, body, parts, count, items) =
+    items_stand payload base (0 + length head) symbols body (behind_stands payload payload head body 0 parts (all_stands payload)) items
+
+all_outer : (bytes text : List ℕ) (base : ℕ) (symbols : List Symbol) → StandsAt bytes text base → AllByRecursion (SymbolStands text base) symbols → AllByRecursion (SymbolStands bytes 0) symbols
+all_outer bytes text base [] h s = tt
+all_outer bytes text base (x ∷ symbols) h s = (outer_stands bytes text x.name base x.name_range h s.0, all_outer bytes text base symbols h s.1)
+
+-- ---- the linking section
+
+held_stand : (bytes : List ℕ) (base : ℕ) (k : SubsectionKind) (s : Subsection) (payload : List ℕ) → StandsAt bytes payload base → IsHeld base k s payload → AllByRecursion (SymbolStands bytes 0) (table_in s)
+held_stand bytes base part.SegmentInfo s payload h held = subst (λ (x : Subsection). AllByRecursion (SymbolStands bytes 0) (table_in x)) held.1 tt
+held_stand bytes base part.InitFuncs s payload h held = subst (λ (x : Subsection). AllByRecursion (SymbolStands bytes 0) (table_in x)) held.1 tt
+held_stand bytes base part.SymbolTable s payload h held =
+    subst (λ (x : Subsection). AllByRecursion (SymbolStands bytes 0) (table_in x)) held.1 (all_outer bytes payload base held.0 h (table_stands base held.0 payload held.2))
+held_stand bytes base part.Other s payload h held = rw held tt
+
+subsection_stands : (bytes linking : List ℕ) (base : ℕ) (seen : SeenSubsections) (place : ℕ) (s : Subsection) (text : List ℕ) → StandsAt bytes linking base → StandsAt linking text place → IsSubsection base seen place s text → AllByRecursion (SymbolStands bytes 0) (table_in s)
+subsection_stands bytes linking base seen place s text outer h (p, (f1, b1, e1, byte, (f2, b2, e2, judged, (f3, b3, e3, size, (f4, b4, e4, here, (f5, b5, e5, sized, inside))))), is) =
+    let h1 = behind_stands linking text f1 b1 place e1 h in
+    let h2 = behind_stands linking b1 f2 b2 (place + length f1) e2 h1 in
+    let h3 = behind_stands linking b2 f3 b3 (place + length f1 + length f2) e3 h2 in
+    let h4 = behind_stands linking b3 f4 b4 (place + length f1 + length f2 + length f3) e4 h3 in
+    let h5 = before_stands linking b4 f5 b5 (place + length f1 + length f2 + length f3 + length f4) e5 h4 in
+    let at : place + length f1 + length f2 + length f3 + length f4 ≡ p.1.1.1.0 = omega (arith, ap length here.0, here.1) in
+    let payload = p.1.1.1.1.0 in
+    let there : StandsAt linking payload p.1.1.1.0 = subst (λ (n : ℕ). StandsAt linking payload n) at (subst (λ (t : List ℕ). StandsAt linking t (place + length f1 + length f2 + length f3 + length f4)) sized.0 h5) in
+    subst (λ (x : Subsection). AllByRecursion (SymbolStands bytes 0) (table_in x)) is
+    (held_stand bytes (base + p.1.1.1.0) (subsection_kind p.0) p.1.1.1.1.1 payload (inside_stands bytes linking payload base p.1.1.1.0 outer there) inside.1)
+
+pub all_append : {X : Type 0} (P : X → Type 0) (xs ys : List X) → AllByRecursion P xs → AllByRecursion P ys → AllByRecursion P (xs ++ ys)
+all_append P [] ys h k = k
+all_append P (x ∷ xs) ys h k = (h.0, all_append P xs ys h.1 k)
+
+chain_stands : (bytes linking : List ℕ) (base : ℕ) (seen : SeenSubsections) (place : ℕ) (xs : List Subsection) (text : List ℕ) → StandsAt bytes linking base → StandsAt linking text place → Chain (IsSubsection base) seen_after seen place xs text → AllByRecursion (SymbolStands bytes 0) (flat_map table_in xs)
+chain_stands bytes linking base seen place [] text outer h s = tt
+chain_stands bytes linking base seen place (x ∷ xs) text outer h (front, back, parts, here, rest) =
+    all_append (SymbolStands bytes 0) (table_in x) (flat_map table_in xs)
+    (subsection_stands bytes linking base seen place x front outer (before_stands linking text front back place parts h) here)
+    (chain_stands bytes linking base (seen_after seen x) (place + length front) xs back outer (behind_stands linking text front back place parts h) rest)
+
+linking_stands : (bytes payload : List ℕ) (base : ℕ) (linking : Linking) → StandsAt bytes payload base → IsLinking base linking payload → AllByRecursion (SymbolStands bytes 0) linking.symbols
+linking_stands bytes payload base linking outer (version, behind, front, (xs, last, (rows, end), is)) =
+    let h : StandsAt payload behind.rest (0 + length front.text) = behind_stands payload payload front.text behind.rest 0 front.parts (all_stands payload) in
+    let at : StandsAt payload behind.rest behind.position = subst (λ (n : ℕ). StandsAt payload behind.rest n) (sym front.moved) h in
+    let there = before_stands payload behind.rest rows.text last.rest behind.position rows.parts at in
+    rw is (chain_stands bytes payload base no_subsection_seen behind.position xs rows.text outer there rows.spelled)
+
+-- ---- all sections
+
+-- a payload stands where its section's header says
+pub payload_stands : (bytes : List ℕ) (s : SectionHeader) → s.payload_range.0 ≤ length bytes → StandsAt bytes (payload_of bytes s) s.payload_range.0
+payload_stands bytes s le =
+    let many = s.payload_range.1 - s.payload_range.0 in
+    record {
+      front = take s.payload_range.0 bytes;
+      back = drop many (drop s.payload_range.0 bytes);
+      whole = sym (take-append-drop s.payload_range.0 bytes) ∙ ap (λ (t : List ℕ). take s.payload_range.0 bytes ++ t) (sym (take-append-drop many (drop s.payload_range.0 bytes)));
+      len = length-take-le s.payload_range.0 bytes le;
+    }
+
+-- the symbols of a section
+section_stands : (k : SectionKind) (bytes : List ℕ) (all : List SectionHeader) (seen : Seen) (s : SectionHeader) (section : Section) (payload : List ℕ) → StandsAt bytes payload s.payload_range.0 → HoldsItems k bytes all seen s section payload → AllByRecursion (SymbolStands bytes 0) (symbols_in section)
+section_stands kind.Type bytes all seen s section payload there h = rw h.1 tt
+section_stands kind.Import bytes all seen s section payload there h = rw h.1 tt
+section_stands kind.Function bytes all seen s section payload there h = rw h.1 tt
+section_stands kind.Memory bytes all seen s section payload there h = rw h.1 tt
+section_stands kind.Global bytes all seen s section payload there h = rw h.1 tt
+section_stands kind.Export bytes all seen s section payload there h = rw h.1 tt
+section_stands kind.DataCount bytes all seen s section payload there h = rw h.1 tt
+section_stands kind.Code bytes all seen s section payload there h = rw h.1 tt
+section_stands kind.Data bytes all seen s section payload there h = rw h.1 tt
+section_stands kind.Linking bytes all seen s section payload there h = rw h.1 (linking_stands bytes payload s.payload_range.0 h.0 there h.2.1)
+section_stands kind.Reloc bytes all seen s section payload there h = rw h.1 tt
+section_stands kind.Features bytes all seen s section payload there h = rw h.1 tt
+section_stands kind.Debug bytes all seen s section payload there h = rw h tt
+section_stands kind.Skipped bytes all seen s section payload there h = rw h tt
+section_stands kind.Table bytes all seen s section payload there h = absurd h
+section_stands kind.Start bytes all seen s section payload there h = absurd h
+section_stands kind.Tag bytes all seen s section payload there h = absurd h
+
+-- the symbols of all sections
+pub sections_stand : (bytes : List ℕ) (all : List SectionHeader) (seen : Seen) (hs : List SectionHeader) (held : List Section) → AllByRecursion (IsPlaced bytes) hs → AreSound bytes all seen hs held → AllByRecursion (SymbolStands bytes 0) (flat_map symbols_in held)
+sections_stand bytes all seen [] [] placed h = tt
+sections_stand bytes all seen [] (x ∷ held) placed h = absurd h
+sections_stand bytes all seen (s ∷ hs) [] placed h = absurd h
+sections_stand bytes all seen (s ∷ hs) (x ∷ held) placed h =
+    all_append (SymbolStands bytes 0) (symbols_in x) (flat_map symbols_in held)
+    (section_stands (kind_of bytes s) bytes all seen s x (payload_of bytes s) (payload_stands bytes s placed.0.begins) h.0)
+    (sections_stand bytes all (seen_then seen x) hs held placed.1 h.1)

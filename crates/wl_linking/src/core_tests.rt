@@ -1,0 +1,254 @@
+//! What joins the core sections, and debug sections.
+
+use crate::test_bytes::{CORE, Row, Section, fault_of, object_of};
+use crate::{File, parse_wasm_module};
+use std::alloc::Global;
+use std::process::Abort;
+use std::test::Fail;
+use wl_module::{ExternalKind, Form, ReadError, Why};
+
+const COUNT: Option<ReadError> = Some(ReadError::Malformed(Why::Count));
+
+const BAD_INDEX: Option<ReadError> = Some(ReadError::Malformed(Why::BadIndex));
+
+#[test]
+fn reads_core_sections(rt: HostRuntime) -> Result<(), Fail> {
+    let mut sections = CORE;
+    sections[4] = (7, b"\x02\x01x\x03\x01\x01y\0\x03");
+    let object = object_of(&rt, rt.alloc(), &sections)?;
+    assert!(rt; object.len() < 1000);
+    let file = parse_wasm_module(rt.alloc(), &object)?;
+    assert_eq!(rt;
+        (file.num_function_imports(), file.num_global_imports()),
+        (2, 1)
+    );
+    assert_eq!(rt;
+        (file.num_defined_functions(), file.num_defined_globals()),
+        (2, 1)
+    );
+    assert_eq!(rt; (file.num_data_segments(), file.segments().len()), (2, 2));
+    assert_eq!(rt; (file.types().len(), file.imports().len()), (2, 5));
+    assert_eq!(rt; (file.globals().len(), file.bodies().len()), (1, 2));
+    assert_eq!(rt; file.functions(), [0, 1].as_slice());
+    assert!(rt; file.memory_types().is_empty());
+    assert_exports(&rt, &file);
+    Ok(())
+}
+
+// The object exports a global `x` and a function `y`.
+fn assert_exports(rt: &impl Abort, file: &File<'_>) {
+    let want = [("x", ExternalKind::Global, 1), ("y", ExternalKind::Func, 3)];
+    assert_eq!(rt; file.exports().len(), want.len());
+    for (export, (name, kind, index)) in file.exports().iter().zip(want) {
+        assert_eq!(rt;
+            (export.name, export.kind, export.index),
+            (name, kind, index)
+        );
+    }
+}
+
+// The core sections, where the one at that place has each of these payloads, are at fault as told.
+fn assert_payloads(
+    rt: &impl Abort,
+    alloc: Global,
+    place: usize,
+    rows: &[Row<'_>],
+) -> Result<(), Fail> {
+    for (payload, want) in rows {
+        let mut sections: [Section<'_>; 8] = CORE;
+        assert!(rt; place < 8);
+        sections[place].1 = *payload;
+        let object = object_of(rt, alloc, &sections)?;
+        assert_eq!(rt; fault_of(rt, alloc, &object), *want, "at {payload:?}");
+    }
+    Ok(())
+}
+
+/// Sections, and what is wrong with an object of these.
+type ObjectRow<'a> = (&'a [Section<'a>], Option<ReadError>);
+
+// The objects of these sections are at fault as told, or are sound.
+fn assert_objects(rt: &impl Abort, alloc: Global, rows: &[ObjectRow<'_>]) -> Result<(), Fail> {
+    for (sections, want) in rows {
+        let object = object_of(rt, alloc, sections)?;
+        assert_eq!(rt; fault_of(rt, alloc, &object), *want, "at {sections:?}");
+    }
+    Ok(())
+}
+
+#[test]
+fn each_function_has_a_body(rt: HostRuntime) -> Result<(), Fail> {
+    assert_payloads(
+        &rt,
+        rt.alloc(),
+        2,
+        &[
+            (b"\x01\0", COUNT),
+            (b"\x03\0\0\0", COUNT),
+            (b"\0", COUNT),
+            (b"\x02\0\0", None),
+        ],
+    )?;
+    assert_payloads(
+        &rt,
+        rt.alloc(),
+        6,
+        &[
+            (b"\x01\x02\0\x0b", COUNT),
+            (b"\x03\x02\0\x0b\x02\0\x0b\x02\0\x0b", COUNT),
+            (b"\0", COUNT),
+            (b"\x02\0\0", None),
+        ],
+    )
+}
+
+#[test]
+fn the_data_count_is_right(rt: HostRuntime) -> Result<(), Fail> {
+    assert_payloads(
+        &rt,
+        rt.alloc(),
+        5,
+        &[
+            (b"\x02", None),
+            (b"\x82\0", None),
+            (b"\x01", COUNT),
+            (b"\x03", COUNT),
+            (b"\0", COUNT),
+        ],
+    )?;
+    assert_payloads(
+        &rt,
+        rt.alloc(),
+        7,
+        &[(b"\x01\x01\x01a", COUNT), (b"\0", COUNT)],
+    )
+}
+
+#[test]
+fn a_data_count_may_be_missing(rt: HostRuntime) -> Result<(), Fail> {
+    let rows: [ObjectRow<'_>; 4] = [
+        (&[(11, b"\x01\x01\0")], None),
+        (&[(12, b"\x01"), (11, b"\x01\x01\0")], None),
+        (&[(12, b"\x01")], COUNT),
+        (&[(12, b"\0")], None),
+    ];
+    assert_objects(&rt, rt.alloc(), &rows)
+}
+
+#[test]
+fn core_sections_name_what_exists(rt: HostRuntime) -> Result<(), Fail> {
+    // Two types, four functions, a table, a memory and two globals.
+    assert_payloads(
+        &rt,
+        rt.alloc(),
+        2,
+        &[(b"\x02\0\x02", BAD_INDEX), (b"\x02\x01\x01", None)],
+    )?;
+    assert_payloads(
+        &rt,
+        rt.alloc(),
+        4,
+        &[
+            (b"\x01\0\0\x03", None),
+            (b"\x01\0\0\x04", BAD_INDEX),
+            (b"\x01\0\x01\0", None),
+            (b"\x01\0\x01\x01", BAD_INDEX),
+            (b"\x01\0\x02\0", None),
+            (b"\x01\0\x02\x01", BAD_INDEX),
+            (b"\x01\0\x03\x01", None),
+            (b"\x01\0\x03\x02", BAD_INDEX),
+        ],
+    )?;
+    assert_payloads(
+        &rt,
+        rt.alloc(),
+        7,
+        &[
+            (b"\x02\0\x0b\0\x02\0\x0b\0", None),
+            (b"\x02\x01\0\x02\x01\x0b\0", BAD_INDEX),
+        ],
+    )
+}
+
+#[test]
+fn imports_have_types_that_exist(rt: HostRuntime) -> Result<(), Fail> {
+    let rows: [Row<'_>; 3] = [
+        (b"\x01\0\0\0\0", None),
+        (b"\x01\0\0\0\x01", BAD_INDEX),
+        (b"\x02\0\0\0\0\0\0\0\xff\xff\xff\xff\x0f", BAD_INDEX),
+    ];
+    for (imports, want) in rows {
+        let object = object_of(&rt, rt.alloc(), &[(1, b"\x01\x60\0\0"), (2, imports)])?;
+        assert_eq!(rt; fault_of(&rt, rt.alloc(), &object), want, "at {imports:?}");
+    }
+    Ok(())
+}
+
+#[test]
+fn an_active_segment_needs_a_memory(rt: HostRuntime) -> Result<(), Fail> {
+    let rows: [ObjectRow<'_>; 4] = [
+        (&[(11, b"\x01\0\x0b\0")], BAD_INDEX),
+        (&[(11, b"\x01\x01\0")], None),
+        (&[(5, b"\x01\0\x01"), (11, b"\x01\0\x0b\0")], None),
+        (
+            &[(5, b"\x01\0\x01"), (11, b"\x01\x02\x01\x0b\0")],
+            BAD_INDEX,
+        ),
+    ];
+    assert_objects(&rt, rt.alloc(), &rows)
+}
+
+#[test]
+fn an_object_has_one_memory(rt: HostRuntime) -> Result<(), Fail> {
+    let many = Some(ReadError::Unsupported(Form::ManyMemories));
+    let rows: [ObjectRow<'_>; 3] = [
+        (&[(2, b"\x01\0\0\x02\0\x01"), (5, b"\0")], None),
+        (&[(2, b"\x01\0\0\x02\0\x01"), (5, b"\x01\0\x01")], many),
+        (&[(5, b"\x02\0\x01\0\x01")], many),
+    ];
+    assert_objects(&rt, rt.alloc(), &rows)
+}
+
+#[test]
+fn some_sections_are_skipped(rt: HostRuntime) -> Result<(), Fail> {
+    let rows: [Section<'_>; 6] = [
+        (9, b"\xff"),
+        (0, b"\x09producers\xff"),
+        (0, b"\x04name\xff"),
+        (0, b"\x05reloc\xff"),
+        (0, b"\x0flinking.private\xff"),
+        (0, b"\0\xff"),
+    ];
+    for section in rows {
+        let object = object_of(&rt, rt.alloc(), &[section])?;
+        assert_eq!(rt; fault_of(&rt, rt.alloc(), &object), None, "at {section:?}");
+    }
+    Ok(())
+}
+
+/// Two debug sections, and others of like names.
+const DEBUG: [Section<'static>; 5] = [
+    (0, b"\x0b.debug_infoabc"),
+    (0, b"\x06.debugabc"),
+    (1, b"\0"),
+    (0, b"\x07.debug_"),
+    (0, b"\x07debug_aabc"),
+];
+
+#[test]
+fn reads_debug_sections(rt: HostRuntime) -> Result<(), Fail> {
+    let object = object_of(&rt, rt.alloc(), &DEBUG)?;
+    assert!(rt; object.len() < 1000);
+    let file = parse_wasm_module(rt.alloc(), &object)?;
+    let want: [(&str, &[u8]); 2] = [(".debug_info", b"abc"), (".debug_", b"")];
+    assert_eq!(rt; file.debug_inputs().len(), want.len());
+    for (section, (name, payload)) in file.debug_inputs().iter().zip(want) {
+        assert_eq!(rt; (section.name, section.object_index), (name, 0));
+        assert_eq!(rt; section.payload, payload);
+    }
+    for (number, want) in [true, false, false, true, false, false].iter().enumerate() {
+        assert_eq!(rt; file.section_is_debug(number), *want, "{number}");
+    }
+    assert!(rt; !file.section_is_debug(usize::MAX));
+    Ok(())
+}

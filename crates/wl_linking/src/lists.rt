@@ -1,0 +1,134 @@
+//! What a relocatable object holds, in lists of the caller's own.
+
+ghost use Rattle.std.specs.Prelude.{◌≡◌, IfOk};
+ghost use Rattle.std.specs.Cow.{cow_slice_items};
+
+use crate::debug::DebugSectionInput;
+use crate::file::File;
+use std::alloc::{AllocError, Global};
+use std::borrow::CowSlice;
+use wl_module::{MemoryType, OutputGlobal, WasmDataSegment, WasmFunctionBody};
+
+/// The same bytes: borrowed ones stay borrowed, and others are copied.
+fn copy_bytes<'a>(alloc: Global, bytes: &CowSlice<'a, u8>) -> Result<CowSlice<'a, u8>, AllocError>
+    ensures { IfOk result (λ copy. cow_slice_items copy ≡ cow_slice_items bytes.now) }
+{
+    match bytes {
+        CowSlice::Borrowed(bytes) => Ok(CowSlice::Borrowed(*bytes)),
+        CowSlice::Owned(bytes) => Ok(CowSlice::Owned(Vec::from_slice(alloc, bytes.as_slice())?)),
+    }
+}
+
+/// The same body.
+fn copy_body<'a>(
+    alloc: Global,
+    body: &WasmFunctionBody<'a>,
+) -> Result<WasmFunctionBody<'a>, AllocError>
+    ensures { IfOk result (λ copy. copy ≡ body.now) }
+{
+    Ok(WasmFunctionBody {
+        bytes: copy_bytes(alloc, &body.bytes)?,
+        code_offset: body.code_offset,
+        object_index: body.object_index,
+    })
+}
+
+/// The same global.
+fn copy_global<'a>(alloc: Global, global: &OutputGlobal<'a>) -> Result<OutputGlobal<'a>, AllocError>
+    ensures { IfOk result (λ copy. copy ≡ global.now) }
+{
+    Ok(OutputGlobal {
+        ty: global.ty,
+        init_expr_body: copy_bytes(alloc, &global.init_expr_body)?,
+    })
+}
+
+/// Lists of what an object holds, for callers that keep or change them. Bytes that the object borrows
+/// are borrowed in them too.
+impl<'a> File<'a> {
+    /// The body of each function that the object defines, as [`bodies`](File::bodies) shows them
+    /// (core specification, "Code Section").
+    ///
+    /// # Errors
+    /// `AllocError` where memory runs out.
+    pub fn function_bodies(&self, alloc: Global) -> Result<Vec<WasmFunctionBody<'a>>, AllocError>
+        ensures { IfOk result (λ v. v.items ≡ self.now.bodies) }
+    {
+        let mut bodies = Vec::new(alloc);
+        for body in self.bodies() {
+            bodies.push(copy_body(alloc, body)?)?;
+        }
+        Ok(bodies)
+    }
+
+    /// The type of each function that the object defines, as its number among the types, as
+    /// [`functions`](File::functions) shows them (core specification, "Function Section").
+    ///
+    /// # Errors
+    /// `AllocError` where memory runs out.
+    pub fn module_functions(&self, alloc: Global) -> Result<Vec<u32>, AllocError>
+        ensures { IfOk result (λ v. v.items ≡ self.now.functions) }
+    {
+        Vec::from_slice(alloc, self.functions())
+    }
+
+    /// The globals that the object defines, as [`globals`](File::globals) shows them (core
+    /// specification, "Global Section").
+    ///
+    /// # Errors
+    /// `AllocError` where memory runs out.
+    pub fn module_globals(&self, alloc: Global) -> Result<Vec<OutputGlobal<'a>>, AllocError>
+        ensures { IfOk result (λ v. v.items ≡ self.now.globals) }
+    {
+        let mut globals = Vec::new(alloc);
+        for global in self.globals() {
+            globals.push(copy_global(alloc, global)?)?;
+        }
+        Ok(globals)
+    }
+
+    /// The segments, as [`segments`](File::segments) shows them (core specification, "Data
+    /// Section").
+    ///
+    /// # Errors
+    /// `AllocError` where memory runs out.
+    pub fn data_segments(&self, alloc: Global) -> Result<Vec<WasmDataSegment<'a>>, AllocError>
+        ensures { IfOk result (λ v. v.items ≡ self.now.segments) }
+    {
+        let mut segments = Vec::new(alloc);
+        for segment in self.segments() {
+            segments.push(segment.duplicate())?;
+        }
+        Ok(segments)
+    }
+
+    /// The memories that the object defines, as [`memory_types`](File::memory_types) shows them
+    /// (core specification, "Memory Section").
+    ///
+    /// # Errors
+    /// `AllocError` where memory runs out.
+    pub fn memories(&self, alloc: Global) -> Result<Vec<MemoryType>, AllocError>
+        ensures { IfOk result (λ v. v.items ≡ self.now.memories) }
+    {
+        Vec::from_slice(alloc, self.memory_types())
+    }
+
+    /// The debug sections, as [`debug_inputs`](File::debug_inputs) shows them (core specification,
+    /// "Custom Section").
+    ///
+    /// # Errors
+    /// `AllocError` where memory runs out.
+    pub fn debug_sections(&self, alloc: Global) -> Result<Vec<DebugSectionInput<'a>>, AllocError>
+        ensures { IfOk result (λ v. v.items ≡ self.now.debug_sections) }
+    {
+        let mut sections = Vec::new(alloc);
+        for section in self.debug_inputs() {
+            sections.push(DebugSectionInput {
+                name: section.name,
+                payload: section.payload,
+                object_index: section.object_index,
+            })?;
+        }
+        Ok(sections)
+    }
+}

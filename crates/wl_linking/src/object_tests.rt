@@ -1,0 +1,216 @@
+//! A small object, read, each fault of it that one change makes, and which fault is told.
+
+use crate::test_bytes::{Row, Section, fault_of, object_of};
+use crate::{RelocationType, Site, WasmRelocation, parse_wasm_module};
+use std::alloc::Global;
+use std::process::Abort;
+use std::test::Fail;
+use wl_module::ReadError::{Malformed, Unsupported};
+use wl_module::{Form, ReadError, SectionHeader, WasmFunctionBody, Why};
+
+/// Two functions, `a` and `b`: a relocation of the body of `a` names `b`.
+const OBJECT: &[u8; 76] = b"\0asm\x01\0\0\0\
+    \x01\x04\x01\x60\0\0\
+    \x03\x03\x02\0\0\
+    \x0a\x0d\x02\x08\0\x10\x81\x80\x80\x80\0\x0b\x02\0\x0b\
+    \0\x16\x07linking\x02\x08\x0b\x02\0\0\0\x01a\0\0\x01\x01b\
+    \0\x10\x0areloc.CODE\x02\x01\0\x04\x01";
+
+#[test]
+fn finds_sections(rt: HostRuntime) -> Result<(), Fail> {
+    let file = parse_wasm_module(rt.alloc(), OBJECT)?;
+    let headers = [
+        (1, (10, 14), None),
+        (3, (16, 19), None),
+        (10, (21, 34), None),
+        (0, (44, 58), Some((37, 44))),
+        (0, (71, 76), Some((61, 71))),
+    ];
+    assert_eq!(rt; file.bytes(), OBJECT.as_slice());
+    assert_eq!(rt; file.sections().len(), headers.len());
+    for (section, (id, payload_range, name_range)) in file.sections().iter().zip(headers) {
+        let want = SectionHeader {
+            id,
+            payload_range,
+            name_range,
+        };
+        assert_eq!(rt; *section, want);
+    }
+    Ok(())
+}
+
+fn stands_at(body: &WasmFunctionBody<'_>, code_offset: u32, bytes: &[u8]) -> bool {
+    body.code_offset == code_offset && body.bytes.as_slice() == bytes
+}
+
+#[test]
+fn reads_functions(rt: HostRuntime) -> Result<(), Fail> {
+    let file = parse_wasm_module(rt.alloc(), OBJECT)?;
+    assert_eq!(rt; file.types().len(), 1);
+    assert_eq!(rt; file.functions(), [0, 0].as_slice());
+    let bodies = file.bodies();
+    assert_eq!(rt; bodies.len(), 2);
+    let call = [0, 0x10, 0x81, 0x80, 0x80, 0x80, 0, 0x0b];
+    assert!(rt; stands_at(&bodies[0], 2, &call));
+    assert!(rt; stands_at(&bodies[1], 11, &[0, 0x0b]));
+    Ok(())
+}
+
+#[test]
+fn reads_symbols_and_relocations(rt: HostRuntime) -> Result<(), Fail> {
+    let file = parse_wasm_module(rt.alloc(), OBJECT)?;
+    let symbols = file.symbols();
+    assert_eq!(rt; symbols.len(), 2);
+    let (a, b) = (&symbols[0], &symbols[1]);
+    assert_eq!(rt; (a.raw_flags(), a.index, a.name), (0, 0, "a"));
+    assert_eq!(rt; (b.raw_flags(), b.index, b.name), (0, 1, "b"));
+    let relocation = WasmRelocation {
+        ty: RelocationType::FunctionIndexLeb,
+        offset: 4,
+        index: 1,
+        addend: 0,
+    };
+    let site = Site {
+        unit: 0,
+        position: 2,
+    };
+    assert_eq!(rt; file.code_relocations(), [relocation].as_slice());
+    assert_eq!(rt; file.code_sites(), [site].as_slice());
+    Ok(())
+}
+
+/// The bytes from one place to another give way to others, and the object is at fault as told.
+type Change<'a> = (usize, usize, &'a [u8], Option<ReadError>);
+
+fn assert_changes(rt: &impl Abort, alloc: Global, changes: &[Change<'_>]) -> Result<(), Fail> {
+    for (from, to, put, want) in changes {
+        assert!(rt; *from <= *to && *to <= OBJECT.len());
+        let mut object = Vec::from_slice(alloc, &OBJECT[..*from])?;
+        object.extend_from_slice(put)?;
+        object.extend_from_slice(&OBJECT[*to..])?;
+        let why = fault_of(rt, alloc, &object);
+        assert_eq!(rt; why, *want, "{from} to {to}: {put:?}");
+    }
+    Ok(())
+}
+
+#[test]
+fn judges_changed_sections(rt: HostRuntime) -> Result<(), Fail> {
+    let changes: [Change<'_>; 15] = [
+        (14, 14, &[9, 1, 0xff], Some(Malformed(Why::SectionOrder))),
+        (15, 19, &[2, 1, 0], Some(Malformed(Why::Count))),
+        (17, 18, &[1], Some(Malformed(Why::BadIndex))),
+        (19, 19, &[4, 0], Some(Unsupported(Form::TableDef))),
+        (19, 19, &[8, 0], Some(Unsupported(Form::Start))),
+        // The section that the relocations are for has another number then.
+        (19, 19, &[9, 1, 0xff], Some(Unsupported(Form::RelocTarget))),
+        (19, 19, &[13, 0], Some(Unsupported(Form::Tag))),
+        // Bodies aren't read.
+        (24, 25, &[0xfc], None),
+        (44, 76, &[3], Some(Malformed(Why::Truncated))),
+        (
+            76,
+            76,
+            b"\0\x09\x07linking\x02",
+            Some(Malformed(Why::Repeated)),
+        ),
+        (
+            76,
+            76,
+            b"\0\x0a\x07reloc.x\x02\0",
+            Some(Malformed(Why::Repeated)),
+        ),
+        (76, 76, b"\0\x09\x08.debug_x", None),
+        (76, 76, &[11, 1, 0], None),
+        (76, 76, &[1, 1, 0], Some(Malformed(Why::SectionOrder))),
+        (76, 76, &[14, 0], Some(Malformed(Why::SectionId))),
+    ];
+    assert_changes(&rt, rt.alloc(), &changes)
+}
+
+#[test]
+fn judges_changed_symbols_and_relocations(rt: HostRuntime) -> Result<(), Fail> {
+    let changes: [Change<'_>; 12] = [
+        (29, 30, &[0x80], Some(Malformed(Why::Field))),
+        (49, 50, &[1], None),
+        (55, 56, &[2], Some(Malformed(Why::BadIndex))),
+        (71, 72, &[4], Some(Unsupported(Form::RelocTarget))),
+        (73, 74, &[1], None),
+        (73, 74, &[3], Some(Malformed(Why::Truncated))),
+        (73, 74, &[8], Some(Unsupported(Form::RelocType))),
+        (73, 74, &[27], Some(Malformed(Why::RelocType))),
+        (74, 75, &[3], Some(Malformed(Why::Field))),
+        (74, 75, &[5], Some(Malformed(Why::Field))),
+        (75, 76, &[2], Some(Malformed(Why::BadIndex))),
+        (
+            59,
+            76,
+            b"\x13\x0areloc.CODE\x02\x02\0\x04\x01\0\x04\x01",
+            Some(Malformed(Why::Overlap)),
+        ),
+    ];
+    assert_changes(&rt, rt.alloc(), &changes)
+}
+
+#[test]
+fn the_first_fault_is_told(rt: HostRuntime) -> Result<(), Fail> {
+    let bad_types: Section<'static> = (1, b"\x01\x5f");
+    let bad_functions: Section<'static> = (3, b"\0\0");
+    let bad_linking: Section<'static> = (0, b"\x07linking\x03");
+    let bad_reloc: Section<'static> = (0, b"\x06reloc.\x63");
+    let types = Some(Unsupported(Form::TypeForm));
+    let trailing = Some(Malformed(Why::Trailing));
+    let version = Some(Unsupported(Form::LinkingVersion));
+    let target = Some(Unsupported(Form::RelocTarget));
+    let rows: [([Section<'static>; 2], Option<ReadError>); 7] = [
+        ([bad_types, bad_functions], types),
+        ([bad_functions, bad_linking], trailing),
+        ([bad_linking, bad_functions], version),
+        ([bad_linking, bad_reloc], version),
+        ([bad_reloc, bad_linking], target),
+        // The frame is judged first.
+        ([bad_types, (14, b"")], Some(Malformed(Why::SectionId))),
+        (
+            [bad_functions, bad_types],
+            Some(Malformed(Why::SectionOrder)),
+        ),
+    ];
+    for (sections, want) in rows {
+        let object = object_of(&rt, rt.alloc(), &sections)?;
+        assert_eq!(rt; fault_of(&rt, rt.alloc(), &object), want);
+    }
+    Ok(())
+}
+
+#[test]
+fn sections_are_judged_in_front_of_what_joins_them(rt: HostRuntime) -> Result<(), Fail> {
+    // A function without a body, and a section with a fault of its own behind it.
+    let rows: [Row<'_>; 4] = [
+        (b"\x02ab", Some(Malformed(Why::Count))),
+        (b"\x07linking\x03", Some(Unsupported(Form::LinkingVersion))),
+        (
+            b"\x07linking\x02\x08\x02\x01\x06",
+            Some(Malformed(Why::BadByte)),
+        ),
+        (b"\x06reloc.\x63", Some(Unsupported(Form::RelocTarget))),
+    ];
+    for (last, want) in rows {
+        let sections: [Section<'_>; 3] = [(1, b"\x01\x60\0\0"), (3, b"\x01\0"), (0, last)];
+        let object = object_of(&rt, rt.alloc(), &sections)?;
+        assert_eq!(rt; fault_of(&rt, rt.alloc(), &object), want, "at {last:?}");
+    }
+    Ok(())
+}
+
+#[test]
+fn an_object_may_have_no_sections(rt: HostRuntime) -> Result<(), Fail> {
+    let file = parse_wasm_module(rt.alloc(), b"\0asm\x01\0\0\0")?;
+    assert!(rt; file.sections().is_empty() && file.symbols().is_empty());
+    for bytes in [b"\0asm\x02\0\0\0".as_slice(), b"\0asm", b""] {
+        assert_eq!(rt;
+            fault_of(&rt, rt.alloc(), bytes),
+            Some(Malformed(Why::Header))
+        );
+    }
+    Ok(())
+}
