@@ -80,7 +80,10 @@ def refusals(folder):
     refused("functions without bodies", sound[:19], b"error: Malformed 0 Count\n")
     refused("a call outside every body", sound[:74] + b"\x0a\x01", b"error: Malformed 0 Field\n")
     refused("a tag section", sound + b"\x0d\x00", b"error: Unsupported 0 Tag\n")
-    refused("a memory", sound[:19] + b"\x05\x03\x01\x00\x01" + sound[19:], b"error: Unsupported 0 NotYet\n")
+    memory = b"\x05\x03\x01\x00\x01"
+    refused("a memory", sound[:8] + memory, b"error: Unsupported 0 NotYet\n")
+    # Behind one more section, section 2 isn't the code any more.
+    refused("relocations for a memory", sound[:19] + memory + sound[19:], b"error: Unsupported 0 RelocTarget\n")
     made.write_bytes(sound)
     check("a name twice", run([*FLAGS, made, made]), 1, err=b'error: DuplicateSymbol "a" 0 0 1 0\n')
     check("units dropped", run([made, "--no-entry"]), 1, err=b"error: Unsupported 0 NotYet\n")
