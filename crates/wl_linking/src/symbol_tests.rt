@@ -48,31 +48,50 @@ fn assert_symbol(rt: &impl Abort, symbol: &WasmSymbol<'_>, want: Want<'_>) {
     assert_eq!(rt; symbol.name_range(), range, "{name}");
 }
 
+// The symbols are as wanted.
+fn assert_symbols(rt: &impl Abort, symbols: &[WasmSymbol<'_>], want: &[Want<'_>]) {
+    assert_eq!(rt; symbols.len(), want.len());
+    for (symbol, want) in symbols.iter().zip(want) {
+        assert_symbol(rt, symbol, *want);
+    }
+}
+
+/// What the symbols are.
+const KINDS: [Want<'static>; 11] = [
+    (WasmSymbolKind::Func, 0, 2, (0, 0), "a", (114, 115)),
+    // The names of these are those of their imports.
+    (WasmSymbolKind::Func, 0x10, 0, (0, 0), "f", (24, 25)),
+    (WasmSymbolKind::Func, 0x50, 1, (0, 0), "x", (122, 123)),
+    (WasmSymbolKind::Data, 0, 0, (1, 2), "d", (126, 127)),
+    (WasmSymbolKind::Data, 0x10, 0, (0, 0), "u", (133, 134)),
+    (WasmSymbolKind::Global, 2, 1, (0, 0), "b", (138, 139)),
+    (WasmSymbolKind::Global, 0x10, 0, (0, 0), "h", (51, 52)),
+    (WasmSymbolKind::Section, 2, 4, (0, 0), "", (0, 0)),
+    // A table takes no name of its import.
+    (WasmSymbolKind::Table, 0x10, 0, (0, 0), "", (0, 0)),
+    (WasmSymbolKind::Table, 0x50, 0, (0, 0), "té", (152, 155)),
+    (WasmSymbolKind::Func, 0x400, 3, (0, 0), "", (0, 0)),
+];
+
 #[test]
 fn reads_symbols_of_each_kind(rt: HostRuntime) -> Result<(), Fail> {
-    let want: [Want<'_>; 11] = [
-        (WasmSymbolKind::Func, 0, 2, (0, 0), "a", (114, 115)),
-        // The names of these are those of their imports.
-        (WasmSymbolKind::Func, 0x10, 0, (0, 0), "f", (24, 25)),
-        (WasmSymbolKind::Func, 0x50, 1, (0, 0), "x", (122, 123)),
-        (WasmSymbolKind::Data, 0, 0, (1, 2), "d", (126, 127)),
-        (WasmSymbolKind::Data, 0x10, 0, (0, 0), "u", (133, 134)),
-        (WasmSymbolKind::Global, 2, 1, (0, 0), "b", (138, 139)),
-        (WasmSymbolKind::Global, 0x10, 0, (0, 0), "h", (51, 52)),
-        (WasmSymbolKind::Section, 2, 4, (0, 0), "", (0, 0)),
-        // A table takes no name of its import.
-        (WasmSymbolKind::Table, 0x10, 0, (0, 0), "", (0, 0)),
-        (WasmSymbolKind::Table, 0x50, 0, (0, 0), "té", (152, 155)),
-        (WasmSymbolKind::Func, 0x400, 3, (0, 0), "", (0, 0)),
-    ];
     let object = with_symbols(&rt, rt.alloc(), SYMBOLS)?;
     assert!(rt; object.len() < 1000);
     let file = parse_wasm_module(rt.alloc(), &object)?;
-    assert_eq!(rt; file.symbols().len(), want.len());
-    for (symbol, want) in file.symbols().iter().zip(want) {
-        assert_symbol(&rt, symbol, want);
-    }
+    assert_symbols(&rt, file.symbols(), &KINDS);
     Ok(())
+}
+
+// Whether a symbol has a name and is undefined, weak, local, hidden and of an explicit name.
+fn told(symbol: &WasmSymbol<'_>) -> [bool; 6] {
+    [
+        symbol.has_name(),
+        symbol.is_undefined(),
+        symbol.is_weak(),
+        symbol.is_local(),
+        symbol.is_hidden(),
+        symbol.is_explicit_name(),
+    ]
 }
 
 #[test]
@@ -81,15 +100,34 @@ fn tells_the_flags_of_a_symbol(rt: HostRuntime) -> Result<(), Fail> {
     let object = with_symbols(&rt, rt.alloc(), b"\x02\0\xe7\x03\x02\x01a\0\x10\0")?;
     assert!(rt; object.len() < 1000);
     let file = parse_wasm_module(rt.alloc(), &object)?;
-    assert_eq!(rt; file.symbols().len(), 2);
-    let (a, f) = (&file.symbols()[0], &file.symbols()[1]);
-    assert!(rt; a.is_weak() && a.is_local() && a.is_hidden() && a.is_explicit_name());
-    assert!(rt; a.has_name() && !a.is_undefined());
-    assert!(rt; a.flags.contains(SymbolFlags::EXPORTED) && a.flags.contains(SymbolFlags::TLS));
-    assert!(rt; a.flags.contains(SymbolFlags::NO_STRIP));
-    assert!(rt; !f.is_weak() && !f.is_local() && !f.is_hidden() && !f.is_explicit_name());
-    assert!(rt; f.has_name() && f.is_undefined());
+    let want = [
+        [true, false, true, true, true, true],
+        [true, true, false, false, false, false],
+    ];
+    assert_eq!(rt; file.symbols().len(), want.len());
+    for (symbol, want) in file.symbols().iter().zip(want) {
+        assert_eq!(rt; told(symbol), want);
+    }
     Ok(())
+}
+
+#[test]
+fn flags_have_names(rt: HostRuntime) {
+    let flags = SymbolFlags::from_bits_retain(0x1a0);
+    for flag in [
+        SymbolFlags::EXPORTED,
+        SymbolFlags::NO_STRIP,
+        SymbolFlags::TLS,
+    ] {
+        assert!(rt; flags.contains(flag));
+    }
+    for flag in [
+        SymbolFlags::WEAK,
+        SymbolFlags::UNDEFINED,
+        SymbolFlags::ABSOLUTE,
+    ] {
+        assert!(rt; !flags.contains(flag));
+    }
 }
 
 #[test]
