@@ -41,16 +41,24 @@ struct Answer {
     err: MemSink,
 }
 
-// What is answered to three objects at most.
-fn answer_to(alloc: Global, objects: &[&[u8]]) -> Result<Answer, AllocError> {
+// The words for so many objects, with both options.
+fn words_for(alloc: Global, count: usize) -> Result<Vec<String>, AllocError> {
     let mut words = Vec::new(alloc);
     for flag in ["--no-gc-sections", "--no-entry"] {
         words.push(String::from_str(alloc, flag)?)?;
     }
+    for i in 0..count {
+        words.push(format!(in alloc; "{i}.o")?)?;
+    }
+    Ok(words)
+}
+
+// What is answered to objects.
+fn answer_to(alloc: Global, objects: &[&[u8]]) -> Result<Answer, AllocError> {
+    let words = words_for(alloc, objects.len())?;
     let mut files = MemFiles::new(alloc);
-    for (name, object) in ["a.o", "b.o", "c.o"].into_iter().zip(objects) {
-        words.push(String::from_str(alloc, name)?)?;
-        files.add(name, object)?;
+    for (word, object) in words.iter().skip(2).zip(objects) {
+        files.add(word.as_str(), object)?;
     }
     let mut out = MemSink::new(alloc, 1000, 1000)?;
     let mut err = MemSink::new(alloc, 1000, 1000)?;
@@ -152,28 +160,19 @@ fn a_repeated_name_has_its_line(rt: HostRuntime) -> Result<(), Fail> {
 
 #[test]
 fn objects_are_judged_in_steps(rt: HostRuntime) -> Result<(), Fail> {
+    let sound = local();
     // Bulk memory operators have no plan yet, and no more have weak symbols, which repeat no name.
     let bulk = changed(24, 0xfc);
     let weak = with_byte(changed(49, 1), 54, 1);
-    let refusals: [([&[u8]; 3], &str); 4] = [
-        // The first object without a plan is told.
-        ([OBJECT, &weak, &local()], "error: Unsupported 1 NotYet\n"),
-        ([&local(), &weak, &bulk], "error: Unsupported 1 NotYet\n"),
-        // Names come before.
-        (
-            [&bulk, OBJECT, &weak],
-            "error: DuplicateSymbol \"a\" 0 0 1 0\n",
-        ),
-        // What each object is comes before both, up to what must hold across its sections.
-        (
-            [&bulk, OBJECT, &changed(75, 2)],
-            "error: Malformed 2 BadIndex\n",
-        ),
-    ];
-    for (objects, line) in refusals {
-        assert_refused(&rt, rt.alloc(), &objects, line)?;
-    }
-    Ok(())
+    let line = "error: Unsupported 1 NotYet\n";
+    assert_refused(&rt, rt.alloc(), &[&sound, &weak, &bulk], line)?;
+    // Names come before.
+    let line = "error: DuplicateSymbol \"a\" 0 0 2 0\n";
+    assert_refused(&rt, rt.alloc(), &[&bulk, &weak, OBJECT], line)?;
+    // What each object is comes before both, up to what must hold across its sections.
+    let broken = changed(75, 2);
+    let line = "error: Malformed 2 BadIndex\n";
+    assert_refused(&rt, rt.alloc(), &[&bulk, OBJECT, &broken], line)
 }
 
 #[test]

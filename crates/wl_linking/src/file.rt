@@ -22,7 +22,8 @@ use wl_module::{
 
 /// A relocatable object: what its sections hold, in file order (core specification, "Modules";
 /// object file linking, version 2). Names, bodies and payloads are slices of the bytes that it was
-/// read from. Clauses see it as an `Object`. No accessor takes memory.
+/// read from. Clauses see it as an `Object`. Accessors that answer slices take no memory; those that
+/// take an allocator answer a list of their own with the same things in it.
 #[derive(Drop)]
 pub struct File<'a> {
     pub(crate) bytes: &'a [u8],

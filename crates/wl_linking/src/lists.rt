@@ -7,7 +7,7 @@ use crate::debug::DebugSectionInput;
 use crate::file::File;
 use std::alloc::{AllocError, Global};
 use std::borrow::CowSlice;
-use wl_module::{MemoryType, OutputGlobal, WasmFunctionBody};
+use wl_module::{MemoryType, OutputGlobal, WasmDataSegment, WasmFunctionBody};
 
 /// The same bytes: borrowed ones stay borrowed, and others are copied.
 fn copy_bytes<'a>(alloc: Global, bytes: &CowSlice<'a, u8>) -> Result<CowSlice<'a, u8>, AllocError>
@@ -43,8 +43,8 @@ fn copy_global<'a>(alloc: Global, global: &OutputGlobal<'a>) -> Result<OutputGlo
     })
 }
 
-/// Lists of what an object holds, for callers that keep or change them. They hold what the lists of
-/// the object hold, and the bytes in them are the object's, not copies.
+/// Lists of what an object holds, for callers that keep or change them. Bytes that the object borrows
+/// are borrowed in them too.
 impl<'a> File<'a> {
     /// The body of each function that the object defines, as [`bodies`](File::bodies) shows them
     /// (core specification, "Code Section").
@@ -85,6 +85,21 @@ impl<'a> File<'a> {
             globals.push(copy_global(alloc, global)?)?;
         }
         Ok(globals)
+    }
+
+    /// The segments, as [`segments`](File::segments) shows them (core specification, "Data
+    /// Section").
+    ///
+    /// # Errors
+    /// `AllocError` where memory runs out.
+    pub fn data_segments(&self, alloc: Global) -> Result<Vec<WasmDataSegment<'a>>, AllocError>
+        ensures { IfOk result (λ v. v.items ≡ self.now.segments) }
+    {
+        let mut segments = Vec::new(alloc);
+        for segment in self.segments() {
+            segments.push(segment.duplicate())?;
+        }
+        Ok(segments)
     }
 
     /// The memories that the object defines, as [`memory_types`](File::memory_types) shows them

@@ -1,21 +1,30 @@
 //! Names as bytes, and the lists of a small object.
 
-use crate::{RawSymbolName, parse_wasm_module, wasm_symbol_name_str};
+use crate::{File, RawSymbolName, WasmSymbol, parse_wasm_module, wasm_symbol_name_str};
+use std::alloc::Global;
+use std::process::Abort;
 use std::test::Fail;
+use wl_module::ReadError;
 
-/// A function `a` with its body, a memory of two pages, a global that starts as 7, and a debug
-/// section that holds 9.
-const OBJECT: [u8; 68] = [
+/// A function `a` with its body, a memory of two pages, a global that starts as 7, a passive
+/// segment that holds 5, and a debug section that holds 9.
+const OBJECT: &[u8; 74] = &[
     0, 0x61, 0x73, 0x6d, 1, 0, 0, 0, // header
     1, 4, 1, 0x60, 0, 0, // one type
     3, 2, 1, 0, // one function
     5, 3, 1, 0, 2, // one memory
     6, 6, 1, 0x7f, 0, 0x41, 7, 0x0b, // one global
     10, 4, 1, 2, 0, 0x0b, // one body
+    11, 4, 1, 1, 1, 5, // one segment
     0, 10, 8, 0x2e, 0x64, 0x65, 0x62, 0x75, 0x67, 0x5f, 0x78, 9, // .debug_x
     0, 17, 7, 0x6c, 0x69, 0x6e, 0x6b, 0x69, 0x6e, 0x67, 2, // linking, version 2
     8, 6, 1, 0, 0, 0, 1, 0x61, // one symbol
 ];
+
+// The object, read.
+fn read_object(alloc: Global) -> Result<File<'static>, ReadError> {
+    parse_wasm_module(alloc, OBJECT)
+}
 
 #[test]
 fn prints_names(rt: HostRuntime) -> Result<(), Fail> {
@@ -37,48 +46,74 @@ fn keeps_the_bytes_of_a_name(rt: HostRuntime) -> Result<(), Fail> {
     Ok(())
 }
 
-#[test]
-fn finds_the_name_of_a_symbol(rt: HostRuntime) -> Result<(), Fail> {
-    let file = parse_wasm_module(rt.alloc(), &OBJECT)?;
-    let symbol = file.symbols().first().ok_or("no symbol")?;
-    assert_eq!(rt; symbol.name_range(), (67, 68));
-    assert_eq!(rt; wasm_symbol_name_str(&OBJECT, symbol), Some("a"));
-    assert_eq!(rt; wasm_symbol_name_str(&OBJECT[..67], symbol), None);
-    assert_eq!(rt; wasm_symbol_name_str(&[0xff; 68], symbol), None);
-    Ok(())
+// The only symbol has its name where the object spells it, and nowhere else.
+fn assert_symbol(rt: &impl Abort, symbol: &WasmSymbol<'_>) {
+    assert_eq!(rt; symbol.name_range(), (73, 74));
+    assert_eq!(rt; wasm_symbol_name_str(OBJECT, symbol), Some("a"));
+    assert_eq!(rt; wasm_symbol_name_str(&OBJECT[..73], symbol), None);
+    assert_eq!(rt; wasm_symbol_name_str(&[0xff; 74], symbol), None);
 }
 
 #[test]
-fn lists_functions(rt: HostRuntime) -> Result<(), Fail> {
-    let file = parse_wasm_module(rt.alloc(), &OBJECT)?;
-    let functions = file.module_functions(rt.alloc())?;
+fn finds_the_name_of_a_symbol(rt: HostRuntime) -> Result<(), Fail> {
+    let file = read_object(rt.alloc())?;
+    assert_eq!(rt; file.symbols().len(), 1);
+    assert_symbol(&rt, &file.symbols()[0]);
+    Ok(())
+}
+
+fn assert_functions(rt: &impl Abort, alloc: Global, file: &File<'_>) -> Result<(), Fail> {
+    let functions = file.module_functions(alloc)?;
     assert_eq!(rt; functions.as_slice(), [0].as_slice());
-    let bodies = file.function_bodies(rt.alloc())?;
+    Ok(())
+}
+
+fn assert_bodies(rt: &impl Abort, alloc: Global, file: &File<'_>) -> Result<(), Fail> {
+    let bodies = file.function_bodies(alloc)?;
     assert_eq!(rt; bodies.len(), 1);
     assert_eq!(rt; bodies[0].code_offset, 2);
     assert_eq!(rt; bodies[0].bytes.as_slice(), [0, 0x0b].as_slice());
     Ok(())
 }
 
-#[test]
-fn lists_memories_and_globals(rt: HostRuntime) -> Result<(), Fail> {
-    let file = parse_wasm_module(rt.alloc(), &OBJECT)?;
-    let memories = file.memories(rt.alloc())?;
+fn assert_memories(rt: &impl Abort, alloc: Global, file: &File<'_>) -> Result<(), Fail> {
+    let memories = file.memories(alloc)?;
     assert_eq!(rt; memories.len(), 1);
     assert_eq!(rt; memories[0].initial, 2);
-    let globals = file.module_globals(rt.alloc())?;
+    Ok(())
+}
+
+fn assert_globals(rt: &impl Abort, alloc: Global, file: &File<'_>) -> Result<(), Fail> {
+    let globals = file.module_globals(alloc)?;
     assert_eq!(rt; globals.len(), 1);
     assert!(rt; !globals[0].ty.mutable);
     assert_eq!(rt; globals[0].init_expr_body.as_slice(), [0x41, 7].as_slice());
     Ok(())
 }
 
-#[test]
-fn lists_debug_sections(rt: HostRuntime) -> Result<(), Fail> {
-    let file = parse_wasm_module(rt.alloc(), &OBJECT)?;
-    let sections = file.debug_sections(rt.alloc())?;
+fn assert_segments(rt: &impl Abort, alloc: Global, file: &File<'_>) -> Result<(), Fail> {
+    let segments = file.data_segments(alloc)?;
+    assert_eq!(rt; segments.len(), 1);
+    assert_eq!(rt; segments[0].payload, [5].as_slice());
+    assert!(rt; segments[0].memory_index().is_none());
+    Ok(())
+}
+
+fn assert_debug_sections(rt: &impl Abort, alloc: Global, file: &File<'_>) -> Result<(), Fail> {
+    let sections = file.debug_sections(alloc)?;
     assert_eq!(rt; sections.len(), 1);
     assert_eq!(rt; sections[0].name, ".debug_x");
     assert_eq!(rt; sections[0].payload, [9].as_slice());
     Ok(())
+}
+
+#[test]
+fn lists_what_an_object_holds(rt: HostRuntime) -> Result<(), Fail> {
+    let file = read_object(rt.alloc())?;
+    assert_functions(&rt, rt.alloc(), &file)?;
+    assert_bodies(&rt, rt.alloc(), &file)?;
+    assert_memories(&rt, rt.alloc(), &file)?;
+    assert_globals(&rt, rt.alloc(), &file)?;
+    assert_segments(&rt, rt.alloc(), &file)?;
+    assert_debug_sections(&rt, rt.alloc(), &file)
 }

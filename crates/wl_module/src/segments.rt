@@ -57,6 +57,19 @@ impl<'a> WasmDataSegment<'a> {
     {
         self.memory_index
     }
+
+    /// The same segment once more. Its bytes aren't copied.
+    pub fn duplicate(&self) -> Self
+        ensures { result ≡ self.now }
+    {
+        WasmDataSegment {
+            kind: self.kind,
+            payload: self.payload,
+            section_offset: self.section_offset,
+            encoded_size: self.encoded_size,
+            memory_index: self.memory_index,
+        }
+    }
 }
 
 impl<'a> Item<'a> for WasmDataSegment<'a> {

@@ -1,13 +1,11 @@
 -- Objects that are added to the spaces in turn.
-use Rattle.std.proofs.Common.{◌≡◌, ◌<◌, ◌≤◌, ◌+◌, ◌++◌, ◌&&◌, ℕ, zero, suc, Bool, true, false, eqb, ltb, List, [], ◌∷◌, length, get_or, drop, take, map, Some, refl, sym, ap, subst, ◌∙◌, arith, slice_get, add-one, drop-cons, append_assoc, length-append, inl, inr, eq-eqb, append-nil}
+use Rattle.std.proofs.Common.{◌≡◌, ◌<◌, ◌≤◌, ◌+◌, ◌++◌, ℕ, zero, suc, true, eqb, List, [], ◌∷◌, length, get_or, drop, take, map, Some, refl, sym, ap, subst, ◌∙◌, arith, slice_get, add-one, drop-cons, append_assoc, length-append, inl, inr, eq-eqb, append-nil}
 use Rattle.std.specs.List.{AllByRecursion, list_all, list_any, flat_map}
 use Rattle.std.proofs.Math.Seq.{take-suc}
-use Rattle.std.proofs.lemmas.Bool.{cases_Bool, ltb-true}
 use Rattle.std.proofs.lemmas.List.{length-map, length-take, map-append, take_all, drop_all}
-use Rattle.std.proofs.lemmas.List.Folds.{list_all_at, list_any_at}
+use Rattle.std.proofs.lemmas.List.Folds.{list_any_at}
 use Rattle.std.proofs.lemmas.Option.{slice_get-get_or, slice_get_within, get_or_from_slice_get}
 use Rattle.wl_module.specs.Types.{FunctionType}
-use Rattle.wl_linking.specs.Symbols.{Symbol}
 use Rattle.wl_linking.specs.Object.{Object}
 use Rattle.wl_linking.specs.Fitting.{IsFitting, code_pieces}
 use Rattle.wl_linking.specs.Sites.{AreSites}

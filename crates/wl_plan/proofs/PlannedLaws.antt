@@ -1,5 +1,5 @@
 -- Laws of objects that fit together and are planned: what they name is their own.
-use Rattle.std.proofs.Common.{◌≡◌, ◌<◌, ◌≤◌, ◌+◌, ◌-◌, ℕ, zero, suc, Bool, true, false, not, eqb, ltb, leb, ◌&&◌, List, [], ◌∷◌, length, get_or, take, map, Option, Some, None, refl, sym, ap, ◌∙◌, arith, slice_get, inl, inr}
+use Rattle.std.proofs.Common.{◌≡◌, ◌<◌, ◌-◌, ℕ, zero, suc, Bool, true, false, not, ltb, leb, List, [], ◌∷◌, length, get_or, map, Option, Some, None, refl, ap, arith, slice_get}
 use Rattle.std.specs.List.{list_all}
 use Rattle.std.proofs.lemmas.Bool.{eqb-true, ltb-true}
 use Rattle.std.proofs.lemmas.List.{length-map}
@@ -86,19 +86,19 @@ function_named o r fits planned here = by_symbol (slice_get o.symbols r.index) r
       function_below o s s.kind is (all_at is_planned_symbol o.symbols r.index s (symbols_planned o planned) at) (all_at (symbol_exists (spaces_of o)) o.symbols r.index s (symbols_exist o fits) at) none,
     )
 
--- the relocation of that number has a symbol
-pub symbol_within : (o : Object) (i : ℕ) (d : WasmRelocation) → IsFitting o → is_planned o ≡ true → i < length o.code_relocations → (get_or o.code_relocations i d).index < length o.symbols
-symbol_within o i d fits planned lt =
+-- the relocation of that number has such a symbol
+named_at : (o : Object) (i : ℕ) (d : WasmRelocation) → IsFitting o → is_planned o ≡ true → i < length o.code_relocations → (s : Symbol) × (slice_get o.symbols (get_or o.code_relocations i d).index ≡ Some s) × (s.index < length o.functions)
+named_at o i d fits planned lt =
     let r = get_or o.code_relocations i d in
-    let h = function_named o r fits planned (all_at (is_planned_relocation o.symbols) o.code_relocations i r (relocations_planned o planned) (slice_get-get_or o.code_relocations i d lt)) in
-    slice_get_within o.symbols r.index h.0 h.1
+    function_named o r fits planned (all_at (is_planned_relocation o.symbols) o.code_relocations i r (relocations_planned o planned) (slice_get-get_or o.code_relocations i d lt))
 
--- and that is the symbol of one of the object's functions
+-- it names one of the symbols
+pub symbol_within : (o : Object) (i : ℕ) (d : WasmRelocation) → IsFitting o → is_planned o ≡ true → i < length o.code_relocations → (get_or o.code_relocations i d).index < length o.symbols
+symbol_within o i d fits planned lt = let s = named_at o i d fits planned lt in slice_get_within o.symbols (get_or o.code_relocations i d).index s.0 s.1
+
+-- whose number is that of one of the object's functions
 pub function_within : (o : Object) (i : ℕ) (d : WasmRelocation) (e : Symbol) → IsFitting o → is_planned o ≡ true → i < length o.code_relocations → (get_or o.symbols (get_or o.code_relocations i d).index e).index < length o.functions
-function_within o i d e fits planned lt =
-    let r = get_or o.code_relocations i d in
-    let h = function_named o r fits planned (all_at (is_planned_relocation o.symbols) o.code_relocations i r (relocations_planned o planned) (slice_get-get_or o.code_relocations i d lt)) in
-    rw (get_or_from_slice_get o.symbols r.index h.0 e h.1) h.2
+function_within o i d e fits planned lt = let s = named_at o i d fits planned lt in rw (get_or_from_slice_get o.symbols (get_or o.code_relocations i d).index s.0 e s.1) s.2
 
 -- ---- the sites of relocations
 

@@ -1,6 +1,5 @@
 -- What each object adds to the spaces.
-use Rattle.std.proofs.Common.{◌≡◌, ◌<◌, ◌+◌, ◌++◌, ℕ, zero, suc, List, [], ◌∷◌, length, get_or, drop, Some, refl, sym, ap, ◌∙◌, arith, slice_get, add-one, drop-cons, append_assoc}
-use Rattle.std.proofs.Common.{pos}
+use Rattle.std.proofs.Common.{◌≡◌, ◌<◌, ◌+◌, ◌++◌, ℕ, List, [], ◌∷◌, length, get_or, drop, Some, refl, sym, ap, ◌∙◌, arith, slice_get, add-one, drop-cons, append_assoc, pos}
 use Rattle.std.proofs.lemmas.List.{get_or_default}
 use Rattle.std.proofs.lemmas.Option.{slice_get-get_or}
 use Rattle.wl_linking.specs.Symbols.{Symbol}

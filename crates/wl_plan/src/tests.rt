@@ -91,9 +91,7 @@ fn equal_types_are_one(rt: HostRuntime) -> Result<(), Fail> {
 
 #[test]
 fn no_objects_have_a_plan(rt: HostRuntime) -> Result<(), Fail> {
-    let plan = plan_objects(rt.alloc(), &[])
-        .ok()
-        .expect(&rt, "a plan");
+    let plan = plan_objects(rt.alloc(), &[]).ok().expect(&rt, "a plan");
     assert!(rt;
         plan.layout.functions.as_slice().is_empty()
             && plan.layout.output_types.as_slice().is_empty()
@@ -168,13 +166,15 @@ fn a_repeated_name_is_told(rt: HostRuntime) -> Result<(), Fail> {
     assert!(rt; check_names(alloc, &files).is_ok());
     files.push(parse_wasm_module(alloc, CALLS)?)?;
     let refusal = check_names(alloc, &files).err();
-    let Some(LinkError::DuplicateSymbol {
-        name,
-        first_object,
-        first_symbol,
-        second_object,
-        second_symbol,
-    }) = refusal
+    let Some(
+        LinkError::DuplicateSymbol {
+            name,
+            first_object,
+            first_symbol,
+            second_object,
+            second_symbol,
+        },
+    ) = refusal
     else {
         panic!(&rt; "no refusal");
     };
@@ -200,9 +200,10 @@ fn a_debug_section_is_of_its_object(rt: HostRuntime) -> Result<(), Fail> {
     let plan = plan_of(&rt, rt.alloc(), TYPED, DEBUG)?;
     let sections = plan.layout.debug_sections.as_slice();
     assert_eq!(rt; sections.len(), 1);
-    assert_eq!(rt; sections[0].name, ".debug_x");
-    assert_eq!(rt; sections[0].payload, [1, 2].as_slice());
-    assert_eq!(rt; sections[0].object_index, 1);
+    let section = &sections[0];
+    assert_eq!(rt; section.name, ".debug_x");
+    assert_eq!(rt; section.payload, [1, 2].as_slice());
+    assert_eq!(rt; section.object_index, 1);
     Ok(())
 }
 

@@ -6,7 +6,6 @@ ghost use Rattle.wl_plan.specs.Types.{same_type, add_new};
 ghost use Rattle.wl_plan.specs.Merging.{IsFull, Finds};
 ghost use Rattle.wl_plan.specs.Plan.{max_entries};
 
-
 use std::alloc::{AllocError, Global};
 use std::marker::Model;
 use wl_linking::{Items, LinkError, Quantity};
