@@ -1,11 +1,11 @@
 //! What joins the core sections, and debug sections.
 
-use crate::test_bytes::{CORE, Row, Section, fault_of, object_of};
-use crate::{File, parse_wasm_module};
+use crate::test_bytes::{CORE, ObjectRow, Row, Section, assert_objects, fault_of, object_of};
+use crate::{DebugSectionInput, File, parse_wasm_module};
 use std::alloc::Global;
 use std::process::Abort;
 use std::test::Fail;
-use wl_module::{ExternalKind, Form, ReadError, Why};
+use wl_module::{ExternalKind, Form, OutputExport, ReadError, Why};
 
 const COUNT: Option<ReadError> = Some(ReadError::Malformed(Why::Count));
 
@@ -31,19 +31,20 @@ fn reads_core_sections(rt: HostRuntime) -> Result<(), Fail> {
     assert_eq!(rt; (file.globals().len(), file.bodies().len()), (1, 2));
     assert_eq!(rt; file.functions(), [0, 1].as_slice());
     assert!(rt; file.memory_types().is_empty());
-    assert_exports(&rt, &file);
+    let want = [("x", ExternalKind::Global, 1), ("y", ExternalKind::Func, 3)];
+    assert_exports(&rt, file.exports(), &want);
     Ok(())
 }
 
-// The object exports a global `x` and a function `y`.
-fn assert_exports(rt: &impl Abort, file: &File<'_>) {
-    let want = [("x", ExternalKind::Global, 1), ("y", ExternalKind::Func, 3)];
-    assert_eq!(rt; file.exports().len(), want.len());
-    for (export, (name, kind, index)) in file.exports().iter().zip(want) {
-        assert_eq!(rt;
-            (export.name, export.kind, export.index),
-            (name, kind, index)
-        );
+// The exports are these names, kinds and indices.
+fn assert_exports(
+    rt: &impl Abort,
+    exports: &[OutputExport<'_>],
+    want: &[(&str, ExternalKind, u32)],
+) {
+    assert_eq!(rt; exports.len(), want.len());
+    for (export, want) in exports.iter().zip(want) {
+        assert_eq!(rt; (export.name, export.kind, export.index), *want);
     }
 }
 
@@ -60,18 +61,6 @@ fn assert_payloads(
         sections[place].1 = *payload;
         let object = object_of(rt, alloc, &sections)?;
         assert_eq!(rt; fault_of(rt, alloc, &object), *want, "at {payload:?}");
-    }
-    Ok(())
-}
-
-/// Sections, and what is wrong with an object of these.
-type ObjectRow<'a> = (&'a [Section<'a>], Option<ReadError>);
-
-// The objects of these sections are at fault as told, or are sound.
-fn assert_objects(rt: &impl Abort, alloc: Global, rows: &[ObjectRow<'_>]) -> Result<(), Fail> {
-    for (sections, want) in rows {
-        let object = object_of(rt, alloc, sections)?;
-        assert_eq!(rt; fault_of(rt, alloc, &object), *want, "at {sections:?}");
     }
     Ok(())
 }
@@ -172,16 +161,12 @@ fn core_sections_name_what_exists(rt: HostRuntime) -> Result<(), Fail> {
 
 #[test]
 fn imports_have_types_that_exist(rt: HostRuntime) -> Result<(), Fail> {
-    let rows: [Row<'_>; 3] = [
-        (b"\x01\0\0\0\0", None),
-        (b"\x01\0\0\0\x01", BAD_INDEX),
-        (b"\x02\0\0\0\0\0\0\0\xff\xff\xff\xff\x0f", BAD_INDEX),
+    let rows: [ObjectRow<'_>; 3] = [
+        (&[(1, b"\x01\x60\0\0"), (2, b"\x01\0\0\0\0")], None),
+        (&[(1, b"\x01\x60\0\0"), (2, b"\x01\0\0\0\x01")], BAD_INDEX),
+        (&[(2, b"\x01\0\0\0\xff\xff\xff\xff\x0f")], BAD_INDEX),
     ];
-    for (imports, want) in rows {
-        let object = object_of(&rt, rt.alloc(), &[(1, b"\x01\x60\0\0"), (2, imports)])?;
-        assert_eq!(rt; fault_of(&rt, rt.alloc(), &object), want, "at {imports:?}");
-    }
-    Ok(())
+    assert_objects(&rt, rt.alloc(), &rows)
 }
 
 #[test]
@@ -209,21 +194,19 @@ fn an_object_has_one_memory(rt: HostRuntime) -> Result<(), Fail> {
     assert_objects(&rt, rt.alloc(), &rows)
 }
 
+/// Sections of elements, and custom ones of other names.
+const SKIPPED: [ObjectRow<'static>; 6] = [
+    (&[(9, b"\xff")], None),
+    (&[(0, b"\x09producers\xff")], None),
+    (&[(0, b"\x04name\xff")], None),
+    (&[(0, b"\x05reloc\xff")], None),
+    (&[(0, b"\x0flinking.private\xff")], None),
+    (&[(0, b"\0\xff")], None),
+];
+
 #[test]
 fn some_sections_are_skipped(rt: HostRuntime) -> Result<(), Fail> {
-    let rows: [Section<'_>; 6] = [
-        (9, b"\xff"),
-        (0, b"\x09producers\xff"),
-        (0, b"\x04name\xff"),
-        (0, b"\x05reloc\xff"),
-        (0, b"\x0flinking.private\xff"),
-        (0, b"\0\xff"),
-    ];
-    for section in rows {
-        let object = object_of(&rt, rt.alloc(), &[section])?;
-        assert_eq!(rt; fault_of(&rt, rt.alloc(), &object), None, "at {section:?}");
-    }
-    Ok(())
+    assert_objects(&rt, rt.alloc(), &SKIPPED)
 }
 
 /// Two debug sections, and others of like names.
@@ -235,20 +218,32 @@ const DEBUG: [Section<'static>; 5] = [
     (0, b"\x07debug_aabc"),
 ];
 
+// The debug sections have these names and payloads.
+fn assert_debug(rt: &impl Abort, found: &[DebugSectionInput<'_>], want: &[(&str, &[u8])]) {
+    assert_eq!(rt; found.len(), want.len());
+    for (section, (name, payload)) in found.iter().zip(want) {
+        assert_eq!(rt; (section.name, section.object_index), (*name, 0));
+        assert_eq!(rt; section.payload, *payload);
+    }
+}
+
+// Whether the sections of these numbers are debug sections.
+fn assert_numbers(rt: &impl Abort, file: &File<'_>, numbers: &[usize], want: bool) {
+    for number in numbers {
+        assert_eq!(rt; file.section_is_debug(*number), want, "{number}");
+    }
+}
+
+/// Their names, and what stands behind these.
+const DEBUG_INPUTS: [(&str, &[u8]); 2] = [(".debug_info", b"abc"), (".debug_", b"")];
+
 #[test]
 fn reads_debug_sections(rt: HostRuntime) -> Result<(), Fail> {
     let object = object_of(&rt, rt.alloc(), &DEBUG)?;
     assert!(rt; object.len() < 1000);
     let file = parse_wasm_module(rt.alloc(), &object)?;
-    let want: [(&str, &[u8]); 2] = [(".debug_info", b"abc"), (".debug_", b"")];
-    assert_eq!(rt; file.debug_inputs().len(), want.len());
-    for (section, (name, payload)) in file.debug_inputs().iter().zip(want) {
-        assert_eq!(rt; (section.name, section.object_index), (name, 0));
-        assert_eq!(rt; section.payload, payload);
-    }
-    for (number, want) in [true, false, false, true, false, false].iter().enumerate() {
-        assert_eq!(rt; file.section_is_debug(number), *want, "{number}");
-    }
-    assert!(rt; !file.section_is_debug(usize::MAX));
+    assert_debug(&rt, file.debug_inputs(), &DEBUG_INPUTS);
+    assert_numbers(&rt, &file, &[0, 3], true);
+    assert_numbers(&rt, &file, &[1, 2, 4, 5, usize::MAX], false);
     Ok(())
 }

@@ -2,7 +2,7 @@
 
 use crate::items::Items;
 use crate::sites::in_order;
-use crate::test_bytes::{BODIES, CODE, DATA, DEBUG, SEGMENTS, fault_of, relocated};
+use crate::test_bytes::{BODIES, CODE, DATA, DEBUG, Row, SEGMENTS, assert_relocations, relocated};
 use crate::{RelocationType, Site, WasmRelocation, parse_wasm_module};
 use std::alloc::Global;
 use std::process::Abort;
@@ -22,154 +22,153 @@ const SLEB: u8 = 1;
 /// The number of `TABLE_INDEX_I32`, whose field has four bytes.
 const WORD: u8 = 2;
 
-#[test]
-fn a_padded_field_has_five_bytes(rt: HostRuntime) -> Result<(), Fail> {
-    let rows = [
-        ([0x80, 0x80, 0x80, 0x80, 0], None),
-        ([0xff, 0xff, 0xff, 0xff, 0x7f], None),
-        ([0, 0x80, 0x80, 0x80, 0], FIELD),
-        ([0x80, 0x7f, 0x80, 0x80, 0], FIELD),
-        ([0x80, 0x80, 0x7f, 0x80, 0], FIELD),
-        ([0x80, 0x80, 0x80, 0x7f, 0], FIELD),
-        ([0x80, 0x80, 0x80, 0x80, 0x80], FIELD),
-        ([0, 0, 0, 0, 0], FIELD),
-    ];
-    for ([a, b, c, d, e], want) in rows {
-        let code = [2, 7, 0, a, b, c, d, e, 0x0b, 0];
-        for ty in [LEB, SLEB] {
-            let content = [CODE, 1, ty, 3, 0];
-            let object = relocated(&rt, rt.alloc(), &code, SEGMENTS, &[&content])?;
-            assert_eq!(rt; fault_of(&rt, rt.alloc(), &object), want, "{code:?}");
-        }
+// A field of that type, of these bytes, is at fault as told, or is sound.
+fn assert_field(
+    rt: &impl Abort,
+    alloc: Global,
+    ty: u8,
+    field: &[u8],
+    want: Option<ReadError>,
+) -> Result<(), Fail> {
+    let mut code = Vec::from_slice(alloc, &[2, 7, 0])?;
+    code.extend_from_slice(field)?;
+    code.extend_from_slice(&[0x0b, 0])?;
+    assert_relocations(rt, alloc, &code, &[(&[CODE, 1, ty, 3, 0], want)])
+}
+
+// Padded fields of these bytes are at fault as told, or are sound.
+fn assert_padded(rt: &impl Abort, alloc: Global, rows: &[Row<'_>]) -> Result<(), Fail> {
+    for (field, want) in rows {
+        assert_field(rt, alloc, LEB, field, *want)?;
+        assert_field(rt, alloc, SLEB, field, *want)?;
     }
     Ok(())
+}
+
+/// The bytes of fields.
+const PADDED: [Row<'static>; 8] = [
+    (&[0x80, 0x80, 0x80, 0x80, 0], None),
+    (&[0xff, 0xff, 0xff, 0xff, 0x7f], None),
+    (&[0, 0x80, 0x80, 0x80, 0], FIELD),
+    (&[0x80, 0x7f, 0x80, 0x80, 0], FIELD),
+    (&[0x80, 0x80, 0x7f, 0x80, 0], FIELD),
+    (&[0x80, 0x80, 0x80, 0x7f, 0], FIELD),
+    (&[0x80, 0x80, 0x80, 0x80, 0x80], FIELD),
+    (&[0, 0, 0, 0, 0], FIELD),
+];
+
+#[test]
+fn a_padded_field_has_five_bytes(rt: HostRuntime) -> Result<(), Fail> {
+    assert_padded(&rt, rt.alloc(), &PADDED)
 }
 
 #[test]
 fn a_word_has_any_four_bytes(rt: HostRuntime) -> Result<(), Fail> {
-    for [a, b, c, d] in [[0, 0, 0, 0], [0xff, 0xff, 0xff, 0xff], [0, 0x80, 0, 0x80]] {
-        let code = [2, 6, 0, a, b, c, d, 0x0b, 0];
-        let content = [CODE, 1, WORD, 3, 0];
-        let object = relocated(&rt, rt.alloc(), &code, SEGMENTS, &[&content])?;
-        assert_eq!(rt; fault_of(&rt, rt.alloc(), &object), None, "{code:?}");
-    }
-    Ok(())
+    assert_field(&rt, rt.alloc(), WORD, &[0, 0, 0, 0, 0], None)?;
+    assert_field(&rt, rt.alloc(), WORD, &[0xff, 0xff, 0xff, 0xff, 0xff], None)?;
+    assert_field(&rt, rt.alloc(), WORD, &[0x80, 0, 0x80, 0, 0x80], None)
 }
 
-// A field at each of these places of the section of that number is at fault, or lies in a piece.
+// Fields of that type at these places of the section of that number are at fault as told, or are
+// sound.
 fn assert_places(
     rt: &impl Abort,
     alloc: Global,
     (target, ty): (u8, u8),
-    rows: &[(u8, Option<ReadError>)],
+    places: &[u8],
+    want: Option<ReadError>,
 ) -> Result<(), Fail> {
-    for (place, want) in rows {
+    for place in places {
         let content = [target, 1, ty, *place, 0];
-        let object = relocated(rt, alloc, BODIES, SEGMENTS, &[&content])?;
-        assert_eq!(rt; fault_of(rt, alloc, &object), *want, "type {ty} at {place}");
+        assert_relocations(rt, alloc, BODIES, &[(&content, want)])?;
     }
     Ok(())
 }
+
+/// The bodies are the bytes from 2 to 8 and from 10 to 15.
+const OUTSIDE_BODIES: [u8; 12] = [0, 1, 6, 7, 8, 9, 13, 14, 15, 16, 17, 127];
 
 #[test]
 fn fields_of_code_lie_in_bodies(rt: HostRuntime) -> Result<(), Fail> {
-    // The bodies are the bytes from 2 to 8 and from 10 to 15.
-    for place in [2, 3, 4, 5, 10, 11, 12] {
-        assert_places(&rt, rt.alloc(), (CODE, WORD), &[(place, None)])?;
-    }
-    for place in [0, 1, 6, 7, 8, 9, 13, 14, 15, 16, 17, 127] {
-        assert_places(&rt, rt.alloc(), (CODE, WORD), &[(place, FIELD)])?;
-    }
     assert_places(
         &rt,
         rt.alloc(),
-        (CODE, LEB),
-        &[
-            (2, FIELD),
-            (3, None),
-            (4, FIELD),
-            (9, FIELD),
-            (10, None),
-            (11, FIELD),
-        ],
-    )
+        (CODE, WORD),
+        &[2, 3, 4, 5, 10, 11, 12],
+        None,
+    )?;
+    assert_places(&rt, rt.alloc(), (CODE, WORD), &OUTSIDE_BODIES, FIELD)?;
+    assert_places(&rt, rt.alloc(), (CODE, LEB), &[3, 10], None)?;
+    assert_places(&rt, rt.alloc(), (CODE, LEB), &[2, 4, 9, 11], FIELD)
 }
+
+/// The bytes of the segments are those from 3 to 8 and from 18 to 21.
+const OUTSIDE_SEGMENTS: [u8; 14] = [0, 1, 2, 6, 8, 9, 10, 11, 12, 17, 19, 21, 22, 127];
 
 #[test]
 fn fields_of_data_lie_in_segments(rt: HostRuntime) -> Result<(), Fail> {
-    // The bytes of the segments are those from 3 to 8 and from 18 to 21.
-    for place in [3, 4, 5, 18] {
-        assert_places(&rt, rt.alloc(), (DATA, WORD), &[(place, None)])?;
-    }
-    for place in [0, 1, 2, 6, 8, 9, 10, 11, 12, 17, 19, 21, 22, 127] {
-        assert_places(&rt, rt.alloc(), (DATA, WORD), &[(place, FIELD)])?;
-    }
+    assert_places(&rt, rt.alloc(), (DATA, WORD), &[3, 4, 5, 18], None)?;
+    assert_places(&rt, rt.alloc(), (DATA, WORD), &OUTSIDE_SEGMENTS, FIELD)?;
+    assert_places(&rt, rt.alloc(), (DATA, LEB), &[3], None)?;
     // At 11 stand five such bytes too, which are a part of an expression.
-    assert_places(
-        &rt,
-        rt.alloc(),
-        (DATA, LEB),
-        &[(3, None), (4, FIELD), (11, FIELD)],
-    )
+    assert_places(&rt, rt.alloc(), (DATA, LEB), &[4, 11], FIELD)
 }
+
+/// The last two bytes of a body and the size of the next, in three bytes, look like a field.
+const LONG_SIZE: &[u8; 15] = b"\x02\x03\0\x80\x80\x87\x80\0\0\x80\x80\x80\x80\0\x0b";
+
+/// Fields at places of these bodies.
+const NEAR_THE_SIZE: [Row<'static>; 4] = [
+    (&[CODE, 1, LEB, 3, 0], FIELD),
+    (&[CODE, 1, LEB, 4, 0], FIELD),
+    (&[CODE, 1, LEB, 8, 0], FIELD),
+    (&[CODE, 1, LEB, 9, 0], None),
+];
 
 #[test]
 fn a_field_lies_in_one_body(rt: HostRuntime) -> Result<(), Fail> {
-    // The last two bytes of a body and the size of the next, in three bytes, look like a field.
-    let code = b"\x02\x03\0\x80\x80\x87\x80\0\0\x80\x80\x80\x80\0\x0b";
-    let rows = [(3, FIELD), (4, FIELD), (8, FIELD), (9, None)];
-    for (place, want) in rows {
-        let content = [CODE, 1, LEB, place, 0];
-        let object = relocated(&rt, rt.alloc(), code, SEGMENTS, &[&content])?;
-        assert_eq!(rt; fault_of(&rt, rt.alloc(), &object), want, "at {place}");
-    }
-    Ok(())
+    assert_relocations(&rt, rt.alloc(), LONG_SIZE, &NEAR_THE_SIZE)
 }
+
+/// A body whose bytes from 3 to 17 are three padded numbers, and an empty one.
+const THREE_FIELDS: &[u8; 20] =
+    b"\x02\x11\0\x80\x80\x80\x80\0\x80\x80\x80\x80\0\x80\x80\x80\x80\0\x0b\0";
+
+/// Two fields there.
+const TWO_FIELDS: [Row<'static>; 12] = [
+    (&[CODE, 2, LEB, 3, 0, LEB, 8, 0], None),
+    (&[CODE, 2, LEB, 8, 0, LEB, 3, 0], None),
+    (&[CODE, 2, LEB, 3, 0, LEB, 3, 0], OVERLAP),
+    (&[CODE, 2, LEB, 3, 0, WORD, 8, 0], None),
+    (&[CODE, 2, LEB, 3, 0, WORD, 7, 0], OVERLAP),
+    (&[CODE, 2, WORD, 7, 0, LEB, 3, 0], OVERLAP),
+    (&[CODE, 2, WORD, 4, 0, LEB, 8, 0], None),
+    (&[CODE, 2, WORD, 5, 0, LEB, 8, 0], OVERLAP),
+    (&[CODE, 2, WORD, 4, 0, WORD, 8, 0], None),
+    (&[CODE, 2, WORD, 4, 0, WORD, 7, 0], OVERLAP),
+    (&[CODE, 2, WORD, 5, 0, SLEB, 3, 0], OVERLAP),
+    (&[CODE, 2, SLEB, 3, 0, WORD, 3, 0], OVERLAP),
+];
 
 #[test]
 fn fields_have_no_byte_in_common(rt: HostRuntime) -> Result<(), Fail> {
-    // Two fields, each by its type and its place, of a body whose bytes from 3 to 17 are three
-    // padded numbers.
-    let code = b"\x02\x11\0\x80\x80\x80\x80\0\x80\x80\x80\x80\0\x80\x80\x80\x80\0\x0b\0";
-    let rows = [
-        ((LEB, 3), (LEB, 8), None),
-        ((LEB, 8), (LEB, 3), None),
-        ((LEB, 3), (LEB, 3), OVERLAP),
-        ((LEB, 3), (WORD, 8), None),
-        ((LEB, 3), (WORD, 7), OVERLAP),
-        ((WORD, 7), (LEB, 3), OVERLAP),
-        ((WORD, 4), (LEB, 8), None),
-        ((WORD, 5), (LEB, 8), OVERLAP),
-        ((WORD, 4), (WORD, 8), None),
-        ((WORD, 4), (WORD, 7), OVERLAP),
-        ((WORD, 5), (SLEB, 3), OVERLAP),
-        ((SLEB, 3), (WORD, 3), OVERLAP),
-    ];
-    for ((first, from), (second, to), want) in rows {
-        let content = [CODE, 2, first, from, 0, second, to, 0];
-        let object = relocated(&rt, rt.alloc(), code, SEGMENTS, &[&content])?;
-        let why = fault_of(&rt, rt.alloc(), &object);
-        assert_eq!(rt; why, want, "type {first} at {from}, type {second} at {to}");
-    }
-    Ok(())
+    assert_relocations(&rt, rt.alloc(), THREE_FIELDS, &TWO_FIELDS)
 }
+
+/// Two bodies, which are a field each, with a size between them.
+const NEIGHBOURS: &[u8; 13] = b"\x02\x05\x80\x80\x80\x80\0\x05\x80\x80\x80\x80\0";
+
+/// Fields there.
+const NEIGHBOURS_FIELDS: [Row<'static>; 4] = [
+    (&[CODE, 2, LEB, 2, 0, LEB, 8, 0], None),
+    (&[CODE, 2, LEB, 8, 0, LEB, 2, 0], None),
+    (&[CODE, 2, WORD, 3, 0, WORD, 8, 0], None),
+    (&[CODE, 3, WORD, 2, 0, WORD, 8, 0, WORD, 2, 0], OVERLAP),
+];
 
 #[test]
 fn fields_of_neighbours_lie_apart(rt: HostRuntime) -> Result<(), Fail> {
-    // The last five bytes of a body, and the first of the next, with its size between them.
-    let code = b"\x02\x05\x80\x80\x80\x80\0\x05\x80\x80\x80\x80\0";
-    let contents: [&[u8]; 4] = [
-        &[CODE, 2, LEB, 2, 0, LEB, 8, 0],
-        &[CODE, 2, LEB, 8, 0, LEB, 2, 0],
-        &[CODE, 2, WORD, 3, 0, WORD, 8, 0],
-        &[CODE, 3, WORD, 2, 0, WORD, 8, 0, WORD, 2, 0],
-    ];
-    let wants = [None, None, None, OVERLAP];
-    for (content, want) in contents.iter().zip(wants) {
-        let object = relocated(&rt, rt.alloc(), code, SEGMENTS, &[*content])?;
-        assert_eq!(rt; fault_of(&rt, rt.alloc(), &object), want, "at {content:?}");
-    }
-    Ok(())
+    assert_relocations(&rt, rt.alloc(), NEIGHBOURS, &NEIGHBOURS_FIELDS)
 }
 
 fn relocation(offset: u32, index: u32) -> WasmRelocation {
@@ -229,10 +228,15 @@ fn relocations_of_one_place_stay_in_order(rt: HostRuntime) -> Result<(), Fail> {
         relocation(0, 4),
         relocation(7, 5),
     ];
+    let want = [
+        relocation(0, 4),
+        relocation(3, 1),
+        relocation(3, 3),
+        relocation(7, 0),
+        relocation(7, 2),
+        relocation(7, 5),
+    ];
     let ordered = in_order(Items::new(Vec::from_slice(rt.alloc(), &entries)?))?;
-    assert_eq!(rt; ordered.as_slice().len(), entries.len());
-    for (found, index) in ordered.as_slice().iter().zip([4, 1, 3, 0, 2, 5]) {
-        assert_eq!(rt; found.index, index);
-    }
+    assert_eq!(rt; ordered.as_slice(), want.as_slice());
     Ok(())
 }

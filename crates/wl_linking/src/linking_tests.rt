@@ -1,7 +1,7 @@
 //! The linking section.
 
-use crate::test_bytes::{Row, fault_of, linked, object_of};
-use crate::{WasmInitFunc, parse_wasm_module};
+use crate::test_bytes::{ObjectRow, Row, assert_objects, fault_of, linked};
+use crate::{WasmInitFunc, WasmSegmentInfo, parse_wasm_module};
 use std::alloc::Global;
 use std::process::Abort;
 use std::test::Fail;
@@ -71,41 +71,51 @@ fn judges_subsections(rt: HostRuntime) -> Result<(), Fail> {
     assert_contents(&rt, rt.alloc(), &rows)
 }
 
+/// The second one isn't read.
+const TWO: [ObjectRow<'static>; 3] = [
+    (
+        &[(0, b"\x07linking\x02"), (0, b"\x07linking\x02")],
+        REPEATED,
+    ),
+    (
+        &[(0, b"\x07linking\x02"), (0, b"\x07linking\x03")],
+        REPEATED,
+    ),
+    (&[(0, b"\x07linking\x02"), (0, b"\x07Linking\x03")], None),
+];
+
 #[test]
 fn there_is_one_linking_section(rt: HostRuntime) -> Result<(), Fail> {
-    let rows: [Row<'_>; 3] = [
-        (b"\x07linking\x02", REPEATED),
-        // It isn't read.
-        (b"\x07linking\x03", REPEATED),
-        (b"\x07Linking\x03", None),
-    ];
-    for (second, want) in rows {
-        let object = object_of(&rt, rt.alloc(), &[(0, b"\x07linking\x02"), (0, second)])?;
-        assert_eq!(rt; fault_of(&rt, rt.alloc(), &object), want, "at {second:?}");
-    }
-    Ok(())
+    assert_objects(&rt, rt.alloc(), &TWO)
 }
+
+/// The name of a segment, the exponent of its alignment, its flags, and whether it holds data of
+/// each thread.
+type Told<'a> = (&'a str, u32, u32, bool);
+
+// What is told of segments is as wanted.
+fn assert_infos(rt: &impl Abort, infos: &[WasmSegmentInfo<'_>], want: &[Told<'_>]) {
+    assert_eq!(rt; infos.len(), want.len());
+    for (info, want) in infos.iter().zip(want) {
+        let told = (info.name, info.alignment, info.flags, info.is_tls());
+        assert_eq!(rt; told, *want);
+    }
+}
+
+/// Three of them, of two segments: what is told of no segment stays.
+const INFOS: &[u8; 19] = b"\x02\x05\x10\x03\x01a\x1f\x01\x02\xc3\xa9\0\x86\0\0\x80\0\x80\x08";
 
 #[test]
 fn reads_what_is_told_of_segments(rt: HostRuntime) -> Result<(), Fail> {
-    // Three of them, of two segments: what is told of no segment stays.
-    let content = b"\x02\x05\x10\x03\x01a\x1f\x01\x02\xc3\xa9\0\x86\0\0\x80\0\x80\x08";
+    let object = linked(&rt, rt.alloc(), INFOS)?;
+    assert!(rt; object.len() < 1000);
+    let file = parse_wasm_module(rt.alloc(), &object)?;
     let want = [
         ("a", 31, 1, false),
         ("é", 0, 6, true),
         ("", 0, 0x400, false),
     ];
-    let object = linked(&rt, rt.alloc(), content)?;
-    assert!(rt; object.len() < 1000);
-    let file = parse_wasm_module(rt.alloc(), &object)?;
-    assert_eq!(rt; file.segment_infos().len(), want.len());
-    for (info, (name, alignment, flags, is_tls)) in file.segment_infos().iter().zip(want) {
-        assert_eq!(rt;
-            (info.name, info.alignment, info.flags),
-            (name, alignment, flags)
-        );
-        assert_eq!(rt; info.is_tls(), is_tls, "{name}");
-    }
+    assert_infos(&rt, file.segment_infos(), &want);
     Ok(())
 }
 

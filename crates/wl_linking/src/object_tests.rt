@@ -1,6 +1,6 @@
 //! A small object, read, each fault of it that one change makes, and which fault is told.
 
-use crate::test_bytes::{Row, Section, fault_of, object_of};
+use crate::test_bytes::{ObjectRow, Section, assert_objects, fault_of};
 use crate::{RelocationType, Site, WasmRelocation, parse_wasm_module};
 use std::alloc::Global;
 use std::process::Abort;
@@ -16,26 +16,27 @@ const OBJECT: &[u8; 76] = b"\0asm\x01\0\0\0\
     \0\x16\x07linking\x02\x08\x0b\x02\0\0\0\x01a\0\0\x01\x01b\
     \0\x10\x0areloc.CODE\x02\x01\0\x04\x01";
 
+// The section of that id, with that payload, and that name if it has one.
+fn header(id: u8, payload_range: (u32, u32), name_range: Option<(u32, u32)>) -> SectionHeader {
+    SectionHeader {
+        id,
+        payload_range,
+        name_range,
+    }
+}
+
 #[test]
 fn finds_sections(rt: HostRuntime) -> Result<(), Fail> {
     let file = parse_wasm_module(rt.alloc(), OBJECT)?;
-    let headers = [
-        (1, (10, 14), None),
-        (3, (16, 19), None),
-        (10, (21, 34), None),
-        (0, (44, 58), Some((37, 44))),
-        (0, (71, 76), Some((61, 71))),
+    let want = [
+        header(1, (10, 14), None),
+        header(3, (16, 19), None),
+        header(10, (21, 34), None),
+        header(0, (44, 58), Some((37, 44))),
+        header(0, (71, 76), Some((61, 71))),
     ];
     assert_eq!(rt; file.bytes(), OBJECT.as_slice());
-    assert_eq!(rt; file.sections().len(), headers.len());
-    for (section, (id, payload_range, name_range)) in file.sections().iter().zip(headers) {
-        let want = SectionHeader {
-            id,
-            payload_range,
-            name_range,
-        };
-        assert_eq!(rt; *section, want);
-    }
+    assert_eq!(rt; file.sections(), want.as_slice());
     Ok(())
 }
 
@@ -152,65 +153,71 @@ fn judges_changed_symbols_and_relocations(rt: HostRuntime) -> Result<(), Fail> {
     assert_changes(&rt, rt.alloc(), &changes)
 }
 
+const TYPES: Section<'static> = (1, b"\x01\x5f");
+
+const FUNCTIONS: Section<'static> = (3, b"\0\0");
+
+const LINKING: Section<'static> = (0, b"\x07linking\x03");
+
+const RELOC: Section<'static> = (0, b"\x06reloc.\x63");
+
+/// Two of the faults of the sections above.
+const TWO_FAULTS: [ObjectRow<'static>; 7] = [
+    (&[TYPES, FUNCTIONS], Some(Unsupported(Form::TypeForm))),
+    (&[FUNCTIONS, LINKING], Some(Malformed(Why::Trailing))),
+    (
+        &[LINKING, FUNCTIONS],
+        Some(Unsupported(Form::LinkingVersion)),
+    ),
+    (&[LINKING, RELOC], Some(Unsupported(Form::LinkingVersion))),
+    (&[RELOC, LINKING], Some(Unsupported(Form::RelocTarget))),
+    // The frame is judged first.
+    (&[TYPES, (14, b"")], Some(Malformed(Why::SectionId))),
+    (&[FUNCTIONS, TYPES], Some(Malformed(Why::SectionOrder))),
+];
+
 #[test]
 fn the_first_fault_is_told(rt: HostRuntime) -> Result<(), Fail> {
-    let bad_types: Section<'static> = (1, b"\x01\x5f");
-    let bad_functions: Section<'static> = (3, b"\0\0");
-    let bad_linking: Section<'static> = (0, b"\x07linking\x03");
-    let bad_reloc: Section<'static> = (0, b"\x06reloc.\x63");
-    let types = Some(Unsupported(Form::TypeForm));
-    let trailing = Some(Malformed(Why::Trailing));
-    let version = Some(Unsupported(Form::LinkingVersion));
-    let target = Some(Unsupported(Form::RelocTarget));
-    let rows: [([Section<'static>; 2], Option<ReadError>); 7] = [
-        ([bad_types, bad_functions], types),
-        ([bad_functions, bad_linking], trailing),
-        ([bad_linking, bad_functions], version),
-        ([bad_linking, bad_reloc], version),
-        ([bad_reloc, bad_linking], target),
-        // The frame is judged first.
-        ([bad_types, (14, b"")], Some(Malformed(Why::SectionId))),
-        (
-            [bad_functions, bad_types],
-            Some(Malformed(Why::SectionOrder)),
-        ),
-    ];
-    for (sections, want) in rows {
-        let object = object_of(&rt, rt.alloc(), &sections)?;
-        assert_eq!(rt; fault_of(&rt, rt.alloc(), &object), want);
-    }
-    Ok(())
+    assert_objects(&rt, rt.alloc(), &TWO_FAULTS)
 }
+
+const TYPE: Section<'static> = (1, b"\x01\x60\0\0");
+
+const FUNCTION: Section<'static> = (3, b"\x01\0");
+
+const SYMBOL: Section<'static> = (0, b"\x07linking\x02\x08\x02\x01\x06");
+
+/// A function without a body, and a section with a fault of its own behind it.
+const WITHOUT_BODY: [ObjectRow<'static>; 4] = [
+    (&[TYPE, FUNCTION], Some(Malformed(Why::Count))),
+    (
+        &[TYPE, FUNCTION, LINKING],
+        Some(Unsupported(Form::LinkingVersion)),
+    ),
+    (&[TYPE, FUNCTION, SYMBOL], Some(Malformed(Why::BadByte))),
+    (
+        &[TYPE, FUNCTION, RELOC],
+        Some(Unsupported(Form::RelocTarget)),
+    ),
+];
 
 #[test]
 fn sections_are_judged_in_front_of_what_joins_them(rt: HostRuntime) -> Result<(), Fail> {
-    // A function without a body, and a section with a fault of its own behind it.
-    let rows: [Row<'_>; 4] = [
-        (b"\x02ab", Some(Malformed(Why::Count))),
-        (b"\x07linking\x03", Some(Unsupported(Form::LinkingVersion))),
-        (
-            b"\x07linking\x02\x08\x02\x01\x06",
-            Some(Malformed(Why::BadByte)),
-        ),
-        (b"\x06reloc.\x63", Some(Unsupported(Form::RelocTarget))),
-    ];
-    for (last, want) in rows {
-        let sections: [Section<'_>; 3] = [(1, b"\x01\x60\0\0"), (3, b"\x01\0"), (0, last)];
-        let object = object_of(&rt, rt.alloc(), &sections)?;
-        assert_eq!(rt; fault_of(&rt, rt.alloc(), &object), want, "at {last:?}");
-    }
-    Ok(())
+    assert_objects(&rt, rt.alloc(), &WITHOUT_BODY)
 }
 
 #[test]
 fn an_object_may_have_no_sections(rt: HostRuntime) -> Result<(), Fail> {
     let file = parse_wasm_module(rt.alloc(), b"\0asm\x01\0\0\0")?;
-    assert!(rt; file.sections().is_empty() && file.symbols().is_empty());
-    for bytes in [b"\0asm\x02\0\0\0".as_slice(), b"\0asm", b""] {
-        assert_eq!(rt;
-            fault_of(&rt, rt.alloc(), bytes),
-            Some(Malformed(Why::Header))
-        );
-    }
+    assert!(rt; file.sections().is_empty());
+    assert!(rt; file.symbols().is_empty());
     Ok(())
+}
+
+#[test]
+fn an_object_begins_with_a_header(rt: HostRuntime) {
+    let want = Some(Malformed(Why::Header));
+    assert_eq!(rt; fault_of(&rt, rt.alloc(), b"\0asm\x02\0\0\0"), want);
+    assert_eq!(rt; fault_of(&rt, rt.alloc(), b"\0asm"), want);
+    assert_eq!(rt; fault_of(&rt, rt.alloc(), b""), want);
 }

@@ -1,7 +1,7 @@
 //! The names of imports.
 
 use crate::parse_wasm_module;
-use crate::test_bytes::{Row, assert_symbol_tables, fault_of, object_of};
+use crate::test_bytes::{ObjectRow, Row, Section, assert_objects, assert_symbol_tables, object_of};
 use std::test::Fail;
 use wl_module::{ReadError, Why};
 
@@ -54,25 +54,38 @@ fn other_symbols_may_differ_in_name(rt: HostRuntime) -> Result<(), Fail> {
     assert_symbol_tables(&rt, rt.alloc(), &rows)
 }
 
+const TYPE: Section<'static> = (1, b"\x01\x60\0\0");
+
 /// A function, imported under an empty name.
-const NAMELESS: &[u8] = b"\x01\x01e\0\0\0";
+const NAMELESS: Section<'static> = (2, b"\x01\x01e\0\0\0");
+
+/// Symbols of it: one without a name, and beside that one with a name and one with an empty name.
+const OF_NAMELESS: [ObjectRow<'static>; 3] = [
+    (
+        &[TYPE, NAMELESS, (0, b"\x07linking\x02\x08\x04\x01\0\x10\0")],
+        None,
+    ),
+    (
+        &[
+            TYPE,
+            NAMELESS,
+            (0, b"\x07linking\x02\x08\x09\x02\0\x10\0\0\x50\0\x01x"),
+        ],
+        SLOT_NAMES,
+    ),
+    (
+        &[
+            TYPE,
+            NAMELESS,
+            (0, b"\x07linking\x02\x08\x08\x02\0\x10\0\0\x50\0\0"),
+        ],
+        None,
+    ),
+];
 
 #[test]
 fn an_import_may_have_an_empty_name(rt: HostRuntime) -> Result<(), Fail> {
-    let rows: [Row<'_>; 3] = [
-        (b"\x07linking\x02\x08\x04\x01\0\x10\0", None),
-        (
-            b"\x07linking\x02\x08\x09\x02\0\x10\0\0\x50\0\x01x",
-            SLOT_NAMES,
-        ),
-        (b"\x07linking\x02\x08\x08\x02\0\x10\0\0\x50\0\0", None),
-    ];
-    for (linking, want) in rows {
-        let sections: [(u8, &[u8]); 3] = [(1, b"\x01\x60\0\0"), (2, NAMELESS), (0, linking)];
-        let object = object_of(&rt, rt.alloc(), &sections)?;
-        assert_eq!(rt; fault_of(&rt, rt.alloc(), &object), want, "at {linking:?}");
-    }
-    Ok(())
+    assert_objects(&rt, rt.alloc(), &OF_NAMELESS)
 }
 
 #[test]

@@ -15,6 +15,9 @@ pub(crate) type Section<'a> = (u8, &'a [u8]);
 /// Bytes that stand somewhere in an object, and what is then wrong with it.
 pub(crate) type Row<'a> = (&'a [u8], Option<ReadError>);
 
+/// Sections, and what is wrong with an object of these.
+pub(crate) type ObjectRow<'a> = (&'a [Section<'a>], Option<ReadError>);
+
 /// Core sections: two types; functions `f` and `g`, a table `t`, a memory `m` and a global `h`, all
 /// imported from `e`; two functions; a global; two segments.
 pub(crate) const CORE: [Section<'static>; 8] = [
@@ -92,6 +95,19 @@ pub(crate) fn fault_of(rt: &impl Abort, alloc: Global, object: &[u8]) -> Option<
     parse_wasm_module(alloc, object).err()
 }
 
+/// The objects of these sections are at fault as told, or are sound.
+pub(crate) fn assert_objects(
+    rt: &impl Abort,
+    alloc: Global,
+    rows: &[ObjectRow<'_>],
+) -> Result<(), Fail> {
+    for (sections, want) in rows {
+        let object = object_of(rt, alloc, sections)?;
+        assert_eq!(rt; fault_of(rt, alloc, &object), *want, "at {sections:?}");
+    }
+    Ok(())
+}
+
 /// Each symbol table is at fault as told, or is sound.
 pub(crate) fn assert_symbol_tables(
     rt: &impl Abort,
@@ -154,15 +170,16 @@ pub(crate) fn relocated<'a>(
     Ok(bytes)
 }
 
-/// Each relocation section of an object of these bodies and segments is at fault as told, or is
-/// sound.
+/// An object of this code, with a relocation section of each of these contents, is at fault as told,
+/// or is sound.
 pub(crate) fn assert_relocations(
     rt: &impl Abort,
     alloc: Global,
+    code: &[u8],
     rows: &[Row<'_>],
 ) -> Result<(), Fail> {
     for (content, want) in rows {
-        let object = relocated(rt, alloc, BODIES, SEGMENTS, &[*content])?;
+        let object = relocated(rt, alloc, code, SEGMENTS, &[*content])?;
         assert_eq!(rt; fault_of(rt, alloc, &object), *want, "at {content:?}");
     }
     Ok(())
