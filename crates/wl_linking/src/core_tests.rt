@@ -1,7 +1,9 @@
 //! What joins the core sections, and debug sections.
 
-use crate::test_bytes::{CORE, ObjectRow, Row, Section, assert_objects, fault_of, object_of};
-use crate::{DebugSectionInput, File, parse_wasm_module};
+use crate::test_bytes::{
+    CORE, ObjectRow, Row, Section, assert_objects, fault_of, look_at, object_of,
+};
+use crate::{DebugSectionInput, File};
 use std::alloc::Global;
 use std::process::Abort;
 use std::test::Fail;
@@ -16,8 +18,20 @@ fn reads_core_sections(rt: HostRuntime) -> Result<(), Fail> {
     let mut sections = CORE;
     sections[4] = (7, b"\x02\x01x\x03\x01\x01y\0\x03");
     let object = object_of(&rt, rt.alloc(), &sections)?;
-    assert!(rt; object.len() < 1000);
-    let file = parse_wasm_module(rt.alloc(), &object)?;
+    look_at(&rt, rt.alloc(), &object, |file| assert_core(&rt, file))?;
+    look_at(&rt, rt.alloc(), &object, |file| {
+        assert_exports(&rt, file.exports(), &EXPORTS);
+    })
+}
+
+/// The exports of the object above.
+const EXPORTS: [(&str, ExternalKind, u32); 2] = [
+    ("x", ExternalKind::Global, 1),
+    ("y", ExternalKind::Func, 3),
+];
+
+// The object has as many things of each kind as its sections.
+fn assert_core(rt: &impl Abort, file: &File<'_>) {
     assert_eq!(rt;
         (file.num_function_imports(), file.num_global_imports()),
         (2, 1)
@@ -31,9 +45,6 @@ fn reads_core_sections(rt: HostRuntime) -> Result<(), Fail> {
     assert_eq!(rt; (file.globals().len(), file.bodies().len()), (1, 2));
     assert_eq!(rt; file.functions(), [0, 1].as_slice());
     assert!(rt; file.memory_types().is_empty());
-    let want = [("x", ExternalKind::Global, 1), ("y", ExternalKind::Func, 3)];
-    assert_exports(&rt, file.exports(), &want);
-    Ok(())
 }
 
 // The exports are these names, kinds and indices.
@@ -240,10 +251,9 @@ const DEBUG_INPUTS: [(&str, &[u8]); 2] = [(".debug_info", b"abc"), (".debug_", b
 #[test]
 fn reads_debug_sections(rt: HostRuntime) -> Result<(), Fail> {
     let object = object_of(&rt, rt.alloc(), &DEBUG)?;
-    assert!(rt; object.len() < 1000);
-    let file = parse_wasm_module(rt.alloc(), &object)?;
-    assert_debug(&rt, file.debug_inputs(), &DEBUG_INPUTS);
-    assert_numbers(&rt, &file, &[0, 3], true);
-    assert_numbers(&rt, &file, &[1, 2, 4, 5, usize::MAX], false);
-    Ok(())
+    look_at(&rt, rt.alloc(), &object, |file| {
+        assert_debug(&rt, file.debug_inputs(), &DEBUG_INPUTS);
+        assert_numbers(&rt, file, &[0, 3], true);
+        assert_numbers(&rt, file, &[1, 2, 4, 5, usize::MAX], false);
+    })
 }

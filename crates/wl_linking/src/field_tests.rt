@@ -2,8 +2,10 @@
 
 use crate::items::Items;
 use crate::sites::in_order;
-use crate::test_bytes::{BODIES, CODE, DATA, DEBUG, Row, SEGMENTS, assert_relocations, relocated};
-use crate::{RelocationType, Site, WasmRelocation, parse_wasm_module};
+use crate::test_bytes::{
+    BODIES, CODE, DATA, DEBUG, Row, SEGMENTS, assert_relocations, look_at, relocated,
+};
+use crate::{File, RelocationType, Site, WasmRelocSection, WasmRelocation};
 use std::alloc::Global;
 use std::process::Abort;
 use std::test::Fail;
@@ -189,14 +191,16 @@ fn relocations_are_in_order_of_their_fields(rt: HostRuntime) -> Result<(), Fail>
     let code = [CODE, 2, WORD, 11, 1, WORD, 2, 0];
     let data = [DATA, 2, WORD, 18, 0, WORD, 4, 1];
     let object = relocated(&rt, rt.alloc(), BODIES, SEGMENTS, &[&code, &data])?;
-    assert!(rt; object.len() < 1000);
-    let file = parse_wasm_module(rt.alloc(), &object)?;
+    look_at(&rt, rt.alloc(), &object, |file| assert_order(&rt, file))
+}
+
+// The relocations of code and of data are in order, each with its site.
+fn assert_order(rt: &impl Abort, file: &File<'_>) {
     let (in_code, in_data) = (file.code_relocations(), file.data_relocations());
     assert_eq!(rt; in_code, [relocation(2, 0), relocation(11, 1)].as_slice());
     assert_eq!(rt; in_data, [relocation(4, 1), relocation(18, 0)].as_slice());
     assert_eq!(rt; file.code_sites(), [site(0, 0), site(1, 1)].as_slice());
     assert_eq!(rt; file.data_sites(), [site(0, 1), site(1, 0)].as_slice());
-    Ok(())
 }
 
 #[test]
@@ -204,9 +208,13 @@ fn relocation_sections_keep_their_order(rt: HostRuntime) -> Result<(), Fail> {
     let code = [CODE, 2, WORD, 11, 1, WORD, 2, 0];
     let debug = [DEBUG, 0xff];
     let object = relocated(&rt, rt.alloc(), BODIES, SEGMENTS, &[&debug, &code])?;
-    assert!(rt; object.len() < 1000);
-    let file = parse_wasm_module(rt.alloc(), &object)?;
-    let sections = file.reloc_sections();
+    look_at(&rt, rt.alloc(), &object, |file| {
+        assert_as_written(&rt, file.reloc_sections());
+    })
+}
+
+// There is a section for the debug section, and one for the code with entries as they were written.
+fn assert_as_written(rt: &impl Abort, sections: &[WasmRelocSection]) {
     assert_eq!(rt; sections.len(), 2);
     assert_eq!(rt;
         (sections[0].target_section, sections[1].target_section),
@@ -215,7 +223,6 @@ fn relocation_sections_keep_their_order(rt: HostRuntime) -> Result<(), Fail> {
     assert_eq!(rt; sections[0].relocations.num_relocations(), 0);
     let entries = [relocation(11, 1), relocation(2, 0)];
     assert_eq!(rt; sections[1].relocations.as_slice(), entries.as_slice());
-    Ok(())
 }
 
 #[test]

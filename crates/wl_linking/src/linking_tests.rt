@@ -1,7 +1,7 @@
 //! The linking section.
 
-use crate::test_bytes::{ObjectRow, Row, assert_objects, fault_of, linked};
-use crate::{WasmInitFunc, WasmSegmentInfo, parse_wasm_module};
+use crate::test_bytes::{ObjectRow, Row, assert_objects, fault_of, linked, look_at};
+use crate::{WasmInitFunc, WasmSegmentInfo};
 use std::alloc::Global;
 use std::process::Abort;
 use std::test::Fail;
@@ -108,16 +108,17 @@ const INFOS: &[u8; 19] = b"\x02\x05\x10\x03\x01a\x1f\x01\x02\xc3\xa9\0\x86\0\0\x
 #[test]
 fn reads_what_is_told_of_segments(rt: HostRuntime) -> Result<(), Fail> {
     let object = linked(&rt, rt.alloc(), INFOS)?;
-    assert!(rt; object.len() < 1000);
-    let file = parse_wasm_module(rt.alloc(), &object)?;
-    let want = [
-        ("a", 31, 1, false),
-        ("é", 0, 6, true),
-        ("", 0, 0x400, false),
-    ];
-    assert_infos(&rt, file.segment_infos(), &want);
-    Ok(())
+    look_at(&rt, rt.alloc(), &object, |file| {
+        assert_infos(&rt, file.segment_infos(), &TOLD);
+    })
 }
+
+/// What is told by them.
+const TOLD: [Told<'static>; 3] = [
+    ("a", 31, 1, false),
+    ("é", 0, 6, true),
+    ("", 0, 0x400, false),
+];
 
 #[test]
 fn judges_what_is_told_of_segments(rt: HostRuntime) -> Result<(), Fail> {
@@ -143,21 +144,22 @@ fn reads_functions_that_run_at_the_start(rt: HostRuntime) -> Result<(), Fail> {
     // They stand in front of the symbols that they name.
     let content = b"\x02\x06\x07\x02\xff\xff\x03\x01\0\0\x08\x0b\x02\0\0\x02\x01a\0\0\x03\x01b";
     let object = linked(&rt, rt.alloc(), content)?;
-    assert!(rt; object.len() < 1000);
-    let file = parse_wasm_module(rt.alloc(), &object)?;
-    let want = [
-        WasmInitFunc {
-            priority: 65535,
-            symbol_index: 1,
-        },
-        WasmInitFunc {
-            priority: 0,
-            symbol_index: 0,
-        },
-    ];
-    assert_eq!(rt; file.init_funcs(), want.as_slice());
-    Ok(())
+    look_at(&rt, rt.alloc(), &object, |file| {
+        assert_eq!(rt; file.init_funcs(), INIT_FUNCS.as_slice());
+    })
 }
+
+/// The functions of the object above.
+const INIT_FUNCS: [WasmInitFunc; 2] = [
+    WasmInitFunc {
+        priority: 65535,
+        symbol_index: 1,
+    },
+    WasmInitFunc {
+        priority: 0,
+        symbol_index: 0,
+    },
+];
 
 #[test]
 fn functions_that_run_at_the_start_have_symbols(rt: HostRuntime) -> Result<(), Fail> {

@@ -1,10 +1,10 @@
 //! Names as bytes, and the lists of a small object.
 
-use crate::{File, RawSymbolName, WasmSymbol, parse_wasm_module, wasm_symbol_name_str};
-use std::alloc::Global;
+use crate::test_bytes::look_at;
+use crate::{File, RawSymbolName, WasmSymbol, wasm_symbol_name_str};
+use std::alloc::{AllocError, Global};
 use std::process::Abort;
 use std::test::Fail;
-use wl_module::ReadError;
 
 /// A function `a` with its body, a memory of two pages, a global that starts as 7, a passive
 /// segment that holds 5, and a debug section that holds 9.
@@ -20,11 +20,6 @@ const OBJECT: &[u8; 74] = &[
     0, 17, 7, 0x6c, 0x69, 0x6e, 0x6b, 0x69, 0x6e, 0x67, 2, // linking, version 2
     8, 6, 1, 0, 0, 0, 1, 0x61, // one symbol
 ];
-
-// The object, read.
-fn read_object(alloc: Global) -> Result<File<'static>, ReadError> {
-    parse_wasm_module(alloc, OBJECT)
-}
 
 #[test]
 fn prints_names(rt: HostRuntime) -> Result<(), Fail> {
@@ -56,19 +51,19 @@ fn assert_symbol(rt: &impl Abort, symbol: &WasmSymbol<'_>) {
 
 #[test]
 fn finds_the_name_of_a_symbol(rt: HostRuntime) -> Result<(), Fail> {
-    let file = read_object(rt.alloc())?;
-    assert_eq!(rt; file.symbols().len(), 1);
-    assert_symbol(&rt, &file.symbols()[0]);
-    Ok(())
+    look_at(&rt, rt.alloc(), OBJECT, |file| {
+        assert_eq!(rt; file.symbols().len(), 1);
+        assert_symbol(&rt, &file.symbols()[0]);
+    })
 }
 
-fn assert_functions(rt: &impl Abort, alloc: Global, file: &File<'_>) -> Result<(), Fail> {
+fn assert_functions(rt: &impl Abort, alloc: Global, file: &File<'_>) -> Result<(), AllocError> {
     let functions = file.module_functions(alloc)?;
     assert_eq!(rt; functions.as_slice(), [0].as_slice());
     Ok(())
 }
 
-fn assert_bodies(rt: &impl Abort, alloc: Global, file: &File<'_>) -> Result<(), Fail> {
+fn assert_bodies(rt: &impl Abort, alloc: Global, file: &File<'_>) -> Result<(), AllocError> {
     let bodies = file.function_bodies(alloc)?;
     assert_eq!(rt; bodies.len(), 1);
     assert_eq!(rt; bodies[0].code_offset, 2);
@@ -76,14 +71,14 @@ fn assert_bodies(rt: &impl Abort, alloc: Global, file: &File<'_>) -> Result<(), 
     Ok(())
 }
 
-fn assert_memories(rt: &impl Abort, alloc: Global, file: &File<'_>) -> Result<(), Fail> {
+fn assert_memories(rt: &impl Abort, alloc: Global, file: &File<'_>) -> Result<(), AllocError> {
     let memories = file.memories(alloc)?;
     assert_eq!(rt; memories.len(), 1);
     assert_eq!(rt; memories[0].initial, 2);
     Ok(())
 }
 
-fn assert_globals(rt: &impl Abort, alloc: Global, file: &File<'_>) -> Result<(), Fail> {
+fn assert_globals(rt: &impl Abort, alloc: Global, file: &File<'_>) -> Result<(), AllocError> {
     let globals = file.module_globals(alloc)?;
     assert_eq!(rt; globals.len(), 1);
     assert!(rt; !globals[0].ty.mutable);
@@ -91,7 +86,7 @@ fn assert_globals(rt: &impl Abort, alloc: Global, file: &File<'_>) -> Result<(),
     Ok(())
 }
 
-fn assert_segments(rt: &impl Abort, alloc: Global, file: &File<'_>) -> Result<(), Fail> {
+fn assert_segments(rt: &impl Abort, alloc: Global, file: &File<'_>) -> Result<(), AllocError> {
     let segments = file.data_segments(alloc)?;
     assert_eq!(rt; segments.len(), 1);
     assert_eq!(rt; segments[0].payload, [5].as_slice());
@@ -99,7 +94,11 @@ fn assert_segments(rt: &impl Abort, alloc: Global, file: &File<'_>) -> Result<()
     Ok(())
 }
 
-fn assert_debug_sections(rt: &impl Abort, alloc: Global, file: &File<'_>) -> Result<(), Fail> {
+fn assert_debug_sections(
+    rt: &impl Abort,
+    alloc: Global,
+    file: &File<'_>,
+) -> Result<(), AllocError> {
     let sections = file.debug_sections(alloc)?;
     assert_eq!(rt; sections.len(), 1);
     assert_eq!(rt; sections[0].name, ".debug_x");
@@ -108,12 +107,28 @@ fn assert_debug_sections(rt: &impl Abort, alloc: Global, file: &File<'_>) -> Res
 }
 
 #[test]
-fn lists_what_an_object_holds(rt: HostRuntime) -> Result<(), Fail> {
-    let file = read_object(rt.alloc())?;
-    assert_functions(&rt, rt.alloc(), &file)?;
-    assert_bodies(&rt, rt.alloc(), &file)?;
-    assert_memories(&rt, rt.alloc(), &file)?;
-    assert_globals(&rt, rt.alloc(), &file)?;
-    assert_segments(&rt, rt.alloc(), &file)?;
-    assert_debug_sections(&rt, rt.alloc(), &file)
+fn lists_functions_and_bodies(rt: HostRuntime) -> Result<(), Fail> {
+    let alloc = rt.alloc();
+    look_at(&rt, alloc, OBJECT, |file| {
+        assert!(rt; assert_functions(&rt, alloc, file).is_ok());
+        assert!(rt; assert_bodies(&rt, alloc, file).is_ok());
+    })
+}
+
+#[test]
+fn lists_memories_and_globals(rt: HostRuntime) -> Result<(), Fail> {
+    let alloc = rt.alloc();
+    look_at(&rt, alloc, OBJECT, |file| {
+        assert!(rt; assert_memories(&rt, alloc, file).is_ok());
+        assert!(rt; assert_globals(&rt, alloc, file).is_ok());
+    })
+}
+
+#[test]
+fn lists_segments_and_debug_sections(rt: HostRuntime) -> Result<(), Fail> {
+    let alloc = rt.alloc();
+    look_at(&rt, alloc, OBJECT, |file| {
+        assert!(rt; assert_segments(&rt, alloc, file).is_ok());
+        assert!(rt; assert_debug_sections(&rt, alloc, file).is_ok());
+    })
 }

@@ -1,7 +1,7 @@
 //! A small object, read, each fault of it that one change makes, and which fault is told.
 
-use crate::test_bytes::{ObjectRow, Section, assert_objects, fault_of};
-use crate::{RelocationType, Site, WasmRelocation, parse_wasm_module};
+use crate::test_bytes::{ObjectRow, Section, assert_objects, fault_of, look_at};
+use crate::{File, RelocationType, Site, WasmRelocation, WasmSymbol};
 use std::alloc::Global;
 use std::process::Abort;
 use std::test::Fail;
@@ -27,7 +27,11 @@ fn header(id: u8, payload_range: (u32, u32), name_range: Option<(u32, u32)>) -> 
 
 #[test]
 fn finds_sections(rt: HostRuntime) -> Result<(), Fail> {
-    let file = parse_wasm_module(rt.alloc(), OBJECT)?;
+    look_at(&rt, rt.alloc(), OBJECT, |file| assert_sections(&rt, file))
+}
+
+// The sections stand where the object has them.
+fn assert_sections(rt: &impl Abort, file: &File<'_>) {
     let want = [
         header(1, (10, 14), None),
         header(3, (16, 19), None),
@@ -37,7 +41,6 @@ fn finds_sections(rt: HostRuntime) -> Result<(), Fail> {
     ];
     assert_eq!(rt; file.bytes(), OBJECT.as_slice());
     assert_eq!(rt; file.sections(), want.as_slice());
-    Ok(())
 }
 
 fn stands_at(body: &WasmFunctionBody<'_>, code_offset: u32, bytes: &[u8]) -> bool {
@@ -46,25 +49,39 @@ fn stands_at(body: &WasmFunctionBody<'_>, code_offset: u32, bytes: &[u8]) -> boo
 
 #[test]
 fn reads_functions(rt: HostRuntime) -> Result<(), Fail> {
-    let file = parse_wasm_module(rt.alloc(), OBJECT)?;
-    assert_eq!(rt; file.types().len(), 1);
-    assert_eq!(rt; file.functions(), [0, 0].as_slice());
-    let bodies = file.bodies();
+    look_at(&rt, rt.alloc(), OBJECT, |file| {
+        assert_eq!(rt; file.types().len(), 1);
+        assert_eq!(rt; file.functions(), [0, 0].as_slice());
+        assert_bodies(&rt, file.bodies());
+    })
+}
+
+// The bodies are those of the object.
+fn assert_bodies(rt: &impl Abort, bodies: &[WasmFunctionBody<'_>]) {
     assert_eq!(rt; bodies.len(), 2);
     let call = [0, 0x10, 0x81, 0x80, 0x80, 0x80, 0, 0x0b];
     assert!(rt; stands_at(&bodies[0], 2, &call));
     assert!(rt; stands_at(&bodies[1], 11, &[0, 0x0b]));
-    Ok(())
 }
 
 #[test]
 fn reads_symbols_and_relocations(rt: HostRuntime) -> Result<(), Fail> {
-    let file = parse_wasm_module(rt.alloc(), OBJECT)?;
-    let symbols = file.symbols();
+    look_at(&rt, rt.alloc(), OBJECT, |file| {
+        assert_symbols(&rt, file.symbols());
+        assert_relocation(&rt, file);
+    })
+}
+
+// The symbols are those of the two functions.
+fn assert_symbols(rt: &impl Abort, symbols: &[WasmSymbol<'_>]) {
     assert_eq!(rt; symbols.len(), 2);
     let (a, b) = (&symbols[0], &symbols[1]);
     assert_eq!(rt; (a.raw_flags(), a.index, a.name), (0, 0, "a"));
     assert_eq!(rt; (b.raw_flags(), b.index, b.name), (0, 1, "b"));
+}
+
+// The only relocation is that of the call.
+fn assert_relocation(rt: &impl Abort, file: &File<'_>) {
     let relocation = WasmRelocation {
         ty: RelocationType::FunctionIndexLeb,
         offset: 4,
@@ -77,7 +94,6 @@ fn reads_symbols_and_relocations(rt: HostRuntime) -> Result<(), Fail> {
     };
     assert_eq!(rt; file.code_relocations(), [relocation].as_slice());
     assert_eq!(rt; file.code_sites(), [site].as_slice());
-    Ok(())
 }
 
 /// The bytes from one place to another give way to others, and the object is at fault as told.
@@ -208,10 +224,10 @@ fn sections_are_judged_in_front_of_what_joins_them(rt: HostRuntime) -> Result<()
 
 #[test]
 fn an_object_may_have_no_sections(rt: HostRuntime) -> Result<(), Fail> {
-    let file = parse_wasm_module(rt.alloc(), b"\0asm\x01\0\0\0")?;
-    assert!(rt; file.sections().is_empty());
-    assert!(rt; file.symbols().is_empty());
-    Ok(())
+    look_at(&rt, rt.alloc(), b"\0asm\x01\0\0\0", |file| {
+        assert!(rt; file.sections().is_empty());
+        assert!(rt; file.symbols().is_empty());
+    })
 }
 
 #[test]

@@ -6,11 +6,9 @@ use crate::RelocationType::{
     TableIndexRelSleb, TableIndexSleb, TableNumberLeb, TypeIndexLeb,
 };
 use crate::test_bytes::{
-    BODIES, CODE, DATA, Row, SEGMENTS, assert_relocations, fault_of, object_of, relocated,
+    BODIES, CODE, DATA, Row, SEGMENTS, assert_relocations, fault_of, look_at, object_of, relocated,
 };
-use crate::{
-    FieldForm, RelocationType, WasmRelocation, parse_wasm_module, relocation_type_to_string,
-};
+use crate::{FieldForm, RelocationType, WasmRelocation, relocation_type_to_string};
 use std::alloc::Global;
 use std::process::Abort;
 use std::test::Fail;
@@ -124,16 +122,15 @@ fn assert_relocation(
     in_code: bool,
     want: WasmRelocation,
 ) -> Result<(), Fail> {
-    assert!(rt; object.len() < 1000);
-    let file = parse_wasm_module(alloc, object)?;
-    let (found, other) = if in_code {
-        (file.code_relocations(), file.data_relocations())
-    } else {
-        (file.data_relocations(), file.code_relocations())
-    };
-    assert_eq!(rt; found, [want].as_slice());
-    assert!(rt; other.is_empty());
-    Ok(())
+    look_at(rt, alloc, object, |file| {
+        let (found, other) = if in_code {
+            (file.code_relocations(), file.data_relocations())
+        } else {
+            (file.data_relocations(), file.code_relocations())
+        };
+        assert_eq!(rt; found, [want].as_slice());
+        assert!(rt; other.is_empty());
+    })
 }
 
 // An entry of each of these types, for the section of that number, is read as told.

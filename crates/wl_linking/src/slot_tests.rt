@@ -1,7 +1,10 @@
 //! The names of imports.
 
-use crate::parse_wasm_module;
-use crate::test_bytes::{ObjectRow, Row, Section, assert_objects, assert_symbol_tables, object_of};
+use crate::WasmSymbol;
+use crate::test_bytes::{
+    ObjectRow, Row, Section, assert_objects, assert_symbol_tables, look_at, object_of,
+};
+use std::process::Abort;
 use std::test::Fail;
 use wl_module::{ReadError, Why};
 
@@ -98,10 +101,17 @@ fn the_first_import_section_tells_the_place(rt: HostRuntime) -> Result<(), Fail>
         (0, b"\x07linking\x02\x08\x04\x01\0\x10\0"),
     ];
     let object = object_of(&rt, rt.alloc(), &sections)?;
-    assert!(rt; object.len() < 1000);
-    let file = parse_wasm_module(rt.alloc(), &object)?;
-    assert_eq!(rt; file.symbols().len(), 1);
-    let symbol = &file.symbols()[0];
+    look_at(
+        &rt,
+        rt.alloc(),
+        &object,
+        |file| assert_long(&rt, file.symbols()),
+    )
+}
+
+// The only symbol has the name of the import.
+fn assert_long(rt: &impl Abort, symbols: &[WasmSymbol<'_>]) {
+    assert_eq!(rt; symbols.len(), 1);
+    let symbol = &symbols[0];
     assert_eq!(rt; (symbol.name, symbol.name_range()), ("long", (35, 39)));
-    Ok(())
 }

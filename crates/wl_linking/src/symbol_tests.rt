@@ -1,7 +1,7 @@
 //! The symbol table.
 
-use crate::test_bytes::{Row, assert_symbol_tables, with_symbols};
-use crate::{SymbolFlags, WasmSymbol, WasmSymbolKind, parse_wasm_module};
+use crate::test_bytes::{Row, assert_symbol_tables, look_at, with_symbols};
+use crate::{SymbolFlags, WasmSymbol, WasmSymbolKind};
 use bitflags::Flags;
 use std::process::Abort;
 use std::test::Fail;
@@ -76,10 +76,9 @@ const KINDS: [Want<'static>; 11] = [
 #[test]
 fn reads_symbols_of_each_kind(rt: HostRuntime) -> Result<(), Fail> {
     let object = with_symbols(&rt, rt.alloc(), SYMBOLS)?;
-    assert!(rt; object.len() < 1000);
-    let file = parse_wasm_module(rt.alloc(), &object)?;
-    assert_symbols(&rt, file.symbols(), &KINDS);
-    Ok(())
+    look_at(&rt, rt.alloc(), &object, |file| {
+        assert_symbols(&rt, file.symbols(), &KINDS);
+    })
 }
 
 // Whether a symbol has a name and is undefined, weak, local, hidden and of an explicit name.
@@ -98,17 +97,24 @@ fn told(symbol: &WasmSymbol<'_>) -> [bool; 6] {
 fn tells_the_flags_of_a_symbol(rt: HostRuntime) -> Result<(), Fail> {
     // The first has all flags but UNDEFINED and ABSOLUTE, the second UNDEFINED alone.
     let object = with_symbols(&rt, rt.alloc(), b"\x02\0\xe7\x03\x02\x01a\0\x10\0")?;
-    assert!(rt; object.len() < 1000);
-    let file = parse_wasm_module(rt.alloc(), &object)?;
+    look_at(
+        &rt,
+        rt.alloc(),
+        &object,
+        |file| assert_told(&rt, file.symbols()),
+    )
+}
+
+// The two symbols tell these flags.
+fn assert_told(rt: &impl Abort, symbols: &[WasmSymbol<'_>]) {
     let want = [
         [true, false, true, true, true, true],
         [true, true, false, false, false, false],
     ];
-    assert_eq!(rt; file.symbols().len(), want.len());
-    for (symbol, want) in file.symbols().iter().zip(want) {
+    assert_eq!(rt; symbols.len(), want.len());
+    for (symbol, want) in symbols.iter().zip(want) {
         assert_eq!(rt; told(symbol), want);
     }
-    Ok(())
 }
 
 #[test]

@@ -1,9 +1,8 @@
 //! The sections that relocation sections are for.
 
-use crate::parse_wasm_module;
 use crate::test_bytes::{
     BODIES, ObjectRow, Row, SEGMENTS, Section, assert_objects, assert_relocations, fault_of,
-    object_of, relocated,
+    look_at, object_of, relocated,
 };
 use std::alloc::Global;
 use std::process::Abort;
@@ -91,10 +90,9 @@ const EARLY: [Section<'static>; 5] = [
 #[test]
 fn relocations_may_stand_in_front_of_their_section(rt: HostRuntime) -> Result<(), Fail> {
     let object = object_of(&rt, rt.alloc(), &EARLY[..4])?;
-    assert!(rt; object.len() < 1000);
-    let file = parse_wasm_module(rt.alloc(), &object)?;
-    assert_eq!(rt; file.code_relocations().len(), 1);
-    Ok(())
+    look_at(&rt, rt.alloc(), &object, |file| {
+        assert_eq!(rt; file.code_relocations().len(), 1);
+    })
 }
 
 #[test]

@@ -1,6 +1,6 @@
 //! Objects for the tests, put together from their sections.
 
-use crate::parse_wasm_module;
+use crate::{File, parse_wasm_module};
 use std::alloc::Global;
 use std::process::Abort;
 use std::test::Fail;
@@ -87,6 +87,22 @@ pub(crate) fn with_symbols(rt: &impl Abort, alloc: Global, table: &[u8]) -> Resu
     content.push(table.len() as u8)?;
     content.extend_from_slice(table)?;
     linked(rt, alloc, &content)
+}
+
+/// Reads an object, and looks at what it holds. Tests that hold an object themselves take minutes to
+/// prove.
+pub(crate) fn look_at<F: FnOnce(&File<'_>)>(
+    rt: &impl Abort,
+    alloc: Global,
+    object: &[u8],
+    look: F,
+) -> Result<(), Fail>
+    requires { F.IsAlwaysCallable look }
+{
+    assert!(rt; object.len() < 1000);
+    let file = parse_wasm_module(alloc, object)?;
+    look(&file);
+    Ok(())
 }
 
 /// What is wrong with an object.
