@@ -100,11 +100,12 @@ fn assert_relocation(rt: &impl Abort, file: &File<'_>) {
 type Change<'a> = (usize, usize, &'a [u8], Option<ReadError>);
 
 fn assert_changes(rt: &impl Abort, alloc: Global, changes: &[Change<'_>]) -> Result<(), Fail> {
+    let whole = OBJECT.as_slice();
     for (from, to, put, want) in changes {
-        assert!(rt; *from <= *to && *to <= OBJECT.len());
-        let mut object = Vec::from_slice(alloc, &OBJECT[..*from])?;
+        assert!(rt; *from <= *to && *to <= whole.len());
+        let mut object = Vec::from_slice(alloc, &whole[..*from])?;
         object.extend_from_slice(put)?;
-        object.extend_from_slice(&OBJECT[*to..])?;
+        object.extend_from_slice(&whole[*to..])?;
         let why = fault_of(rt, alloc, &object);
         assert_eq!(rt; why, *want, "{from} to {to}: {put:?}");
     }
