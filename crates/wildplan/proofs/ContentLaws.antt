@@ -7,8 +7,11 @@ use Rattle.wl_module.specs.declared.error.ReadError.{ReadError}
 use Rattle.wl_module.specs.declared.error.ReadError.TheVariants as read
 use Rattle.wl_linking.specs.Verdict.{HasCause}
 use Rattle.wildplan.specs.Contents.{contents, AllWithin}
-use Rattle.wildplan.specs.Plan.{AreObjects}
-use Rattle.wildplan.specs.Parsing.{link_error_of, IsBadObject}
+use Rattle.wildplan.specs.Plan.{AreObjects, IsBadObject}
+use Rattle.wildplan.specs.Parsing.{link_error_of}
+use Rattle.wl_linking.specs.declared.error.LinkError.TheVariants.{OutOfMemory, Malformed, Unsupported}
+use Rattle.wl_plan.specs.Steps.{Refuses}
+use Rattle.wl_plan.proofs.StepLaws.{refuses_for, refuses_memory}
 
 pub content_at : (objects : List (Vec ℕ Global)) (i : ℕ) (d : Vec ℕ Global) → i < length objects → d ≡ get_or objects i d → slice_get (contents objects) i ≡ Some d.items
 content_at [] i d lt is = absurd (omega arith)
@@ -41,10 +44,10 @@ take_more (b ∷ objects) (suc i) bytes is = ap (λ (os : List (List ℕ)). b �
 pub parses_more : (files : List Object) (objects : List (List ℕ)) (i : ℕ) (file : Object) (bytes : List ℕ) → AreObjects files (take i objects) → slice_get objects i ≡ Some bytes → IsObject file bytes → AreObjects (files ++ file ∷ []) (take (i + 1) objects)
 parses_more files objects i file bytes h here is = rw (add-one, take_more objects i bytes here) (objects_push files (take i objects) file bytes h is)
 
-pub bad_object : (files : List Object) (objects : List (List ℕ)) (i : ℕ) (bytes : List ℕ) (e : ReadError) → AreObjects files (take i objects) → slice_get objects i ≡ Some bytes → HasCause (λ e. ObjectFault e bytes) e → IsBadObject objects (link_error_of i e)
-bad_object files objects i bytes read.OutOfMemory h here f = tt
-bad_object files objects i bytes (read.Malformed why) h here f = record { before = files; grammar = h; bytes = bytes; here = here; fault = f }
-bad_object files objects i bytes (read.Unsupported form) h here f = record { before = files; grammar = h; bytes = bytes; here = here; fault = f }
+pub bad_object : (files : List Object) (objects : List (List ℕ)) (i : ℕ) (bytes : List ℕ) (e : ReadError) → AreObjects files (take i objects) → slice_get objects i ≡ Some bytes → HasCause (λ e. ObjectFault e bytes) e → Refuses (IsBadObject objects) (link_error_of i e)
+bad_object files objects i bytes read.OutOfMemory h here f = refuses_memory (IsBadObject objects) OutOfMemory refl
+bad_object files objects i bytes (read.Malformed why) h here f = refuses_for (IsBadObject objects) (Malformed i why) (record { before = files; grammar = h; bytes = bytes; here = here; fault = f })
+bad_object files objects i bytes (read.Unsupported form) h here f = refuses_for (IsBadObject objects) (Unsupported i form) (record { before = files; grammar = h; bytes = bytes; here = here; fault = f })
 
 pub all_taken : (files : List Object) (objects : List (List ℕ)) (i : ℕ) → AreObjects files (take i objects) → slice_get objects i ≡ None → AreObjects files objects
 all_taken files objects i h none = subst (λ (os : List (List ℕ)). AreObjects files os) (past objects i none) h

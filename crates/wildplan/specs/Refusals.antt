@@ -1,5 +1,5 @@
 -- The lines of refusals.
-use Rattle.std.specs.Prelude.{ℕ, List, [], ◌∷◌, ◌++◌, codes, decimal, string_bytes}
+use Rattle.std.specs.Prelude.{ℕ, List, [], ◌∷◌, ◌++◌, codes, decimal}
 use Rattle.std.specs.Fmt.{signed_decimal}
 use Rattle.std.specs.List.{flat_map}
 use Rattle.wl_module.specs.declared.error.Why.{Why}
@@ -99,25 +99,25 @@ named_text name numbers = codes " " ++ quoted name ++ numbers_text numbers
 
 -- an object's number and the name that it refers to, each behind a blank
 abbrev pub undefined_text : UndefinedSymbol → List ℕ
-undefined_text u = codes " " ++ decimal u.object ++ codes " " ++ quoted (string_bytes u.name)
+undefined_text u = codes " " ++ decimal u.object ++ codes " " ++ quoted u.name
 
 -- The line of a refusal: its name and what it tells. When memory ran out there is no line.
 abbrev pub error_line : LinkError → List ℕ
 error_line error.OutOfMemory = []
 error_line (error.Malformed object why) = refusal_line (codes "Malformed") (codes " " ++ decimal object ++ codes " " ++ why_name why)
 error_line (error.Unsupported object form) = refusal_line (codes "Unsupported") (codes " " ++ decimal object ++ codes " " ++ form_name form)
-error_line (error.DuplicateSymbol name first_object first_symbol second_object second_symbol) = refusal_line (codes "DuplicateSymbol") (named_text (string_bytes name) (first_object ∷ first_symbol ∷ second_object ∷ second_symbol ∷ []))
+error_line (error.DuplicateSymbol name first_object first_symbol second_object second_symbol) = refusal_line (codes "DuplicateSymbol") (named_text name (first_object ∷ first_symbol ∷ second_object ∷ second_symbol ∷ []))
 error_line (error.BadFeature object prefix) = refusal_line (codes "BadFeature") (numbers_text (object ∷ prefix ∷ []))
 error_line (error.SharedMemoryFeature need) = refusal_line (codes "SharedMemoryFeature") (codes " " ++ need_text need)
-error_line (error.FeatureConflict object feature) = refusal_line (codes "FeatureConflict") (codes " " ++ decimal object ++ codes " " ++ quoted (string_bytes feature))
-error_line (error.EntryNotDefined name) = refusal_line (codes "EntryNotDefined") (named_text (string_bytes name) [])
+error_line (error.FeatureConflict object feature) = refusal_line (codes "FeatureConflict") (codes " " ++ decimal object ++ codes " " ++ quoted feature)
+error_line (error.EntryNotDefined name) = refusal_line (codes "EntryNotDefined") (named_text name [])
 error_line (error.WrongKind object symbol) = refusal_line (codes "WrongKind") (numbers_text (object ∷ symbol ∷ []))
-error_line (error.UndefinedSymbols symbols) = refusal_line (codes "UndefinedSymbols") (flat_map undefined_text symbols.items)
-error_line (error.ConflictingTypes name first_object first_slot second_object second_slot) = refusal_line (codes "ConflictingTypes") (named_text (string_bytes name) (first_object ∷ first_slot ∷ second_object ∷ second_slot ∷ []))
+error_line (error.UndefinedSymbols symbols) = refusal_line (codes "UndefinedSymbols") (flat_map undefined_text symbols)
+error_line (error.ConflictingTypes name first_object first_slot second_object second_slot) = refusal_line (codes "ConflictingTypes") (named_text name (first_object ∷ first_slot ∷ second_object ∷ second_slot ∷ []))
 error_line (error.BadStackSize size) = refusal_line (codes "BadStackSize") (numbers_text (size ∷ []))
 error_line (error.TooLarge what) = refusal_line (codes "TooLarge") (codes " " ++ quantity_name what)
 error_line (error.BadMemorySize which requested needed) = refusal_line (codes "BadMemorySize") (codes " " ++ bound_name which ++ numbers_text (requested ∷ needed ∷ []))
 error_line (error.RelocationRange object offset value) = refusal_line (codes "RelocationRange") (numbers_text (object ∷ offset ∷ []) ++ codes " " ++ signed_decimal value)
 error_line (error.ConstantRange value) = refusal_line (codes "ConstantRange") (numbers_text (value ∷ []))
-error_line (error.ExportNotFound name) = refusal_line (codes "ExportNotFound") (named_text (string_bytes name) [])
-error_line (error.DuplicateExport name) = refusal_line (codes "DuplicateExport") (named_text (string_bytes name) [])
+error_line (error.ExportNotFound name) = refusal_line (codes "ExportNotFound") (named_text name [])
+error_line (error.DuplicateExport name) = refusal_line (codes "DuplicateExport") (named_text name [])

@@ -213,7 +213,7 @@ pub fn error_text(alloc: Global, error: &LinkError) -> Result<Vec<u8>, AllocErro
         LinkError::WrongKind { object, symbol } => {
             numbers_line(alloc, "WrongKind", &[*object as u64, *symbol as u64])
         }
-        LinkError::UndefinedSymbols(symbols) => undefined_line(alloc, symbols),
+        LinkError::UndefinedSymbols(symbols) => undefined_line(alloc, symbols.as_slice()),
         LinkError::BadStackSize(size) => {
             numbers_line(alloc, "BadStackSize", &[u64::from(*size)])
         }

@@ -5,7 +5,9 @@ use crate::refusal::error_text;
 use std::alloc::{AllocError, Global};
 use std::process::Abort;
 use std::test::Fail;
-use wl_linking::{LinkError, MemoryBound, Quantity, SharedMemoryNeed, UndefinedSymbol};
+use wl_linking::{
+    Items, LinkError, MemoryBound, Quantity, SharedMemoryNeed, Text, UndefinedSymbol,
+};
 use wl_module::{Form, Why};
 
 // The line of a refusal is this one.
@@ -160,7 +162,9 @@ fn needs_of_shared_memory_have_a_line(rt: HostRuntime) -> Result<(), Fail> {
 
 #[test]
 fn names_have_a_line(rt: HostRuntime) -> Result<(), Fail> {
-    let name = |text| String::from_str(rt.alloc(), text);
+    let name = |text| -> Result<Text, AllocError> {
+        Ok(Text::new(String::from_str(rt.alloc(), text)?))
+    };
     let lines = [
         (
             LinkError::EntryNotDefined {
@@ -193,7 +197,7 @@ fn names_have_a_line(rt: HostRuntime) -> Result<(), Fail> {
 #[test]
 fn two_of_one_name_have_a_line(rt: HostRuntime) -> Result<(), Fail> {
     let symbols = LinkError::DuplicateSymbol {
-        name: String::from_str(rt.alloc(), "a \"b\"")?,
+        name: Text::new(String::from_str(rt.alloc(), "a \"b\"")?),
         first_object: 0,
         first_symbol: 12,
         second_object: 3,
@@ -202,7 +206,7 @@ fn two_of_one_name_have_a_line(rt: HostRuntime) -> Result<(), Fail> {
     let line = "error: DuplicateSymbol \"a \\22b\\22\" 0 12 3 4\n";
     assert_line(&rt, rt.alloc(), &symbols, line)?;
     let imports = LinkError::ConflictingTypes {
-        name: String::from_str(rt.alloc(), "p")?,
+        name: Text::new(String::from_str(rt.alloc(), "p")?),
         first_object: 0,
         first_slot: 1,
         second_object: 2,
@@ -217,10 +221,10 @@ fn two_of_one_name_have_a_line(rt: HostRuntime) -> Result<(), Fail> {
 fn undefined_names_have_one_line(rt: HostRuntime) -> Result<(), Fail> {
     let mut symbols = Vec::new(rt.alloc());
     for (object, text) in [(0, "a"), (1, "b")] {
-        let name = String::from_str(rt.alloc(), text)?;
+        let name = Text::new(String::from_str(rt.alloc(), text)?);
         symbols.push(UndefinedSymbol { object, name })?;
     }
-    let error = LinkError::UndefinedSymbols(symbols);
+    let error = LinkError::UndefinedSymbols(Items::new(symbols));
     let line = "error: UndefinedSymbols 0 \"a\" 1 \"b\"\n";
     assert_line(&rt, rt.alloc(), &error, line)?;
     Ok(())

@@ -1,5 +1,7 @@
 //! Why there is no plan.
 
+use crate::items::Items;
+use crate::text::Text;
 use std::alloc::{AllocError, AllocFailed};
 use wl_module::{Form, Why};
 
@@ -44,7 +46,7 @@ pub struct UndefinedSymbol {
     /// The object's number.
     pub object: usize,
     /// The name.
-    pub name: String,
+    pub name: Text,
 }
 
 /// Why there is no plan. Objects are numbered as given, from 0, and symbols as in their object.
@@ -65,7 +67,7 @@ pub enum LinkError {
     /// Two symbols that other objects can name have one name; the second is the earliest of all
     /// symbols that repeats a name.
     DuplicateSymbol {
-        name: String,
+        name: Text,
         first_object: usize,
         first_symbol: usize,
         second_object: usize,
@@ -83,11 +85,11 @@ pub enum LinkError {
     /// The object disallows a feature that is used.
     FeatureConflict {
         object: usize,
-        feature: String,
+        feature: Text,
     },
     /// No object defines a function of the entry's name.
     EntryNotDefined {
-        name: String,
+        name: Text,
     },
     /// The symbol stands for another kind of thing than its use asks for.
     WrongKind {
@@ -95,10 +97,10 @@ pub enum LinkError {
         symbol: usize,
     },
     /// Nothing defines these names.
-    UndefinedSymbols(Vec<UndefinedSymbol>),
+    UndefinedSymbols(Items<UndefinedSymbol>),
     /// Two imports of one name have different types.
     ConflictingTypes {
-        name: String,
+        name: Text,
         first_object: usize,
         first_slot: usize,
         second_object: usize,
@@ -128,11 +130,11 @@ pub enum LinkError {
     },
     /// No object defines the name that is to be exported.
     ExportNotFound {
-        name: String,
+        name: Text,
     },
     /// Two exports have one name.
     DuplicateExport {
-        name: String,
+        name: Text,
     },
 }
 

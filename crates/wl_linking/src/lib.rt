@@ -26,6 +26,7 @@ mod sites;
 mod slots;
 mod spaces;
 mod symbols;
+mod text;
 
 pub use debug::DebugSectionInput;
 pub use error::{LinkError, MemoryBound, Quantity, SharedMemoryNeed, UndefinedSymbol};
@@ -41,6 +42,7 @@ pub use relocation_type::{FieldForm, RelocationType, relocation_type_to_string};
 pub use relocations::{RelocationList, WasmRelocSection, WasmRelocation};
 pub use sites::Site;
 pub use symbols::{WasmSymbol, WasmSymbolKind};
+pub use text::Text;
 
 #[cfg(test)]
 mod core_tests;

@@ -1,3 +1,4 @@
+pub mod StepLaws
 pub mod TypeLaws
 pub mod Merges
 pub mod PlainLaws

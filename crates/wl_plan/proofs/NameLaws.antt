@@ -4,7 +4,11 @@ use Rattle.std.specs.Str.{bytes_eq}
 use Rattle.std.proofs.lemmas.Slice.Eq.{bytes_eq-Decides}
 use Rattle.std.proofs.lemmas.Option.{slice_get-get_or}
 use Rattle.std.proofs.lemmas.List.{take_all}
-use Rattle.wl_plan.specs.Names.{Strong, AreDistinct, IsRepeat, LacksName, HasName}
+use Rattle.std.proofs.lemmas.List.{get_or_default}
+use Rattle.wl_linking.specs.Object.{Object}
+use Rattle.wl_linking.specs.declared.error.LinkError.TheVariants.{DuplicateSymbol}
+use Rattle.wl_plan.specs.Names.{Strong, AreDistinct, IsRepeat, LacksName, HasName, strong_of, HasDistinctNames, IsDuplicate}
+use Rattle.wl_plan.specs.Steps.{Clear}
 
 -- ---- equal names
 
@@ -90,3 +94,27 @@ repeats symbols i k s t lt is distinct (x, e, same) s-is =
       same_name = ap (λ (v : Strong). v.name) (same_symbol symbols i s x first h.1) ∙ same;
       earliest = distinct;
     }
+
+-- ---- the step
+
+pub names_clear : (objects : List Object) → HasDistinctNames objects → Clear (IsDuplicate objects)
+names_clear objects h = record { none = λ e d. h d.2.i d.2.k d.0 d.1 d.2.in_order d.2.first d.2.second d.2.same_name }
+
+distinct_from : (symbols : List Strong) → ((s t : Strong) → IsRepeat symbols s t → ⊥) → (k : ℕ) → k ≤ length symbols → AreDistinct (take k symbols)
+distinct_from symbols none zero le = distinct_none symbols
+distinct_from symbols none (suc k) le =
+    let before = distinct_from symbols none k (omega arith) in
+    let d : Strong = record { name = []; object = 0; symbol = 0 } in
+    let t = get_or symbols k d in
+    let here : slice_get symbols k ≡ Some t = slice_get-get_or symbols k d (omega arith) in
+    let lacks : LacksName (take k symbols) t.name = λ i s at same.
+    let front = in_whole symbols k i s at in
+    none s t (record { i = i; k = k; in_order = front.0; first = front.1; second = here; same_name = same; earliest = before }) in
+    rw (← add-one) (distinct_more symbols k t (omega arith) (get_or_default symbols k d t (omega arith)) before lacks)
+
+-- where no symbol repeats a name, the names are distinct
+pub names_from : (objects : List Object) → Clear (IsDuplicate objects) → HasDistinctNames objects
+names_from objects clear =
+    let symbols = strong_of 0 objects in
+    let all = distinct_from symbols (λ s t r. clear.none (DuplicateSymbol t.name s.object s.symbol t.object t.symbol) (s, t, r, (refl, refl, refl, refl, refl))) (length symbols) (omega arith) in
+    distinct_all symbols (length symbols) (omega arith) all

@@ -1,11 +1,13 @@
--- Objects that are added to the spaces in turn.
+-- The passes over the objects: types, functions, maps, fixups.
 use Rattle.std.proofs.Common.{◌≡◌, ◌<◌, ◌≤◌, ◌+◌, ◌++◌, ℕ, zero, suc, true, eqb, List, [], ◌∷◌, length, get_or, drop, take, map, Some, refl, sym, ap, subst, ◌∙◌, arith, slice_get, add-one, drop-cons, append_assoc, length-append, inl, inr, eq-eqb, append-nil}
-use Rattle.std.specs.List.{AllByRecursion, list_all, list_any, flat_map}
+use Rattle.std.specs.List.{AllByRecursion, list_all, list_any, flat_map, range_with_len}
 use Rattle.std.proofs.Math.Seq.{take-suc}
 use Rattle.std.proofs.lemmas.List.{length-map, length-take, map-append, take_all, drop_all}
 use Rattle.std.proofs.lemmas.List.Folds.{list_any_at}
 use Rattle.std.proofs.lemmas.Option.{slice_get-get_or, slice_get_within, get_or_from_slice_get}
 use Rattle.wl_module.specs.Types.{FunctionType}
+use Rattle.wl_module.specs.Bodies.{Body}
+use Rattle.wl_linking.specs.Debug.{DebugInput}
 use Rattle.wl_linking.specs.Object.{Object}
 use Rattle.wl_linking.specs.Fitting.{IsFitting, code_pieces}
 use Rattle.wl_linking.specs.Sites.{AreSites}
@@ -14,23 +16,25 @@ use Rattle.wl_linking.specs.declared.sites.Site.{Site}
 use Rattle.wl_plan.specs.Types.{types_exist, firsts_onto, live_types, output_types}
 use Rattle.wl_plan.specs.Planned.{is_planned, is_planned_relocation, AllPlanned}
 use Rattle.wl_plan.specs.Space.{functions_from, functions_of, function_space}
-use Rattle.wl_plan.specs.Plan.{HasItsType, bodies_of, debug_of, target_of, AreFixupsIn, AreFixups, PlanFault, max_entries}
-use Rattle.wl_plan.specs.Merging.{LeadsToTypes}
-use Rattle.wl_plan.specs.Building.{outputs_from, body_in, debug_in, index_of, fixups_from, IsEmpty, AddsObject, LacksRoom, AreSpaces}
+use Rattle.wl_plan.specs.Plan.{HasItsType, bodies_of, debug_of, target_of, AreFixupsIn, AreFixups, IsTooLarge, max_entries}
+use Rattle.wl_plan.specs.Steps.{Clear, Refuses}
+use Rattle.wl_plan.proofs.StepLaws.{refuses_for, refuses_memory}
+use Rattle.wl_plan.specs.Merging.{IsFull, LeadsToTypes, AreLed}
+use Rattle.wl_plan.specs.Maps.{LeadsToPlaces, AreMaps}
+use Rattle.wl_plan.specs.Building.{outputs_from, body_in, debug_in, index_of, fixups_from, HasMap}
 use Rattle.wl_linking.specs.declared.error.LinkError.{LinkError}
 use Rattle.wl_linking.specs.declared.error.LinkError.TheVariants.{OutOfMemory, TooLarge}
 use Rattle.wl_plan.specs.declared.layout.FunctionOrigin.{FunctionOrigin}
 use Rattle.wl_plan.specs.declared.layout.FunctionOrigin.TheVariants as origin
 use Rattle.wl_plan.specs.declared.layout.OutputFunction.{OutputFunction}
 use Rattle.wl_plan.specs.declared.layout.Fixup.{Fixup}
-use Rattle.wl_plan.specs.declared.plan.Spaces.{Spaces}
 use Rattle.wl_linking.proofs.SlotLaws.{both, all_at}
 use Rattle.wl_plan.proofs.PlannedLaws.{functions_typed, function_named, relocations_planned, code_sited}
 use Rattle.wl_plan.proofs.Merges.{stays_all, grows_all, onto_append, below_all}
 
 -- ---- functions
 
-abbrev origin_of : OutputFunction → FunctionOrigin
+abbrev pub origin_of : OutputFunction → FunctionOrigin
 origin_of f = f.origin
 
 outputs_origins : (object k : ℕ) (functions indices : List ℕ) → map origin_of (outputs_from object k functions indices) ≡ functions_from object k functions
@@ -60,10 +64,6 @@ typed_outputs objects types i k o indices (ty ∷ functions) here at exist leads
   typed_outputs objects types i (k + 1) o indices functions here (λ j ty e. let later = at (suc j) ty e in let z : k + suc j ≡ k + 1 + j = omega arith in rw z at later) exist leads,
 )
 
-typed_stays : (objects : List Object) (before types : List FunctionType) (fs : List OutputFunction) → AllByRecursion (HasItsType objects before) fs → AllByRecursion (HasItsType objects (firsts_onto before types)) fs
-typed_stays objects before types [] h = tt
-typed_stays objects before types (f ∷ fs) h = ((h.0.0, stays_all before types f.type_index h.0.0 h.0.1, h.0.2), typed_stays objects before types fs h.1)
-
 all_append : (P : OutputFunction → Type 0) (xs ys : List OutputFunction) → AllByRecursion P xs → AllByRecursion P ys → AllByRecursion P (xs ++ ys)
 all_append P [] ys h k = k
 all_append P (x ∷ xs) ys h k = (h.0, all_append P xs ys h.1 k)
@@ -80,22 +80,19 @@ function_at object k (ty ∷ functions) rest zero lt = let z : k + 0 ≡ k = ome
 function_at object k (ty ∷ functions) rest (suc j) lt =
     let z : k + suc j ≡ k + 1 + j = omega arith in rw z (function_at object (k + 1) functions rest j (omega arith))
 
-value_is : (front : List FunctionOrigin) (i : ℕ) (o : Object) (rest : List FunctionOrigin) (r : WasmRelocation) → IsFitting o → is_planned o ≡ true → is_planned_relocation o.symbols r ≡ true
-    → slice_get (front ++ (functions_from i 0 o.functions ++ rest)) (length front + index_of (slice_get o.symbols r.index)) ≡ target_of i o r
-value_is front i o rest r fits planned here =
-    let s = function_named o r fits planned here in
-    let z : 0 + s.0.index ≡ s.0.index = omega arith in
-    rw s.1 (slice_get_behind front (functions_from i 0 o.functions ++ rest) s.0.index ∙ function_at i 0 o.functions rest s.0.index s.2 ∙ rw z refl)
+value_is : (space : List FunctionOrigin) (i : ℕ) (o : Object) (indices : List ℕ) (r : WasmRelocation) → IsFitting o → is_planned o ≡ true → is_planned_relocation o.symbols r ≡ true → LeadsToPlaces space i o indices
+    → slice_get space (get_or indices (index_of (slice_get o.symbols r.index)) 0) ≡ target_of i o r
+value_is space i o indices r fits planned here leads = let s = function_named o r fits planned here in rw s.1 (leads.place s.0.index s.2)
 
-fixups_are : (front : List FunctionOrigin) (i : ℕ) (o : Object) (rest : List FunctionOrigin) (rs : List WasmRelocation) (ss : List Site) → IsFitting o → is_planned o ≡ true → list_all (is_planned_relocation o.symbols) rs ≡ true → AreSites (code_pieces o) rs ss
-    → AreFixupsIn (front ++ (functions_from i 0 o.functions ++ rest)) i o rs ss (fixups_from (length front) i o rs ss)
-fixups_are front i o rest [] [] fits planned all sited = tt
-fixups_are front i o rest [] (s ∷ ss) fits planned all sited = absurd sited
-fixups_are front i o rest (r ∷ rs) [] fits planned all sited = absurd sited
-fixups_are front i o rest (r ∷ rs) (s ∷ ss) fits planned all sited =
+fixups_are : (space : List FunctionOrigin) (i : ℕ) (o : Object) (indices : List ℕ) (rs : List WasmRelocation) (ss : List Site) → IsFitting o → is_planned o ≡ true → list_all (is_planned_relocation o.symbols) rs ≡ true → AreSites (code_pieces o) rs ss → LeadsToPlaces space i o indices
+    → AreFixupsIn space i o rs ss (fixups_from indices i o rs ss)
+fixups_are space i o indices [] [] fits planned all sited leads = tt
+fixups_are space i o indices [] (s ∷ ss) fits planned all sited leads = absurd sited
+fixups_are space i o indices (r ∷ rs) [] fits planned all sited leads = absurd sited
+fixups_are space i o indices (r ∷ rs) (s ∷ ss) fits planned all sited leads =
     let each = both (is_planned_relocation o.symbols r) (list_all (is_planned_relocation o.symbols) rs) all in (
-      record { object = refl; place = refl; unit = refl; position = refl; ty = refl; value = (refl, value_is front i o rest r fits planned each.0) },
-      fixups_are front i o rest rs ss fits planned each.1 sited.1,
+      record { object = refl; place = refl; unit = refl; position = refl; ty = refl; value = (refl, value_is space i o indices r fits planned each.0 leads) },
+      fixups_are space i o indices rs ss fits planned each.1 sited.1 leads,
     )
 
 fixups_push : (space : List FunctionOrigin) (j i : ℕ) (objects : List Object) (o : Object) (fs front : List Fixup) → j + length objects ≡ i → AreFixups space j objects fs → AreFixupsIn space i o o.code_relocations o.code_sites front → AreFixups space j (objects ++ o ∷ []) (fs ++ front)
@@ -105,89 +102,242 @@ fixups_push space j i [] o fs front at h new =
 fixups_push space j i (p ∷ objects) o fs front at (a, b, parts, first, rest) new =
     (a, b ++ front, rw parts (append_assoc a b front), first, fixups_push space (j + 1) i objects o b front (omega (arith, at)) rest new)
 
--- ---- the loop
-
--- what the first objects added
-pub record PlansOn (objects : List Object) (i : ℕ) (spaces : Spaces) : Type 0 where
-  pub room : length spaces.functions.items ≤ max_entries
-  pub types : firsts_onto spaces.merger (flat_map live_types (drop i objects)) ≡ output_types objects
-  pub functions : map origin_of spaces.functions.items ++ functions_of i (drop i objects) ≡ function_space objects
-  pub typed : AllByRecursion (HasItsType objects spaces.merger) spaces.functions.items
-  pub bodies : spaces.bodies.items ++ bodies_of i (drop i objects) ≡ bodies_of 0 objects
-  pub debug_sections : spaces.debug_sections.items ++ debug_of i (drop i objects) ≡ debug_of 0 objects
-  pub fixups : AreFixups (function_space objects) 0 (take i objects) spaces.fixups.items
-
-pub plans_at_start : (objects : List Object) (spaces : Spaces) → IsEmpty spaces → PlansOn objects 0 spaces
-plans_at_start objects spaces h = record {
-  room = rw h.functions (omega arith);
-  types = rw h.types refl;
-  functions = rw h.functions refl;
-  typed = rw h.functions tt;
-  bodies = rw h.bodies refl;
-  debug_sections = rw h.debug_sections refl;
-  fixups = rw h.fixups refl;
-}
+-- ---- objects in turn
 
 -- what is still to come, with the next object in front
 splits : (objects : List Object) (i : ℕ) (o : Object) → i < length objects → o ≡ get_or objects i o → drop i objects ≡ o ∷ drop (i + 1) objects
 splits objects i o lt is = rw (add-one, drop-cons objects i o) (ap (λ (x : Object). x ∷ drop (suc i) objects) (sym is))
 
-types_step : (objects : List Object) (i : ℕ) (o : Object) (old : Spaces) → i < length objects → o ≡ get_or objects i o → PlansOn objects i old
-    → firsts_onto (firsts_onto old.merger (live_types o)) (flat_map live_types (drop (i + 1) objects)) ≡ output_types objects
-types_step objects i o old lt is h =
-    sym (ap (λ (os : List Object). firsts_onto old.merger (flat_map live_types os)) (splits objects i o lt is) ∙ onto_append old.merger (live_types o) (flat_map live_types (drop (i + 1) objects))) ∙ h.types
+-- what has come, with the next object at the end
+grows_to : (objects : List Object) (i : ℕ) (o : Object) → i < length objects → o ≡ get_or objects i o → take (i + 1) objects ≡ take i objects ++ o ∷ []
+grows_to objects i o lt is = rw (add-one, take-suc objects i o) (ap (λ (x : Object). take i objects ++ x ∷ []) (sym is))
 
-functions_step : (objects : List Object) (i : ℕ) (o : Object) (old : Spaces) → i < length objects → o ≡ get_or objects i o → PlansOn objects i old
-    → map origin_of old.functions.items ++ (functions_from i 0 o.functions ++ functions_of (i + 1) (drop (i + 1) objects)) ≡ function_space objects
-functions_step objects i o old lt is h =
-    sym (ap (λ (os : List Object). map origin_of old.functions.items ++ functions_of i os) (splits objects i o lt is)) ∙ h.functions
+pub object_at : (objects : List Object) (i : ℕ) (o : Object) → i < length objects → o ≡ get_or objects i o → slice_get objects i ≡ Some o
+object_at objects i o lt is = slice_get-get_or objects i o lt ∙ ap (λ (x : Object). Some x) (sym is)
 
-pub plans_more : (objects : List Object) (i : ℕ) (o : Object) (old new : Spaces) → i < length objects → o ≡ get_or objects i o → IsFitting o → is_planned o ≡ true → AddsObject old new i o → PlansOn objects i old → PlansOn objects (i + 1) new
-plans_more objects i o old new lt is fits planned add h =
-    let here : slice_get objects i ≡ Some o = slice_get-get_or objects i o lt ∙ ap (λ (x : Object). Some x) (sym is) in
-    let origins : map origin_of new.functions.items ≡ map origin_of old.functions.items ++ functions_from i 0 o.functions =
-    ap (map origin_of) add.functions ∙ map-append origin_of old.functions.items (outputs_from i 0 o.functions add.indices) ∙ ap (λ (fs : List FunctionOrigin). map origin_of old.functions.items ++ fs) (outputs_origins i 0 o.functions add.indices) in
-    let split = splits objects i o lt is in
-    let space = functions_step objects i o old lt is h in
-    let base : length (map origin_of old.functions.items) ≡ length old.functions.items = length-map old.functions.items origin_of in
-    let made : AreFixupsIn (function_space objects) i o o.code_relocations o.code_sites (fixups_from (length old.functions.items) i o o.code_relocations o.code_sites) =
-    subst (λ (n : ℕ). AreFixupsIn (function_space objects) i o o.code_relocations o.code_sites (fixups_from n i o o.code_relocations o.code_sites)) base
-    (subst (λ (fs : List FunctionOrigin). AreFixupsIn fs i o o.code_relocations o.code_sites (fixups_from (length (map origin_of old.functions.items)) i o o.code_relocations o.code_sites)) space
-    (fixups_are (map origin_of old.functions.items) i o (functions_of (i + 1) (drop (i + 1) objects)) o.code_relocations o.code_sites fits planned (relocations_planned o planned) (code_sited o fits))) in
-    let first : take (i + 1) objects ≡ take i objects ++ o ∷ [] = rw (add-one, take-suc objects i o) (ap (λ (x : Object). take i objects ++ x ∷ []) (sym is)) in
+pub map_at : (maps : List (List ℕ)) (i : ℕ) (m : List ℕ) → i < length maps → m ≡ get_or maps i m → slice_get maps i ≡ Some m
+map_at maps i m lt is = slice_get-get_or maps i m lt ∙ ap (λ (x : List ℕ). Some x) (sym is)
+
+-- ---- the types
+
+leads_stays : (before types : List FunctionType) (o : Object) (indices : List ℕ) → LeadsToTypes before o indices → LeadsToTypes (firsts_onto before types) o indices
+leads_stays before types o indices h = record { len = h.len; place = λ k d lt live. stays_all before types (get_or indices k 0) (get_or o.types k d) (h.place k d lt live) }
+
+led_stays : (before types : List FunctionType) (objects : List Object) (maps : List (List ℕ)) → AreLed before objects maps → AreLed (firsts_onto before types) objects maps
+led_stays before types [] [] h = tt
+led_stays before types [] (m ∷ maps) h = absurd h
+led_stays before types (o ∷ objects) [] h = absurd h
+led_stays before types (o ∷ objects) (m ∷ maps) h = (leads_stays before types o m h.0, led_stays before types objects maps h.1)
+
+led_push : (types : List FunctionType) (objects : List Object) (maps : List (List ℕ)) (o : Object) (m : List ℕ) → AreLed types objects maps → LeadsToTypes types o m → AreLed types (objects ++ o ∷ []) (maps ++ m ∷ [])
+led_push types [] [] o m h new = (new, tt)
+led_push types [] (n ∷ maps) o m h new = absurd h
+led_push types (p ∷ objects) [] o m h new = absurd h
+led_push types (p ∷ objects) (n ∷ maps) o m h new = (h.0, led_push types objects maps o m h.1 new)
+
+pub led_at : (types : List FunctionType) (objects : List Object) (maps : List (List ℕ)) (i : ℕ) (o : Object) (m : List ℕ) → AreLed types objects maps → slice_get objects i ≡ Some o → slice_get maps i ≡ Some m → LeadsToTypes types o m
+led_at types [] [] i o m h here there = absurd cc
+led_at types [] (n ∷ maps) i o m h here there = absurd h
+led_at types (p ∷ objects) [] i o m h here there = absurd h
+led_at types (p ∷ objects) (n ∷ maps) zero o m h here there = let a : p ≡ o = cc in let b : n ≡ m = cc in rw (← a, ← b) h.0
+led_at types (p ∷ objects) (n ∷ maps) (suc i) o m h here there = led_at types objects maps i o m h.1 here there
+
+pub led_length : (types : List FunctionType) (objects : List Object) (maps : List (List ℕ)) → AreLed types objects maps → length maps ≡ length objects
+led_length types [] [] h = refl
+led_length types [] (n ∷ maps) h = absurd h
+led_length types (p ∷ objects) [] h = absurd h
+led_length types (p ∷ objects) (n ∷ maps) h = ap suc (led_length types objects maps h.1)
+
+pub record MergesAll (objects : List Object) (i : ℕ) (merger : List FunctionType) (maps : List (List ℕ)) : Type 0 where
+  pub types : firsts_onto merger (flat_map live_types (drop i objects)) ≡ output_types objects
+  pub led : AreLed merger (take i objects) maps
+
+types_step : (objects : List Object) (i : ℕ) (o : Object) (merger : List FunctionType) → i < length objects → o ≡ get_or objects i o → firsts_onto merger (flat_map live_types (drop i objects)) ≡ output_types objects
+    → firsts_onto (firsts_onto merger (live_types o)) (flat_map live_types (drop (i + 1) objects)) ≡ output_types objects
+types_step objects i o merger lt is h =
+    sym (ap (λ (os : List Object). firsts_onto merger (flat_map live_types os)) (splits objects i o lt is) ∙ onto_append merger (live_types o) (flat_map live_types (drop (i + 1) objects))) ∙ h
+
+pub merges_on : (objects : List Object) (i : ℕ) (o : Object) (old new : List FunctionType) (maps : List (List ℕ)) (m : List ℕ) → i < length objects → o ≡ get_or objects i o → new ≡ firsts_onto old (live_types o) → LeadsToTypes new o m → MergesAll objects i old maps → MergesAll objects (i + 1) new (maps ++ m ∷ [])
+merges_on objects i o old new maps m lt is new-is leads h = record {
+  types = rw new-is (types_step objects i o old lt is h.types);
+  led = rw (grows_to objects i o lt is) (led_push new (take i objects) maps o m (rw new-is (led_stays old (live_types o) (take i objects) maps h.led)) leads);
+}
+
+pub merges_full : (objects : List Object) (i : ℕ) (o : Object) (merger : List FunctionType) (maps : List (List ℕ)) (e : LinkError) → i < length objects → o ≡ get_or objects i o → MergesAll objects i merger maps → IsFull (firsts_onto merger (live_types o)) e → IsFull (output_types objects) e
+merges_full objects i o merger maps OutOfMemory lt is h f = tt
+merges_full objects i o merger maps (TooLarge what) lt is h f =
+    (f.0, omega (arith, f.1, ap length (types_step objects i o merger lt is h.types), grows_all (firsts_onto merger (live_types o)) (flat_map live_types (drop (i + 1) objects))))
+merges_full objects i o merger maps _ lt is h f = f
+
+pub merges_done : (objects : List Object) (i : ℕ) (merger : List FunctionType) (maps : List (List ℕ)) → length objects ≤ i → MergesAll objects i merger maps → (merger ≡ output_types objects) × AreLed merger objects maps
+merges_done objects i merger maps le h =
+    let none : drop i objects ≡ [] = drop_all i objects le in (
+      sym (ap (λ (os : List Object). firsts_onto merger (flat_map live_types os)) none) ∙ h.types,
+      subst (λ (os : List Object). AreLed merger os maps) (take_all i objects le) h.led,
+    )
+
+-- ---- the functions
+
+pub record SpacesOn (objects : List Object) (types : List FunctionType) (i : ℕ) (functions : List OutputFunction) : Type 0 where
+  pub room : length functions ≤ max_entries
+  pub origins : map origin_of functions ++ functions_of i (drop i objects) ≡ function_space objects
+  pub typed : AllByRecursion (HasItsType objects types) functions
+
+functions_step : (objects : List Object) (i : ℕ) (o : Object) (front : List FunctionOrigin) → i < length objects → o ≡ get_or objects i o → front ++ functions_of i (drop i objects) ≡ function_space objects
+    → front ++ (functions_from i 0 o.functions ++ functions_of (i + 1) (drop (i + 1) objects)) ≡ function_space objects
+functions_step objects i o front lt is h = sym (ap (λ (os : List Object). front ++ functions_of i os) (splits objects i o lt is)) ∙ h
+
+pub spaces_on : (objects : List Object) (types : List FunctionType) (i : ℕ) (o : Object) (indices : List ℕ) (functions : List OutputFunction) → i < length objects → o ≡ get_or objects i o → IsFitting o → LeadsToTypes types o indices → length functions + length o.functions ≤ max_entries
+    → SpacesOn objects types i functions → SpacesOn objects types (i + 1) (functions ++ outputs_from i 0 o.functions indices)
+spaces_on objects types i o indices functions lt is fits leads room h =
+    let more = outputs_from i 0 o.functions indices in
+    let origins : map origin_of (functions ++ more) ≡ map origin_of functions ++ functions_from i 0 o.functions =
+    map-append origin_of functions more ∙ ap (λ (fs : List FunctionOrigin). map origin_of functions ++ fs) (outputs_origins i 0 o.functions indices) in
     record {
-      room = omega (arith, add.room, ap length origins, length-map new.functions.items origin_of, length-append (map origin_of old.functions.items) (functions_from i 0 o.functions), base, length-functions_from i 0 o.functions);
-      types = rw add.types (types_step objects i o old lt is h);
-      functions = rw origins (append_assoc (map origin_of old.functions.items) (functions_from i 0 o.functions) (functions_of (i + 1) (drop (i + 1) objects)) ∙ space);
-      typed = rw add.functions (all_append (HasItsType objects new.merger) old.functions.items (outputs_from i 0 o.functions add.indices)
-          (rw add.types (typed_stays objects old.merger (live_types o) old.functions.items h.typed))
-          (typed_outputs objects new.merger i 0 o add.indices o.functions here (λ j ty e. let z : 0 + j ≡ j = omega arith in rw z e) (functions_typed o fits) add.places));
-      bodies = rw add.bodies (append_assoc old.bodies.items (map (body_in i) o.bodies) (bodies_of (i + 1) (drop (i + 1) objects)) ∙ sym (ap (λ (os : List Object). old.bodies.items ++ bodies_of i os) split) ∙ h.bodies);
-      debug_sections = rw add.debug_sections (append_assoc old.debug_sections.items (map (debug_in i) o.debug_sections) (debug_of (i + 1) (drop (i + 1) objects)) ∙ sym (ap (λ (os : List Object). old.debug_sections.items ++ debug_of i os) split) ∙ h.debug_sections);
-      fixups = rw (first, add.fixups) (fixups_push (function_space objects) 0 i (take i objects) o old.fixups.items (fixups_from (length old.functions.items) i o o.code_relocations o.code_sites) (omega (arith, length-take i objects)) h.fixups made);
+      room = omega (arith, room, ap length origins, length-map (functions ++ more) origin_of, length-append (map origin_of functions) (functions_from i 0 o.functions), length-map functions origin_of, length-functions_from i 0 o.functions);
+      origins = rw origins (append_assoc (map origin_of functions) (functions_from i 0 o.functions) (functions_of (i + 1) (drop (i + 1) objects)) ∙ functions_step objects i o (map origin_of functions) lt is h.origins);
+      typed = all_append (HasItsType objects types) functions more h.typed
+          (typed_outputs objects types i 0 o indices o.functions (object_at objects i o lt is) (λ j ty e. let z : 0 + j ≡ j = omega arith in rw z e) (functions_typed o fits) leads);
     }
 
-pub plans_all : (objects : List Object) (i : ℕ) (spaces : Spaces) → length objects ≤ i → PlansOn objects i spaces → AreSpaces objects spaces
-plans_all objects i spaces le h =
-    let none : drop i objects ≡ [] = drop_all i objects le in
-    record {
-      room = h.room;
-      types = sym (ap (λ (os : List Object). firsts_onto spaces.merger (flat_map live_types os)) none) ∙ h.types;
-      functions = sym (ap (λ (os : List Object). map origin_of spaces.functions.items ++ functions_of i os) none ∙ append-nil (map origin_of spaces.functions.items)) ∙ h.functions;
-      typed = h.typed;
-      bodies = sym (ap (λ (os : List Object). spaces.bodies.items ++ bodies_of i os) none ∙ append-nil spaces.bodies.items) ∙ h.bodies;
-      debug_sections = sym (ap (λ (os : List Object). spaces.debug_sections.items ++ debug_of i os) none ∙ append-nil spaces.debug_sections.items) ∙ h.debug_sections;
-      fixups = subst (λ (os : List Object). AreFixups (function_space objects) 0 os spaces.fixups.items) (take_all i objects le) h.fixups;
-    }
-
-pub plan_fault : (objects : List Object) (i : ℕ) (o : Object) (spaces : Spaces) (e : LinkError) → i < length objects → o ≡ get_or objects i o → PlansOn objects i spaces → LacksRoom spaces o e → PlanFault objects e
-plan_fault objects i o spaces OutOfMemory lt is h f = tt
-plan_fault objects i o spaces (TooLarge what) lt is h (what-is, inl types) =
-    (what-is, inl (omega (arith, types, ap length (types_step objects i o spaces lt is h), grows_all (firsts_onto spaces.merger (live_types o)) (flat_map live_types (drop (i + 1) objects)))))
-plan_fault objects i o spaces (TooLarge what) lt is h (what-is, inr functions) =
+pub spaces_crowded : (objects : List Object) (types : List FunctionType) (i : ℕ) (o : Object) (functions : List OutputFunction) → i < length objects → o ≡ get_or objects i o → SpacesOn objects types i functions → max_entries < length functions + length o.functions → max_entries < length (function_space objects)
+spaces_crowded objects types i o functions lt is h over =
     let rest = functions_of (i + 1) (drop (i + 1) objects) in
-    (what-is, inr (omega (arith, functions, ap length (functions_step objects i o spaces lt is h), length-append (map origin_of spaces.functions.items) (functions_from i 0 o.functions ++ rest), length-append (functions_from i 0 o.functions) rest, length-functions_from i 0 o.functions, length-map spaces.functions.items origin_of)))
-plan_fault objects i o spaces _ lt is h f = f
+    omega (arith, over, ap length (functions_step objects i o (map origin_of functions) lt is h.origins), length-append (map origin_of functions) (functions_from i 0 o.functions ++ rest), length-append (functions_from i 0 o.functions) rest, length-functions_from i 0 o.functions, length-map functions origin_of)
+
+pub spaces_done : (objects : List Object) (types : List FunctionType) (i : ℕ) (functions : List OutputFunction) → length objects ≤ i → SpacesOn objects types i functions → map origin_of functions ≡ function_space objects
+spaces_done objects types i functions le h =
+    sym (ap (λ (os : List Object). map origin_of functions ++ functions_of i os) (drop_all i objects le) ∙ append-nil (map origin_of functions)) ∙ h.origins
+
+-- ---- the maps
+
+range_more : (a k : ℕ) → range_with_len a (suc k) ≡ range_with_len a k ++ (a + k) ∷ []
+range_more a zero = let z : a + 0 ≡ a = omega arith in rw z refl
+range_more a (suc k) = let z : a + suc k ≡ a + 1 + k = omega arith in rw z (ap (λ (xs : List ℕ). a ∷ xs) (range_more (a + 1) k))
+
+pub range_one_more : (a k : ℕ) → range_with_len a (k + 1) ≡ range_with_len a k ++ (a + k) ∷ []
+range_one_more a k = rw add-one (range_more a k)
+
+range_length : (a k : ℕ) → length (range_with_len a k) ≡ k
+range_length a zero = refl
+range_length a (suc k) = ap suc (range_length (a + 1) k)
+
+range_at : (a k j : ℕ) → j < k → get_or (range_with_len a k) j 0 ≡ a + j
+range_at a zero j lt = absurd (omega arith)
+range_at a (suc k) zero lt = let z : a + 0 ≡ a = omega arith in rw z refl
+range_at a (suc k) (suc j) lt = let z : a + suc j ≡ a + 1 + j = omega arith in rw z (range_at (a + 1) k j (omega arith))
+
+pub record MapsOn (objects : List Object) (i base : ℕ) (maps : List (List ℕ)) : Type 0 where
+  pub front : List FunctionOrigin
+  pub is_front : front ++ functions_of i (drop i objects) ≡ function_space objects
+  pub len : length front ≡ base
+  pub lead : AreMaps (function_space objects) 0 (take i objects) maps
+
+pub maps_at_start : (objects : List Object) → MapsOn objects 0 0 []
+maps_at_start objects = record { front = []; is_front = refl; len = refl; lead = tt }
+
+maps_push : (space : List FunctionOrigin) (j i : ℕ) (objects : List Object) (o : Object) (maps : List (List ℕ)) (m : List ℕ) → j + length objects ≡ i → AreMaps space j objects maps → LeadsToPlaces space i o m → AreMaps space j (objects ++ o ∷ []) (maps ++ m ∷ [])
+maps_push space j i [] o [] m at h new = let z : i ≡ j = omega (arith, at) in (subst (λ (n : ℕ). LeadsToPlaces space n o m) z new, tt)
+maps_push space j i [] o (n ∷ maps) m at h new = absurd h
+maps_push space j i (p ∷ objects) o [] m at h new = absurd h
+maps_push space j i (p ∷ objects) o (n ∷ maps) m at h new = (h.0, maps_push space (j + 1) i objects o maps m (omega (arith, at)) h.1 new)
+
+pub maps_room : (objects : List Object) (i : ℕ) (o : Object) (base : ℕ) (maps : List (List ℕ)) → i < length objects → o ≡ get_or objects i o → length (function_space objects) ≤ max_entries → MapsOn objects i base maps → base + length o.functions ≤ max_entries
+maps_room objects i o base maps lt is room h =
+    let rest = functions_of (i + 1) (drop (i + 1) objects) in
+    omega (arith, room, h.len, ap length (functions_step objects i o h.front lt is h.is_front), length-append h.front (functions_from i 0 o.functions ++ rest), length-append (functions_from i 0 o.functions) rest, length-functions_from i 0 o.functions)
+
+leads_to_places : (front : List FunctionOrigin) (i : ℕ) (o : Object) (rest : List FunctionOrigin) → LeadsToPlaces (front ++ (functions_from i 0 o.functions ++ rest)) i o (range_with_len (length front) (length o.functions))
+leads_to_places front i o rest = record {
+  len = range_length (length front) (length o.functions);
+  place = λ unit lt.
+      let z : 0 + unit ≡ unit = omega arith in
+      rw (range_at (length front) (length o.functions) unit lt) (slice_get_behind front (functions_from i 0 o.functions ++ rest) unit ∙ function_at i 0 o.functions rest unit lt ∙ rw z refl);
+}
+
+pub maps_on : (objects : List Object) (i : ℕ) (o : Object) (base : ℕ) (maps : List (List ℕ)) (m : List ℕ) → i < length objects → o ≡ get_or objects i o → m ≡ range_with_len base (length o.functions) → MapsOn objects i base maps → MapsOn objects (i + 1) (base + length o.functions) (maps ++ m ∷ [])
+maps_on objects i o base maps m lt is m-is h =
+    let rest = functions_of (i + 1) (drop (i + 1) objects) in
+    let space = functions_step objects i o h.front lt is h.is_front in
+    let leads : LeadsToPlaces (function_space objects) i o m =
+    rw (m-is, ← h.len) (subst (λ (fs : List FunctionOrigin). LeadsToPlaces fs i o (range_with_len (length h.front) (length o.functions))) space (leads_to_places h.front i o rest)) in
+    record {
+      front = h.front ++ functions_from i 0 o.functions;
+      is_front = append_assoc h.front (functions_from i 0 o.functions) rest ∙ space;
+      len = omega (arith, h.len, length-append h.front (functions_from i 0 o.functions), length-functions_from i 0 o.functions);
+      lead = rw (grows_to objects i o lt is) (maps_push (function_space objects) 0 i (take i objects) o maps m (omega (arith, length-take i objects)) h.lead leads);
+    }
+
+pub maps_done : (objects : List Object) (i base : ℕ) (maps : List (List ℕ)) → length objects ≤ i → MapsOn objects i base maps → AreMaps (function_space objects) 0 objects maps
+maps_done objects i base maps le h = subst (λ (os : List Object). AreMaps (function_space objects) 0 os maps) (take_all i objects le) h.lead
+
+leads_at : (space : List FunctionOrigin) (j : ℕ) (objects : List Object) (maps : List (List ℕ)) (i : ℕ) (o : Object) (m : List ℕ) → AreMaps space j objects maps → slice_get objects i ≡ Some o → slice_get maps i ≡ Some m → LeadsToPlaces space (j + i) o m
+leads_at space j [] [] i o m h here there = absurd cc
+leads_at space j [] (n ∷ maps) i o m h here there = absurd h
+leads_at space j (p ∷ objects) [] i o m h here there = absurd h
+leads_at space j (p ∷ objects) (n ∷ maps) zero o m h here there = let a : p ≡ o = cc in let b : n ≡ m = cc in let z : j + 0 ≡ j = omega arith in rw (z, ← a, ← b) h.0
+leads_at space j (p ∷ objects) (n ∷ maps) (suc i) o m h here there = let z : j + suc i ≡ j + 1 + i = omega arith in rw z (leads_at space (j + 1) objects maps i o m h.1 here there)
+
+pub maps_length : (space : List FunctionOrigin) (j : ℕ) (objects : List Object) (maps : List (List ℕ)) → AreMaps space j objects maps → length maps ≡ length objects
+maps_length space j [] [] h = refl
+maps_length space j [] (n ∷ maps) h = absurd h
+maps_length space j (p ∷ objects) [] h = absurd h
+maps_length space j (p ∷ objects) (n ∷ maps) h = ap suc (maps_length space (j + 1) objects maps h.1)
+
+functions_within : (j : ℕ) (objects : List Object) (i : ℕ) (o : Object) → slice_get objects i ≡ Some o → length o.functions ≤ length (functions_of j objects)
+functions_within j [] i o here = absurd cc
+functions_within j (p ∷ objects) zero o here = let a : p ≡ o = cc in rw (← a) (omega (arith, length-append (functions_from j 0 p.functions) (functions_of (j + 1) objects), length-functions_from j 0 p.functions))
+functions_within j (p ∷ objects) (suc i) o here = omega (arith, functions_within (j + 1) objects i o here, length-append (functions_from j 0 p.functions) (functions_of (j + 1) objects))
+
+-- ---- the fixups
+
+pub has_map : (objects : List Object) (i : ℕ) (o : Object) (maps : List (List ℕ)) (m : List ℕ) → i < length objects → o ≡ get_or objects i o → m ≡ get_or maps i m → IsFitting o → is_planned o ≡ true → length (function_space objects) ≤ max_entries → AreMaps (function_space objects) 0 objects maps → HasMap m o
+has_map objects i o maps m lt is m-is fits planned room all =
+    let here = object_at objects i o lt is in
+    let there = map_at maps i m (omega (arith, lt, maps_length (function_space objects) 0 objects maps all)) m-is in
+    record {
+      fits = fits;
+      planned = planned;
+      len = (leads_at (function_space objects) 0 objects maps i o m all here there).len;
+      room = omega (arith, room, functions_within 0 objects i o here);
+    }
+
+pub fixups_on : (objects : List Object) (i : ℕ) (o : Object) (maps : List (List ℕ)) (m : List ℕ) (fixups : List Fixup) → i < length objects → o ≡ get_or objects i o → m ≡ get_or maps i m → IsFitting o → is_planned o ≡ true → AreMaps (function_space objects) 0 objects maps
+    → AreFixups (function_space objects) 0 (take i objects) fixups → AreFixups (function_space objects) 0 (take (i + 1) objects) (fixups ++ fixups_from m i o o.code_relocations o.code_sites)
+fixups_on objects i o maps m fixups lt is m-is fits planned all h =
+    let space = function_space objects in
+    let here = object_at objects i o lt is in
+    let there = map_at maps i m (omega (arith, lt, maps_length space 0 objects maps all)) m-is in
+    let z : 0 + i ≡ i = omega arith in
+    let leads : LeadsToPlaces space i o m = rw z at (leads_at space 0 objects maps i o m all here there) in
+    rw (grows_to objects i o lt is) (fixups_push space 0 i (take i objects) o fixups (fixups_from m i o o.code_relocations o.code_sites) (omega (arith, length-take i objects)) h
+    (fixups_are space i o m o.code_relocations o.code_sites fits planned (relocations_planned o planned) (code_sited o fits) leads))
+
+pub fixups_done : (objects : List Object) (i : ℕ) (fixups : List Fixup) → length objects ≤ i → AreFixups (function_space objects) 0 (take i objects) fixups → AreFixups (function_space objects) 0 objects fixups
+fixups_done objects i fixups le h = subst (λ (os : List Object). AreFixups (function_space objects) 0 os fixups) (take_all i objects le) h
+
+-- ---- bodies and debug sections
+
+pub bodies_on : (objects : List Object) (i : ℕ) (o : Object) (bodies whole : List Body) → i < length objects → o ≡ get_or objects i o → bodies ++ bodies_of i (drop i objects) ≡ whole → (bodies ++ map (body_in i) o.bodies) ++ bodies_of (i + 1) (drop (i + 1) objects) ≡ whole
+bodies_on objects i o bodies whole lt is h = append_assoc bodies (map (body_in i) o.bodies) (bodies_of (i + 1) (drop (i + 1) objects)) ∙ sym (ap (λ (os : List Object). bodies ++ bodies_of i os) (splits objects i o lt is)) ∙ h
+
+pub debug_on : (objects : List Object) (i : ℕ) (o : Object) (sections whole : List DebugInput) → i < length objects → o ≡ get_or objects i o → sections ++ debug_of i (drop i objects) ≡ whole → (sections ++ map (debug_in i) o.debug_sections) ++ debug_of (i + 1) (drop (i + 1) objects) ≡ whole
+debug_on objects i o sections whole lt is h = append_assoc sections (map (debug_in i) o.debug_sections) (debug_of (i + 1) (drop (i + 1) objects)) ∙ sym (ap (λ (os : List Object). sections ++ debug_of i os) (splits objects i o lt is)) ∙ h
+
+-- ---- the step
+
+pub room_clear : (objects : List Object) → length (output_types objects) ≤ max_entries → length (function_space objects) ≤ max_entries → Clear (IsTooLarge objects)
+room_clear objects types functions = record { none = λ e h. elim h.1 [ inl over ↦ absurd (omega arith) | inr over ↦ absurd (omega arith) ] }
+
+pub refuses_types : (objects : List Object) (e : LinkError) → IsFull (output_types objects) e → Refuses (IsTooLarge objects) e
+refuses_types objects OutOfMemory f = refuses_memory (IsTooLarge objects) OutOfMemory refl
+refuses_types objects (TooLarge what) f = refuses_for (IsTooLarge objects) (TooLarge what) (ap TooLarge f.0, inl f.1)
+refuses_types objects _ f = absurd f
+
+pub refuses_functions : (objects : List Object) (e : LinkError) → IsFull (function_space objects) e → Refuses (IsTooLarge objects) e
+refuses_functions objects OutOfMemory f = refuses_memory (IsTooLarge objects) OutOfMemory refl
+refuses_functions objects (TooLarge what) f = refuses_for (IsTooLarge objects) (TooLarge what) (ap TooLarge f.0, inr f.1)
+refuses_functions objects _ f = absurd f
 
 -- ---- what holds of all objects
 

@@ -1,7 +1,7 @@
 -- Laws of objects that fit together and are planned: what they name is their own.
-use Rattle.std.proofs.Common.{◌≡◌, ◌<◌, ◌-◌, ℕ, zero, suc, Bool, true, false, not, ltb, leb, List, [], ◌∷◌, length, get_or, map, Option, Some, None, refl, ap, arith, slice_get}
+use Rattle.std.proofs.Common.{◌≡◌, ◌<◌, ◌-◌, ℕ, zero, suc, Bool, true, false, not, ltb, leb, List, [], ◌∷◌, length, get_or, map, Option, Some, None, refl, ap, take, inl, inr, arith, slice_get}
 use Rattle.std.specs.List.{list_all}
-use Rattle.std.proofs.lemmas.Bool.{eqb-true, ltb-true}
+use Rattle.std.proofs.lemmas.Bool.{eqb-true, ltb-true, cases_Bool}
 use Rattle.std.proofs.lemmas.List.{length-map}
 use Rattle.std.proofs.lemmas.List.Sums.{count_by-le-length}
 use Rattle.std.proofs.lemmas.Option.{slice_get-get_or, slice_get_within, get_or_from_slice_get}
@@ -18,7 +18,10 @@ use Rattle.wl_linking.specs.declared.symbols.WasmSymbolKind.{WasmSymbolKind}
 use Rattle.wl_linking.specs.declared.symbols.WasmSymbolKind.TheVariants.{Func, Data, Global, Section, Event, Table}
 use Rattle.wl_linking.proofs.SlotLaws.{both, all_at}
 use Rattle.wl_plan.specs.Types.{types_exist}
-use Rattle.wl_plan.specs.Planned.{is_planned_kind, is_planned_symbol, is_planned_type, is_function_kind, is_function, is_planned_relocation, has_planned_kinds, is_planned}
+use Rattle.wl_plan.specs.Planned.{is_planned_kind, is_planned_symbol, is_planned_type, is_function_kind, is_function, is_planned_relocation, has_planned_kinds, is_planned, AllPlanned, IsNotYet}
+use Rattle.wl_plan.specs.Steps.{Clear}
+use Rattle.wl_module.specs.declared.error.Form.TheVariants.{NotYet}
+use Rattle.wl_linking.specs.declared.error.LinkError.TheVariants.{Unsupported}
 
 -- ---- the parts of what holds
 
@@ -128,3 +131,29 @@ pub site_within : (o : Object) (i : ℕ) (d : Site) → IsFitting o → i < leng
 site_within o i d fits lt =
     let within = site_in (map body_piece o.bodies) o.code_relocations o.code_sites i d (code_sited o fits) lt in
     omega (arith, within, length-map o.bodies body_piece, as_many_bodies o fits)
+
+-- ---- the step
+
+planned_not : (objects : List Object) (i : ℕ) (o : Object) → AllPlanned objects → slice_get objects i ≡ Some o → is_planned o ≡ false → ⊥
+planned_not objects i o all here not = let yes = all_at is_planned objects i o all here in absurd cc
+
+pub planned_clear : (objects : List Object) → AllPlanned objects → Clear (IsNotYet objects)
+planned_clear objects all = record { none = λ e h. planned_not objects h.0 h.1 all h.3 h.4 }
+
+first_not : (objects : List Object) → list_all is_planned objects ≡ false → (i : ℕ) × (o : Object) × (slice_get objects i ≡ Some o) × (is_planned o ≡ false) × AllPlanned (take i objects)
+first_not [] e = absurd cc
+first_not (o ∷ objects) e =
+    elim (cases_Bool (is_planned o)) [
+      | inl here ↦
+          let later : list_all is_planned objects ≡ false = rw here at e in
+          let r = first_not objects later in (suc r.0, r.1, r.2, r.3, rw here r.4)
+      | inr not ↦ (0, o, refl, not, refl)
+    ]
+
+-- where no object isn't planned, all are
+pub planned_from : (objects : List Object) → Clear (IsNotYet objects) → AllPlanned objects
+planned_from objects clear =
+    elim (cases_Bool (list_all is_planned objects)) [
+      | inl all ↦ all
+      | inr not ↦ let r = first_not objects not in absurd (clear.none (Unsupported r.0 NotYet) (r.0, r.1, refl, r.2, r.3, r.4))
+    ]

@@ -1,7 +1,9 @@
+pub mod Steps
 pub mod Types
 pub mod Space
 pub mod Planned
 pub mod Plan
 pub mod Merging
+pub mod Maps
 pub mod Building
 pub mod Names

@@ -1,9 +1,9 @@
 -- The names by which objects refer to what other objects define.
-use Rattle.std.specs.Prelude.{◌≡◌, ◌≢◌, ◌⊎◌, ◌<◌, ℕ, ◌+◌, Bool, not, ◌&&◌, if◌then◌else◌, List, [], ◌∷◌, ◌++◌, take, Some, slice_get, string_bytes}
+use Rattle.std.specs.Prelude.{◌≡◌, ◌≢◌, ◌<◌, ℕ, ◌+◌, Bool, not, ◌&&◌, if◌then◌else◌, List, [], ◌∷◌, ◌++◌, take, Some, slice_get}
 use Rattle.wl_linking.specs.Symbols.{Symbol, is_undefined, is_weak, is_local, has_name}
 use Rattle.wl_linking.specs.Object.{Object}
 use Rattle.wl_linking.specs.declared.error.LinkError.{LinkError}
-use Rattle.wl_linking.specs.declared.error.LinkError.TheVariants.{OutOfMemory, DuplicateSymbol}
+use Rattle.wl_linking.specs.declared.error.LinkError.TheVariants.{DuplicateSymbol}
 
 -- a strong symbol: its name, its object and its number there
 pub record Strong : Type 0 where
@@ -45,17 +45,13 @@ HasDistinctNames objects = AreDistinct (strong_of 0 objects)
 
 -- the refusal tells the name of the two, and where each stands
 abbrev pub Tells : Strong → Strong → LinkError → Type 0
-Tells s t (DuplicateSymbol name first_object first_symbol second_object second_symbol) = (string_bytes name ≡ t.name)
+Tells s t (DuplicateSymbol name first_object first_symbol second_object second_symbol) = (name ≡ t.name)
     × (first_object ≡ s.object) × (first_symbol ≡ s.symbol) × (second_object ≡ t.object) × (second_symbol ≡ t.symbol)
 Tells s t _ = ⊥
 
 -- the refusal is of the earliest symbol of these objects that repeats a name
 abbrev pub IsDuplicate : List Object → LinkError → Type 0
 IsDuplicate objects error = (s t : Strong) × IsRepeat (strong_of 0 objects) s t × Tells s t error
-
--- memory ran out, or two strong symbols have one name
-abbrev pub NameFault : List Object → LinkError → Type 0
-NameFault objects error = (error ≡ OutOfMemory) ⊎ IsDuplicate objects error
 
 -- none of these has the name
 abbrev pub LacksName : List Strong → List ℕ → Type 0

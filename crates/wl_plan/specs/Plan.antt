@@ -11,7 +11,7 @@ use Rattle.wl_linking.specs.Object.{Object}
 use Rattle.wl_linking.specs.declared.relocations.WasmRelocation.{WasmRelocation}
 use Rattle.wl_linking.specs.declared.sites.Site.{Site}
 use Rattle.wl_linking.specs.declared.error.LinkError.{LinkError}
-use Rattle.wl_linking.specs.declared.error.LinkError.TheVariants.{OutOfMemory, TooLarge}
+use Rattle.wl_linking.specs.declared.error.LinkError.TheVariants.{TooLarge}
 use Rattle.wl_linking.specs.declared.error.Quantity.TheVariants.{Space}
 use Rattle.wl_plan.specs.declared.layout.FunctionOrigin.{FunctionOrigin}
 use Rattle.wl_plan.specs.declared.layout.FunctionOrigin.TheVariants as origin
@@ -20,6 +20,7 @@ use Rattle.wl_plan.specs.declared.layout.MadeGlobal.TheVariants.{StackPointer}
 use Rattle.wl_plan.specs.declared.layout.PlannedGlobal.{PlannedGlobal}
 use Rattle.wl_module.specs.declared.imports.ExternalKind.TheVariants.{Memory}
 use Rattle.wl_plan.specs.declared.layout.OutputExport.{OutputExport}
+use Rattle.wl_plan.specs.declared.layout.WasmLayout.{WasmLayout}
 use Rattle.wl_plan.specs.declared.layout.LinkPlan.{LinkPlan}
 use Rattle.wl_plan.specs.declared.layout.Fixup.{Fixup}
 use Rattle.wl_plan.specs.declared.layout.FixupPlace.TheVariants.{Code}
@@ -107,21 +108,26 @@ max_entries = 4294967294
 abbrev pub HasTooMany : List Object → Type 0
 HasTooMany objects = (max_entries < length (output_types objects)) ⊎ (max_entries < length (function_space objects))
 
--- The one plan of these objects, where every unit is kept.
-pub record IsPlan (objects : List Object) (plan : LinkPlan) : Type 0 where
-  pub room : HasTooMany objects → ⊥
-  pub types : plan.layout.output_types ≡ output_types objects
-  pub functions : map (λ (f : OutputFunction). f.origin) plan.layout.functions ≡ function_space objects
-  pub typed : AllByRecursion (HasItsType objects plan.layout.output_types) plan.layout.functions
-  pub bodies : plan.layout.function_bodies ≡ bodies_of 0 objects
-  pub globals : (g : PlannedGlobal) × (plan.layout.globals ≡ g ∷ []) × IsStackPointer g
-  pub memory : plan.layout.memory ≡ record { initial = 2; maximum = None; shared = false }
-  pub exports : (e : OutputExport) × (plan.layout.exports ≡ e ∷ []) × IsMemoryExport e
-  pub debug_sections : plan.layout.debug_sections ≡ debug_of 0 objects
-  pub fixups : AreFixups (function_space objects) 0 objects plan.fixups
+-- the types, the spaces and the exports
+pub record HasSpaces (objects : List Object) (layout : WasmLayout) : Type 0 where
+  pub types : layout.output_types ≡ output_types objects
+  pub functions : map (λ (f : OutputFunction). f.origin) layout.functions ≡ function_space objects
+  pub typed : AllByRecursion (HasItsType objects layout.output_types) layout.functions
+  pub globals : (g : PlannedGlobal) × (layout.globals ≡ g ∷ []) × IsStackPointer g
+  pub memory : layout.memory ≡ record { initial = 2; maximum = None; shared = false }
+  pub exports : (e : OutputExport) × (layout.exports ≡ e ∷ []) × IsMemoryExport e
 
--- memory ran out, or a space has too many entries
-abbrev pub PlanFault : List Object → LinkError → Type 0
-PlanFault objects OutOfMemory = ⊤
-PlanFault objects (TooLarge what) = (what ≡ Space) × HasTooMany objects
-PlanFault objects _ = ⊥
+-- the bodies, and the debug sections beside them
+pub record HasBodies (objects : List Object) (layout : WasmLayout) : Type 0 where
+  pub bodies : layout.function_bodies ≡ bodies_of 0 objects
+  pub debug_sections : layout.debug_sections ≡ debug_of 0 objects
+
+-- The one plan of these objects, where every unit is kept, part by part: each part is fixed by the objects and the parts before.
+pub record IsPlan (objects : List Object) (plan : LinkPlan) : Type 0 where
+  pub spaces : HasSpaces objects plan.layout
+  pub fixups : AreFixups (map (λ (f : OutputFunction). f.origin) plan.layout.functions) 0 objects plan.fixups
+  pub bodies : HasBodies objects plan.layout
+
+-- a space would have too many entries
+abbrev pub IsTooLarge : List Object → LinkError → Type 0
+IsTooLarge objects e = (e ≡ TooLarge Space) × HasTooMany objects

@@ -1,7 +1,9 @@
 //! The plan of the output module.
 #![tactic(auto)]
 
+mod fixups;
 mod layout;
+mod maps;
 mod merge;
 mod names;
 mod plan;

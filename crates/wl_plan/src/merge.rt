@@ -4,11 +4,14 @@ ghost use Rattle.std.specs.Prelude.{◌≡◌, ◌≤◌, ◌<◌, ◌==◌, ℕ
 ghost use Rattle.std.specs.List.{list_any};
 ghost use Rattle.wl_plan.specs.Types.{types_exist};
 ghost use Rattle.wl_plan.specs.Types.{add_new, firsts_onto, live_types};
-ghost use Rattle.wl_plan.specs.Merging.{IsFull, LeadsToTypes};
+ghost use Rattle.std.specs.List.{AllByRecursion};
+ghost use Rattle.wl_linking.specs.Fitting.{IsFitting};
+ghost use Rattle.wl_plan.specs.Types.{output_types};
+ghost use Rattle.wl_plan.specs.Merging.{IsFull, LeadsToTypes, AreMerged};
 
 use crate::types::TypeMerger;
 use std::alloc::{AllocError, Global};
-use wl_linking::{File, LinkError};
+use wl_linking::{File, Items, LinkError};
 use wl_module::FuncType;
 
 /// The index of what the output doesn't hold.
@@ -37,7 +40,7 @@ fn merge_type(merger: &mut TypeMerger, ty: &FuncType, used: bool) -> Result<u32,
 }
 
 /// Merges the types of an object's functions, and answers where each local type went.
-pub(crate) fn merge_types(
+fn merge_types(
     alloc: Global,
     merger: &mut TypeMerger,
     file: &File<'_>,
@@ -55,4 +58,29 @@ pub(crate) fn merge_types(
         indices.push(index)?;
     }
     Ok(indices)
+}
+
+/// The output types, and for each object where its types went.
+#[derive(Drop)]
+pub(crate) struct MergedTypes {
+    pub(crate) merger: TypeMerger,
+    pub(crate) indices: Vec<Items<u32>>,
+}
+
+/// Merges the types of the functions of all objects.
+///
+/// # Errors
+/// `TooLarge` where there would be more than 4294967294 of them.
+pub(crate) fn merge_all(alloc: Global, files: &[File<'_>]) -> Result<MergedTypes, LinkError>
+    requires { AllByRecursion IsFitting files.now }
+    ensures ok { IfOk result (AreMerged files.now) }
+    ensures err { IfErr result (IsFull (output_types files.now)) }
+{
+    let mut merger = TypeMerger::new(alloc);
+    let mut indices = Vec::new(alloc);
+    for file in files {
+        let local = merge_types(alloc, &mut merger, file)?;
+        indices.push(Items::new(local))?;
+    }
+    Ok(MergedTypes { merger, indices })
 }

@@ -1,11 +1,12 @@
 //! The names by which objects refer to what other objects define.
 
 ghost use Rattle.std.specs.Prelude.{◌≡◌, ◌++◌, OnOk, IfOk, IfErr, MatchOption};
-ghost use Rattle.wl_plan.specs.Names.{is_strong, strong_from, strong_of, HasDistinctNames, NameFault, LacksName, HasName, Tells};
+ghost use Rattle.wl_plan.specs.Names.{is_strong, strong_from, strong_of, IsDuplicate, LacksName, HasName, Tells};
+ghost use Rattle.wl_plan.specs.Steps.{Clear, Refuses};
 
 use std::alloc::{AllocError, Global};
 use std::marker::Model;
-use wl_linking::{File, LinkError, WasmSymbol};
+use wl_linking::{File, LinkError, Text, WasmSymbol};
 
 /// A symbol by whose name other objects may refer to what its object defines.
 #[derive(Drop)]
@@ -86,7 +87,7 @@ fn duplicate(
     ensures { IfOk result (Tells first.now second.now) }
 {
     Ok(LinkError::DuplicateSymbol {
-        name: String::from_str(alloc, second.name)?,
+        name: Text::new(String::from_str(alloc, second.name)?),
         first_object: first.object,
         first_symbol: first.symbol,
         second_object: second.object,
@@ -99,8 +100,8 @@ fn duplicate(
 /// # Errors
 /// `DuplicateSymbol` where a strong symbol repeats the name of another; it tells the earliest.
 pub fn check_names(alloc: Global, files: &[File<'_>]) -> Result<(), LinkError>
-    ensures ok { OnOk result (HasDistinctNames files.now) }
-    ensures err { IfErr result (NameFault files.now) }
+    ensures ok { OnOk result (Clear (IsDuplicate files.now)) }
+    ensures err { IfErr result (Refuses (IsDuplicate files.now)) }
 {
     let strong = strong_symbols(alloc, files)?;
     for (later, symbol) in strong.iter().enumerate() {

@@ -3,6 +3,7 @@
 ghost use Rattle.std.specs.Prelude.{◌≡◌, OnOk, IfErr};
 ghost use Rattle.std.specs.List.{list_all};
 ghost use Rattle.wl_plan.specs.Planned.{is_plain, is_planned_symbol, is_planned_relocation, has_planned_kinds, is_planned, AllPlanned, IsNotYet};
+ghost use Rattle.wl_plan.specs.Steps.{Clear, Refuses};
 
 use memchr::memchr;
 use wl_linking::{File, LinkError, RelocationType, WasmRelocation, WasmSymbol, WasmSymbolKind};
@@ -100,8 +101,9 @@ fn is_planned(file: &File<'_>) -> bool
 /// # Errors
 /// `Unsupported` with `NotYet` for the first object that holds something else.
 pub fn check_planned(files: &[File<'_>]) -> Result<(), LinkError>
-    ensures ok { OnOk result (AllPlanned files.now) }
-    ensures err { IfErr result (IsNotYet files.now) }
+    ensures planned { OnOk result (AllPlanned files.now) }
+    ensures ok { OnOk result (Clear (IsNotYet files.now)) }
+    ensures err { IfErr result (Refuses (IsNotYet files.now)) }
 {
     for (object, file) in files.iter().enumerate() {
         if !is_planned(file) {

@@ -1,19 +1,24 @@
-//! What each object adds to the spaces of the output.
+//! The functions of the output, with their bodies, and the debug sections.
 
-ghost use Rattle.std.specs.Prelude.{◌≡◌, ◌≤◌, ◌<◌, ◌+◌, ◌++◌, length, map, true, OnOk, IfOk, vec_len, slice_index_or};
+ghost use Rattle.std.specs.Prelude.{◌≡◌, ◌≤◌, ◌<◌, ◌+◌, ◌++◌, length, map, true, OnOk, IfOk, IfErr};
+ghost use Rattle.std.specs.List.{AllByRecursion};
+ghost use Rattle.wl_linking.specs.Fitting.{IsFitting};
 ghost use Rattle.wl_plan.specs.Types.{types_exist};
-ghost use Rattle.wl_linking.specs.declared.relocations.WasmRelocation.{WasmRelocation as SpecRelocation};
-ghost use Rattle.wl_linking.specs.declared.sites.Site.{Site as SpecSite};
-ghost use Rattle.wl_plan.specs.Building.{outputs_from, body_in, debug_in, fixup_of, fixups_from, HasRoom};
+ghost use Rattle.wl_plan.specs.Space.{function_space};
+ghost use Rattle.wl_plan.specs.Plan.{bodies_of, debug_of};
+ghost use Rattle.wl_plan.specs.Merging.{IsFull, AreMerged};
+ghost use Rattle.wl_plan.specs.Building.{outputs_from, body_in, debug_in, AreFunctions};
 
-use crate::layout::{Fixup, FixupPlace, FixupTo, FunctionOrigin, OutputFunction};
+use crate::layout::{FunctionOrigin, OutputFunction};
+use crate::merge::MergedTypes;
+use crate::types::MAX_ENTRIES;
 use std::alloc::{AllocError, Global};
 use std::borrow::CowSlice;
-use wl_linking::{DebugSectionInput, File};
+use wl_linking::{DebugSectionInput, File, LinkError, Quantity};
 use wl_module::WasmFunctionBody;
 
 /// Adds the functions of an object, whose local types the indices lead to the output types.
-pub(crate) fn push_functions(
+fn push_functions(
     functions: &mut Vec<OutputFunction>,
     object: usize,
     local: &[u32],
@@ -33,6 +38,34 @@ pub(crate) fn push_functions(
         })?;
     }
     Ok(())
+}
+
+/// The function space: the functions of all objects, each with its output type.
+///
+/// # Errors
+/// `TooLarge` where it would get more than 4294967294 entries.
+pub(crate) fn function_space(
+    alloc: Global,
+    files: &[File<'_>],
+    merged: &MergedTypes,
+) -> Result<Vec<OutputFunction>, LinkError>
+    requires fits { AllByRecursion IsFitting files.now }
+    requires merged { AreMerged files.now merged.now }
+    ensures ok { IfOk result (AreFunctions files.now merged.now) }
+    ensures err { IfErr result (IsFull (function_space files.now)) }
+{
+    let mut functions = Vec::new(alloc);
+    for (object, file) in files.iter().enumerate() {
+        let local = file.functions();
+        if local.len() > MAX_ENTRIES - functions.len() {
+            return Err(LinkError::TooLarge {
+                what: Quantity::Space,
+            });
+        }
+        let indices = &merged.indices[object];
+        push_functions(&mut functions, object, local, indices.as_slice())?;
+    }
+    Ok(functions)
 }
 
 /// The same body, of that object.
@@ -55,7 +88,7 @@ fn body_of<'a>(
 }
 
 /// Adds the bodies of an object.
-pub(crate) fn push_bodies<'a>(
+fn push_bodies<'a>(
     alloc: Global,
     bodies: &mut Vec<WasmFunctionBody<'a>>,
     object: usize,
@@ -70,7 +103,7 @@ pub(crate) fn push_bodies<'a>(
 }
 
 /// Adds the debug sections of an object.
-pub(crate) fn push_debug_sections<'a>(
+fn push_debug_sections<'a>(
     sections: &mut Vec<DebugSectionInput<'a>>,
     object: usize,
     more: &[DebugSectionInput<'a>],
@@ -87,40 +120,30 @@ pub(crate) fn push_debug_sections<'a>(
     Ok(())
 }
 
-/// What a relocation of an object becomes, whose functions stand in the space from `base` on.
-fn fixup_at(object: usize, base: u32, file: &File<'_>, i: usize) -> Fixup
-    requires room { HasRoom base file.now }
-    requires within { i < length file.now.code_relocations }
-    ensures { (r : SpecRelocation) (s : SpecSite) → result ≡ fixup_of base object file.now (slice_index_or file.now.code_relocations i r) (slice_index_or file.now.code_sites i s) }
+/// The bodies of all objects.
+pub(crate) fn all_bodies<'a>(
+    alloc: Global,
+    files: &[File<'a>],
+) -> Result<Vec<WasmFunctionBody<'a>>, AllocError>
+    ensures { IfOk result (λ bodies. bodies.items ≡ bodies_of 0 files.now) }
 {
-    let relocation = file.code_relocations()[i];
-    let site = file.code_sites()[i];
-    let symbol = &file.symbols()[relocation.index as usize];
-    Fixup {
-        object,
-        place: FixupPlace::Code,
-        unit: site.unit as u32,
-        position: site.position,
-        ty: relocation.ty,
-        to: FixupTo::Value {
-            value: base + symbol.index,
-            addend_left: 0,
-        },
+    let mut bodies = Vec::new(alloc);
+    for (object, file) in files.iter().enumerate() {
+        push_bodies(alloc, &mut bodies, object, file.bodies())?;
     }
+    Ok(bodies)
 }
 
-/// Adds the fixups of an object, in order of their fields.
-pub(crate) fn push_fixups(
-    fixups: &mut Vec<Fixup>,
-    object: usize,
-    base: u32,
-    file: &File<'_>,
-) -> Result<(), AllocError>
-    requires { HasRoom base file.now }
-    ensures { OnOk result (fixups.new.items ≡ fixups.old.items ++ fixups_from base object file.now file.now.code_relocations file.now.code_sites) }
+/// The debug sections of all objects.
+pub(crate) fn all_debug_sections<'a>(
+    alloc: Global,
+    files: &[File<'a>],
+) -> Result<Vec<DebugSectionInput<'a>>, AllocError>
+    ensures { IfOk result (λ sections. sections.items ≡ debug_of 0 files.now) }
 {
-    for i in 0..file.code_relocations().len() {
-        fixups.push(fixup_at(object, base, file, i))?;
+    let mut sections = Vec::new(alloc);
+    for (object, file) in files.iter().enumerate() {
+        push_debug_sections(&mut sections, object, file.debug_inputs())?;
     }
-    Ok(())
+    Ok(sections)
 }

@@ -1,5 +1,5 @@
 use Rattle.std.proofs.Common.{vec_len}
-use Rattle.wildplan.proofs.ContentLaws.{parses_more, bad_object, all_taken}
+use Rattle.wildplan.proofs.ContentLaws.{parses_more, bad_object, all_taken, all_fit}
 use Rattle.wildplan.proofs.plan.parse_objects.Goals as goal
 
 pub returns-in-Err-clause-err : goal.returns-in-Err-clause-err
@@ -17,3 +17,8 @@ pub returns-clause-ok : goal.returns-clause-ok
 returns-clause-ok c =
     let files = c.loop-bytes.files in
     all_taken files.items c.args.objects.now (vec_len files) c.loop-bytes.invariant (rw (← c.len.ensures) c.in_default.ensures.bytes)
+
+pub returns-clause-fits : goal.returns-clause-fits
+returns-clause-fits c =
+    let files = c.loop-bytes.files in
+    all_fit files.items c.args.objects.now (all_taken files.items c.args.objects.now (vec_len files) c.loop-bytes.invariant (rw (← c.len.ensures) c.in_default.ensures.bytes))

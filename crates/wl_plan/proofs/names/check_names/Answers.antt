@@ -1,6 +1,7 @@
-use Rattle.std.proofs.Common.{◌≡◌, List, get_or, sym, ◌∙◌, subst, arith, inr, take}
-use Rattle.wl_plan.specs.Names.{Strong, AreDistinct, IsRepeat, LacksName, HasName}
-use Rattle.wl_plan.proofs.NameLaws.{distinct_none, distinct_more, distinct_all, repeats, in_whole}
+use Rattle.std.proofs.Common.{◌≡◌, List, get_or, sym, ◌∙◌, subst, arith, take}
+use Rattle.wl_plan.specs.Names.{Strong, AreDistinct, IsRepeat, LacksName, HasName, IsDuplicate}
+use Rattle.wl_plan.proofs.NameLaws.{distinct_none, distinct_more, distinct_all, repeats, in_whole, names_clear}
+use Rattle.wl_plan.proofs.StepLaws.{refuses_for}
 use Rattle.wl_plan.proofs.names.check_names.Goals as goal
 
 pub loop-later-init : goal.loop-later-init
@@ -19,7 +20,7 @@ returns-in-Some-clause-err c =
     let found : HasName (take c.loop-later.later L) c.symbol-item.result.name c.in-Some.earlier = rw (← same, ← c.symbol.view_is) c.in-Some.ensures in
     let s-is : c.index.result.now ≡ get_or L c.in-Some.earlier c.index.result.now = rw c.deref-symbol-items.ensures.value c.index.ensures in
     let h = repeats L c.in-Some.earlier c.loop-later.later c.index.result.now c.symbol-item.result c.loop-later-test.true c.symbol-item.is c.loop-later.invariant found s-is in
-    inr (c.index.result.now, c.symbol-item.result, subst (λ (ss : List Strong). IsRepeat ss c.index.result.now c.symbol-item.result) (c.deref-symbol-items.ensures.value ∙ c.in_ok-strong.ensures) h, c.in_ok-duplicate.ensures)
+    refuses_for (IsDuplicate c.args.files.now) c.in_ok-duplicate.field-0 (c.index.result.now, c.symbol-item.result, subst (λ (ss : List Strong). IsRepeat ss c.index.result.now c.symbol-item.result) (c.deref-symbol-items.ensures.value ∙ c.in_ok-strong.ensures) h, c.in_ok-duplicate.ensures)
 
 pub loop-later-preserved : goal.loop-later-preserved
 loop-later-preserved c =
@@ -30,4 +31,4 @@ loop-later-preserved c =
 
 pub returns-clause-ok : goal.returns-clause-ok
 returns-clause-ok c =
-    subst AreDistinct (c.deref-symbol-items.ensures.value ∙ c.in_ok-strong.ensures) (distinct_all c.deref-symbol-items.result.now c.loop-later.later c.loop-later-test.false c.loop-later.invariant)
+    names_clear c.args.files.now (subst AreDistinct (c.deref-symbol-items.ensures.value ∙ c.in_ok-strong.ensures) (distinct_all c.deref-symbol-items.result.now c.loop-later.later c.loop-later-test.false c.loop-later.invariant))

@@ -1,0 +1,74 @@
+//! What the relocations of the objects become.
+
+ghost use Rattle.std.specs.Prelude.{◌≡◌, ◌≤◌, ◌<◌, ◌++◌, length, OnOk, IfOk, slice_index_or};
+ghost use Rattle.std.specs.List.{AllByRecursion};
+ghost use Rattle.wl_linking.specs.Fitting.{IsFitting};
+ghost use Rattle.wl_linking.specs.declared.relocations.WasmRelocation.{WasmRelocation as SpecRelocation};
+ghost use Rattle.wl_linking.specs.declared.sites.Site.{Site as SpecSite};
+ghost use Rattle.wl_plan.specs.Planned.{AllPlanned};
+ghost use Rattle.wl_plan.specs.Space.{function_space};
+ghost use Rattle.wl_plan.specs.Plan.{AreFixups, max_entries};
+ghost use Rattle.wl_plan.specs.Maps.{AreMaps};
+ghost use Rattle.wl_plan.specs.Building.{fixup_of, fixups_from, HasMap};
+
+use crate::layout::{Fixup, FixupPlace, FixupTo};
+use std::alloc::{AllocError, Global};
+use wl_linking::{File, Items};
+
+/// What a relocation of an object becomes, whose functions the map leads to the space.
+fn fixup_at(object: usize, map: &[u32], file: &File<'_>, i: usize) -> Fixup
+    requires room { HasMap map.now file.now }
+    requires within { i < length file.now.code_relocations }
+    ensures { (r : SpecRelocation) (s : SpecSite) → result ≡ fixup_of map.now object file.now (slice_index_or file.now.code_relocations i r) (slice_index_or file.now.code_sites i s) }
+{
+    let relocation = file.code_relocations()[i];
+    let site = file.code_sites()[i];
+    let symbol = &file.symbols()[relocation.index as usize];
+    Fixup {
+        object,
+        place: FixupPlace::Code,
+        unit: site.unit as u32,
+        position: site.position,
+        ty: relocation.ty,
+        to: FixupTo::Value {
+            value: map[symbol.index as usize],
+            addend_left: 0,
+        },
+    }
+}
+
+/// Adds the fixups of an object, in order of their fields.
+fn push_fixups(
+    fixups: &mut Vec<Fixup>,
+    object: usize,
+    map: &[u32],
+    file: &File<'_>,
+) -> Result<(), AllocError>
+    requires { HasMap map.now file.now }
+    ensures { OnOk result (fixups.new.items ≡ fixups.old.items ++ fixups_from map.now object file.now file.now.code_relocations file.now.code_sites) }
+{
+    for i in 0..file.code_relocations().len() {
+        fixups.push(fixup_at(object, map, file, i))?;
+    }
+    Ok(())
+}
+
+/// The fixups of all objects, whose functions the maps lead to the space.
+pub(crate) fn all_fixups(
+    alloc: Global,
+    files: &[File<'_>],
+    maps: &[Items<u32>],
+) -> Result<Vec<Fixup>, AllocError>
+    requires fits { AllByRecursion IsFitting files.now }
+    requires planned { AllPlanned files.now }
+    requires room { length (function_space files.now) ≤ max_entries }
+    requires maps { AreMaps (function_space files.now) 0 files.now maps.now }
+    ensures { IfOk result (λ fixups. AreFixups (function_space files.now) 0 files.now fixups.items) }
+{
+    let mut fixups = Vec::new(alloc);
+    for (object, file) in files.iter().enumerate() {
+        let map = &maps[object];
+        push_fixups(&mut fixups, object, map.as_slice(), file)?;
+    }
+    Ok(fixups)
+}
