@@ -6,3 +6,5 @@ pub mod PlannedLaws
 pub mod SpaceLaws
 pub mod PlanLaws
 pub mod NameLaws
+pub mod Folds
+pub mod ContentLaws

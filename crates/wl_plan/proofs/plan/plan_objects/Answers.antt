@@ -1,8 +1,7 @@
 use Rattle.std.proofs.Common.{◌≤◌, length, ap, arith}
 use Rattle.std.proofs.lemmas.List.{length-map}
 use Rattle.wl_plan.specs.Types.{output_types}
-use Rattle.wl_plan.specs.Space.{function_space}
-use Rattle.wl_plan.specs.Plan.{max_entries}
+use Rattle.wl_plan.specs.Space.{function_space, max_entries}
 use Rattle.wl_plan.proofs.PlanLaws.{room_clear, origin_of}
 use Rattle.wl_plan.proofs.plan.plan_objects.Goals as goal
 
