@@ -1,5 +1,5 @@
 -- Items one behind the other, and what they ask for.
-use Rattle.std.proofs.Common.{rules, append-nil, codes, Bool, true, ◌≡◌, ℕ, ◌+◌, ◌<◌, ◌≤◌, List, [], ◌∷◌, ◌++◌, Option, Some, None, unwrap_or, refl, sym, ap, subst, ◌∙◌, arith, All}
+use Rattle.std.proofs.Common.{rules, append-nil, codes, Bool, true, ◌≡◌, ℕ, ◌<◌, ◌≤◌, List, [], ◌∷◌, ◌++◌, Option, Some, None, unwrap_or, refl, sym, ap, subst, ◌∙◌, arith, All}
 use Rattle.std.specs.List.{filter_map, last_or}
 use Rattle.std.proofs.lemmas.List.Elements.{filter_map-append, All-cons}
 use Rattle.wl_symbols.specs.Items.{Item, Object, Given, Set, StandsAt, Items, HasValue, joined, parted}

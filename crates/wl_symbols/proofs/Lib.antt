@@ -1,2 +1,3 @@
 pub mod ItemLaws
 pub mod Parsing
+pub mod NameLaws

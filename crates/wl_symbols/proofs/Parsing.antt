@@ -1,5 +1,5 @@
 -- The words so far.
-use Rattle.std.proofs.Common.{◌≡◌, ◌≤◌, ℕ, List, length}
+use Rattle.std.proofs.Common.{◌≤◌, ℕ, List, length}
 use Rattle.wl_symbols.specs.Items.{Item, Items}
 use Rattle.wl_symbols.specs.Args.{AsksFor}
 use Rattle.wl_symbols.specs.declared.args.WasmArgs.{WasmArgs}

@@ -1,5 +1,5 @@
 -- What the words of the command line ask for.
-use Rattle.std.specs.Prelude.{◌≡◌, ℕ, Bool, true, List, [], ◌∷◌, ◌++◌, length, Option, Some, None, unwrap_or, codes, map, slice_get}
+use Rattle.std.specs.Prelude.{◌≡◌, ℕ, Bool, true, List, [], length, Option, Some, None, unwrap_or, codes, slice_get}
 use Rattle.std.specs.List.{filter_map, last_or}
 use Rattle.wl_symbols.specs.Items.{Item, Object, Given, Set, Items}
 use Rattle.wl_symbols.specs.Faults.{WordsFault}

@@ -1,6 +1,6 @@
 -- Words that are no items.
-use Rattle.std.specs.Prelude.{◌≡◌, ◌≢◌, ℕ, ◌+◌, true, List, Option, Some, None, slice_get}
-use Rattle.wl_symbols.specs.Options.{is_option, front_of, value_of, taken_by}
+use Rattle.std.specs.Prelude.{◌≡◌, ◌≢◌, ℕ, ◌+◌, true, List, Some, None, slice_get}
+use Rattle.wl_symbols.specs.Options.{is_option, front_of, taken_by}
 use Rattle.wl_symbols.specs.Items.{Item, Items, NamesOption}
 use Rattle.wl_symbols.specs.declared.options.Takes.TheVariants.{Nothing, Value}
 use Rattle.wl_symbols.specs.declared.options.Flag.{Flag}

@@ -4,3 +4,4 @@ pub mod Items
 pub mod Faults
 pub mod Args
 pub mod Taking
+pub mod StrongNames

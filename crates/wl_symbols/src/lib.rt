@@ -5,8 +5,10 @@ mod args;
 mod error;
 mod numbers;
 mod options;
+mod strong_names;
 
 pub use args::WasmArgs;
 pub use error::ArgError;
 pub use numbers::Numbers;
 pub use options::{Flag, Setting, Takes};
+pub use strong_names::check_strong_names;

@@ -1,4 +1,4 @@
-use Rattle.std.proofs.Common.{ℕ, ◌-◌, length}
+use Rattle.std.proofs.Common.{◌-◌, length}
 use Rattle.wl_symbols.specs.Items.{texts}
 use Rattle.wl_symbols.proofs.Parsing.{ParsesUpTo}
 use Rattle.wl_symbols.proofs.args.WasmArgs.parse.Given as goal

@@ -1,10 +1,8 @@
 use Rattle.std.proofs.Common.{◌≡◌, None, Some, ap, sym, ◌∙◌, refl}
-use Rattle.wl_symbols.specs.Items.{texts}
 use Rattle.wl_symbols.specs.Options.{front_of, taken_by, value_of}
 use Rattle.wl_symbols.specs.declared.options.Takes.TheVariants.{Nothing}
-use Rattle.wl_symbols.specs.Faults.{StopsAt, unnamed, valued}
-use Rattle.wl_symbols.specs.Taking.{TakesItem}
-use Rattle.wl_symbols.specs.Items.{Item, Object}
+use Rattle.wl_symbols.specs.Faults.{unnamed, valued}
+use Rattle.wl_symbols.specs.Items.{Object}
 use Rattle.wl_symbols.proofs.args.WasmArgs.take_item.Goals as goal
 
 pub returns-then-not-is_option-clause-ok : goal.returns-then-not-is_option-clause-ok
