@@ -1,0 +1,7 @@
+pub mod Options
+pub mod Rows
+pub mod Items
+pub mod Faults
+pub mod Args
+pub mod Taking
+pub mod StrongNames
