@@ -11,7 +11,7 @@ use Rattle.wl_plan.specs.declared.objects.TheConstants.{MAX_OBJECT}
 use Rattle.wl_plan.specs.Objects.{AreObjects, IsBadObject}
 use Rattle.wl_plan.specs.Parsing.{link_error_of}
 use Rattle.wl_linking.specs.declared.error.LinkError.TheVariants.{OutOfMemory, Malformed, Unsupported}
-use Rattle.wl_plan.specs.Steps.{Refuses}
+use Rattle.wl_linking.specs.Steps.{Refuses}
 use Rattle.wl_plan.proofs.StepLaws.{refuses_for, refuses_memory}
 
 pub content_at : (objects : List (Vec ℕ Global)) (i : ℕ) (d : Vec ℕ Global) → i < length objects → d ≡ get_or objects i d → slice_get (contents objects) i ≡ Some d.items

@@ -20,7 +20,7 @@ use Rattle.wl_plan.specs.Plan.{HasItsType, bodies_of, debug_of, function_maps}
 use Rattle.wl_plan.specs.declared.layout.WasmObjectIndexMap.{WasmObjectIndexMap}
 use Rattle.wl_plan.specs.Fixups.{target_of, AreFixupsIn, AreFixups}
 use Rattle.wl_plan.specs.Faults.{IsTooLarge}
-use Rattle.wl_plan.specs.Steps.{Clear, Refuses}
+use Rattle.wl_linking.specs.Steps.{Clear, Refuses}
 use Rattle.wl_plan.proofs.StepLaws.{refuses_for, refuses_memory}
 use Rattle.wl_plan.specs.Merging.{IsFull, LeadsToTypes, AreLed}
 use Rattle.wl_plan.specs.Maps.{imported_functions, LeadsToPlaces, AreMaps}

@@ -18,7 +18,7 @@ use Rattle.wl_linking.specs.declared.symbols.WasmSymbolKind.TheVariants.{Func, D
 use Rattle.wl_plan.specs.Types.{types_exist}
 use Rattle.wl_plan.specs.Maps.{imported_functions}
 use Rattle.wl_plan.specs.Planned.{are_some, is_unplanned_kind, is_unplanned_symbol, is_function_index, is_function_kind, is_function, is_unplanned_relocation, unplanned, is_planned, AllPlanned, IsNotYet}
-use Rattle.wl_plan.specs.Steps.{Clear}
+use Rattle.wl_linking.specs.Steps.{Clear}
 use Rattle.wl_module.specs.declared.error.Form.TheVariants.{NotYet}
 use Rattle.wl_linking.specs.declared.error.LinkError.TheVariants.{Unsupported}
 use Rattle.wl_plan.proofs.Folds.{both, neither, all_at, none_at}

@@ -1,10 +1,8 @@
-pub mod Steps
 pub mod Link
 pub mod Types
 pub mod Space
 pub mod Globals
 pub mod Planned
-pub mod Names
 pub mod Maps
 pub mod Fixups
 pub mod Plan

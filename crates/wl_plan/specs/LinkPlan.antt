@@ -2,8 +2,8 @@
 use Rattle.std.specs.Prelude.{◌⊎◌, ℕ, List}
 use Rattle.wl_linking.specs.Object.{Object}
 use Rattle.wl_linking.specs.declared.error.LinkError.{LinkError}
-use Rattle.wl_symbols.specs.declared.words.WasmArgs.{WasmArgs}
-use Rattle.wl_plan.specs.Steps.{Clear}
+use Rattle.wl_symbols.specs.declared.args.WasmArgs.{WasmArgs}
+use Rattle.wl_linking.specs.Steps.{Clear}
 use Rattle.wl_plan.specs.Link.{Link, link_of}
 use Rattle.wl_plan.specs.Objects.{AreObjects, IsBadObject}
 use Rattle.wl_plan.specs.Faults.{link_fault}

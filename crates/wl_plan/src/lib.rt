@@ -8,7 +8,6 @@ mod layout;
 mod link;
 mod maps;
 mod merge;
-mod names;
 mod objects;
 mod plan;
 mod planned;

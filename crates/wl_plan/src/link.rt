@@ -3,7 +3,7 @@
 ghost use Rattle.std.specs.Prelude.{◌≡◌, IfOk, IfErr, OnOk};
 ghost use Rattle.std.specs.List.{AllByRecursion};
 ghost use Rattle.wl_linking.specs.Fitting.{IsFitting};
-ghost use Rattle.wl_plan.specs.Steps.{Clear, Refuses};
+ghost use Rattle.wl_linking.specs.Steps.{Clear, Refuses};
 ghost use Rattle.wl_plan.specs.Link.{link_of};
 ghost use Rattle.wl_plan.specs.Objects.{AreObjects, IsBadObject};
 ghost use Rattle.wl_plan.specs.Parsing.{link_error_of};
@@ -11,14 +11,13 @@ ghost use Rattle.wl_plan.specs.Faults.{IsUnplannedOption, link_fault};
 ghost use Rattle.wl_plan.specs.LinkPlan.{HasLinkFault, IsPlanOf, IsLinkPlan};
 
 use crate::layout::LinkPlan;
-use crate::names::check_names;
 use crate::objects::ObjectList;
 use crate::plan::plan_objects;
 use crate::planned::check_planned;
 use std::alloc::Global;
 use wl_linking::{FileList, LinkError, parse_wasm_module};
 use wl_module::{Form, ReadError};
-use wl_symbols::WasmArgs;
+use wl_symbols::{WasmArgs, check_strong_names};
 
 /// What is wrong with an object, as a refusal of the plan.
 fn link_error(object: usize, error: ReadError) -> LinkError
@@ -43,8 +42,9 @@ fn parse_objects<'a>(alloc: Global, objects: &'a ObjectList) -> Result<FileList<
             Ok(file) => file,
             Err(error) => return Err(link_error(files.len(), error)),
         };
-        if files.push(file).is_err() {
-            return Err(LinkError::OutOfMemory);
+        match files.push(file) {
+            Ok(()) => {}
+            Err(_) => return Err(LinkError::OutOfMemory),
         }
     }
     Ok(files)
@@ -55,7 +55,7 @@ fn check_options(args: &WasmArgs) -> Result<(), LinkError>
     ensures ok { OnOk result (Clear (IsUnplannedOption args.now)) }
     ensures err { IfErr result (Refuses (IsUnplannedOption args.now)) }
 {
-    if args.gc_sections || args.entry {
+    if args.gc_sections || args.entry.is_some() {
         return Err(LinkError::Unsupported {
             object: 0,
             form: Form::NotYet,
@@ -79,7 +79,7 @@ pub fn plan_files<'a>(
     ensures ok { IfOk result (IsPlanOf (link_of files.now args.now)) }
     ensures err { IfErr result (Refuses (link_fault (link_of files.now args.now))) }
 {
-    check_names(alloc, files)?;
+    check_strong_names(alloc, files)?;
     check_planned(files)?;
     check_options(args)?;
     let plan = plan_objects(alloc, files)?;

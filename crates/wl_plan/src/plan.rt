@@ -3,12 +3,12 @@
 ghost use Rattle.std.specs.Prelude.{◌≡◌, [], ◌∷◌, OnOk, IfOk, IfErr};
 ghost use Rattle.std.specs.List.{AllByRecursion};
 ghost use Rattle.wl_linking.specs.Fitting.{IsFitting};
-ghost use Rattle.wl_symbols.specs.declared.words.WasmArgs.{WasmArgs as SpecArgs};
+ghost use Rattle.wl_symbols.specs.declared.args.WasmArgs.{WasmArgs as SpecArgs};
 ghost use Rattle.wl_plan.specs.Link.{link_of};
 ghost use Rattle.wl_plan.specs.Planned.{AllPlanned};
 ghost use Rattle.wl_plan.specs.Plan.{IsPlan, memory_export};
 ghost use Rattle.wl_plan.specs.Faults.{IsTooLarge};
-ghost use Rattle.wl_plan.specs.Steps.{Clear, Refuses};
+ghost use Rattle.wl_linking.specs.Steps.{Clear, Refuses};
 
 use crate::bodies::{all_bodies, all_debug_sections};
 use crate::fixups::all_fixups;

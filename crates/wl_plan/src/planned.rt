@@ -3,7 +3,7 @@
 ghost use Rattle.std.specs.Prelude.{◌≡◌, OnOk, IfErr, not};
 ghost use Rattle.std.specs.List.{list_any, list_all, AllByRecursion};
 ghost use Rattle.wl_plan.specs.Planned.{holds_bulk_memory, is_unplanned_symbol, is_unplanned_relocation, unplanned, is_planned, IsNotYet};
-ghost use Rattle.wl_plan.specs.Steps.{Clear, Refuses};
+ghost use Rattle.wl_linking.specs.Steps.{Clear, Refuses};
 
 use memchr::memchr;
 use wl_linking::{
