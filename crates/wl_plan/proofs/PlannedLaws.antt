@@ -1,5 +1,5 @@
 -- Laws of objects that fit together and are planned: what they name is their own.
-use Rattle.std.proofs.Common.{◌≡◌, ◌<◌, ◌-◌, ◌||◌, ℕ, zero, suc, Bool, true, false, not, ltb, leb, List, [], ◌∷◌, length, get_or, map, Option, Some, None, refl, ap, take, inl, inr, arith, slice_get}
+use Rattle.std.proofs.Common.{◌≡◌, ◌<◌, ◌-◌, ◌+◌, ◌||◌, ℕ, zero, suc, Bool, true, false, not, eqb, ltb, leb, List, [], ◌∷◌, length, get_or, map, Option, Some, None, refl, ap, take, inl, inr, arith, slice_get}
 use Rattle.std.specs.List.{list_all, list_any}
 use Rattle.std.proofs.lemmas.Bool.{eqb-true, ltb-true, cases_Bool}
 use Rattle.std.proofs.lemmas.List.{length-map}
@@ -16,6 +16,7 @@ use Rattle.wl_linking.specs.declared.sites.Site.{Site}
 use Rattle.wl_linking.specs.declared.symbols.WasmSymbolKind.{WasmSymbolKind}
 use Rattle.wl_linking.specs.declared.symbols.WasmSymbolKind.TheVariants.{Func, Data, Global, Section, Event, Table}
 use Rattle.wl_plan.specs.Types.{types_exist}
+use Rattle.wl_plan.specs.Space.{globals_of}
 use Rattle.wl_plan.specs.Maps.{imported_functions}
 use Rattle.wl_plan.specs.Planned.{are_some, is_unplanned_kind, is_unplanned_symbol, is_function_index, is_function_kind, is_function, is_unplanned_relocation, unplanned, is_planned, AllPlanned, IsNotYet}
 use Rattle.wl_linking.specs.Steps.{Clear}
@@ -49,7 +50,7 @@ not_true false e = absurd cc
 
 no_more : {X : Type 0} (xs : List X) → are_some xs ≡ false → xs ≡ []
 no_more [] e = refl
-no_more (x ∷ xs) e = absurd cc
+no_more (x ∷ xs) e = absurd (let some = not_true (eqb (length (x ∷ xs)) 0) e in let zero = eqb-true (length (x ∷ xs)) 0 some in omega arith)
 
 none_held : (held : List Bool) (k : ℕ) → list_any (λ b. b) held ≡ false → k < length held → get_or held k true ≡ false
 none_held held k none lt = none_at (λ b. b) held k (get_or held k true) none (slice_get-get_or held k true lt)
@@ -73,6 +74,13 @@ holds o planned =
 
 pub nothing_imported : (o : Object) → is_planned o ≡ true → imported_functions o ≡ 0
 nothing_imported o planned = rw (holds o planned).imports refl
+
+-- no object has globals of its own
+pub no_globals : (i : ℕ) (objects : List Object) → AllPlanned objects → globals_of i objects ≡ []
+no_globals i [] all = refl
+no_globals i (o ∷ objects) all =
+    let each = both (is_planned o) (list_all is_planned objects) all in
+    rw ((holds o each.0).globals, no_globals (i + 1) objects each.1) refl
 
 -- ---- the functions that relocations name
 

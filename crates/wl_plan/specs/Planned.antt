@@ -1,5 +1,5 @@
 -- What objects may hold for a plan of them.
-use Rattle.std.specs.Prelude.{◌≡◌, ℕ, ◌==◌, ◌||◌, Bool, true, false, not, List, [], ◌∷◌, take, Option, Some, None, slice_get}
+use Rattle.std.specs.Prelude.{◌≡◌, ℕ, ◌==◌, ◌||◌, Bool, true, false, not, List, [], ◌∷◌, length, take, Option, Some, None, slice_get}
 use Rattle.std.specs.List.{list_any, list_all}
 use Rattle.wl_module.specs.Bodies.{Body}
 use Rattle.wl_module.specs.declared.error.Form.TheVariants.{NotYet}
@@ -15,8 +15,7 @@ use Rattle.wl_linking.specs.declared.symbols.WasmSymbolKind.TheVariants.{Func, S
 
 -- there are some of these
 abbrev pub are_some : {X : Type 0} → List X → Bool
-are_some [] = false
-are_some (x ∷ xs) = true
+are_some xs = not (length xs == 0)
 
 -- a body with 0xfc, the first byte of the bulk memory operators (core specification, "Memory Instructions")
 abbrev pub holds_bulk_memory : Body → Bool

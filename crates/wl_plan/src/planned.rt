@@ -1,8 +1,8 @@
 //! What objects may hold for a plan of them.
 
-ghost use Rattle.std.specs.Prelude.{◌≡◌, OnOk, IfErr, not};
-ghost use Rattle.std.specs.List.{list_any, list_all, AllByRecursion};
-ghost use Rattle.wl_plan.specs.Planned.{holds_bulk_memory, is_unplanned_symbol, is_unplanned_relocation, unplanned, is_planned, IsNotYet};
+ghost use Rattle.std.specs.Prelude.{◌≡◌, OnOk, IfErr};
+ghost use Rattle.std.specs.List.{list_any};
+ghost use Rattle.wl_plan.specs.Planned.{holds_bulk_memory, is_unplanned_symbol, is_unplanned_relocation, is_planned, AllPlanned, IsNotYet};
 ghost use Rattle.wl_linking.specs.Steps.{Clear, Refuses};
 
 use memchr::memchr;
@@ -14,13 +14,18 @@ use wl_module::{Form, WasmFunctionBody};
 /// The first byte of the bulk memory operators.
 const BULK_MEMORY: u8 = 0xfc;
 
-/// Some body has that byte, which may begin a bulk memory operator.
+/// The body has that byte, which may begin a bulk memory operator.
+fn holds_bulk_memory(body: &WasmFunctionBody<'_>) -> bool
+    ensures { result ≡ holds_bulk_memory body.now }
+{
+    memchr(BULK_MEMORY, &body.bytes).is_some()
+}
+
+/// Some body has it.
 fn hold_bulk_memory(bodies: &[WasmFunctionBody<'_>]) -> bool
     ensures { result ≡ list_any holds_bulk_memory bodies.now }
 {
-    bodies
-        .iter()
-        .any(|body| memchr(BULK_MEMORY, &body.bytes).is_some())
+    bodies.iter().any(|body| holds_bulk_memory(body))
 }
 
 /// The symbol is neither that of a section nor that of a function that the object defines and
@@ -71,19 +76,17 @@ fn hold_unplanned_relocations(symbols: &[WasmSymbol<'_>], relocations: &[WasmRel
 fn is_planned(file: &File<'_>) -> bool
     ensures { result ≡ is_planned file.now }
 {
-    let unplanned = [
-        !file.imports().is_empty(),
-        !file.memory_types().is_empty(),
-        !file.globals().is_empty(),
-        !file.exports().is_empty(),
-        !file.segments().is_empty(),
-        !file.init_funcs().is_empty(),
-        !file.target_features().is_empty(),
-        hold_bulk_memory(file.bodies()),
-        hold_unplanned_symbols(file.symbols()),
-        hold_unplanned_relocations(file.symbols(), file.code_relocations()),
-    ];
-    !unplanned.iter().any(|held| *held)
+    let unplanned = !file.imports().is_empty()
+        || !file.memory_types().is_empty()
+        || !file.globals().is_empty()
+        || !file.exports().is_empty()
+        || !file.segments().is_empty()
+        || !file.init_funcs().is_empty()
+        || !file.target_features().is_empty()
+        || hold_bulk_memory(file.bodies())
+        || hold_unplanned_symbols(file.symbols())
+        || hold_unplanned_relocations(file.symbols(), file.code_relocations());
+    !unplanned
 }
 
 /// Sees that the objects hold what can be planned alone: types, functions, sections of elements,
@@ -94,6 +97,7 @@ fn is_planned(file: &File<'_>) -> bool
 /// # Errors
 /// `Unsupported` with `NotYet` for the first object that holds something else.
 pub(crate) fn check_planned(files: &FileList<'_>) -> Result<(), LinkError>
+    ensures planned { OnOk result (AllPlanned files.now) }
     ensures ok { OnOk result (Clear (IsNotYet files.now)) }
     ensures err { IfErr result (Refuses (IsNotYet files.now)) }
 {

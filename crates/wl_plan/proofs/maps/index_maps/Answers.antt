@@ -21,7 +21,7 @@ grown objects base maps m h =
 pub indices_from-requires : goal.indices_from-requires
 indices_from-requires c =
     let gives = c.into_iter-type_indices-iterator.ensures.into_iter_gives in
-    let t = YieldsList-turn (YieldsList-from_vec _ gives.0 (gives.1 ∙ c.args.type_indices.ok.0)) c.loop-type_indices.yielded c.loop-type_indices.type_indices-iterator c.loop-type_indices.yielded_by _ _ c.in-Some.type_indices c.in-Some.is c.next.ensures.steps in
+    let t = YieldsList-turn (YieldsList-from_vec _ gives.0 (gives.1 ∙ c.args.type_indices.ok.0)) c.loop-type_indices.yielded c.loop-type_indices.type_indices-iterator c.loop-type_indices.yielded_by c.next.result c.next.new.self c.in-Some.type_indices c.in-Some.is c.next.ensures.steps in
     let maps = c.loop-type_indices.maps.items in
     let o = c.index-files-len.result in
     let lt : length maps < length c.args.files.now = omega (arith, t.0, as_many maps _ c.loop-type_indices.invariant.types, c.requires.as_many) in
@@ -32,7 +32,7 @@ indices_from-requires c =
 pub loop-type_indices-preserved : goal.loop-type_indices-preserved
 loop-type_indices-preserved c =
     let gives = c.into_iter-type_indices-iterator.ensures.into_iter_gives in
-    let t = YieldsList-turn (YieldsList-from_vec _ gives.0 (gives.1 ∙ c.args.type_indices.ok.0)) c.loop-type_indices.yielded c.loop-type_indices.type_indices-iterator c.loop-type_indices.yielded_by _ _ c.in-Some.type_indices c.in-Some.is c.next.ensures.steps in
+    let t = YieldsList-turn (YieldsList-from_vec _ gives.0 (gives.1 ∙ c.args.type_indices.ok.0)) c.loop-type_indices.yielded c.loop-type_indices.type_indices-iterator c.loop-type_indices.yielded_by c.next.result c.next.new.self c.in-Some.type_indices c.in-Some.is c.next.ensures.steps in
     let maps = c.loop-type_indices.maps.items in
     let o = c.index-files-len.result in
     let lt : length maps < length c.args.files.now = omega (arith, t.0, as_many maps _ c.loop-type_indices.invariant.types, c.requires.as_many) in
