@@ -13,3 +13,4 @@ pub mod Merging
 pub mod Building
 pub mod Contents
 pub mod Parsing
+pub mod Imports

@@ -1,6 +1,11 @@
 //! The plan of the output module: what it holds, and what each relocation becomes.
 
+ghost use Rattle.std.specs.Prelude.{◌≡◌};
+ghost use Rattle.std.specs.List.{count_by};
+ghost use Rattle.wl_plan.specs.Imports.{is_function_import, is_global_import};
+
 use std::alloc::Global;
+use std::marker::Model;
 use wl_linking::{DebugSectionInput, Items, RelocationType};
 use wl_module::{
     FuncType, GlobalType, MemoryType, OutputExport, OutputGlobal, TableType, WasmFunctionBody,
@@ -17,7 +22,7 @@ pub enum OutputImportEntity {
     Memory(MemoryType),
 }
 
-/// What the output takes from another module.
+/// What the output takes from another module. Clauses see it as a `PlannedImport`.
 #[derive(Drop)]
 pub struct OutputImport<'a> {
     /// The name of the module that it is from.
@@ -26,6 +31,14 @@ pub struct OutputImport<'a> {
     pub name: &'a str,
     /// What it is.
     pub entity: OutputImportEntity,
+}
+
+impl<'a> Model for OutputImport<'a> {
+    ghost use Rattle.wl_plan.specs.Imports.{PlannedImport};
+
+    ghost Value = { PlannedImport };
+
+    ghost view = { λ i. record { origin = i.module.now; name = i.name.now; entity = i.entity } };
 }
 
 /// Where a function of the output is from.
@@ -169,4 +182,41 @@ pub struct LinkPlan<'a> {
     /// What each kept relocation becomes: object by object, those in code first, in order of the
     /// fields.
     pub fixups: Items<Fixup>,
+}
+
+/// How many functions and how many globals the output imports.
+pub fn count_output_imports(layout: &WasmLayout<'_>) -> (usize, usize)
+    ensures functions { result.0 ≡ count_by is_function_import layout.now.imports }
+    ensures globals { result.1 ≡ count_by is_global_import layout.now.imports }
+{
+    let imports = layout.imports.as_slice();
+    let functions = imports
+        .iter()
+        .filter(|import| is_function_import(import))
+        .count();
+    let globals = imports
+        .iter()
+        .filter(|import| is_global_import(import))
+        .count();
+    (functions, globals)
+}
+
+/// A function is imported.
+fn is_function_import(import: &OutputImport<'_>) -> bool
+    ensures { result ≡ is_function_import import.now }
+{
+    match import.entity {
+        OutputImportEntity::Function { .. } => true,
+        OutputImportEntity::Global(_) | OutputImportEntity::Memory(_) => false,
+    }
+}
+
+/// A global is imported.
+fn is_global_import(import: &OutputImport<'_>) -> bool
+    ensures { result ≡ is_global_import import.now }
+{
+    match import.entity {
+        OutputImportEntity::Global(_) => true,
+        OutputImportEntity::Function { .. } | OutputImportEntity::Memory(_) => false,
+    }
 }
