@@ -3,23 +3,44 @@ use Rattle.std.specs.Prelude.{ℕ, ◌==◌, ◌&&◌, ◌||◌, Bool, true, fal
 use Rattle.std.specs.Str.{bytes_eq}
 use Rattle.std.specs.List.{position_or_len, before_first, after_first}
 use Rattle.wl_symbols.specs.declared.options.Takes.{Takes}
-use Rattle.wl_symbols.specs.declared.options.Takes.TheVariants.{Nothing, Value}
-use Rattle.wl_symbols.specs.declared.options.Flag.TheVariants.{GcSections, NoEntry}
-use Rattle.wl_symbols.specs.declared.options.Setting.TheVariants.{Entry}
+use Rattle.wl_symbols.specs.declared.options.Takes.TheVariants.{Nothing, Value, OptionalValue}
+use Rattle.wl_symbols.specs.declared.options.Flag.TheVariants as flag
+use Rattle.wl_symbols.specs.declared.options.Setting.TheVariants as setting
+use Rattle.wl_symbols.specs.declared.options.MemoryOption.TheVariants as memory
 use Rattle.wl_symbols.specs.Rows.{Row}
 
 -- a row of the table
 abbrev row : List ℕ → Takes → Row
 row name takes = record { name = name; takes = takes }
 
--- the table of options
+-- the table of options: those of one letter stand behind one dash, the others behind one or two
 abbrev pub options : List Row
 options =
-    row (codes "gc-sections") (Nothing (GcSections true))
-    ∷ row (codes "no-gc-sections") (Nothing (GcSections false))
-    ∷ row (codes "entry") (Value Entry)
-    ∷ row (codes "e") (Value Entry)
-    ∷ row (codes "no-entry") (Nothing NoEntry)
+    row (codes "export") (Value setting.Export)
+    ∷ row (codes "export-if-defined") (Value setting.ExportIfDefined)
+    ∷ row (codes "export-dynamic") (Nothing flag.ExportDynamic)
+    ∷ row (codes "allow-undefined") (Nothing flag.AllowUndefined)
+    ∷ row (codes "stack-first") (Nothing (flag.StackFirst true))
+    ∷ row (codes "no-stack-first") (Nothing (flag.StackFirst false))
+    ∷ row (codes "gc-sections") (Nothing (flag.GcSections true))
+    ∷ row (codes "no-gc-sections") (Nothing (flag.GcSections false))
+    ∷ row (codes "check-features") (Nothing (flag.CheckFeatures true))
+    ∷ row (codes "no-check-features") (Nothing (flag.CheckFeatures false))
+    ∷ row (codes "entry") (Value setting.Entry)
+    ∷ row (codes "e") (Value setting.Entry)
+    ∷ row (codes "no-entry") (Nothing flag.NoEntry)
+    ∷ row (codes "z") (Value setting.Keyword)
+    ∷ row (codes "initial-memory") (Value setting.InitialMemory)
+    ∷ row (codes "max-memory") (Value setting.MaxMemory)
+    ∷ row (codes "import-memory") (OptionalValue memory.Import)
+    ∷ row (codes "export-memory") (OptionalValue memory.Export)
+    ∷ row (codes "extra-features") (Value setting.ExtraFeatures)
+    ∷ row (codes "strip-all") (Nothing flag.StripAll)
+    ∷ row (codes "s") (Nothing flag.StripAll)
+    ∷ row (codes "strip-debug") (Nothing flag.StripDebug)
+    ∷ row (codes "S") (Nothing flag.StripDebug)
+    ∷ row (codes "keep-section") (Value setting.KeepSection)
+    ∷ row (codes "o") (Value setting.Output)
     ∷ []
 
 -- a word of two or more bytes, of which the first is a dash, is an option's; any other names an object

@@ -3,12 +3,14 @@
 
 mod args;
 mod error;
-mod numbers;
 mod options;
 mod strong_names;
+mod texts;
+mod values;
 
-pub use args::WasmArgs;
+pub use args::{WasmArgs, args_or_fault};
 pub use error::ArgError;
-pub use numbers::Numbers;
-pub use options::{Flag, Setting, Takes};
+pub use options::{Flag, MemoryOption, Setting, Takes};
 pub use strong_names::check_strong_names;
+pub use texts::Texts;
+pub use values::MemoryName;

@@ -1,9 +1,11 @@
 use Rattle.std.proofs.Common.{◌≡◌, length, ◌<◌, All, ℕ, subst, arith, string_bytes}
 use Rattle.std.proofs.lemmas.List.{length-map}
 use Rattle.std.specs.List.{filter_map}
-use Rattle.wl_symbols.specs.Items.{texts, Items}
-use Rattle.wl_symbols.specs.Args.{object_of}
-use Rattle.wl_symbols.proofs.ItemLaws.{items_more, asks_more, inputs_below}
+use Rattle.wl_symbols.specs.Items.{Items}
+use Rattle.wl_symbols.specs.Texts.{texts}
+use Rattle.wl_symbols.specs.Args.{input_of}
+use Rattle.wl_symbols.proofs.ItemLaws.{items_more, inputs_below}
+use Rattle.wl_symbols.proofs.AskLaws.{asks_more}
 use Rattle.wl_symbols.proofs.args.WasmArgs.parse.Goals as goal
 
 pub loop-word-preserved : goal.loop-word-preserved
@@ -29,5 +31,5 @@ returns-clause-ok c =
 pub returns-clause-within : goal.returns-clause-within
 returns-clause-within c =
     let end : c.loop-word.at ≡ length c.args.words.now = omega (arith, c.loop-word.invariant.within, c.in_default.ensures.end, length-map c.args.words.now string_bytes) in
-    let below : All (λ i. i < c.loop-word.at) (filter_map object_of c.loop-word.invariant.items) = inputs_below (texts c.args.words.now) 0 c.loop-word.invariant.items c.loop-word.at c.loop-word.invariant.stand in
+    let below : All (λ i. i < c.loop-word.at) (filter_map input_of c.loop-word.invariant.items) = inputs_below (texts c.args.words.now) 0 c.loop-word.invariant.items c.loop-word.at c.loop-word.invariant.stand in
     rw (c.loop-word.invariant.asked.inputs, ← end) below

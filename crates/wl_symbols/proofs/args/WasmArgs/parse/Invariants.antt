@@ -1,5 +1,5 @@
 use Rattle.std.proofs.Common.{◌-◌, length}
-use Rattle.wl_symbols.specs.Items.{texts}
+use Rattle.wl_symbols.specs.Texts.{texts}
 use Rattle.wl_symbols.proofs.Parsing.{ParsesUpTo}
 use Rattle.wl_symbols.proofs.args.WasmArgs.parse.Given as goal
 
