@@ -7,3 +7,6 @@ pub mod SpaceLaws
 pub mod PlanLaws
 pub mod Folds
 pub mod ContentLaws
+pub mod OnceLaws
+pub mod UniqueLaws
+pub mod FilesLaws

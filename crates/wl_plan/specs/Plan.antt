@@ -52,6 +52,10 @@ type_in o unit = option_and_then (λ ty. slice_get o.types ty) (slice_get o.func
 abbrev pub type_of : List Object → FunctionOrigin → Option FunctionType
 type_of objects (origin.Object object unit) = option_and_then (λ o. type_in o unit) (slice_get objects object)
 
+-- some function has the type
+abbrev pub IsFunctionsType : List Object → FunctionType → Type 0
+IsFunctionsType objects ty = (object : ℕ) × (unit : ℕ) × (type_of objects (origin.Object object unit) ≡ Some ty)
+
 -- the output type of a function is the type that its object gives it
 abbrev pub HasItsType : List Object → List FunctionType → OutputFunction → Type 0
 HasItsType objects types f = (ty : FunctionType) × (slice_get types f.type_index ≡ Some ty) × (type_of objects f.origin ≡ Some ty)

@@ -1,5 +1,5 @@
 -- The spaces of the output: what isn't imported, numbered in a row. The place of an entry is its index.
-use Rattle.std.specs.Prelude.{◌<◌, ℕ, ◌+◌, List, [], ◌∷◌, ◌++◌, length}
+use Rattle.std.specs.Prelude.{◌≡◌, ℕ, ◌+◌, List, [], ◌∷◌, ◌++◌, Some, slice_get}
 use Rattle.wl_module.specs.Globals.{DefinedGlobal}
 use Rattle.wl_linking.specs.Object.{Object}
 use Rattle.wl_plan.specs.Link.{Link}
@@ -12,6 +12,10 @@ use Rattle.wl_plan.specs.declared.layout.MadeGlobal.TheVariants.{StackPointer}
 -- the greatest number of entries of a space
 abbrev pub max_entries : ℕ
 max_entries = 4294967294
+
+-- nothing stands at two places
+abbrev pub StandOnce : {X : Type 0} → List X → Type 0
+StandOnce {X} entries = (i k : ℕ) (x : X) → slice_get entries i ≡ Some x → slice_get entries k ≡ Some x → i ≡ k
 
 -- ---- functions
 

@@ -4,6 +4,7 @@
 mod bodies;
 mod fixups;
 mod globals;
+mod laws;
 mod layout;
 mod link;
 mod maps;
@@ -14,6 +15,7 @@ mod planned;
 mod spaces;
 mod types;
 
+pub use laws::{functions_stand_once, link_plan_or_fault, plan_or_fault, types_stand_once};
 pub use layout::{
     Fixup, FixupPlace, FixupTo, FunctionOrigin, GlobalOrigin, LinkPlan, MadeGlobal, OutputFunction,
     OutputImport, OutputImportEntity, PlannedGlobal, WasmLayout, WasmObjectIndexMap,
