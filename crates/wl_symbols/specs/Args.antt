@@ -1,5 +1,5 @@
 -- What the words of the command line ask for.
-use Rattle.std.specs.Prelude.{◌≡◌, ◌||◌, not, ℕ, Bool, true, false, List, [], ◌∷◌, length, Option, Some, None, unwrap_or, codes, slice_get}
+use Rattle.std.specs.Prelude.{◌≡◌, ◌||◌, not, ℕ, Bool, true, false, List, [], ◌∷◌, length, map, Option, Some, None, unwrap_or, codes, slice_get}
 use Rattle.std.specs.Str.{bytes_eq}
 use Rattle.std.specs.List.{filter_map, last_or, list_any}
 use Rattle.wl_symbols.specs.Values.{number_of, stack_size, names_in, MemoryName, memory_name}
@@ -161,9 +161,13 @@ HasArgFault words (MissingValue word) = WordsFault words (MissingValue word)
 HasArgFault words (BadNumber word) = WordsFault words (BadNumber word)
 HasArgFault words NoInputs = (args : WasmArgs) × IsArgs words args × (args.inputs ≡ [])
 
+-- the words with these numbers
+abbrev pub words_at : List (List ℕ) → List ℕ → List (List ℕ)
+words_at words numbers = map (λ i. unwrap_or (slice_get words i) []) numbers
+
 -- the names of the files that are read, in the order in which they are read: those of the objects
 abbrev pub files_to_read : List (List ℕ) → WasmArgs → List (List ℕ)
-files_to_read words args = filter_map (slice_get words) args.inputs
+files_to_read words args = words_at words args.inputs
 
 -- a section that the program doesn't need is left in: no such section is left out, or its name is kept
 abbrev pub emits_stripped_section : WasmArgs → List ℕ → Bool
