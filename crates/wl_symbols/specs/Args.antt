@@ -1,5 +1,5 @@
 -- What the words of the command line ask for.
-use Rattle.std.specs.Prelude.{◌≡◌, ◌||◌, not, ℕ, Bool, true, false, List, [], length, map, Option, Some, None, unwrap_or, codes, slice_get}
+use Rattle.std.specs.Prelude.{◌≡◌, ◌||◌, not, ℕ, Bool, true, false, List, [], length, Option, Some, None, unwrap_or, codes, slice_get}
 use Rattle.std.specs.Str.{bytes_eq}
 use Rattle.std.specs.List.{filter_map, last_or, list_any}
 use Rattle.wl_symbols.specs.Values.{number_of, stack_size, names_in, MemoryName, memory_name}
@@ -10,7 +10,7 @@ use Rattle.wl_symbols.specs.declared.options.Setting.TheVariants as setting
 use Rattle.wl_symbols.specs.declared.options.MemoryOption.TheVariants as memory
 use Rattle.wl_symbols.specs.declared.args.WasmArgs.{WasmArgs}
 use Rattle.wl_symbols.specs.declared.error.ArgError.{ArgError}
-use Rattle.wl_symbols.specs.declared.error.ArgError.TheVariants.{NoInputs}
+use Rattle.wl_symbols.specs.declared.error.ArgError.TheVariants.{OutOfMemory, UnknownOption, MissingValue, BadNumber, NoInputs}
 
 -- ---- what an item says of a field
 
@@ -154,18 +154,16 @@ pub record IsArgs (words : List (List ℕ)) (args : WasmArgs) : Type 0 where
   pub asked : AsksFor items args
 
 -- the words are no items, or they are and none names an object
-pub data HasArgFault (words : List (List ℕ)) (e : ArgError) : Type 0 where
-  at_word : WordsFault words e → HasArgFault words e
-  no_inputs : (args : WasmArgs) → IsArgs words args → args.inputs ≡ [] → e ≡ NoInputs
-      → HasArgFault words e
-
--- the words with these numbers
-abbrev pub words_at : List (List ℕ) → List ℕ → List (List ℕ)
-words_at words numbers = map (λ i. unwrap_or (slice_get words i) []) numbers
+abbrev pub HasArgFault : List (List ℕ) → ArgError → Type 0
+HasArgFault words OutOfMemory = ⊥
+HasArgFault words (UnknownOption word) = WordsFault words (UnknownOption word)
+HasArgFault words (MissingValue word) = WordsFault words (MissingValue word)
+HasArgFault words (BadNumber word) = WordsFault words (BadNumber word)
+HasArgFault words NoInputs = (args : WasmArgs) × IsArgs words args × (args.inputs ≡ [])
 
 -- the names of the files that are read, in the order in which they are read: those of the objects
 abbrev pub files_to_read : List (List ℕ) → WasmArgs → List (List ℕ)
-files_to_read words args = words_at words args.inputs
+files_to_read words args = filter_map (slice_get words) args.inputs
 
 -- a section that the program doesn't need is left in: no such section is left out, or its name is kept
 abbrev pub emits_stripped_section : WasmArgs → List ℕ → Bool
