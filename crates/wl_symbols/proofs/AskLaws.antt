@@ -1,10 +1,9 @@
 -- What items ask for, with one more.
-use Rattle.std.proofs.Common.{◌≡◌, ℕ, List, [], ◌∷◌, ◌++◌, Bool, true, false, Option, Some, None, unwrap_or, codes, refl, sym, ap, ◌∙◌, rules, append-nil}
-use Rattle.std.specs.List.{filter_map, last_or}
+use Rattle.std.proofs.Common.{◌≡◌, List, [], ◌∷◌, ◌++◌, true, false, Option, Some, None, unwrap_or, codes, refl, sym, ap, ◌∙◌, rules, append-nil}
+use Rattle.std.specs.List.{last_or}
 use Rattle.std.specs.Option.{option_or}
 use Rattle.std.proofs.lemmas.List.Elements.{filter_map-append}
 use Rattle.wl_symbols.specs.Items.{Item}
-use Rattle.wl_symbols.specs.Values.{MemoryName}
 use Rattle.wl_symbols.specs.Args.{AsksFor, all_of, said_of, last_of, input_of, export_symbol_of, required_export_symbol_of, export_dynamic_of, allow_undefined_of, stack_first_of, gc_sections_of, check_features_of, entry_of, z_stack_size_of, initial_memory_of, max_memory_of, import_memory_of, export_memory_of, extra_features_of, strip_all_of, strip_debug_of, keep_section_of, output_of}
 use Rattle.wl_symbols.specs.Taking.{put_behind, Adds}
 use Rattle.wl_symbols.specs.declared.args.WasmArgs.{WasmArgs}

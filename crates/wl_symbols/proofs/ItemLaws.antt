@@ -1,5 +1,5 @@
 -- Items one behind the other.
-use Rattle.std.proofs.Common.{rules, ◌≡◌, ℕ, ◌+◌, ◌<◌, ◌≤◌, List, [], ◌∷◌, ◌++◌, refl, sym, subst, arith, All}
+use Rattle.std.proofs.Common.{rules, ℕ, ◌<◌, ◌≤◌, List, [], ◌∷◌, ◌++◌, refl, sym, subst, arith, All}
 use Rattle.std.specs.List.{filter_map}
 use Rattle.std.proofs.lemmas.List.Elements.{All-cons}
 use Rattle.wl_symbols.specs.Items.{Item, Object, Given, Set, Memory, StandsAt, Items, HasValue, joined, parted}

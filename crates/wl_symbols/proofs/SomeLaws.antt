@@ -1,19 +1,19 @@
 -- Words are items or at fault.
-use Rattle.std.proofs.Common.{◌≡◌, ◌⊎◌, ◌+◌, ◌-◌, ◌<◌, ◌≤◌, ℕ, zero, suc, List, [], ◌∷◌, length, Bool, Option, Some, None, true, false, refl, sym, ap, ◌∙◌, arith, slice_get, inl, inr}
+use Rattle.std.proofs.Common.{◌≡◌, ◌⊎◌, ◌+◌, ◌<◌, ◌≤◌, ℕ, zero, suc, List, [], ◌∷◌, length, Bool, Option, Some, None, true, false, refl, ap, ◌∙◌, arith, slice_get, inl, inr}
 use Rattle.std.proofs.Math.Nat.{eq-or-lt_of_le}
 use Rattle.std.specs.Option.{option_and_then}
 use Rattle.std.proofs.lemmas.Option.{slice_get_within, slice_get_cases}
 use Rattle.wl_symbols.specs.Options.{front_of, value_of, taken_by, is_option}
-use Rattle.wl_symbols.specs.Values.{number_of, stack_size, stack_size_text}
-use Rattle.wl_symbols.specs.Items.{Item, Object, Given, Set, Memory, NamesObject, NamesOption, HasValue, joined, parted, IsSound, StandsAt, Items}
-use Rattle.wl_symbols.specs.Faults.{IsUnknown, unnamed, valued, LacksValue, ValueFault, ItemFault, unknown, lacking, unsound}
+use Rattle.wl_symbols.specs.Values.{number_of, stack_size_text}
+use Rattle.wl_symbols.specs.Items.{Item, Object, Given, Set, Memory, NamesOption, HasValue, joined, parted, IsSound, StandsAt, Items}
+use Rattle.wl_symbols.specs.Faults.{unnamed, valued, ValueFault, ItemFault, unknown, lacking, unsound}
 use Rattle.wl_symbols.specs.declared.options.Takes.{Takes}
 use Rattle.wl_symbols.specs.declared.options.Takes.TheVariants.{Nothing, Value, OptionalValue}
 use Rattle.wl_symbols.specs.declared.options.Setting.{Setting}
 use Rattle.wl_symbols.specs.declared.options.Setting.TheVariants as setting
 use Rattle.wl_symbols.specs.declared.error.ArgError.{ArgError}
 use Rattle.wl_symbols.specs.declared.error.ArgError.TheVariants.{UnknownOption, MissingValue, BadNumber}
-use Rattle.wl_symbols.proofs.ItemLaws.{stands_on, items_more}
+use Rattle.wl_symbols.proofs.ItemLaws.{stands_on}
 
 -- an item stands at this word, or no item does
 abbrev ItemOrFault : List (List ℕ) → ℕ → Type 0

@@ -1,9 +1,9 @@
 -- Words are items in one way at most, never items and at fault, and at fault in one way at most.
-use Rattle.std.proofs.Common.{◌≡◌, ◌⊎◌, ◌+◌, ◌<◌, ◌≤◌, ℕ, List, [], ◌∷◌, length, Option, Some, None, true, false, true≢false, refl, sym, ap, subst, ◌∙◌, arith, slice_get, inl, inr}
+use Rattle.std.proofs.Common.{◌≡◌, ◌+◌, ◌<◌, ℕ, List, [], ◌∷◌, length, Option, Some, None, true≢false, refl, sym, ap, subst, ◌∙◌, arith, slice_get, inl, inr}
 use Rattle.std.specs.Option.{option_and_then}
 use Rattle.std.proofs.lemmas.Option.{slice_get_within}
 use Rattle.wl_symbols.specs.Options.{front_of, value_of, taken_by, is_option}
-use Rattle.wl_symbols.specs.Values.{number_of, stack_size, stack_size_text}
+use Rattle.wl_symbols.specs.Values.{number_of}
 use Rattle.wl_symbols.specs.Items.{Item, Object, Given, Set, Memory, NamesObject, NamesOption, HasValue, joined, parted, IsSound, StandsAt, Items}
 use Rattle.wl_symbols.specs.Faults.{IsUnknown, unnamed, valued, LacksValue, ValueFault, ItemFault, unknown, lacking, unsound}
 use Rattle.wl_symbols.specs.declared.options.Takes.{Takes}
@@ -13,8 +13,6 @@ use Rattle.wl_symbols.specs.declared.options.Setting.TheVariants as setting
 use Rattle.wl_symbols.specs.declared.options.Flag.{Flag}
 use Rattle.wl_symbols.specs.declared.options.MemoryOption.{MemoryOption}
 use Rattle.wl_symbols.specs.declared.error.ArgError.{ArgError}
-use Rattle.wl_symbols.specs.declared.error.ArgError.TheVariants.{UnknownOption, MissingValue, BadNumber}
-use Rattle.wl_symbols.proofs.ItemLaws.{stands_on, items_on}
 
 -- ---- one value or none
 

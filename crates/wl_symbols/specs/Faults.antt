@@ -1,5 +1,5 @@
 -- Words that are no items.
-use Rattle.std.specs.Prelude.{◌≡◌, ◌≢◌, ◌⊎◌, ℕ, ◌+◌, true, List, Option, Some, None, slice_get}
+use Rattle.std.specs.Prelude.{◌≡◌, ◌≢◌, ◌⊎◌, ℕ, ◌+◌, true, List, Some, None, slice_get}
 use Rattle.wl_symbols.specs.Options.{is_option, front_of, taken_by}
 use Rattle.wl_symbols.specs.Values.{number_of, stack_size_text}
 use Rattle.wl_symbols.specs.Items.{Item, Items, NamesOption, HasValue}
@@ -12,8 +12,10 @@ use Rattle.wl_symbols.specs.declared.error.ArgError.TheVariants.{OutOfMemory, Un
 
 -- the word of this number is an option's, of which there is none, or which has a value and takes none
 pub data IsUnknown (words : List (List ℕ)) (at : ℕ) : Type 0 where
-  unnamed : (word : List ℕ) → slice_get words at ≡ Some word → is_option word ≡ true → taken_by (front_of word) ≡ None → IsUnknown words at
-  valued : (flag : Flag) (value : List ℕ) → NamesOption words at (Nothing flag) (Some value) → IsUnknown words at
+  unnamed : (word : List ℕ) → slice_get words at ≡ Some word → is_option word ≡ true
+      → taken_by (front_of word) ≡ None → IsUnknown words at
+  valued : (flag : Flag) (value : List ℕ) → NamesOption words at (Nothing flag) (Some value)
+      → IsUnknown words at
 
 -- the word of this number is an option's that takes a value, and it is the last word and has none
 pub record LacksValue (words : List (List ℕ)) (at : ℕ) : Type 0 where
@@ -34,7 +36,8 @@ ValueFault _ value place e = ⊥
 pub data ItemFault (words : List (List ℕ)) (at : ℕ) (e : ArgError) : Type 0 where
   unknown : IsUnknown words at → e ≡ UnknownOption at → ItemFault words at e
   lacking : LacksValue words at → e ≡ MissingValue at → ItemFault words at e
-  unsound : (setting : Setting) (value : List ℕ) (place : ℕ) → HasValue words at setting value place → ValueFault setting value place e → ItemFault words at e
+  unsound : (setting : Setting) (value : List ℕ) (place : ℕ)
+      → HasValue words at setting value place → ValueFault setting value place e → ItemFault words at e
 
 -- behind items, from the first word on, no item stands
 pub record WordsFault (words : List (List ℕ)) (e : ArgError) : Type 0 where

@@ -34,8 +34,10 @@ pub record NamesOption (words : List (List ℕ)) (at : ℕ) (takes : Takes) (beh
 -- the word of this number is an option's that takes a value, and this is the value, in the word of
 -- that place: the same word, behind its equals sign, or the next
 pub data HasValue (words : List (List ℕ)) (at : ℕ) (setting : Setting) (value : List ℕ) (place : ℕ) : Type 0 where
-  joined : NamesOption words at (Value setting) (Some value) → place ≡ at → HasValue words at setting value place
-  parted : NamesOption words at (Value setting) None → slice_get words (at + 1) ≡ Some value → place ≡ at + 1 → HasValue words at setting value place
+  joined : NamesOption words at (Value setting) (Some value) → place ≡ at
+      → HasValue words at setting value place
+  parted : NamesOption words at (Value setting) None → slice_get words (at + 1) ≡ Some value
+      → place ≡ at + 1 → HasValue words at setting value place
 
 -- the option may have this value: of some the value says a number
 abbrev pub IsSound : Setting → List ℕ → Type 0

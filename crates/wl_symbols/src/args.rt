@@ -1,6 +1,6 @@
 //! What the words of the command line ask for.
 
-ghost use Rattle.std.specs.Prelude.{◌⊎◌, ℕ, List, ◌≡◌, ◌↔◌, ◌<◌, ◌≤◌, [], All, length, Some, None, option_map, slice_get, IfOk, OnOk, IfErr, IfSome, IfNone, IsErr, codes, true, MatchOption};
+ghost use Rattle.std.specs.Prelude.{◌⊎◌, ℕ, List, ◌≡◌, ◌↔◌, ◌<◌, ◌≤◌, [], All, length, Some, None, option_map, slice_get, IfOk, OnOk, IfErr, IfSome, IfNone, IsErr, MatchOption};
 ghost use Rattle.wl_symbols.specs.Texts.{texts};
 ghost use Rattle.wl_symbols.specs.Items.{Given, Set, Memory, IsSound, NamesOption, HasValue};
 ghost use Rattle.wl_symbols.specs.Faults.{WordsFault, RefusesWords, RefusesValue, StopsAt, LacksValue};

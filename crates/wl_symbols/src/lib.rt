@@ -1,4 +1,7 @@
 //! The words of the command line, and the names that objects have in common.
+//!
+//! [`WasmArgs::parse`] reads the words; [`args_or_fault`] says that words are options and names of
+//! objects, or have a first fault. [`check_strong_names`] sees that no two objects define one name.
 #![tactic(auto)]
 
 mod args;
@@ -14,3 +17,6 @@ pub use options::{Flag, MemoryOption, Setting, Takes};
 pub use strong_names::check_strong_names;
 pub use texts::Texts;
 pub use values::MemoryName;
+
+#[cfg(test)]
+mod tests;

@@ -9,7 +9,7 @@ use std::alloc::AllocError;
 use wl_linking::{MemoryBound, Quantity, SharedMemoryNeed};
 use wl_module::{ExternalKind, Form, ValType, Why};
 
-/// A value type, as the text format writes it.
+/// The name of a value type, as the text format writes it (core specification, "Number Types").
 pub fn value_type_name(value_type: ValType) -> &'static str
     ensures { result.now ≡ value_type_name value_type }
 {
@@ -24,7 +24,8 @@ pub fn value_type_name(value_type: ValType) -> &'static str
     }
 }
 
-/// What an export leads to.
+/// The name of the kind of what is imported or exported, as the text format writes it (core
+/// specification, "Exports").
 pub fn kind_name(kind: ExternalKind) -> &'static str
     ensures { result.now ≡ kind_name kind }
 {
@@ -36,7 +37,7 @@ pub fn kind_name(kind: ExternalKind) -> &'static str
     }
 }
 
-/// The rule that an object breaks.
+/// The name of the rule that an object breaks.
 pub fn why_name(why: Why) -> &'static str
     ensures { result.now ≡ why_name why }
 {
@@ -62,7 +63,7 @@ pub fn why_name(why: Why) -> &'static str
     }
 }
 
-/// The form that isn't planned.
+/// The name of the form that isn't planned.
 pub fn form_name(form: Form) -> &'static str
     ensures { result.now ≡ form_name form }
 {
@@ -91,7 +92,7 @@ pub fn form_name(form: Form) -> &'static str
     }
 }
 
-/// What is too large.
+/// The name of what is too large.
 pub fn quantity_name(quantity: Quantity) -> &'static str
     ensures { result.now ≡ quantity_name quantity }
 {
@@ -104,7 +105,7 @@ pub fn quantity_name(quantity: Quantity) -> &'static str
     }
 }
 
-/// Which size of a memory.
+/// The name of the size of a memory that was asked for.
 pub fn bound_name(bound: MemoryBound) -> &'static str
     ensures { result.now ≡ bound_name bound }
 {

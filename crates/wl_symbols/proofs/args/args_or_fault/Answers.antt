@@ -1,4 +1,4 @@
-use Rattle.std.proofs.Common.{◌≡◌, ◌⊎◌, ℕ, List, length, refl, sym, ap, subst, ◌∙◌, arith, inl, inr}
+use Rattle.std.proofs.Common.{◌⊎◌, ℕ, List, length, refl, subst, arith, inl, inr}
 use Rattle.wl_symbols.specs.Items.{Item}
 use Rattle.wl_symbols.specs.Faults.{WordsFault}
 use Rattle.wl_symbols.specs.Args.{IsArgs, AsksFor}

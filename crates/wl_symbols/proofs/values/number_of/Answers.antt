@@ -1,4 +1,4 @@
-use Rattle.std.proofs.Common.{◌≡◌, ◌≢◌, ◌∙◌, get_or, sym, true≢false, arith}
+use Rattle.std.proofs.Common.{◌≢◌, ◌∙◌, get_or, sym, true≢false, arith}
 use Rattle.std.proofs.lemmas.Str.Pattern.{starts_char}
 use Rattle.std.proofs.lemmas.Str.Parse.{parse_plain}
 use Rattle.wl_symbols.proofs.NumberLaws.{digits, number_read}
