@@ -17,3 +17,4 @@ pub mod Sites
 pub mod Placing
 pub mod Fitting
 pub mod RawNames
+pub mod Steps

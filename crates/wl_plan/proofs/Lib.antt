@@ -5,4 +5,5 @@ pub mod PlainLaws
 pub mod PlannedLaws
 pub mod SpaceLaws
 pub mod PlanLaws
-pub mod NameLaws
+pub mod Folds
+pub mod ContentLaws

@@ -1,6 +1,6 @@
 use Rattle.std.proofs.Common.{◌<◌, ◌+◌, ◌≤◌, length, refl, arith}
 use Rattle.wl_linking.specs.Fitting.{IsFitting}
-use Rattle.wl_plan.specs.Plan.{max_entries}
+use Rattle.wl_plan.specs.Space.{max_entries}
 use Rattle.wl_plan.proofs.PlannedLaws.{functions_typed}
 use Rattle.wl_plan.proofs.PlanLaws.{spaces_on, spaces_crowded, led_at, led_length, map_at, object_at, fits_at}
 use Rattle.wl_plan.proofs.spaces.function_space.Goals as goal

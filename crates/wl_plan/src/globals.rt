@@ -1,0 +1,59 @@
+//! The globals that the linker makes.
+
+ghost use Rattle.std.specs.Prelude.{◌≡◌, List, IfOk};
+ghost use Rattle.std.specs.List.{AllByRecursion};
+ghost use Rattle.std.specs.Cow.{cow_slice_items};
+ghost use Rattle.wl_linking.specs.Object.{Object};
+ghost use Rattle.wl_plan.specs.Space.{made_globals};
+ghost use Rattle.wl_plan.specs.Globals.{IsConstant, IsMade, IsRightGlobal};
+ghost use Rattle.wl_plan.specs.Plan.{global_origins};
+ghost use Rattle.wl_plan.specs.declared.layout.MadeGlobal.TheVariants.{StackPointer as StackPointerCase};
+
+use crate::layout::{GlobalOrigin, MadeGlobal, PlannedGlobal};
+use std::alloc::{AllocError, Global};
+use std::borrow::CowSlice;
+use wl_bytes::push_sleb;
+use wl_linking::Items;
+use wl_module::{GlobalType, OutputGlobal, ValType};
+
+/// The opcode of `i32.const`.
+const I32_CONST: u8 = 0x41;
+
+/// The top of the stack, where no data lies below it.
+const STACK_TOP: i32 = 65_536;
+
+/// The expression of a number.
+fn constant<'a>(alloc: Global, number: i32) -> Result<CowSlice<'a, u8>, AllocError>
+    ensures { IfOk result (λ body. IsConstant number (cow_slice_items body)) }
+{
+    let mut body = Vec::new(alloc);
+    body.push(I32_CONST)?;
+    push_sleb(&mut body, i64::from(number))?;
+    Ok(CowSlice::Owned(body))
+}
+
+/// The stack pointer, at the top of the stack.
+fn stack_pointer<'a>(alloc: Global) -> Result<OutputGlobal<'a>, AllocError>
+    ensures { IfOk result (IsMade StackPointerCase) }
+{
+    Ok(OutputGlobal {
+        ty: GlobalType {
+            content_type: ValType::I32,
+            mutable: true,
+        },
+        init_expr_body: constant(alloc, STACK_TOP)?,
+    })
+}
+
+/// The globals of the output: those that the linker makes.
+pub(crate) fn made_globals<'a>(alloc: Global) -> Result<Items<PlannedGlobal<'a>>, AllocError>
+    ensures origins { IfOk result (λ globals. global_origins globals ≡ made_globals) }
+    ensures started { IfOk result (λ globals. (objects : List Object) → AllByRecursion (IsRightGlobal objects) globals) }
+{
+    let mut globals = Vec::new(alloc);
+    globals.push(PlannedGlobal {
+        global: stack_pointer(alloc)?,
+        origin: GlobalOrigin::Made(MadeGlobal::StackPointer),
+    })?;
+    Ok(Items::new(globals))
+}

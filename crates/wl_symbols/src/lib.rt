@@ -1,0 +1,16 @@
+//! The words of the command line, and the names that objects have in common.
+#![tactic(auto)]
+
+mod args;
+mod error;
+mod options;
+mod strong_names;
+mod texts;
+mod values;
+
+pub use args::{WasmArgs, args_or_fault};
+pub use error::ArgError;
+pub use options::{Flag, MemoryOption, Setting, Takes};
+pub use strong_names::check_strong_names;
+pub use texts::Texts;
+pub use values::MemoryName;
