@@ -1,21 +1,15 @@
 -- Why a link has no plan.
-use Rattle.std.specs.Prelude.{◌≡◌, ◌≢◌, ◌⊎◌, ◌<◌, List, ℕ, length, true, None}
-use Rattle.wl_module.specs.declared.error.Form.TheVariants.{NotYet}
+use Rattle.std.specs.Prelude.{◌≡◌, ◌⊎◌, ◌<◌, List, length}
 use Rattle.wl_linking.specs.Object.{Object}
 use Rattle.wl_linking.specs.declared.error.LinkError.{LinkError}
-use Rattle.wl_linking.specs.declared.error.LinkError.TheVariants.{Unsupported, TooLarge}
+use Rattle.wl_linking.specs.declared.error.LinkError.TheVariants.{TooLarge}
 use Rattle.wl_linking.specs.declared.error.Quantity.TheVariants.{Space}
-use Rattle.wl_symbols.specs.declared.args.WasmArgs.{WasmArgs}
 use Rattle.wl_linking.specs.Steps.{Step, NoStep}
 use Rattle.wl_plan.specs.Link.{Link}
 use Rattle.wl_symbols.specs.StrongNames.{IsDuplicate}
-use Rattle.wl_plan.specs.Planned.{IsNotYet}
+use Rattle.wl_plan.specs.Planned.{IsNotYet, IsUnplannedOption}
 use Rattle.wl_plan.specs.Types.{output_types}
 use Rattle.wl_plan.specs.Space.{function_space, max_entries}
-
--- units are to be dropped, or an entry is asked for: neither has a plan yet
-abbrev pub IsUnplannedOption : WasmArgs → LinkError → Type 0
-IsUnplannedOption args e = (e ≡ Unsupported 0 NotYet) × ((args.gc_sections ≡ true) ⊎ (args.entry ≢ None))
 
 -- a space has too many entries: the types, or the functions
 abbrev pub HasTooMany : List Object → Type 0

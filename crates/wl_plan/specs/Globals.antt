@@ -6,6 +6,7 @@ use Rattle.wl_module.specs.Globals.{DefinedGlobal}
 use Rattle.wl_module.specs.declared.globals.GlobalType.{GlobalType}
 use Rattle.wl_module.specs.declared.types.ValType.TheVariants.{I32}
 use Rattle.wl_linking.specs.Object.{Object}
+use Rattle.wl_symbols.specs.declared.args.TheConstants.{DEFAULT_STACK_SIZE}
 use Rattle.wl_plan.specs.declared.layout.MadeGlobal.{MadeGlobal}
 use Rattle.wl_plan.specs.declared.layout.MadeGlobal.TheVariants.{StackPointer}
 use Rattle.wl_plan.specs.declared.layout.GlobalOrigin.{GlobalOrigin}
@@ -20,13 +21,9 @@ variable_i32 = record { content_type = I32; mutable = true }
 abbrev pub IsConstant : ℤ → List ℕ → Type 0
 IsConstant number body = AppendsSleb number (0x41 ∷ []) body
 
--- the top of the stack, where no data lies below it
-abbrev pub stack_top : ℕ
-stack_top = 65536
-
--- what a global that the linker makes starts with: the stack pointer at the top of the stack
+-- what a global that the linker makes starts with: the stack pointer at the top of the stack, below which no data lies
 abbrev pub IsMade : MadeGlobal → DefinedGlobal → Type 0
-IsMade StackPointer g = (g.ty ≡ variable_i32) × IsConstant (pos stack_top) g.body
+IsMade StackPointer g = (g.ty ≡ variable_i32) × IsConstant (pos DEFAULT_STACK_SIZE) g.body
 IsMade _ g = ⊥
 
 -- a global that an object defines is as that has it

@@ -3,6 +3,9 @@ use Rattle.std.specs.Prelude.{◌≡◌, ℕ, ◌==◌, ◌||◌, Bool, true, fa
 use Rattle.std.specs.List.{list_any, list_all}
 use Rattle.wl_module.specs.Bodies.{Body}
 use Rattle.wl_module.specs.declared.error.Form.TheVariants.{NotYet}
+use Rattle.std.specs.Option.{is_some}
+use Rattle.wl_symbols.specs.declared.args.WasmArgs.{WasmArgs}
+use Rattle.wl_symbols.specs.declared.args.TheConstants.{DEFAULT_STACK_SIZE}
 use Rattle.wl_linking.specs.Symbols.{Symbol, is_undefined, is_weak}
 use Rattle.wl_linking.specs.Object.{Object}
 use Rattle.wl_linking.specs.declared.error.LinkError.{LinkError}
@@ -74,3 +77,31 @@ AllPlanned objects = list_all is_planned objects ≡ true
 -- the refusal tells the first object that isn't planned
 abbrev pub IsNotYet : List Object → LinkError → Type 0
 IsNotYet objects e = (i : ℕ) × (o : Object) × (e ≡ Unsupported i NotYet) × (slice_get objects i ≡ Some o) × (is_planned o ≡ false) × AllPlanned (take i objects)
+
+-- what the words may not ask for yet, a test each
+abbrev pub unplanned_options : WasmArgs → List Bool
+unplanned_options args =
+    args.gc_sections
+    ∷ is_some args.entry
+    ∷ are_some args.export_symbols
+    ∷ args.export_dynamic
+    ∷ args.allow_undefined
+    ∷ args.stack_first
+    ∷ not args.check_features
+    ∷ not (args.z_stack_size == DEFAULT_STACK_SIZE)
+    ∷ is_some args.initial_memory
+    ∷ is_some args.max_memory
+    ∷ is_some args.import_memory
+    ∷ is_some args.export_memory
+    ∷ are_some args.extra_features
+    ∷ args.strip_all
+    ∷ args.strip_debug
+    ∷ []
+
+-- the words ask for some of this
+abbrev pub asks_for_unplanned : WasmArgs → Bool
+asks_for_unplanned args = list_any (λ asked. asked) (unplanned_options args)
+
+-- the refusal of words that do
+abbrev pub IsUnplannedOption : WasmArgs → LinkError → Type 0
+IsUnplannedOption args e = (e ≡ Unsupported 0 NotYet) × (asks_for_unplanned args ≡ true)

@@ -1,6 +1,6 @@
 //! The globals that the linker makes.
 
-ghost use Rattle.std.specs.Prelude.{◌≡◌, List, IfOk};
+ghost use Rattle.std.specs.Prelude.{◌≡◌, List, IfOk, pos};
 ghost use Rattle.std.specs.List.{AllByRecursion};
 ghost use Rattle.std.specs.Cow.{cow_slice_items};
 ghost use Rattle.wl_linking.specs.Object.{Object};
@@ -15,16 +15,14 @@ use std::borrow::CowSlice;
 use wl_bytes::push_sleb;
 use wl_linking::Items;
 use wl_module::{GlobalType, OutputGlobal, ValType};
+use wl_symbols::DEFAULT_STACK_SIZE;
 
 /// The opcode of `i32.const`.
 const I32_CONST: u8 = 0x41;
 
-/// The top of the stack, where no data lies below it.
-const STACK_TOP: i32 = 65_536;
-
 /// The expression of a number.
-fn constant<'a>(alloc: Global, number: i32) -> Result<CowSlice<'a, u8>, AllocError>
-    ensures { IfOk result (λ body. IsConstant number (cow_slice_items body)) }
+fn constant<'a>(alloc: Global, number: u32) -> Result<CowSlice<'a, u8>, AllocError>
+    ensures { IfOk result (λ body. IsConstant (pos number) (cow_slice_items body)) }
 {
     let mut body = Vec::new(alloc);
     body.push(I32_CONST)?;
@@ -32,7 +30,7 @@ fn constant<'a>(alloc: Global, number: i32) -> Result<CowSlice<'a, u8>, AllocErr
     Ok(CowSlice::Owned(body))
 }
 
-/// The stack pointer, at the top of the stack.
+/// The stack pointer: at the top of the stack, below which no data lies.
 fn stack_pointer<'a>(alloc: Global) -> Result<OutputGlobal<'a>, AllocError>
     ensures { IfOk result (IsMade StackPointerCase) }
 {
@@ -41,7 +39,7 @@ fn stack_pointer<'a>(alloc: Global) -> Result<OutputGlobal<'a>, AllocError>
             content_type: ValType::I32,
             mutable: true,
         },
-        init_expr_body: constant(alloc, STACK_TOP)?,
+        init_expr_body: constant(alloc, DEFAULT_STACK_SIZE)?,
     })
 }
 

@@ -16,7 +16,8 @@ mod types;
 
 pub use layout::{
     Fixup, FixupPlace, FixupTo, FunctionOrigin, GlobalOrigin, LinkPlan, MadeGlobal, OutputFunction,
-    OutputImport, OutputImportEntity, PlannedGlobal, WasmLayout, WasmObjectIndexMap, count_output_imports,
+    OutputImport, OutputImportEntity, PlannedGlobal, WasmLayout, WasmObjectIndexMap,
+    count_output_imports,
 };
 pub use link::{plan_files, plan_link};
 pub use objects::{MAX_OBJECT, ObjectList, PushError};

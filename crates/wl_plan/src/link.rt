@@ -1,22 +1,22 @@
 //! From the bytes of objects to the plan of one module, step by step.
 
-ghost use Rattle.std.specs.Prelude.{◌≡◌, IfOk, IfErr, OnOk};
+ghost use Rattle.std.specs.Prelude.{◌≡◌, IfOk, IfErr};
 ghost use Rattle.std.specs.List.{AllByRecursion};
 ghost use Rattle.wl_linking.specs.Fitting.{IsFitting};
 ghost use Rattle.wl_linking.specs.Steps.{Clear, Refuses};
 ghost use Rattle.wl_plan.specs.Link.{link_of};
 ghost use Rattle.wl_plan.specs.Objects.{AreObjects, IsBadObject};
 ghost use Rattle.wl_plan.specs.Parsing.{link_error_of};
-ghost use Rattle.wl_plan.specs.Faults.{IsUnplannedOption, link_fault};
+ghost use Rattle.wl_plan.specs.Faults.{link_fault};
 ghost use Rattle.wl_plan.specs.LinkPlan.{HasLinkFault, IsPlanOf, IsLinkPlan};
 
 use crate::layout::LinkPlan;
 use crate::objects::ObjectList;
 use crate::plan::plan_objects;
-use crate::planned::check_planned;
+use crate::planned::{check_options, check_planned};
 use std::alloc::Global;
 use wl_linking::{FileList, LinkError, parse_wasm_module};
-use wl_module::{Form, ReadError};
+use wl_module::ReadError;
 use wl_symbols::{WasmArgs, check_strong_names};
 
 /// What is wrong with an object, as a refusal of the plan.
@@ -48,20 +48,6 @@ fn parse_objects<'a>(alloc: Global, objects: &'a ObjectList) -> Result<FileList<
         }
     }
     Ok(files)
-}
-
-/// Refuses what has no plan yet: to drop units, or to ask for an entry.
-fn check_options(args: &WasmArgs) -> Result<(), LinkError>
-    ensures ok { OnOk result (Clear (IsUnplannedOption args.now)) }
-    ensures err { IfErr result (Refuses (IsUnplannedOption args.now)) }
-{
-    if args.gc_sections || args.entry.is_some() {
-        return Err(LinkError::Unsupported {
-            object: 0,
-            form: Form::NotYet,
-        });
-    }
-    Ok(())
 }
 
 /// The plan of one module of these objects. Each step refuses only where none before it does.

@@ -2,7 +2,7 @@
 
 ghost use Rattle.std.specs.Prelude.{◌≡◌, OnOk, IfErr};
 ghost use Rattle.std.specs.List.{list_any};
-ghost use Rattle.wl_plan.specs.Planned.{holds_bulk_memory, is_unplanned_symbol, is_unplanned_relocation, is_planned, AllPlanned, IsNotYet};
+ghost use Rattle.wl_plan.specs.Planned.{holds_bulk_memory, is_unplanned_symbol, is_unplanned_relocation, is_planned, AllPlanned, IsNotYet, asks_for_unplanned, IsUnplannedOption};
 ghost use Rattle.wl_linking.specs.Steps.{Clear, Refuses};
 
 use memchr::memchr;
@@ -10,6 +10,7 @@ use wl_linking::{
     File, FileList, LinkError, RelocationType, WasmRelocation, WasmSymbol, WasmSymbolKind,
 };
 use wl_module::{Form, WasmFunctionBody};
+use wl_symbols::{DEFAULT_STACK_SIZE, WasmArgs};
 
 /// The first byte of the bulk memory operators.
 const BULK_MEMORY: u8 = 0xfc;
@@ -108,6 +109,45 @@ pub(crate) fn check_planned(files: &FileList<'_>) -> Result<(), LinkError>
                 form: Form::NotYet,
             });
         }
+    }
+    Ok(())
+}
+
+/// The words ask for what can't be planned yet: to drop units, an entry, exports, to leave names to
+/// the host, another place or size of the stack, another memory, features, or to leave sections out.
+fn asks_for_unplanned(args: &WasmArgs) -> bool
+    ensures { result ≡ asks_for_unplanned args.now }
+{
+    args.gc_sections
+        || args.entry.is_some()
+        || !args.export_symbols.is_empty()
+        || args.export_dynamic
+        || args.allow_undefined
+        || args.stack_first
+        || !args.check_features
+        || args.z_stack_size != DEFAULT_STACK_SIZE
+        || args.initial_memory.is_some()
+        || args.max_memory.is_some()
+        || args.import_memory.is_some()
+        || args.export_memory.is_some()
+        || !args.extra_features.is_empty()
+        || args.strip_all
+        || args.strip_debug
+}
+
+/// Refuses words that ask for what can't be planned yet.
+///
+/// # Errors
+/// `Unsupported` with `NotYet` of object 0.
+pub(crate) fn check_options(args: &WasmArgs) -> Result<(), LinkError>
+    ensures ok { OnOk result (Clear (IsUnplannedOption args.now)) }
+    ensures err { IfErr result (Refuses (IsUnplannedOption args.now)) }
+{
+    if asks_for_unplanned(args) {
+        return Err(LinkError::Unsupported {
+            object: 0,
+            form: Form::NotYet,
+        });
     }
     Ok(())
 }

@@ -18,6 +18,9 @@ use crate::values::{MemoryName, copy_of, memory_name, names_in, number_of, stack
 use std::alloc::{AllocError, Global};
 use wl_linking::{Items, Text};
 
+/// The bytes of the stack where no word asks for a number.
+pub const DEFAULT_STACK_SIZE: u32 = 65_536;
+
 /// What the words of the command line ask for.
 #[derive(Drop)]
 pub struct WasmArgs {
@@ -117,7 +120,7 @@ impl WasmArgs {
             gc_sections: true,
             check_features: true,
             entry: Some(copy_of(alloc, "_start")?),
-            z_stack_size: 65536,
+            z_stack_size: DEFAULT_STACK_SIZE,
             initial_memory: None,
             max_memory: None,
             import_memory: None,

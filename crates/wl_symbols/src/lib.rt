@@ -8,7 +8,7 @@ mod strong_names;
 mod texts;
 mod values;
 
-pub use args::{WasmArgs, args_or_fault};
+pub use args::{DEFAULT_STACK_SIZE, WasmArgs, args_or_fault};
 pub use error::ArgError;
 pub use options::{Flag, MemoryOption, Setting, Takes};
 pub use strong_names::check_strong_names;

@@ -1,6 +1,6 @@
 //! A list of texts.
 
-ghost use Rattle.std.specs.Prelude.{◌≡◌, [], ◌∷◌, ◌++◌, OnOk, OnErr, bytes_eq};
+ghost use Rattle.std.specs.Prelude.{◌≡◌, ◌==◌, [], ◌∷◌, ◌++◌, length, OnOk, OnErr, bytes_eq};
 ghost use Rattle.std.specs.List.{list_any};
 ghost use Rattle.wl_symbols.specs.Texts.{texts, filled};
 
@@ -61,6 +61,13 @@ impl Texts {
             }
         }
         false
+    }
+
+    /// There are no texts.
+    pub fn is_empty(&self) -> bool
+        ensures { result ≡ (length self.now == 0) }
+    {
+        self.items.is_empty()
     }
 
     /// The texts as a slice.
