@@ -208,9 +208,7 @@ pub fn error_text(alloc: Global, error: &LinkError) -> Result<Vec<u8>, AllocErro
         LinkError::BadStackSize(size) => {
             numbers_line(alloc, "BadStackSize", &[u64::from(*size)])
         }
-        LinkError::TooLarge { what } => {
-            word_line(alloc, "TooLarge", quantity_name(*what), &[])
-        }
+        LinkError::TooLarge { what } => { word_line(alloc, "TooLarge", quantity_name(*what), &[]) }
         LinkError::BadMemorySize {
             which,
             requested,
