@@ -51,13 +51,50 @@ def listings():
 
 
 def words():
-    """Words that aren't a command line."""
-    check("no words", run([]), 2, err=b"error: BadWords NoInputs\n")
-    check("no object", run(FLAGS), 2, err=b"error: BadWords NoInputs\n")
-    check("an unknown option", run([*FLAGS, "a.o", "--static"]), 2, err=b"error: BadWords UnknownOption 3\n")
-    check("two dashes", run(["--"]), 2, err=b"error: BadWords UnknownOption 0\n")
-    check("a value too many", run(["--no-entry=1", "a.o"]), 2, err=b"error: BadWords UnknownOption 0\n")
-    check("a word that isn't text", run([*FLAGS, b"\xff.o"]), 2, err=b"error: BadWords NotUtf8\n")
+    """Words that aren't a command line: the first at fault is told, by its number."""
+    faults = [
+        ([], "NoInputs"),
+        (FLAGS, "NoInputs"),
+        (["-entry", "a.o", "-e=main", "--import-memory=a,b"], "NoInputs"),
+        (["--initial-memory=0000065536"], "NoInputs"),
+        ([*FLAGS, "a.o", "--static"], "UnknownOption 3"),
+        (["a.o", "--no-entry=x", "-x"], "UnknownOption 1"),
+        (["--"], "UnknownOption 0"),
+        (["--e", "main"], "UnknownOption 0"),
+        (["-zstack-size=1"], "UnknownOption 0"),
+        (["-z", "other=1"], "UnknownOption 1"),
+        (["a.o", "--entry"], "MissingValue 1"),
+        (["a.o", "-z"], "MissingValue 1"),
+        (["-z", "stack-size=+1"], "BadNumber 1"),
+        (["--max-memory", ""], "BadNumber 1"),
+        (["--initial-memory=1 "], "BadNumber 0"),
+        (["--initial-memory=18446744073709551616"], "BadNumber 0"),
+        (["-z", "stack-size=4294967296"], "BadNumber 1"),
+        ([b"\xff.o"], "NotUtf8"),
+    ]
+    for given, fault in faults:
+        check(f"words {given}", run(given), 2, err=f"error: BadWords {fault}\n".encode())
+
+
+def options():
+    """Of options the last counts; those that ask for what has no plan yet are told so."""
+    made = EXAMPLES / "two_functions.o"
+    listing = (EXAMPLES / "two_functions.plan").read_bytes()
+    idle = [
+        ["--check-features", "--no-stack-first", "-z", "stack-size=65536"],
+        ["--keep-section=a", "-o", "a.wasm"],
+        ["--stack-first", "--no-stack-first", "-z", "stack-size=1", "-z=stack-size=65536"],
+    ]
+    for others in idle:
+        check(f"words {others}", run([*others, made, *FLAGS]), 0, listing)
+        check(f"words {others}", run(["--gc-sections", "-e", "a", *others, *FLAGS, made]), 0, listing)
+    unplanned = """--gc-sections --entry=a --export=a --export-if-defined=a --export-dynamic --allow-undefined
+        --stack-first --no-check-features -z=stack-size=16 --initial-memory=65536 --max-memory=65536
+        --import-memory --export-memory --extra-features=a --strip-all -s --strip-debug -S"""
+    for option in unplanned.split():
+        check(f"word {option}", run([*FLAGS, option, made]), 1, err=b"error: Unsupported 0 NotYet\n")
+    check("units dropped", run([made, "--no-entry"]), 1, err=b"error: Unsupported 0 NotYet\n")
+    check("an entry asked for", run([made, "--no-gc-sections"]), 1, err=b"error: Unsupported 0 NotYet\n")
 
 
 def reads(folder):
@@ -67,13 +104,6 @@ def reads(folder):
     check("a second missing file", run([*FLAGS, made, folder / "none.o"]), 3, err=b"error: ReadFault 1\n")
     check("a folder", run([*FLAGS, folder]), 3, err=b"error: ReadFault 0\n")
     check("an empty name", run([*FLAGS, ""]), 3, err=b"error: ReadFault 0\n")
-
-
-def modes():
-    """To drop what nothing needs, or to have an entry, has no plan yet."""
-    made = EXAMPLES / "two_functions.o"
-    check("units dropped", run([made, "--no-entry"]), 1, err=b"error: Unsupported 0 NotYet\n")
-    check("an entry asked for", run([made, "--no-gc-sections"]), 1, err=b"error: Unsupported 0 NotYet\n")
 
 
 def named_stretches():
@@ -201,7 +231,7 @@ def main():
     objects_as_written()
     listings()
     words()
-    modes()
+    options()
     with tempfile.TemporaryDirectory() as name:
         folder = pathlib.Path(name)
         reads(folder)
