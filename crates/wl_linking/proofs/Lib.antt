@@ -12,6 +12,7 @@ pub mod OrderLaws
 pub mod SlotLaws
 pub mod ImportPlaces
 pub mod ExistLaws
+pub mod WholeLaws
 pub mod ObjectLaws
 pub mod FitLaws
 pub mod PlacedLaws

@@ -5,6 +5,7 @@
 //! why objects can't be linked.
 #![tactic(auto)]
 
+mod contents;
 mod debug;
 mod error;
 mod features;

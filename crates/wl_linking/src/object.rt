@@ -14,6 +14,7 @@ ghost use Rattle.wl_linking.specs.Fitting.{HasItems, NameStands, code_pieces, da
 ghost use Rattle.wl_linking.specs.Placing.{Ascend};
 ghost use Rattle.wl_linking.specs.Verdict.{HasCause};
 
+use crate::contents::Contents;
 use crate::file::File;
 use crate::items::Items;
 use crate::parts::{Parts, read_parts};
@@ -29,7 +30,7 @@ fn assemble<'a>(
     bytes: &'a [u8],
     sections: Items<SectionHeader>,
     parts: Parts<'a>,
-) -> Result<File<'a>, AllocError>
+) -> Result<Contents<'a>, AllocError>
     requires base { import_base sections ≤ 2 ^ 30 }
     requires names { AllByRecursion IsNamedWithin parts.imports }
     ensures { IfOk result (HasItems bytes.now sections parts.entry) }
@@ -41,7 +42,7 @@ fn assemble<'a>(
     let symbols = name_symbols(alloc, &functions, &globals, parts.symbols)?;
     let code_relocations = in_order(parts.code_entries)?;
     let data_relocations = in_order(parts.data_entries)?;
-    Ok(File {
+    Ok(Contents {
         bytes,
         sections,
         types: parts.types,
@@ -67,40 +68,40 @@ fn assemble<'a>(
 }
 
 /// Where the fields of code lie: each in a body, and by itself.
-fn find_code_sites(alloc: Global, file: &File<'_>) -> Result<Items<Site>, ReadError>
-    requires bodies { Ascend 0 (code_pieces file.now) }
-    requires order { IsNonDecreasingBy offset_of file.now.code_relocations }
-    ensures { MatchResult result (LieApart (code_pieces file.now) file.now.code_relocations) (HasCause (FieldsFault (code_pieces file.now) file.now.code_relocations)) }
+fn find_code_sites(alloc: Global, contents: &Contents<'_>) -> Result<Items<Site>, ReadError>
+    requires bodies { Ascend 0 (code_pieces contents.now) }
+    requires order { IsNonDecreasingBy offset_of contents.now.code_relocations }
+    ensures { MatchResult result (LieApart (code_pieces contents.now) contents.now.code_relocations) (HasCause (FieldsFault (code_pieces contents.now) contents.now.code_relocations)) }
 {
-    let pieces = body_pieces(alloc, file.bodies())?;
-    place_fields(alloc, &pieces, file.code_relocations())
+    let pieces = body_pieces(alloc, contents.bodies.as_slice())?;
+    place_fields(alloc, &pieces, contents.code_relocations.as_slice())
 }
 
 /// Where the fields of data lie: each in a segment, and by itself.
-fn find_data_sites(alloc: Global, file: &File<'_>) -> Result<Items<Site>, ReadError>
-    requires segments { Ascend 0 (data_pieces file.now) }
-    requires order { IsNonDecreasingBy offset_of file.now.data_relocations }
-    ensures { MatchResult result (LieApart (data_pieces file.now) file.now.data_relocations) (HasCause (FieldsFault (data_pieces file.now) file.now.data_relocations)) }
+fn find_data_sites(alloc: Global, contents: &Contents<'_>) -> Result<Items<Site>, ReadError>
+    requires segments { Ascend 0 (data_pieces contents.now) }
+    requires order { IsNonDecreasingBy offset_of contents.now.data_relocations }
+    ensures { MatchResult result (LieApart (data_pieces contents.now) contents.now.data_relocations) (HasCause (FieldsFault (data_pieces contents.now) contents.now.data_relocations)) }
 {
-    let pieces = segment_pieces(alloc, file.segments())?;
-    place_fields(alloc, &pieces, file.data_relocations())
+    let pieces = segment_pieces(alloc, contents.segments.as_slice())?;
+    place_fields(alloc, &pieces, contents.data_relocations.as_slice())
 }
 
 /// Sees that what the object names exists, that each import has one name, and that each field lies
 /// by itself; and takes down where the fields lie.
-fn fit_file(alloc: Global, file: &mut File<'_>) -> Result<(), ReadError>
-    requires bodies { Ascend 0 (code_pieces file.old) }
-    requires segments { Ascend 0 (data_pieces file.old) }
-    requires code { IsNonDecreasingBy offset_of file.old.code_relocations }
-    requires data_ { IsNonDecreasingBy offset_of file.old.data_relocations }
-    ensures { MatchResult result (λ _. Fitted file.old file.new) (HasCause (CrossFault file.old)) }
+fn fit_together(alloc: Global, contents: &mut Contents<'_>) -> Result<(), ReadError>
+    requires bodies { Ascend 0 (code_pieces contents.old) }
+    requires segments { Ascend 0 (data_pieces contents.old) }
+    requires code { IsNonDecreasingBy offset_of contents.old.code_relocations }
+    requires data_ { IsNonDecreasingBy offset_of contents.old.data_relocations }
+    ensures { MatchResult result (λ _. Fitted contents.old contents.new) (HasCause (CrossFault contents.old)) }
 {
-    check_names(file)?;
-    check_slots(alloc, spaces_of(file), file.symbols())?;
-    let code_sites = find_code_sites(alloc, file)?;
-    let data_sites = find_data_sites(alloc, file)?;
-    file.code_sites = code_sites;
-    file.data_sites = data_sites;
+    check_names(contents)?;
+    check_slots(alloc, spaces_of(contents), contents.symbols.as_slice())?;
+    let code_sites = find_code_sites(alloc, contents)?;
+    let data_sites = find_data_sites(alloc, contents)?;
+    contents.code_sites = code_sites;
+    contents.data_sites = data_sites;
     Ok(())
 }
 
@@ -110,20 +111,20 @@ fn fit<'a>(
     bytes: &'a [u8],
     sections: Items<SectionHeader>,
     parts: Parts<'a>,
-) -> Result<File<'a>, ReadError>
+) -> Result<Contents<'a>, ReadError>
     requires base { import_base sections ≤ 2 ^ 30 }
     requires names { AllByRecursion IsNamedWithin parts.imports }
     requires bodies { Ascend 0 (map body_piece parts.bodies) }
     requires segments { Ascend 0 (map segment_piece parts.segments) }
     ensures { MatchResult result (FitsParts bytes.now sections parts.entry) (HasCause (PartsFault bytes.now sections parts.entry)) }
 {
-    let mut file = assemble(alloc, bytes, sections, parts)?;
-    fit_file(alloc, &mut file)?;
-    Ok(file)
+    let mut contents = assemble(alloc, bytes, sections, parts)?;
+    fit_together(alloc, &mut contents)?;
+    Ok(contents)
 }
 
 /// The object that the bytes are.
-fn object(alloc: Global, bytes: &[u8]) -> Result<File<'_>, ReadError>
+fn object(alloc: Global, bytes: &[u8]) -> Result<Contents<'_>, ReadError>
     requires { length bytes.now ≤ 2 ^ 30 }
     ensures { MatchResult result (λ o. IsObject o bytes.now) (HasCause (λ e. ObjectFault e bytes.now)) }
 {
@@ -143,7 +144,9 @@ pub fn parse_wasm_module(alloc: Global, bytes: &[u8]) -> Result<File<'_>, ReadEr
     requires { length bytes.now ≤ 2 ^ 30 }
     ensures { ParsesObject bytes.now result }
 {
-    object(alloc, bytes)
+    let contents = object(alloc, bytes)?;
+    let spaces = spaces_of(&contents);
+    Ok(File { contents, spaces })
 }
 
 /// Bytes are one object at most, and never both an object and at fault.
