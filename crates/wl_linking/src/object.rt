@@ -1,6 +1,6 @@
 //! A relocatable object: its sections, and what must hold across them.
 
-ghost use Rattle.std.specs.Prelude.{◌≡◌, ◌≤◌, ◌^◌, ℕ, List, length, map, IfOk, MatchResult};
+ghost use Rattle.std.specs.Prelude.{◌≡◌, ◌<◌, ◌≤◌, ◌^◌, ℕ, List, length, map, Some, slice_get, IfOk, MatchResult};
 ghost use Rattle.std.specs.List.{AllByRecursion};
 ghost use Rattle.std.specs.List.Sorted.{IsNonDecreasingBy};
 ghost use Rattle.wl_module.specs.Sections.{Framed, FrameFault};
@@ -10,7 +10,8 @@ ghost use Rattle.wl_linking.specs.Sections.{AreFaulty, nothing_seen};
 ghost use Rattle.wl_linking.specs.Object.{Object};
 ghost use Rattle.wl_linking.specs.Slots.{IsNamedWithin, import_base};
 ghost use Rattle.wl_linking.specs.Sites.{body_piece, segment_piece, offset_of, LieApart, FieldsFault};
-ghost use Rattle.wl_linking.specs.Fitting.{HasItems, NameStands, code_pieces, data_pieces, Fitted, CrossFault, FitsParts, PartsFault, IsObject, ObjectFault, ParsesObject};
+ghost use Rattle.wl_linking.specs.Fitting.{HasItems, NameStands, code_pieces, data_pieces, Fitted, CrossFault, FitsParts, PartsFault, IsFitting, IsObject, IsWhole, ObjectFault, ParsesObject};
+ghost use Rattle.wl_linking.specs.declared.sites.Site.{Site as PlacedSite};
 ghost use Rattle.wl_linking.specs.Placing.{Ascend};
 ghost use Rattle.wl_linking.specs.Verdict.{HasCause};
 
@@ -160,4 +161,15 @@ pub fn object_or_fault()
 /// The name of each symbol is what stands at its range of the object's bytes.
 pub fn names_stand()
     ensures { (bytes : List ℕ) (o : Object) → IsObject o bytes → AllByRecursion (NameStands bytes) o.symbols }
+{}
+
+/// What holds of each object that is kept: it fits together, each function has one of its types, and
+/// each relocation has one site, in one of the bodies or of the segments.
+pub fn whole_objects()
+    ensures fitting { (o : Object) → IsWhole o → IsFitting o }
+    ensures types { (o : Object) (i t : ℕ) → IsWhole o → slice_get o.functions i ≡ Some t → t < length o.types }
+    ensures code_sites { (o : Object) → IsWhole o → length o.code_sites ≡ length o.code_relocations }
+    ensures code_units { (o : Object) (i : ℕ) (s : PlacedSite) → IsWhole o → slice_get o.code_sites i ≡ Some s → s.unit < length o.bodies }
+    ensures data_sites { (o : Object) → IsWhole o → length o.data_sites ≡ length o.data_relocations }
+    ensures data_units { (o : Object) (i : ℕ) (s : PlacedSite) → IsWhole o → slice_get o.data_sites i ≡ Some s → s.unit < length o.segments }
 {}
