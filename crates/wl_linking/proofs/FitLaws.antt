@@ -1,12 +1,12 @@
 -- The laws of what must hold across sections.
-use Rattle.std.proofs.Common.{◌≡◌, ℕ, Bool, true, false, cond, ltb, ◌&&◌, List, [], ◌∷◌, refl}
+use Rattle.std.proofs.Common.{◌≡◌, ℕ, Bool, true, false, cond, ltb, ◌&&◌, ◌||◌, not, List, [], ◌∷◌, refl}
 use Rattle.std.specs.List.{list_all}
 use Rattle.wl_linking.specs.declared.spaces.Spaces.{Spaces}
 use Rattle.wl_linking.specs.declared.symbols.WasmSymbolKind.{WasmSymbolKind}
 use Rattle.wl_linking.specs.declared.symbols.WasmSymbolKind.TheVariants.{Func, Data, Global, Section, Event, Table}
 use Rattle.wl_linking.specs.Object.{Object}
 use Rattle.wl_linking.specs.Spaces.{NamesExist, spaces_of, symbol_exists, init_exists, relocation_exists, thing_exists}
-use Rattle.wl_linking.specs.Symbols.{Symbol, is_undefined, has_name}
+use Rattle.wl_linking.specs.Symbols.{Symbol, is_undefined, has_name, has_flag, is_data}
 use Rattle.wl_linking.specs.Slots.{has_claim, is_within}
 use Rattle.wl_linking.proofs.SlotLaws.{both}
 
@@ -49,13 +49,22 @@ undefined_within : (undefined claim within : Bool) → (undefined ≡ true → c
 undefined_within true claim within h = h refl
 undefined_within false claim within h = refl
 
+-- an undefined symbol is at no address, so what it stands for exists where it does
+undefined_exists : (data_ undefined flagged exists : Bool) → undefined ≡ true → ((data_ && not undefined && flagged) || exists) ≡ true → exists ≡ true
+undefined_exists true true flagged exists u e = e
+undefined_exists true false flagged exists u e = absurd cc
+undefined_exists false undefined flagged exists u e = e
+
+thing_there : (spaces : Spaces) (s : Symbol) → is_undefined s ≡ true → symbol_exists spaces s ≡ true → thing_exists spaces s.kind true s.index ≡ true
+thing_there spaces s u e = rw u at (undefined_exists (is_data s.kind) (is_undefined s) (has_flag s.flags 0x200) (thing_exists spaces s.kind (is_undefined s) s.index) u e)
+
 -- the symbols that exist pass a test, where those that are undefined and exist do
 within_from_exists : (kind : WasmSymbolKind) (count : ℕ) (spaces : Spaces) → ((k : WasmSymbolKind) (s : Symbol) → thing_exists spaces k true s.index ≡ true → cond (has_claim kind k s) (ltb s.index count) true ≡ true)
     → (symbols : List Symbol) → list_all (symbol_exists spaces) symbols ≡ true → list_all (is_within kind count) symbols ≡ true
 within_from_exists kind count spaces h [] all = refl
 within_from_exists kind count spaces h (s ∷ symbols) all =
     let b = both (symbol_exists spaces s) (list_all (symbol_exists spaces) symbols) all in
-    let here : is_within kind count s ≡ true = undefined_within (is_undefined s) (has_claim kind s.kind s) (ltb s.index count) (λ e. h s.kind s (rw e at b.0)) in
+    let here : is_within kind count s ≡ true = undefined_within (is_undefined s) (has_claim kind s.kind s) (ltb s.index count) (λ e. h s.kind s (thing_there spaces s e b.0)) in
     rw (here, within_from_exists kind count spaces h symbols b.1) refl
 
 -- the symbols of an object exist
