@@ -5,7 +5,7 @@ use Rattle.wl_linking.specs.declared.spaces.Spaces.{Spaces}
 use Rattle.wl_linking.specs.declared.symbols.WasmSymbolKind.{WasmSymbolKind}
 use Rattle.wl_linking.specs.declared.symbols.WasmSymbolKind.TheVariants.{Func, Data, Global, Section, Event, Table}
 use Rattle.wl_linking.specs.Object.{Object}
-use Rattle.wl_linking.specs.Spaces.{NamesExist, spaces_of, symbol_exists, init_exists, relocation_exists, thing_exists}
+use Rattle.wl_linking.specs.Spaces.{NamesExist, spaces_of, symbol_exists, thing_exists}
 use Rattle.wl_linking.specs.Symbols.{Symbol, is_undefined, has_name, has_flag, is_data}
 use Rattle.wl_linking.specs.Slots.{has_claim, is_within}
 use Rattle.wl_linking.proofs.SlotLaws.{both}
@@ -67,23 +67,14 @@ within_from_exists kind count spaces h (s ∷ symbols) all =
     let here : is_within kind count s ≡ true = undefined_within (is_undefined s) (has_claim kind s.kind s) (ltb s.index count) (λ e. h s.kind s (thing_there spaces s e b.0)) in
     rw (here, within_from_exists kind count spaces h symbols b.1) refl
 
--- the symbols of an object exist
-symbols_exist : (o : Object) → NamesExist o → list_all (symbol_exists (spaces_of o)) o.symbols ≡ true
-symbols_exist o names =
-    let spaces = spaces_of o in
-    let symbols = list_all (symbol_exists spaces) o.symbols in
-    let inits = list_all (init_exists spaces) o.init_funcs in
-    let code = list_all (relocation_exists spaces) o.code_relocations in
-    (both symbols inits (both (symbols && inits) code (both (symbols && inits && code) (list_all (relocation_exists spaces) o.data_relocations) names.linked).0).0).0
-
 -- the functions that are claimed are among those imported
 pub functions_within : (o : Object) → NamesExist o → list_all (is_within Func (spaces_of o).imported_functions) o.symbols ≡ true
-functions_within o names = within_from_exists Func (spaces_of o).imported_functions (spaces_of o) (function_at (spaces_of o)) o.symbols (symbols_exist o names)
+functions_within o names = within_from_exists Func (spaces_of o).imported_functions (spaces_of o) (function_at (spaces_of o)) o.symbols names.symbols
 
 -- the globals that are claimed are among those imported
 pub globals_within : (o : Object) → NamesExist o → list_all (is_within Global (spaces_of o).imported_globals) o.symbols ≡ true
-globals_within o names = within_from_exists Global (spaces_of o).imported_globals (spaces_of o) (global_at (spaces_of o)) o.symbols (symbols_exist o names)
+globals_within o names = within_from_exists Global (spaces_of o).imported_globals (spaces_of o) (global_at (spaces_of o)) o.symbols names.symbols
 
 -- the tables that are claimed are among those imported
 pub tables_within : (o : Object) → NamesExist o → list_all (is_within Table (spaces_of o).imported_tables) o.symbols ≡ true
-tables_within o names = within_from_exists Table (spaces_of o).imported_tables (spaces_of o) (table_at (spaces_of o)) o.symbols (symbols_exist o names)
+tables_within o names = within_from_exists Table (spaces_of o).imported_tables (spaces_of o) (table_at (spaces_of o)) o.symbols names.symbols

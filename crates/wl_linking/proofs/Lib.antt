@@ -11,6 +11,7 @@ pub mod PartLaws
 pub mod OrderLaws
 pub mod SlotLaws
 pub mod ImportPlaces
+pub mod ExistLaws
 pub mod ObjectLaws
 pub mod FitLaws
 pub mod PlacedLaws

@@ -27,6 +27,7 @@ use Rattle.wl_linking.proofs.SectionLaws.{sections_one, sections_either, section
 use Rattle.wl_linking.proofs.OrderLaws.{order_one, lie_apart_one, lie_apart_either}
 use Rattle.wl_linking.proofs.OnceLaws.{object_code_ascends, object_data_ascends}
 use Rattle.wl_linking.proofs.ImportPlaces.{sections_named}
+use Rattle.wl_linking.proofs.ExistLaws.{counts_pass, core_passes, linked_passes}
 
 -- ---- one object
 
@@ -114,9 +115,9 @@ both true t f = absurd cc
 both false t f = absurd cc
 
 names_or_not : (o : Object) (e : ReadError) → NamesExist o → NamesFault o e → ⊥
-names_or_not o (Malformed why.Count) h f = both (counts_hold (spaces_of o) o) h.counts f
-names_or_not o (Malformed why.BadIndex) h (inl f) = both (core_names_exist (spaces_of o) o) h.core f
-names_or_not o (Malformed why.BadIndex) h (inr f) = both (linked_names_exist (spaces_of o) o) h.linked f
+names_or_not o (Malformed why.Count) h f = both (counts_hold (spaces_of o) o) (counts_pass o h) f
+names_or_not o (Malformed why.BadIndex) h (inl f) = both (core_names_exist (spaces_of o) o) (core_passes o h) f
+names_or_not o (Malformed why.BadIndex) h (inr f) = both (linked_names_exist (spaces_of o) o) (linked_passes o h) f
 names_or_not o _ h f = f
 
 one_or_two : (kind : WasmSymbolKind) (symbols : List Symbol) → HasOneName kind symbols → HasTwoNames kind symbols → ⊥

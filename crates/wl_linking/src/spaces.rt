@@ -3,7 +3,7 @@
 
 ghost use Rattle.std.specs.Prelude.{◌≡◌, ◌+◌, ◌==◌, nat_lt, MatchResult};
 ghost use Rattle.std.specs.List.{list_all};
-ghost use Rattle.wl_linking.specs.Spaces.{is_of, count_imports, spaces_of, import_exists, export_exists, segment_exists, number_exists, thing_exists, symbol_exists, init_exists, relocation_exists, core_names_exist, linked_names_exist, counts_hold, NamesExist, NamesFault};
+ghost use Rattle.wl_linking.specs.Spaces.{is_of, count_imports, spaces_of, import_exists, export_exists, segment_exists, number_exists, thing_exists, symbol_exists, init_exists, relocation_exists, type_exists, counts_segments, core_names_exist, linked_names_exist, counts_hold, NamesExist, NamesFault};
 ghost use Rattle.wl_linking.specs.Symbols.{is_undefined};
 ghost use Rattle.wl_linking.specs.Verdict.{HasCause};
 
@@ -187,7 +187,7 @@ fn imports_exist(spaces: Spaces, imports: &[Import<'_>]) -> bool
 
 /// Whether the type of each function that the object defines is there.
 fn types_exist(spaces: Spaces, functions: &[u32]) -> bool
-    ensures { result ≡ list_all (λ t. nat_lt t spaces.types) functions.now }
+    ensures { result ≡ list_all (type_exists spaces) functions.now }
 {
     functions.iter().all(|ty| (*ty as usize) < spaces.types)
 }
@@ -255,7 +255,7 @@ fn linked_names_exist(spaces: Spaces, file: &File<'_>) -> bool
 
 /// Whether each count is how many segments there are.
 fn are_segments(spaces: Spaces, counts: &[u32]) -> bool
-    ensures { result ≡ list_all (λ count. count == spaces.segments) counts.now }
+    ensures { result ≡ list_all (counts_segments spaces) counts.now }
 {
     counts
         .iter()
@@ -272,6 +272,7 @@ fn counts_hold(spaces: Spaces, file: &File<'_>) -> bool
 
 /// Sees that each function has its body, that the data count is right, and that what is named
 /// exists.
+#[tactic(auto, using(crate::proofs::ExistLaws::names_exist))]
 pub(crate) fn check_names(file: &File<'_>) -> Result<(), ReadError>
     ensures { MatchResult result (λ _. NamesExist file.now) (HasCause (NamesFault file.now)) }
 {
