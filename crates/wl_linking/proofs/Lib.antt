@@ -13,7 +13,6 @@ pub mod SlotLaws
 pub mod ImportPlaces
 pub mod ExistLaws
 pub mod ObjectLaws
-pub mod FitLaws
 pub mod PlacedLaws
 pub mod NameLaws
 pub mod ImportNameLaws

@@ -1,11 +1,5 @@
-use Rattle.wl_linking.proofs.FitLaws.{functions_within, globals_within, tables_within}
+use Rattle.wl_linking.proofs.ImportNameLaws.{named_by_range}
 use Rattle.wl_linking.proofs.object.fit_file.Goals as goal
 
-pub check_slots-requires-clause-functions : goal.check_slots-requires-clause-functions
-check_slots-requires-clause-functions c = rw (c.spaces_of.ensures, c.symbols.ensures) (functions_within c.args.file.now c.in_ok-check_names.ensures)
-
-pub check_slots-requires-clause-globals : goal.check_slots-requires-clause-globals
-check_slots-requires-clause-globals c = rw (c.spaces_of.ensures, c.symbols.ensures) (globals_within c.args.file.now c.in_ok-check_names.ensures)
-
-pub check_slots-requires-clause-tables : goal.check_slots-requires-clause-tables
-check_slots-requires-clause-tables c = rw (c.spaces_of.ensures, c.symbols.ensures) (tables_within c.args.file.now c.in_ok-check_names.ensures)
+pub check_slots-requires : goal.check_slots-requires
+check_slots-requires c = rw c.symbols.ensures (named_by_range c.args.file.now.bytes c.args.file.now.symbols c.requires.names)
