@@ -1,5 +1,5 @@
 -- The field name of each import stands at its range of the object's bytes, and so do the names that symbols take from there.
-use Rattle.std.proofs.Common.{◌≡◌, ℕ, zero, suc, ◌+◌, Bool, true, false, cond, eqb, List, [], ◌∷◌, ◌++◌, ◌&&◌, length, map, not, Option, Some, None, slice_get, refl, ap, subst, arith, length-append}
+use Rattle.std.proofs.Common.{◌≡◌, ℕ, zero, suc, ◌+◌, Bool, true, false, cond, eqb, List, [], ◌∷◌, ◌++◌, ◌&&◌, length, map, not, Option, Some, None, slice_get, refl, sym, ap, subst, ◌∙◌, arith, length-append}
 use Rattle.std.specs.List.{AllByRecursion, flat_map, filter, find, starts_with}
 use Rattle.std.specs.Str.{bytes_eq}
 use Rattle.std.specs.Prelude.{codes, nat_eq}
@@ -7,7 +7,7 @@ use Rattle.std.proofs.lemmas.Bool.{eqb-true}
 use Rattle.std.proofs.lemmas.List.{append-nil}
 use Rattle.wl_module.specs.Chains.{Chain}
 use Rattle.wl_module.specs.Imports.{Imported, IsImport, IsImportAfter, import_seen, AreImports}
-use Rattle.wl_module.specs.Sections.{rank, IsSection, next}
+use Rattle.wl_module.specs.Sections.{rank, IsSection, next, Framed}
 use Rattle.wl_module.specs.declared.sections.SectionHeader.{SectionHeader}
 use Rattle.wl_module.specs.declared.imports.ExternalKind.{ExternalKind}
 use Rattle.wl_module.specs.declared.imports.ExternalKind.TheVariants.{Func as FuncImport, Global as GlobalImport}
@@ -17,7 +17,9 @@ use Rattle.wl_linking.specs.Slots.{Slot, slot_of, slots_of, begin_of, import_bas
 use Rattle.wl_linking.specs.Targets.{stretch, kind_of, named_kind, payload_of}
 use Rattle.wl_linking.specs.Sections.{HoldsItems, IsPlaced, AreSound, seen_then, nothing_seen, imports_in, symbols_in}
 use Rattle.wl_linking.specs.Object.{Object}
-use Rattle.wl_linking.specs.Fitting.{IsObject, NameStands}
+use Rattle.wl_linking.specs.SlotsReading.{AreNamedByRange}
+use Rattle.wl_linking.specs.Parts.{parts_of}
+use Rattle.wl_linking.specs.Fitting.{IsObject, NameStands, named_symbols}
 use Rattle.wl_linking.specs.declared.kinds.SectionKind.{SectionKind}
 use Rattle.wl_linking.specs.declared.kinds.SectionKind.TheVariants as kind
 use Rattle.wl_linking.specs.declared.kinds.Seen.{Seen}
@@ -207,12 +209,30 @@ symbols_named bytes functions globals (s ∷ symbols) f g h =
     let s' = with_import_name functions globals s in
     (name_stands bytes s'.name s'.name_range (symbol_named bytes functions globals s f g h.0), symbols_named bytes functions globals symbols f g h.1)
 
-pub object_names_stand : (bytes : List ℕ) (o : Object) → IsObject o bytes → AllByRecursion (NameStands bytes) o.symbols
-object_names_stand bytes o h =
-    let placed = placed_headers bytes o.sections h.framed in
-    let imports = imports_stand bytes o.sections nothing_seen 0 8 o.sections h.framed.0 h.held h.framed.2 placed h.sound in
-    let base = import_base o.sections in
-    let all = flat_map imports_in h.held in
-    rw h.items.symbols (symbols_named bytes (slots_of FuncImport base all) (slots_of GlobalImport base all) (flat_map symbols_in h.held)
+-- the symbols of sound sections
+pub parts_names_stand : (bytes : List ℕ) (headers : List SectionHeader) (held : List Section) → Framed headers bytes → AreSound bytes headers nothing_seen headers held → AllByRecursion (NameStands bytes) (named_symbols headers (parts_of held))
+parts_names_stand bytes headers held framed sound =
+    let placed = placed_headers bytes headers framed in
+    let imports = imports_stand bytes headers nothing_seen 0 8 headers framed.0 held framed.2 placed sound in
+    let base = import_base headers in
+    let all = flat_map imports_in held in
+    symbols_named bytes (slots_of FuncImport base all) (slots_of GlobalImport base all) (flat_map symbols_in held)
     (slots_stand bytes FuncImport base all imports) (slots_stand bytes GlobalImport base all imports)
-    (sections_stand bytes o.sections nothing_seen o.sections h.held placed h.sound))
+    (sections_stand bytes headers nothing_seen headers held placed sound)
+
+pub object_names_stand : (bytes : List ℕ) (o : Object) → IsObject o bytes → AllByRecursion (NameStands bytes) o.symbols
+object_names_stand bytes o h = rw h.items.symbols (parts_names_stand bytes o.sections h.held h.framed h.sound)
+
+-- ---- names by their ranges
+
+-- what stands at one range of the bytes is one name
+pub named_by_range : (bytes : List ℕ) (symbols : List Symbol) → AllByRecursion (NameStands bytes) symbols → AreNamedByRange symbols
+named_by_range bytes symbols h i j s t here there same =
+    let one = stands_at symbols i s h here in
+    let other = stands_at symbols j t h there in
+    sym one ∙ ap (stretch bytes) same ∙ other
+  where
+    stands_at : (xs : List Symbol) (k : ℕ) (x : Symbol) → AllByRecursion (NameStands bytes) xs → slice_get xs k ≡ Some x → NameStands bytes x
+    stands_at [] k x h is = absurd cc
+    stands_at (y ∷ xs) zero x h is = let same : y ≡ x = cc in subst (NameStands bytes) same h.0
+    stands_at (y ∷ xs) (suc k) x h is = stands_at xs k x h.1 is

@@ -5,7 +5,7 @@ use Rattle.std.specs.List.{flat_map, AllByRecursion}
 use Rattle.wl_module.specs.Chains.{Chain}
 use Rattle.wl_module.specs.Imports.{Imported, IsImport, IsImportAfter, import_seen, AreImports}
 use Rattle.wl_module.specs.declared.sections.SectionHeader.{SectionHeader}
-use Rattle.wl_linking.specs.Slots.{IsNamedWithin}
+use Rattle.wl_linking.specs.SlotsReading.{IsNamedWithin}
 use Rattle.wl_linking.specs.Targets.{kind_of, payload_of}
 use Rattle.wl_linking.specs.Sections.{HoldsItems, AreSound, seen_then, imports_in}
 use Rattle.wl_linking.specs.declared.kinds.SectionKind.{SectionKind}

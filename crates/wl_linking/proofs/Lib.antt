@@ -14,7 +14,6 @@ pub mod ImportPlaces
 pub mod ExistLaws
 pub mod WholeLaws
 pub mod ObjectLaws
-pub mod FitLaws
 pub mod PlacedLaws
 pub mod NameLaws
 pub mod ImportNameLaws

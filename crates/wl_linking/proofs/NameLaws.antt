@@ -108,12 +108,11 @@ details_stand bytes base place Event flags d text h s = subst (λ (x : SymbolDet
 details_stand bytes base place Table flags d text h s = numbered_stands bytes base place flags d text h s
 
 symbol_stands : (bytes : List ℕ) (base place : ℕ) (s : Symbol) (text : List ℕ) → StandsAt bytes text place → IsSymbol base place s text → SymbolStands bytes base s
-symbol_stands bytes base place s text h (p, (f1, b1, e1, byte, (f2, b2, e2, judged, (f3, b3, e3, number, (f4, b4, e4, taken, details)))), is) =
+symbol_stands bytes base place s text h (p, (f1, b1, e1, byte, (f2, b2, e2, judged, (f3, b3, e3, number, details))), is) =
     let h1 = behind_stands bytes text f1 b1 place e1 h in
     let h2 = behind_stands bytes b1 f2 b2 (place + length f1) e2 h1 in
     let h3 = behind_stands bytes b2 f3 b3 (place + length f1 + length f2) e3 h2 in
-    let h4 = behind_stands bytes b3 f4 b4 (place + length f1 + length f2 + length f3) e4 h3 in
-    subst (λ (x : Symbol). SymbolStands bytes base x) is (details_stand bytes base (place + length f1 + length f2 + length f3 + length f4) p.1.0 p.1.1.0 p.1.1.1.1 b4 h4 details)
+    subst (λ (x : Symbol). SymbolStands bytes base x) is (details_stand bytes base (place + length f1 + length f2 + length f3) p.1.0 p.1.1.0 p.1.1.1 b3 h3 details)
 
 items_stand : (bytes : List ℕ) (base place : ℕ) (symbols : List Symbol) (text : List ℕ) → StandsAt bytes text place → Items (IsSymbol base) place symbols text → AllByRecursion (SymbolStands bytes base) symbols
 items_stand bytes base place [] text h s = tt

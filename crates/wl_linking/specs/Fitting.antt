@@ -21,6 +21,10 @@ use Rattle.wl_linking.specs.declared.spaces.Spaces.{Spaces}
 
 -- ---- the object of some items
 
+-- the symbols of these items, each with the name that it takes from its import
+abbrev pub named_symbols : List SectionHeader → Parts → List Symbol
+named_symbols headers parts = map (with_import_name (slots_of Func (import_base headers) parts.imports) (slots_of Global (import_base headers) parts.imports)) parts.symbols
+
 -- An object of these bytes and sections has these items: its symbols take the names of imports, and its relocations are in
 -- order of their fields.
 pub record HasItems (bytes : List ℕ) (headers : List SectionHeader) (parts : Parts) (o : Object) : Type 0 where
@@ -37,7 +41,7 @@ pub record HasItems (bytes : List ℕ) (headers : List SectionHeader) (parts : P
   pub segments : o.segments ≡ parts.segments
   pub segment_infos : o.segment_infos ≡ parts.segment_infos
   pub init_funcs : o.init_funcs ≡ parts.init_funcs
-  pub symbols : o.symbols ≡ map (with_import_name (slots_of Func (import_base headers) parts.imports) (slots_of Global (import_base headers) parts.imports)) parts.symbols
+  pub symbols : o.symbols ≡ named_symbols headers parts
   pub reloc_sections : o.reloc_sections ≡ parts.reloc_sections
   pub features : o.features ≡ parts.features
   pub debug_sections : o.debug_sections ≡ parts.debug_sections
@@ -57,13 +61,13 @@ data_pieces o = map segment_piece o.segments
 -- the counts hold, what is named exists, each import has one name, and each field lies by itself in a body or a segment
 pub record IsFitting (o : Object) : Type 0 where
   pub names : NamesExist o
-  pub slots : AgreeOnNames o.symbols
+  pub slots : AgreeOnNames (spaces_of o) o.symbols
   pub code : LieApart (code_pieces o) o.code_relocations o.code_sites
   pub data_ : LieApart (data_pieces o) o.data_relocations o.data_sites
 
 -- one of these doesn't hold
 abbrev pub CrossFault : Object → ReadError → Type 0
-CrossFault o e = NamesFault o e ⊎ (SlotFault o.symbols e ⊎ (FieldsFault (code_pieces o) o.code_relocations e ⊎ FieldsFault (data_pieces o) o.data_relocations e))
+CrossFault o e = NamesFault o e ⊎ (SlotFault (spaces_of o) o.symbols e ⊎ (FieldsFault (code_pieces o) o.code_relocations e ⊎ FieldsFault (data_pieces o) o.data_relocations e))
 
 -- the same object with the places of its fields, and it fits together
 pub record Fitted (before after : Object) : Type 0 where

@@ -13,6 +13,7 @@ pub mod Object
 pub mod Parts
 pub mod Spaces
 pub mod Slots
+pub mod SlotsReading
 pub mod Sites
 pub mod Placing
 pub mod Fitting

@@ -12,7 +12,7 @@ use Rattle.wl_module.specs.Imports.{Imported}
 use Rattle.wl_module.specs.Exports.{Exported}
 use Rattle.wl_module.specs.Segments.{Segment}
 use Rattle.wl_linking.specs.RelocationTypes.{names_a_type}
-use Rattle.wl_linking.specs.Symbols.{Symbol, is_undefined}
+use Rattle.wl_linking.specs.Symbols.{Symbol, is_undefined, is_absolute}
 use Rattle.wl_linking.specs.declared.infos.WasmInitFunc.{WasmInitFunc}
 use Rattle.wl_linking.specs.Object.{Object}
 use Rattle.wl_linking.specs.declared.relocations.WasmRelocation.{WasmRelocation}
@@ -104,9 +104,9 @@ thing_exists spaces symbol.Data undefined index = undefined || nat_lt index spac
 thing_exists spaces symbol.Section undefined index = true
 thing_exists spaces symbol.Event undefined index = true
 
--- what a symbol stands for exists
+-- what a symbol stands for exists; data at an absolute address lies in no segment, and its index names nothing
 abbrev pub symbol_exists : Spaces → Symbol → Bool
-symbol_exists spaces s = thing_exists spaces s.kind (is_undefined s) s.index
+symbol_exists spaces s = is_absolute s || thing_exists spaces s.kind (is_undefined s) s.index
 
 -- a function that runs at the start has one of the symbols
 abbrev pub init_exists : Spaces → WasmInitFunc → Bool

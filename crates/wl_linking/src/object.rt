@@ -8,9 +8,10 @@ ghost use Rattle.wl_module.specs.declared.sections.SectionHeader.{SectionHeader 
 ghost use Rattle.wl_module.specs.declared.error.ReadError.{ReadError as Fault};
 ghost use Rattle.wl_linking.specs.Sections.{AreFaulty, nothing_seen};
 ghost use Rattle.wl_linking.specs.Object.{Object};
-ghost use Rattle.wl_linking.specs.Slots.{IsNamedWithin, import_base};
+ghost use Rattle.wl_linking.specs.Slots.{import_base};
+ghost use Rattle.wl_linking.specs.SlotsReading.{IsNamedWithin};
 ghost use Rattle.wl_linking.specs.Sites.{body_piece, segment_piece, offset_of, LieApart, FieldsFault};
-ghost use Rattle.wl_linking.specs.Fitting.{HasItems, NameStands, code_pieces, data_pieces, Fitted, CrossFault, FitsParts, PartsFault, IsFitting, IsObject, IsWhole, ObjectFault, ParsesObject};
+ghost use Rattle.wl_linking.specs.Fitting.{HasItems, named_symbols, NameStands, code_pieces, data_pieces, Fitted, CrossFault, FitsParts, PartsFault, IsFitting, IsObject, IsWhole, ObjectFault, ParsesObject};
 ghost use Rattle.wl_linking.specs.declared.sites.Site.{Site as PlacedSite};
 ghost use Rattle.wl_linking.specs.Placing.{Ascend};
 ghost use Rattle.wl_linking.specs.Verdict.{HasCause};
@@ -91,6 +92,7 @@ fn find_data_sites(alloc: Global, contents: &Contents<'_>) -> Result<Items<Site>
 /// Sees that what the object names exists, that each import has one name, and that each field lies
 /// by itself; and takes down where the fields lie.
 fn fit_together(alloc: Global, contents: &mut Contents<'_>) -> Result<(), ReadError>
+    requires names { AllByRecursion (NameStands contents.old.bytes) contents.old.symbols }
     requires bodies { Ascend 0 (code_pieces contents.old) }
     requires segments { Ascend 0 (data_pieces contents.old) }
     requires code { IsNonDecreasingBy offset_of contents.old.code_relocations }
@@ -115,6 +117,7 @@ fn fit<'a>(
 ) -> Result<Contents<'a>, ReadError>
     requires base { import_base sections ≤ 2 ^ 30 }
     requires names { AllByRecursion IsNamedWithin parts.imports }
+    requires symbols { AllByRecursion (NameStands bytes.now) (named_symbols sections parts) }
     requires bodies { Ascend 0 (map body_piece parts.bodies) }
     requires segments { Ascend 0 (map segment_piece parts.segments) }
     ensures { MatchResult result (FitsParts bytes.now sections parts.entry) (HasCause (PartsFault bytes.now sections parts.entry)) }

@@ -1,10 +1,10 @@
 //! The names of imports, which symbols refer to by slots: numbers among the imports of a kind
 //! (object file linking, version 2, "Symbol Table Subsection").
 
-ghost use Rattle.std.specs.Prelude.{◌≡◌, ◌≤◌, ◌<◌, ◌+◌, ◌^◌, [], ◌∷◌, ◌++◌, length, map, true, None, slice_get, vec_len, OnOk, IfOk, MatchBool, MatchResult};
-ghost use Rattle.std.specs.List.{list_all, repeat, AllByRecursion};
-ghost use Rattle.wl_linking.specs.Slots.{IsNamedWithin, slot_of, slots_from, slots_of, with_slot, with_import_name, claims, Agrees, HasOneName, HasTwoNames, AgreeOnNames, SlotFault, is_within, import_base};
-ghost use Rattle.wl_linking.specs.declared.symbols.WasmSymbolKind.TheVariants.{Func, Global as GlobalKind, Table};
+ghost use Rattle.std.specs.Prelude.{◌≡◌, ◌≤◌, ◌+◌, ◌^◌, [], ◌∷◌, ◌++◌, length, map, Option, Some, None, slice_get, OnOk, IfOk, MatchBool, MatchResult};
+ghost use Rattle.std.specs.List.{repeat, AllByRecursion};
+ghost use Rattle.wl_linking.specs.Slots.{Slot, slot_of, slots_of, with_slot, with_import_name, claims, HasOneName, HasTwoNames, AgreeOnNames, SlotFault, import_base};
+ghost use Rattle.wl_linking.specs.SlotsReading.{IsNamedWithin, slots_from, AreNamedByRange, IsNamedByRange, is_name_of, Agrees};
 ghost use Rattle.wl_linking.specs.Verdict.{HasCause};
 
 use crate::items::Items;
@@ -155,19 +155,21 @@ fn claims(kind: WasmSymbolKind, symbol: &WasmSymbol<'_>) -> bool
     }
 }
 
-/// The name of an import as far as symbols have told it. Clauses see it as that list of bytes, if
-/// there is one.
+/// The name of an import as far as symbols have told it, with its place in the object. Clauses see
+/// it as a `Slot`, if there is one.
 #[derive(Drop)]
 struct KnownName<'a> {
     name: Option<&'a str>,
+    range: (u32, u32),
 }
 
 impl<'a> Model for KnownName<'a> {
-    ghost use Rattle.std.specs.Prelude.{List, ℕ, Option, option_map};
+    ghost use Rattle.std.specs.Prelude.{Option, option_map};
+    ghost use Rattle.wl_linking.specs.Slots.{Slot};
 
-    ghost Value = { Option (List ℕ) };
+    ghost Value = { Option Slot };
 
-    ghost view = { λ k. option_map (λ n. n.now) k.name };
+    ghost view = { λ k. option_map (λ n. record { name = n.now; range = k.range }) k.name };
 }
 
 /// No name for each of so many slots.
@@ -176,37 +178,54 @@ fn no_names<'a>(alloc: Global, count: usize) -> Result<Vec<KnownName<'a>>, Alloc
 {
     let mut names = Vec::new(alloc);
     for _ in 0..count {
-        names.push(KnownName { name: None })?;
+        names.push(KnownName {
+            name: None,
+            range: (0, 0),
+        })?;
     }
     Ok(names)
 }
 
-/// Takes down the name of a slot, and answers whether it is the one that was taken down before.
-fn agrees<'a>(names: &mut Vec<KnownName<'a>>, symbol: &WasmSymbol<'a>) -> bool
-    requires { symbol.now.index < vec_len names.old }
-    ensures { Agrees names.old.items names.new.items symbol.now.index symbol.now.name result }
+/// Whether no name is known, or that of the symbol. A name at the same place of the object is the
+/// same, whose bytes aren't looked at.
+fn is_name_of(known: &KnownName<'_>, symbol: &WasmSymbol<'_>) -> bool
+    requires { IsNamedByRange known.now symbol.now }
+    ensures { result ≡ is_name_of known.now symbol.now }
 {
-    let slot = symbol.index as usize;
-    match names[slot].name {
-        None => {
-            names[slot] = KnownName {
-                name: Some(symbol.name),
-            };
-            true
-        }
-        Some(name) => name == symbol.name,
+    match known.name {
+        None => true,
+        Some(name) => known.range == symbol.name_range() || name == symbol.name,
     }
 }
 
-/// Whether the symbols of each import of that kind have one name.
+/// Takes down the name of a slot, and answers whether it is the one that was taken down before. The
+/// name that came last is kept, so that those that take the import's, at one place, find it there.
+/// For a slot that isn't there nothing is told.
+fn agrees<'a>(names: &mut Vec<KnownName<'a>>, symbol: &WasmSymbol<'a>) -> bool
+    requires { (known : Option Slot) → slice_get names.old.items symbol.now.index ≡ Some known → IsNamedByRange known symbol.now }
+    ensures { Agrees names.old.items names.new.items symbol.now result }
+{
+    let slot = symbol.index as usize;
+    if slot >= names.len() {
+        return true;
+    }
+    let agrees = is_name_of(&names[slot], symbol);
+    names[slot] = KnownName {
+        name: Some(symbol.name),
+        range: symbol.name_range(),
+    };
+    agrees
+}
+
+/// Whether the symbols of each of so many imports of that kind have one name.
 fn have_one_name(
     alloc: Global,
     kind: WasmSymbolKind,
     count: usize,
     symbols: &[WasmSymbol<'_>],
 ) -> Result<bool, AllocError>
-    requires { list_all (is_within kind count) symbols.now ≡ true }
-    ensures { IfOk result (λ b. MatchBool b (HasOneName kind symbols.now) (HasTwoNames kind symbols.now)) }
+    requires { AreNamedByRange symbols.now }
+    ensures { IfOk result (λ b. MatchBool b (HasOneName kind count symbols.now) (HasTwoNames kind count symbols.now)) }
 {
     let mut names = no_names(alloc, count)?;
     for symbol in symbols {
@@ -224,10 +243,8 @@ pub(crate) fn check_slots(
     spaces: Spaces,
     symbols: &[WasmSymbol<'_>],
 ) -> Result<(), ReadError>
-    requires functions { list_all (is_within Func spaces.imported_functions) symbols.now ≡ true }
-    requires globals { list_all (is_within GlobalKind spaces.imported_globals) symbols.now ≡ true }
-    requires tables { list_all (is_within Table spaces.imported_tables) symbols.now ≡ true }
-    ensures { MatchResult result (λ _. AgreeOnNames symbols.now) (HasCause (SlotFault symbols.now)) }
+    requires { AreNamedByRange symbols.now }
+    ensures { MatchResult result (λ _. AgreeOnNames spaces symbols.now) (HasCause (SlotFault spaces symbols.now)) }
 {
     let (functions, globals, tables) = (
         spaces.imported_functions,

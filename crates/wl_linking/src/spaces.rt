@@ -3,7 +3,8 @@
 
 ghost use Rattle.std.specs.Prelude.{◌≡◌, ◌+◌, ◌==◌, nat_lt, MatchResult};
 ghost use Rattle.std.specs.List.{list_all};
-ghost use Rattle.wl_linking.specs.Spaces.{is_of, count_imports, spaces_of, import_exists, export_exists, segment_exists, number_exists, symbol_exists, init_exists, relocation_exists, type_exists, counts_segments, core_names_exist, linked_names_exist, counts_hold, NamesExist, NamesFault};
+ghost use Rattle.wl_linking.specs.Spaces.{is_of, count_imports, spaces_of, import_exists, export_exists, segment_exists, number_exists, thing_exists, symbol_exists, init_exists, relocation_exists, type_exists, counts_segments, core_names_exist, linked_names_exist, counts_hold, NamesExist, NamesFault};
+ghost use Rattle.wl_linking.specs.Symbols.{is_undefined};
 ghost use Rattle.wl_linking.specs.Verdict.{HasCause};
 
 use crate::contents::Contents;
@@ -124,9 +125,10 @@ fn segment_exists(spaces: Spaces, segment: &WasmDataSegment<'_>) -> bool
     }
 }
 
-/// Whether what a symbol stands for is there. That of a section isn't looked at.
-fn symbol_exists(spaces: Spaces, symbol: &WasmSymbol<'_>) -> bool
-    ensures { result ≡ symbol_exists spaces symbol.now }
+/// Whether the thing of that number is there for a symbol of its kind. That of a section isn't looked
+/// at.
+fn thing_exists(spaces: Spaces, symbol: &WasmSymbol<'_>) -> bool
+    ensures { let s = symbol.now in result ≡ thing_exists spaces s.kind (is_undefined s) s.index }
 {
     let undefined = symbol.is_undefined();
     match symbol.kind {
@@ -148,6 +150,13 @@ fn symbol_exists(spaces: Spaces, symbol: &WasmSymbol<'_>) -> bool
         WasmSymbolKind::Data => undefined || (symbol.index as usize) < spaces.segments,
         WasmSymbolKind::Section | WasmSymbolKind::Event => true,
     }
+}
+
+/// Whether what a symbol stands for is there. Data at an absolute address lies in no segment.
+fn symbol_exists(spaces: Spaces, symbol: &WasmSymbol<'_>) -> bool
+    ensures { result ≡ symbol_exists spaces symbol.now }
+{
+    symbol.is_absolute() || thing_exists(spaces, symbol)
 }
 
 /// Whether the type or the symbol of a relocation is there.

@@ -1,4 +1,4 @@
-use Rattle.wl_linking.proofs.ObjectLaws.{parts_code_up, parts_data_up, parts_named, object_from}
+use Rattle.wl_linking.proofs.ObjectLaws.{parts_code_up, parts_data_up, parts_named, parts_named_symbols, object_from}
 use Rattle.wl_linking.proofs.PlacedLaws.{placed_headers, import_base_small}
 use Rattle.wl_linking.proofs.object.object.Goals as goal
 
@@ -20,3 +20,7 @@ read_parts-requires-clause-placed c = rw c.deref.ensures.value (placed_headers c
 
 pub fit-requires-clause-base : goal.fit-requires-clause-base
 fit-requires-clause-base c = rw c.new.ensures (import_base_small c.args.bytes.now c.in_ok-headers.headers.items c.in_ok-headers.ensures.sound c.requires)
+
+pub fit-requires-clause-symbols : goal.fit-requires-clause-symbols
+fit-requires-clause-symbols c =
+    rw c.new.ensures (parts_named_symbols c.args.bytes.now c.in_ok-headers.headers.items c.in_ok-parts.parts c.in_ok-headers.ensures.sound (rw c.deref.ensures.value at c.in_ok-parts.ensures))
