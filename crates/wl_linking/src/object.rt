@@ -1,6 +1,6 @@
 //! A relocatable object: its sections, and what must hold across them.
 
-ghost use Rattle.std.specs.Prelude.{◌≡◌, ◌<◌, ◌≤◌, ◌^◌, ℕ, List, length, map, Some, slice_get, IfOk, MatchResult};
+ghost use Rattle.std.specs.Prelude.{◌≡◌, ◌⊎◌, ◌<◌, ◌≤◌, ◌^◌, ℕ, List, length, map, Some, slice_get, IfOk, MatchResult};
 ghost use Rattle.std.specs.List.{AllByRecursion};
 ghost use Rattle.std.specs.List.Sorted.{IsNonDecreasingBy};
 ghost use Rattle.wl_module.specs.Sections.{Framed, FrameFault};
@@ -153,8 +153,10 @@ pub fn parse_wasm_module(alloc: Global, bytes: &[u8]) -> Result<File<'_>, ReadEr
     Ok(File { contents, spaces })
 }
 
-/// Bytes are one object at most, and never both an object and at fault.
+/// Bytes are one object or at fault: always one of the two, and never both. A fault of the frame is the
+/// only one, and so is that of the first section that isn't sound.
 pub fn object_or_fault()
+    ensures some { (bytes : List ℕ) → ((o : Object) × IsObject o bytes) ⊎ ((e : Fault) × ObjectFault e bytes) }
     ensures one { (bytes : List ℕ) (o p : Object) → IsObject o bytes → IsObject p bytes → o ≡ p }
     ensures either { (bytes : List ℕ) (o : Object) (e : Fault) → IsObject o bytes → ObjectFault e bytes → ⊥ }
     ensures frame_first { (bytes : List ℕ) (e d : Fault) → FrameFault e bytes → ObjectFault d bytes → d ≡ e }
