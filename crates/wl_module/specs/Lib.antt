@@ -3,6 +3,7 @@ pub mod Outcome
 pub mod Lists
 pub mod Types
 pub mod Reading
+pub mod Slices
 pub mod Bodies
 pub mod BodiesReading
 pub mod Chains

@@ -39,8 +39,9 @@ impl<'a> Item<'a> for OutputExport<'a> {
 
     ghost may_end = { λ _. Unit {0} };
 
-    fn read(_alloc: Global, reader: &mut Reader<'a>) -> Result<Self, ReadError> {
-        read_export(reader)
+    fn read(_alloc: Global, mut reader: Reader<'a>) -> Result<(Self, Reader<'a>), ReadError> {
+        let export = read_export(&mut reader)?;
+        Ok((export, reader))
     }
 }
 

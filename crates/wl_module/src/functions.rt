@@ -14,8 +14,9 @@ impl<'a> Item<'a> for u32 {
 
     ghost may_end = { λ _. Unit {0} };
 
-    fn read(_alloc: Global, reader: &mut Reader<'a>) -> Result<Self, ReadError> {
-        Ok(reader.read_u32()?)
+    fn read(_alloc: Global, mut reader: Reader<'a>) -> Result<(Self, Reader<'a>), ReadError> {
+        let index = reader.read_u32()?;
+        Ok((index, reader))
     }
 }
 

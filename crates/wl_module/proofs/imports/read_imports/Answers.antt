@@ -4,4 +4,4 @@ use Rattle.wl_module.proofs.ImportLaws.{imports_reading}
 use Rattle.wl_module.proofs.imports.read_imports.Goals as goal
 
 pub returns : goal.returns
-returns c = reads_whole (λ v. v.items) AreImports ImportsFault imports_of imports_reading c.args.payload.now c.payload_imports.result c.payload_imports.ensures
+returns c = reads_whole (λ v. v.items) AreImports ImportsFault imports_of imports_reading c.args.payload.now c.payload_plain.result c.payload_plain.ensures

@@ -4,4 +4,4 @@ use Rattle.wl_module.proofs.SegmentLaws.{segments_reading}
 use Rattle.wl_module.proofs.segments.read_segments.Goals as goal
 
 pub returns : goal.returns
-returns c = reads_whole (λ v. v.items) AreSegments SegmentsFault segments_of segments_reading c.args.payload.now c.read_payload.result c.read_payload.ensures
+returns c = reads_whole (λ v. v.items) AreSegments SegmentsFault segments_of segments_reading c.args.payload.now c.payload_segments.result c.payload_segments.ensures
