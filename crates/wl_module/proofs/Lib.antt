@@ -12,4 +12,5 @@ pub mod GlobalLaws
 pub mod ImportLaws
 pub mod SegmentLaws
 pub mod SectionLaws
+pub mod CountLaws
 pub mod Ranks

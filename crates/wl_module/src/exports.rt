@@ -1,6 +1,6 @@
 //! The export section: what a module gives to others.
 
-ghost use Rattle.std.specs.Prelude.{◌≡◌};
+ghost use Rattle.std.specs.Prelude.{◌≡◌, ◌≤◌, length, IfOk};
 ghost use Rattle.wl_bytes.specs.Cursor.{end_of};
 ghost use Rattle.wl_module.specs.Exports.{export_at, AreExports, ExportsFault};
 ghost use Rattle.wl_module.specs.Outcome.{Yields, ReadsWhole, AreAlternatives};
@@ -63,7 +63,8 @@ fn read_export<'a>(reader: &mut Reader<'a>) -> Result<OutputExport<'a>, ReadErro
 /// A kind above 4 is `Malformed(BadByte)`, the kind 4 of an exception tag `Unsupported(Tag)`; each
 /// is judged in front of the index.
 pub fn read_exports(alloc: Global, payload: &[u8]) -> Result<Vec<OutputExport<'_>>, ReadError>
-    ensures { ReadsWhole (λ v. v.items) AreExports ExportsFault payload.now result }
+    ensures reads { ReadsWhole (λ v. v.items) AreExports ExportsFault payload.now result }
+    ensures count { IfOk result (λ v. length v.items ≤ length payload.now) }
 {
     read_payload(alloc, payload)
 }

@@ -1,6 +1,6 @@
 //! The global section: the globals that a module defines.
 
-ghost use Rattle.std.specs.Prelude.{◌≡◌};
+ghost use Rattle.std.specs.Prelude.{◌≡◌, ◌≤◌, length, IfOk};
 ghost use Rattle.wl_bytes.specs.Cursor.{end_of};
 ghost use Rattle.wl_module.specs.Globals.{mutability_at, global_type_at, global_at, AreGlobals, GlobalsFault};
 ghost use Rattle.wl_module.specs.Outcome.{Yields, ReadsWhole, AreAlternatives};
@@ -110,7 +110,8 @@ fn read_global<'a>(reader: &mut Reader<'a>) -> Result<OutputGlobal<'a>, ReadErro
 /// than `funcref` and `externref` `Unsupported(Operator)`. The expressions aren't typed, and the
 /// indices in them aren't looked at.
 pub fn read_globals(alloc: Global, payload: &[u8]) -> Result<Vec<OutputGlobal<'_>>, ReadError>
-    ensures { ReadsWhole (λ v. v.items) AreGlobals GlobalsFault payload.now result }
+    ensures reads { ReadsWhole (λ v. v.items) AreGlobals GlobalsFault payload.now result }
+    ensures count { IfOk result (λ v. length v.items ≤ length payload.now) }
 {
     read_payload(alloc, payload)
 }

@@ -1,6 +1,6 @@
 //! The import section: what a module takes from others.
 
-ghost use Rattle.std.specs.Prelude.{◌≡◌, false, IfOk};
+ghost use Rattle.std.specs.Prelude.{◌≡◌, false, IfOk, ◌≤◌, length};
 ghost use Rattle.wl_bytes.specs.Cursor.{end_of};
 ghost use Rattle.wl_module.specs.Chains.{times_after_at};
 ghost use Rattle.wl_module.specs.Imports.{kind_at, entity_at, import_at, is_memory, import_after_at, import_seen, plain_imports, placed_imports_of, ArePlacedImports, imports_of, AreImports, ImportsFault, function_import, global_import};
@@ -285,7 +285,8 @@ fn payload_plain(alloc: Global, payload: &[u8]) -> Result<Vec<Import<'_>>, ReadE
 /// `Unsupported(PageSize)`; limits that can't be are `Malformed(BadLimits)`. A second memory is
 /// `Unsupported(ManyMemories)`, once its limits are read.
 pub fn read_imports(alloc: Global, payload: &[u8]) -> Result<Vec<Import<'_>>, ReadError>
-    ensures { ReadsWhole (λ v. v.items) AreImports ImportsFault payload.now result }
+    ensures reads { ReadsWhole (λ v. v.items) AreImports ImportsFault payload.now result }
+    ensures count { IfOk result (λ v. length v.items ≤ length payload.now) }
 {
     payload_plain(alloc, payload)
 }
@@ -296,7 +297,8 @@ pub fn read_placed_imports(
     alloc: Global,
     payload: &[u8],
 ) -> Result<Vec<PlacedImport<'_>>, ReadError>
-    ensures { ReadsWhole (λ v. v.items) ArePlacedImports ImportsFault payload.now result }
+    ensures reads { ReadsWhole (λ v. v.items) ArePlacedImports ImportsFault payload.now result }
+    ensures count { IfOk result (λ v. length v.items ≤ length payload.now) }
 {
     payload_imports(alloc, payload)
 }

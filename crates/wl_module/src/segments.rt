@@ -200,7 +200,8 @@ fn payload_segments(alloc: Global, payload: &[u8]) -> Result<Vec<WasmDataSegment
 /// `Unsupported(Operator)`.
 pub fn read_segments(alloc: Global, payload: &[u8]) -> Result<Vec<WasmDataSegment<'_>>, ReadError>
     requires { length payload.now ≤ 2 ^ 30 }
-    ensures { ReadsWhole (λ v. v.items) AreSegments SegmentsFault payload.now result }
+    ensures reads { ReadsWhole (λ v. v.items) AreSegments SegmentsFault payload.now result }
+    ensures count { IfOk result (λ v. length v.items ≤ length payload.now) }
 {
     payload_segments(alloc, payload)
 }
@@ -211,7 +212,8 @@ pub fn read_targeted_segments(
     payload: &[u8],
 ) -> Result<Vec<TargetedSegment<'_>>, ReadError>
     requires { length payload.now ≤ 2 ^ 30 }
-    ensures { ReadsWhole (λ v. v.items) AreTargeted SegmentsFault payload.now result }
+    ensures reads { ReadsWhole (λ v. v.items) AreTargeted SegmentsFault payload.now result }
+    ensures count { IfOk result (λ v. length v.items ≤ length payload.now) }
 {
     read_payload(alloc, payload)
 }
