@@ -13,4 +13,5 @@ pub mod ImportLaws
 pub mod SegmentLaws
 pub mod SectionLaws
 pub mod CountLaws
+pub mod PlaceLaws
 pub mod Ranks

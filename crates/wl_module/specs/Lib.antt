@@ -18,3 +18,4 @@ pub mod Exports
 pub mod Segments
 pub mod Limits
 pub mod Sections
+pub mod Places

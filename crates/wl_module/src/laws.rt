@@ -8,6 +8,7 @@ ghost use Rattle.wl_module.specs.Exports.{AreExports};
 ghost use Rattle.wl_module.specs.Globals.{AreGlobals};
 ghost use Rattle.wl_module.specs.Imports.{ArePlacedImports, AreImports};
 ghost use Rattle.wl_module.specs.Memories.{AreMemories};
+ghost use Rattle.wl_module.specs.Places.{PartsStand, ImportStands, PlacedImportStands, ExportStands, GlobalStands, BodyStands, SegmentStands, TargetedStands};
 ghost use Rattle.wl_module.specs.Sections.{Framed};
 ghost use Rattle.wl_module.specs.Segments.{AreTargeted, AreSegments};
 ghost use Rattle.wl_module.specs.Types.{AreTypes};
@@ -25,4 +26,17 @@ pub fn lists_are_few()
     ensures bodies { AreFew AreBodies }
     ensures segments { AreFew AreSegments }
     ensures targeted_segments { AreFew AreTargeted }
+{}
+
+/// The names of imports and exports, the expressions of globals, bodies, and the bytes of segments
+/// stand in the payload that spells them: those that tell their place at that place. A segment
+/// ends with its bytes.
+pub fn parts_stand()
+    ensures imports { PartsStand ImportStands AreImports }
+    ensures placed_imports { PartsStand PlacedImportStands ArePlacedImports }
+    ensures exports { PartsStand ExportStands AreExports }
+    ensures globals { PartsStand GlobalStands AreGlobals }
+    ensures bodies { PartsStand BodyStands AreBodies }
+    ensures segments { PartsStand SegmentStands AreSegments }
+    ensures targeted_segments { PartsStand TargetedStands AreTargeted }
 {}
