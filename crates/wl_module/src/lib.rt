@@ -17,6 +17,7 @@ mod items;
 mod laws;
 mod limits;
 mod memories;
+pub mod section_id;
 mod sections;
 mod segments;
 mod types;
@@ -36,8 +37,8 @@ pub use laws::{lists_are_few, parts_stand};
 pub use limits::{Limits, MemoryType, TableType};
 pub use memories::{data_count_or_fault, memories_or_fault, read_data_count, read_memories};
 pub use sections::{
-    SectionAttributes, SectionFlags, SectionHeader, SectionType, ranges_lie_within,
-    sections_or_fault, split_sections,
+    STANDARD_SECTION_LOOKUP_LEN, SectionAttributes, SectionFlags, SectionHeader, SectionType,
+    WASM_MAGIC, WASM_VERSION, ranges_lie_within, sections_or_fault, split_sections,
 };
 pub use segments::{
     DataKind, TargetedSegment, WasmDataSegment, read_segments, read_targeted_segments,
