@@ -14,6 +14,8 @@ pub mod ImportPlaces
 pub mod ExistLaws
 pub mod ObjectLaws
 pub mod PlacedLaws
+pub mod HeldLaws
 pub mod NameLaws
 pub mod ImportNameLaws
+pub mod StretchLaws
 pub mod RawNameLaws

@@ -37,6 +37,8 @@ pub struct File<'a> {
     pub(crate) data_counts: Items<u32>,
     pub(crate) bodies: Items<WasmFunctionBody<'a>>,
     pub(crate) segments: Items<WasmDataSegment<'a>>,
+    /// Of each segment the memory that it goes into when the module starts, if it does.
+    pub(crate) segment_memories: Items<Option<u32>>,
     pub(crate) segment_infos: Items<WasmSegmentInfo<'a>>,
     pub(crate) init_funcs: Items<WasmInitFunc>,
     pub(crate) symbols: Items<WasmSymbol<'a>>,
@@ -66,6 +68,7 @@ impl<'a> Model for File<'a> {
       data_counts = f.data_counts;
       bodies = f.bodies;
       segments = f.segments;
+      segment_memories = f.segment_memories;
       segment_infos = f.segment_infos;
       init_funcs = f.init_funcs;
       symbols = f.symbols;
