@@ -170,14 +170,15 @@ object_of bytes headers parts code data_ = record {
   bytes = bytes;
   sections = headers;
   types = parts.types;
-  imports = parts.imports;
+  imports = plain_imports parts.imports;
   functions = parts.functions;
   memories = parts.memories;
   globals = parts.globals;
   exports = parts.exports;
   data_counts = parts.data_counts;
   bodies = parts.bodies;
-  segments = parts.segments;
+  segments = plain_segments parts.segments;
+  segment_memories = memories_of parts.segments;
   segment_infos = parts.segment_infos;
   init_funcs = parts.init_funcs;
   symbols = named_symbols headers parts;
@@ -203,6 +204,7 @@ has_items bytes headers parts code data_ = record {
   data_counts = refl;
   bodies = refl;
   segments = refl;
+  segment_memories = refl;
   segment_infos = refl;
   init_funcs = refl;
   symbols = refl;
@@ -217,17 +219,17 @@ has_items bytes headers parts code data_ = record {
 abbrev FitsOrNot : List ℕ → List SectionHeader → Parts → Type 0
 FitsOrNot bytes headers parts = ((o : Object) × HasItems bytes headers parts o × IsFitting o) ⊎ ((e : ReadError) × PartsFault bytes headers parts e)
 
-fits_or_fault : (bytes : List ℕ) (headers : List SectionHeader) (parts : Parts) → Ascend 0 (map body_piece parts.bodies) → Ascend 0 (map segment_piece parts.segments) → FitsOrNot bytes headers parts
-fits_or_fault bytes headers parts code_up data_up = by_fields (fields_or_fault (map body_piece parts.bodies) (ordered parts.code_entries) code_up) (fields_or_fault (map segment_piece parts.segments) (ordered parts.data_entries) data_up)
+fits_or_fault : (bytes : List ℕ) (headers : List SectionHeader) (parts : Parts) → Ascend 0 (map body_piece parts.bodies) → Ascend 0 (map segment_piece (plain_segments parts.segments)) → FitsOrNot bytes headers parts
+fits_or_fault bytes headers parts code_up data_up = by_fields (fields_or_fault (map body_piece parts.bodies) (ordered parts.code_entries) code_up) (fields_or_fault (map segment_piece (plain_segments parts.segments)) (ordered parts.data_entries) data_up)
   where
-    by_names : (code data_ : List Site) → LieApart (map body_piece parts.bodies) (ordered parts.code_entries) code → LieApart (map segment_piece parts.segments) (ordered parts.data_entries) data_
+    by_names : (code data_ : List Site) → LieApart (map body_piece parts.bodies) (ordered parts.code_entries) code → LieApart (map segment_piece (plain_segments parts.segments)) (ordered parts.data_entries) data_
         → (let o = object_of bytes headers parts code data_ in NamesExist o ⊎ ((e : ReadError) × NamesFault o e) → AgreeOnNames (spaces_of o) o.symbols ⊎ ((e : ReadError) × SlotFault (spaces_of o) o.symbols e) → FitsOrNot bytes headers parts)
     by_names code data_ c d (inr f) slots = inr (f.0, (object_of bytes headers parts code data_, has_items bytes headers parts code data_, inl f.1))
     by_names code data_ c d (inl names) (inr f) = inr (f.0, (object_of bytes headers parts code data_, has_items bytes headers parts code data_, inr (inl f.1)))
     by_names code data_ c d (inl names) (inl slots) = inl (object_of bytes headers parts code data_, has_items bytes headers parts code data_, record { names = names; slots = slots; code = c; data_ = d })
 
     by_fields : ((ss : List Site) × LieApart (map body_piece parts.bodies) (ordered parts.code_entries) ss) ⊎ ((e : ReadError) × FieldsFault (map body_piece parts.bodies) (ordered parts.code_entries) e)
-        → ((ss : List Site) × LieApart (map segment_piece parts.segments) (ordered parts.data_entries) ss) ⊎ ((e : ReadError) × FieldsFault (map segment_piece parts.segments) (ordered parts.data_entries) e) → FitsOrNot bytes headers parts
+        → ((ss : List Site) × LieApart (map segment_piece (plain_segments parts.segments)) (ordered parts.data_entries) ss) ⊎ ((e : ReadError) × FieldsFault (map segment_piece (plain_segments parts.segments)) (ordered parts.data_entries) e) → FitsOrNot bytes headers parts
     by_fields (inr f) data_ = inr (f.0, (object_of bytes headers parts [] [], has_items bytes headers parts [] [], inr (inr (inl f.1))))
     by_fields (inl code) (inr f) = inr (f.0, (object_of bytes headers parts [] [], has_items bytes headers parts [] [], inr (inr (inr f.1))))
     by_fields (inl code) (inl data_) =

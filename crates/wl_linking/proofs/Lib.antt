@@ -17,6 +17,8 @@ pub mod OrderExists
 pub mod AlternativeLaws
 pub mod ObjectLaws
 pub mod PlacedLaws
+pub mod HeldLaws
 pub mod NameLaws
 pub mod ImportNameLaws
+pub mod StretchLaws
 pub mod RawNameLaws

@@ -13,7 +13,8 @@ use Rattle.wl_linking.specs.Symbols.{Symbol}
 use Rattle.wl_linking.specs.Sections.{AreSound, AreFaulty, nothing_seen}
 use Rattle.wl_linking.specs.Object.{Object}
 use Rattle.wl_linking.specs.Parts.{parts_of, ArePartsOf}
-use Rattle.wl_linking.specs.Placing.{Ascend}
+use Rattle.wl_module.specs.Segments.{plain_segments}
+use Rattle.wl_linking.specs.Placing.{IsSpanned, Ascend}
 use Rattle.wl_linking.specs.Spaces.{NamesExist, NamesFault, spaces_of, counts_hold, core_names_exist, linked_names_exist}
 use Rattle.wl_linking.specs.Slots.{AgreeOnNames, SlotFault, HasOneName, HasTwoNames}
 use Rattle.wl_linking.specs.SlotsReading.{IsNamedWithin}
@@ -28,7 +29,8 @@ use Rattle.wl_linking.specs.declared.symbols.WasmSymbolKind.TheVariants.{Func, D
 use Rattle.wl_linking.proofs.SectionLaws.{sections_one, sections_either, sections_one_fault}
 use Rattle.wl_linking.proofs.OrderLaws.{order_one, lie_apart_one, lie_apart_either}
 use Rattle.wl_linking.proofs.OnceLaws.{object_code_ascends, object_data_ascends}
-use Rattle.wl_linking.proofs.ImportPlaces.{sections_named}
+use Rattle.wl_linking.proofs.ImportPlaces.{sections_named, sections_spanned}
+use Rattle.wl_linking.proofs.PlacedLaws.{placed_headers}
 use Rattle.wl_linking.proofs.ImportNameLaws.{parts_names_stand}
 use Rattle.wl_linking.proofs.ExistLaws.{counts_pass, core_passes, linked_passes}
 
@@ -53,6 +55,7 @@ items_one bytes headers parts o p h k =
       h.data_counts,
       h.bodies,
       h.segments,
+      h.segment_memories,
       h.segment_infos,
       h.init_funcs,
       h.symbols,
@@ -72,6 +75,7 @@ items_one bytes headers parts o p h k =
       k.data_counts,
       k.bodies,
       k.segments,
+      k.segment_memories,
       k.segment_infos,
       k.init_funcs,
       k.symbols,
@@ -215,11 +219,14 @@ parses bytes (Err (Unsupported w)) h = record {
 pub parts_code_up : (bytes : List ℕ) (headers : List SectionHeader) (parts : Parts) → Framed headers bytes → ArePartsOf bytes headers parts → Ascend 0 (map body_piece parts.bodies)
 parts_code_up bytes headers parts framed (held, sound, is) = rw is (object_code_ascends bytes headers held framed sound)
 
-pub parts_data_up : (bytes : List ℕ) (headers : List SectionHeader) (parts : Parts) → Framed headers bytes → ArePartsOf bytes headers parts → Ascend 0 (map segment_piece parts.segments)
+pub parts_data_up : (bytes : List ℕ) (headers : List SectionHeader) (parts : Parts) → Framed headers bytes → ArePartsOf bytes headers parts → Ascend 0 (map segment_piece (plain_segments parts.segments))
 parts_data_up bytes headers parts framed (held, sound, is) = rw is (object_data_ascends bytes headers held framed sound)
 
-pub parts_named : (bytes : List ℕ) (headers : List SectionHeader) (parts : Parts) → length bytes ≤ 2 ^ 30 → ArePartsOf bytes headers parts → AllByRecursion IsNamedWithin parts.imports
-parts_named bytes headers parts le (held, sound, is) = rw is (sections_named bytes headers nothing_seen headers held le sound)
+pub parts_named : (bytes : List ℕ) (headers : List SectionHeader) (parts : Parts) → length bytes ≤ 2 ^ 30 → Framed headers bytes → ArePartsOf bytes headers parts → AllByRecursion IsNamedWithin parts.imports
+parts_named bytes headers parts le framed (held, sound, is) = rw is (sections_named bytes headers nothing_seen headers held le (placed_headers bytes headers framed) sound)
+
+pub parts_spanned : (bytes : List ℕ) (headers : List SectionHeader) (parts : Parts) → length bytes ≤ 2 ^ 30 → Framed headers bytes → ArePartsOf bytes headers parts → AllByRecursion IsSpanned (plain_segments parts.segments)
+parts_spanned bytes headers parts le framed (held, sound, is) = rw is (sections_spanned bytes headers nothing_seen headers held le (placed_headers bytes headers framed) sound)
 
 pub parts_named_symbols : (bytes : List ℕ) (headers : List SectionHeader) (parts : Parts) → Framed headers bytes → ArePartsOf bytes headers parts → AllByRecursion (NameStands bytes) (named_symbols headers parts)
 parts_named_symbols bytes headers parts framed (held, sound, is) = rw is (parts_names_stand bytes headers held framed sound)

@@ -7,18 +7,18 @@ use Rattle.wl_module.specs.declared.error.ReadError.TheVariants.{Malformed, Unsu
 use Rattle.wl_module.specs.declared.error.Why.TheVariants.{Repeated}
 use Rattle.wl_module.specs.Types.{AreTypes, TypesFault}
 use Rattle.wl_module.specs.Reading.{types_of}
-use Rattle.wl_module.specs.Imports.{AreImports, ImportsFault, imports_of}
+use Rattle.wl_module.specs.Imports.{ArePlacedImports, ImportsFault, placed_imports_of}
 use Rattle.wl_module.specs.Bodies.{AreIndices, IndicesFault, AreBodies, BodiesFault}
 use Rattle.wl_module.specs.BodiesReading.{indices_of, bodies_of}
 use Rattle.wl_module.specs.Memories.{AreMemories, MemoriesFault, memories_of, IsDataCount, DataCountFault, data_count_of}
 use Rattle.wl_module.specs.Globals.{AreGlobals, GlobalsFault, globals_of}
 use Rattle.wl_module.specs.Exports.{AreExports, ExportsFault, exports_of}
-use Rattle.wl_module.specs.Segments.{AreSegments, SegmentsFault, segments_of}
+use Rattle.wl_module.specs.Segments.{AreTargeted, SegmentsFault, targeted_of}
 use Rattle.wl_module.proofs.TypeLaws.{types_reading}
-use Rattle.wl_module.proofs.ImportLaws.{imports_reading, exports_reading}
+use Rattle.wl_module.proofs.ImportLaws.{placed_imports_reading, exports_reading}
 use Rattle.wl_module.proofs.BodyLaws.{indices_reading, bodies_reading}
 use Rattle.wl_module.proofs.GlobalLaws.{globals_reading, memories_reading, data_count_reading}
-use Rattle.wl_module.proofs.SegmentLaws.{segments_reading}
+use Rattle.wl_module.proofs.SegmentLaws.{targeted_reading}
 use Rattle.wl_linking.specs.Debug.{debug_of}
 use Rattle.wl_linking.specs.Features.{AreFeatures, FeaturesFault, features_of}
 use Rattle.wl_linking.specs.Linking.{IsLinking, LinkingFault}
@@ -95,14 +95,14 @@ fixed_exact section_of = record { some = λ payload. inl (section_of payload, re
 
 items_exact : (k : SectionKind) (bytes : List ℕ) (headers : List SectionHeader) (seen : Seen) (header : SectionHeader) → IsExact (HoldsItems k bytes headers seen header) (ItemsFault k bytes headers seen header)
 items_exact kind.Type bytes headers seen header = holding_exact Types AreTypes TypesFault (exact_from AreTypes TypesFault types_of types_reading)
-items_exact kind.Import bytes headers seen header = holding_exact Imports AreImports ImportsFault (exact_from AreImports ImportsFault imports_of imports_reading)
+items_exact kind.Import bytes headers seen header = holding_exact Imports ArePlacedImports ImportsFault (exact_from ArePlacedImports ImportsFault placed_imports_of placed_imports_reading)
 items_exact kind.Function bytes headers seen header = holding_exact Functions AreIndices IndicesFault (exact_from AreIndices IndicesFault indices_of indices_reading)
 items_exact kind.Memory bytes headers seen header = holding_exact Memories (AreMemories seen.memory) (MemoriesFault seen.memory) (exact_from (AreMemories seen.memory) (MemoriesFault seen.memory) (memories_of seen.memory) (memories_reading seen.memory))
 items_exact kind.Global bytes headers seen header = holding_exact Globals AreGlobals GlobalsFault (exact_from AreGlobals GlobalsFault globals_of globals_reading)
 items_exact kind.Export bytes headers seen header = holding_exact Exports AreExports ExportsFault (exact_from AreExports ExportsFault exports_of exports_reading)
 items_exact kind.DataCount bytes headers seen header = holding_exact DataCount IsDataCount DataCountFault (exact_from IsDataCount DataCountFault data_count_of data_count_reading)
 items_exact kind.Code bytes headers seen header = holding_exact Code AreBodies BodiesFault (exact_from AreBodies BodiesFault bodies_of bodies_reading)
-items_exact kind.Data bytes headers seen header = holding_exact Data AreSegments SegmentsFault (exact_from AreSegments SegmentsFault segments_of segments_reading)
+items_exact kind.Data bytes headers seen header = holding_exact Data AreTargeted SegmentsFault (exact_from AreTargeted SegmentsFault targeted_of targeted_reading)
 items_exact kind.Linking bytes headers seen header = holding_exact Linking (LinkingItems seen header.payload_range.0) (LinkingItemsFault seen header.payload_range.0) (first_exact seen header.payload_range.0)
 items_exact kind.Reloc bytes headers seen header =
     let verdict = numbered_verdict bytes headers seen in

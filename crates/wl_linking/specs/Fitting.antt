@@ -1,9 +1,11 @@
 -- The relocatable object that some bytes are: what its sections hold, and what must hold across them
 -- (core specification, "Modules"; object file linking, version 2).
-use Rattle.std.specs.Prelude.{◌≡◌, ◌⊎◌, ◌≤◌, ◌^◌, ℕ, List, length, map, Result, Ok, Err, IfOk, IfErr}
+use Rattle.std.specs.Prelude.{◌≡◌, ◌⊎◌, ◌≤◌, ◌^◌, ℕ, List, length, map, Option, Result, Ok, Err, IfOk, IfErr}
 use Rattle.wl_module.specs.declared.sections.SectionHeader.{SectionHeader}
 use Rattle.wl_module.specs.declared.imports.ExternalKind.TheVariants.{Func, Global}
 use Rattle.wl_module.specs.declared.error.ReadError.{ReadError}
+use Rattle.wl_module.specs.Imports.{plain_imports}
+use Rattle.wl_module.specs.Segments.{Targeted, plain_segments}
 use Rattle.wl_module.specs.Sections.{Framed, FrameFault}
 use Rattle.wl_module.specs.Outcome.{Gives}
 use Rattle.wl_linking.specs.Verdict.{HasCause}
@@ -25,20 +27,25 @@ use Rattle.wl_linking.specs.declared.spaces.Spaces.{Spaces}
 abbrev pub named_symbols : List SectionHeader → Parts → List Symbol
 named_symbols headers parts = map (with_import_name (slots_of Func (import_base headers) parts.imports) (slots_of Global (import_base headers) parts.imports)) parts.symbols
 
+-- the memory that each segment goes into when the module starts, if it does
+abbrev pub memories_of : List Targeted → List (Option ℕ)
+memories_of = map (λ (t : Targeted). t.memory_index)
+
 -- An object of these bytes and sections has these items: its symbols take the names of imports, and its relocations are in
 -- order of their fields.
 pub record HasItems (bytes : List ℕ) (headers : List SectionHeader) (parts : Parts) (o : Object) : Type 0 where
   pub bytes_are : o.bytes ≡ bytes
   pub sections : o.sections ≡ headers
   pub types : o.types ≡ parts.types
-  pub imports : o.imports ≡ parts.imports
+  pub imports : o.imports ≡ plain_imports parts.imports
   pub functions : o.functions ≡ parts.functions
   pub memories : o.memories ≡ parts.memories
   pub globals : o.globals ≡ parts.globals
   pub exports : o.exports ≡ parts.exports
   pub data_counts : o.data_counts ≡ parts.data_counts
   pub bodies : o.bodies ≡ parts.bodies
-  pub segments : o.segments ≡ parts.segments
+  pub segments : o.segments ≡ plain_segments parts.segments
+  pub segment_memories : o.segment_memories ≡ memories_of parts.segments
   pub segment_infos : o.segment_infos ≡ parts.segment_infos
   pub init_funcs : o.init_funcs ≡ parts.init_funcs
   pub symbols : o.symbols ≡ named_symbols headers parts

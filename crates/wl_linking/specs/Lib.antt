@@ -17,4 +17,5 @@ pub mod SlotsReading
 pub mod Sites
 pub mod Placing
 pub mod Fitting
+pub mod Stretches
 pub mod RawNames

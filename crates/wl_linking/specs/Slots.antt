@@ -6,7 +6,7 @@ use Rattle.wl_module.specs.declared.sections.SectionHeader.{SectionHeader}
 use Rattle.wl_module.specs.declared.error.ReadError.{ReadError}
 use Rattle.wl_module.specs.declared.error.ReadError.TheVariants.{Malformed}
 use Rattle.wl_module.specs.declared.error.Why.TheVariants.{SlotNames}
-use Rattle.wl_module.specs.Imports.{Imported}
+use Rattle.wl_module.specs.Imports.{PlacedImported}
 use Rattle.wl_linking.specs.Spaces.{is_of}
 use Rattle.wl_linking.specs.Symbols.{Symbol, is_undefined, has_name, named, range_of}
 use Rattle.wl_linking.specs.declared.spaces.Spaces.{Spaces}
@@ -30,12 +30,12 @@ abbrev pub import_base : List SectionHeader → ℕ
 import_base headers = begin_of (find (λ (h : SectionHeader). h.id == 2) headers)
 
 -- the field name of an import, where so many bytes of the object lie before its section's payload
-abbrev pub slot_of : ℕ → Imported → Slot
-slot_of base i = record { name = i.name; range = range_of base i.name_offset (length i.name) }
+abbrev pub slot_of : ℕ → PlacedImported → Slot
+slot_of base i = record { name = i.import.name; range = range_of base i.name_offset (length i.import.name) }
 
 -- the field names of the imports of a kind, in order
-abbrev pub slots_of : ExternalKind → ℕ → List Imported → List Slot
-slots_of kind base imports = map (slot_of base) (filter (λ (i : Imported). is_of kind i.entity) imports)
+abbrev pub slots_of : ExternalKind → ℕ → List PlacedImported → List Slot
+slots_of kind base imports = map (slot_of base) (filter (λ (i : PlacedImported). is_of kind i.import.entity) imports)
 
 -- ---- symbols that take them
 

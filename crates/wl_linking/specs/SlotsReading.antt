@@ -2,7 +2,7 @@
 use Rattle.std.specs.Prelude.{◌≡◌, ◌≤◌, ℕ, ◌+◌, ◌^◌, Bool, true, if◌then◌else◌, List, [], ◌∷◌, length, Option, Some, None, slice_get, slice_set}
 use Rattle.std.specs.Str.{bytes_eq}
 use Rattle.wl_module.specs.declared.imports.ExternalKind.{ExternalKind}
-use Rattle.wl_module.specs.Imports.{Imported}
+use Rattle.wl_module.specs.Imports.{PlacedImported}
 use Rattle.wl_linking.specs.Spaces.{is_of}
 use Rattle.wl_linking.specs.Slots.{Slot, slot_of}
 use Rattle.wl_linking.specs.Symbols.{Symbol}
@@ -10,12 +10,12 @@ use Rattle.wl_linking.specs.Symbols.{Symbol}
 -- ---- imports
 
 -- the field name of one import, if it is of that kind
-abbrev pub slots_from : ExternalKind → ℕ → Imported → List Slot
-slots_from kind base i = if is_of kind i.entity then slot_of base i ∷ [] else []
+abbrev pub slots_from : ExternalKind → ℕ → PlacedImported → List Slot
+slots_from kind base i = if is_of kind i.import.entity then slot_of base i ∷ [] else []
 
 -- the field name stands within 2^30 bytes
-abbrev pub IsNamedWithin : Imported → Type 0
-IsNamedWithin i = i.name_offset + length i.name ≤ 2 ^ 30
+abbrev pub IsNamedWithin : PlacedImported → Type 0
+IsNamedWithin i = i.name_offset + length i.import.name ≤ 2 ^ 30
 
 -- ---- symbols
 

@@ -10,7 +10,6 @@ use Rattle.wl_module.specs.declared.error.ReadError.TheVariants.{Malformed}
 use Rattle.wl_module.specs.declared.error.Why.TheVariants as why
 use Rattle.wl_module.specs.Imports.{Imported}
 use Rattle.wl_module.specs.Exports.{Exported}
-use Rattle.wl_module.specs.Segments.{Segment}
 use Rattle.wl_linking.specs.RelocationTypes.{names_a_type}
 use Rattle.wl_linking.specs.Symbols.{Symbol, is_undefined, is_absolute}
 use Rattle.wl_linking.specs.declared.infos.WasmInitFunc.{WasmInitFunc}
@@ -87,10 +86,6 @@ abbrev pub memory_exists : Spaces → Option ℕ → Bool
 memory_exists spaces None = true
 memory_exists spaces (Some memory) = nat_lt memory (spaces.imported_memories + spaces.memories)
 
--- an active segment goes into one of the memories
-abbrev pub segment_exists : Spaces → Segment → Bool
-segment_exists spaces s = memory_exists spaces s.memory
-
 -- the number of an undefined symbol is that of an import, and else of a definition, which come behind the imports
 abbrev pub number_exists : Bool → ℕ → ℕ → ℕ → Bool
 number_exists undefined imported defined index = if undefined then nat_lt index imported else nat_le imported index && nat_lt (index - imported) defined
@@ -131,7 +126,7 @@ pub record NamesExist (o : Object) : Type 0 where
   pub imports : list_all (import_exists (spaces_of o)) o.imports ≡ true
   pub functions : list_all (type_exists (spaces_of o)) o.functions ≡ true
   pub exports : list_all (export_exists (spaces_of o)) o.exports ≡ true
-  pub segments : list_all (segment_exists (spaces_of o)) o.segments ≡ true
+  pub segment_memories : list_all (memory_exists (spaces_of o)) o.segment_memories ≡ true
   pub symbols : list_all (symbol_exists (spaces_of o)) o.symbols ≡ true
   pub init_funcs : list_all (init_exists (spaces_of o)) o.init_funcs ≡ true
   pub code : list_all (relocation_exists (spaces_of o)) o.code_relocations ≡ true
@@ -147,7 +142,7 @@ core_names_exist spaces o =
     list_all (import_exists spaces) o.imports
     && list_all (type_exists spaces) o.functions
     && list_all (export_exists spaces) o.exports
-    && list_all (segment_exists spaces) o.segments
+    && list_all (memory_exists spaces) o.segment_memories
 
 -- all that the linking section and the relocations name exists
 abbrev pub linked_names_exist : Spaces → Object → Bool

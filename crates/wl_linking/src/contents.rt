@@ -28,6 +28,8 @@ pub(crate) struct Contents<'a> {
     pub data_counts: Items<u32>,
     pub bodies: Items<WasmFunctionBody<'a>>,
     pub segments: Items<WasmDataSegment<'a>>,
+    /// Of each segment the memory that it goes into when the module starts, if it does.
+    pub segment_memories: Items<Option<u32>>,
     pub segment_infos: Items<WasmSegmentInfo<'a>>,
     pub init_funcs: Items<WasmInitFunc>,
     pub symbols: Items<WasmSymbol<'a>>,
@@ -57,6 +59,7 @@ impl<'a> Model for Contents<'a> {
       data_counts = c.data_counts;
       bodies = c.bodies;
       segments = c.segments;
+      segment_memories = c.segment_memories;
       segment_infos = c.segment_infos;
       init_funcs = c.init_funcs;
       symbols = c.symbols;

@@ -3,6 +3,7 @@
 ghost use Rattle.std.specs.Prelude.{◌≡◌, ◌⊎◌, ◌<◌, ◌≤◌, ◌^◌, ℕ, List, length, map, Some, slice_get, IfOk, MatchResult};
 ghost use Rattle.std.specs.List.{AllByRecursion};
 ghost use Rattle.std.specs.List.Sorted.{IsNonDecreasingBy};
+ghost use Rattle.wl_module.specs.Segments.{plain_segments};
 ghost use Rattle.wl_module.specs.Sections.{Framed, FrameFault};
 ghost use Rattle.wl_module.specs.declared.sections.SectionHeader.{SectionHeader as Header};
 ghost use Rattle.wl_module.specs.declared.error.ReadError.{ReadError as Fault};
@@ -13,13 +14,15 @@ ghost use Rattle.wl_linking.specs.SlotsReading.{IsNamedWithin};
 ghost use Rattle.wl_linking.specs.Sites.{body_piece, segment_piece, offset_of, LieApart, FieldsFault};
 ghost use Rattle.wl_linking.specs.Fitting.{HasItems, named_symbols, NameStands, code_pieces, data_pieces, Fitted, CrossFault, FitsParts, PartsFault, IsFitting, IsObject, IsWhole, ObjectFault, ParsesObject};
 ghost use Rattle.wl_linking.specs.declared.sites.Site.{Site as PlacedSite};
-ghost use Rattle.wl_linking.specs.Placing.{Ascend};
+ghost use Rattle.wl_linking.specs.Placing.{IsSpanned, Ascend};
+ghost use Rattle.wl_linking.specs.Stretches.{PartsStandIn};
 ghost use Rattle.wl_linking.specs.Verdict.{HasCause};
 
 use crate::contents::Contents;
 use crate::file::File;
 use crate::items::Items;
 use crate::parts::{Parts, read_parts};
+use crate::plain::{memories_of, plain_imports, plain_segments};
 use crate::sites::{Site, body_pieces, in_order, place_fields, segment_pieces};
 use crate::slots::{check_slots, import_base, name_symbols, slots_of};
 use crate::spaces::{check_names, spaces_of};
@@ -44,18 +47,22 @@ fn assemble<'a>(
     let symbols = name_symbols(alloc, &functions, &globals, parts.symbols)?;
     let code_relocations = in_order(parts.code_entries)?;
     let data_relocations = in_order(parts.data_entries)?;
+    let imports = plain_imports(alloc, parts.imports)?;
+    let segment_memories = memories_of(alloc, parts.segments.as_slice())?;
+    let segments = plain_segments(alloc, parts.segments)?;
     Ok(Contents {
         bytes,
         sections,
         types: parts.types,
-        imports: parts.imports,
+        imports,
         functions: parts.functions,
         memories: parts.memories,
         globals: parts.globals,
         exports: parts.exports,
         data_counts: parts.data_counts,
         bodies: parts.bodies,
-        segments: parts.segments,
+        segments,
+        segment_memories,
         segment_infos: parts.segment_infos,
         init_funcs: parts.init_funcs,
         symbols,
@@ -81,6 +88,7 @@ fn find_code_sites(alloc: Global, contents: &Contents<'_>) -> Result<Items<Site>
 
 /// Where the fields of data lie: each in a segment, and by itself.
 fn find_data_sites(alloc: Global, contents: &Contents<'_>) -> Result<Items<Site>, ReadError>
+    requires spans { AllByRecursion IsSpanned contents.now.segments }
     requires segments { Ascend 0 (data_pieces contents.now) }
     requires order { IsNonDecreasingBy offset_of contents.now.data_relocations }
     ensures { MatchResult result (LieApart (data_pieces contents.now) contents.now.data_relocations) (HasCause (FieldsFault (data_pieces contents.now) contents.now.data_relocations)) }
@@ -94,6 +102,7 @@ fn find_data_sites(alloc: Global, contents: &Contents<'_>) -> Result<Items<Site>
 fn fit_together(alloc: Global, contents: &mut Contents<'_>) -> Result<(), ReadError>
     requires names { AllByRecursion (NameStands contents.old.bytes) contents.old.symbols }
     requires bodies { Ascend 0 (code_pieces contents.old) }
+    requires spans { AllByRecursion IsSpanned contents.old.segments }
     requires segments { Ascend 0 (data_pieces contents.old) }
     requires code { IsNonDecreasingBy offset_of contents.old.code_relocations }
     requires data_ { IsNonDecreasingBy offset_of contents.old.data_relocations }
@@ -119,7 +128,8 @@ fn fit<'a>(
     requires names { AllByRecursion IsNamedWithin parts.imports }
     requires symbols { AllByRecursion (NameStands bytes.now) (named_symbols sections parts) }
     requires bodies { Ascend 0 (map body_piece parts.bodies) }
-    requires segments { Ascend 0 (map segment_piece parts.segments) }
+    requires spans { AllByRecursion IsSpanned (plain_segments parts.segments) }
+    requires segments { Ascend 0 (map segment_piece (plain_segments parts.segments)) }
     ensures { MatchResult result (FitsParts bytes.now sections parts.entry) (HasCause (PartsFault bytes.now sections parts.entry)) }
 {
     let mut contents = assemble(alloc, bytes, sections, parts)?;
@@ -166,6 +176,12 @@ pub fn object_or_fault()
 /// The name of each symbol is what stands at its range of the object's bytes.
 pub fn names_stand()
     ensures { (bytes : List ℕ) (o : Object) → IsObject o bytes → AllByRecursion (NameStands bytes) o.symbols }
+{}
+
+/// The names of imports, exports, features and what is told of segments, the expressions of globals,
+/// bodies, and the bytes of segments stand in the object's bytes.
+pub fn parts_of_objects_stand()
+    ensures { (bytes : List ℕ) (o : Object) → IsObject o bytes → PartsStandIn bytes o }
 {}
 
 /// What holds of each object that is kept: it fits together, each function has one of its types, and

@@ -12,7 +12,7 @@ use crate::spaces::{Spaces, is_of};
 use crate::symbols::{WasmSymbol, WasmSymbolKind, range_of};
 use std::alloc::{AllocError, Global};
 use std::marker::Model;
-use wl_module::{ExternalKind, Import, ReadError, SectionHeader, Why};
+use wl_module::{ExternalKind, PlacedImport, ReadError, SectionHeader, Why, section_id};
 
 /// The field name of an import. Clauses see it as a `Slot`, with the name as a list.
 #[derive(Drop)]
@@ -30,15 +30,15 @@ impl<'a> Model for SlotName<'a> {
     ghost view = { λ s. record { name = s.name.now; range = s.range } };
 }
 
-/// The id of the import section.
-const IMPORT: u8 = 2;
-
 /// How many bytes of the object lie before the payload of its import section; 0 where there is
 /// none.
 pub(crate) fn import_base(headers: &[SectionHeader]) -> u32
     ensures { result ≡ import_base headers.now }
 {
-    match headers.iter().find(|header| header.id == IMPORT) {
+    match headers
+        .iter()
+        .find(|header| header.id == section_id::IMPORT)
+    {
         None => 0,
         Some(header) => header.payload_range.0,
     }
@@ -46,15 +46,15 @@ pub(crate) fn import_base(headers: &[SectionHeader]) -> u32
 
 /// The field name of an import, where so many bytes of the object lie before its section's
 /// payload.
-fn slot_of<'a>(base: u32, import: &Import<'a>) -> SlotName<'a>
+fn slot_of<'a>(base: u32, placed: &PlacedImport<'a>) -> SlotName<'a>
     requires base { base ≤ 2 ^ 30 }
-    requires place { import.now.name_offset + length import.now.name ≤ 2 ^ 30 }
-    ensures { result ≡ slot_of base import.now }
+    requires place { placed.now.name_offset + length placed.now.import.name ≤ 2 ^ 30 }
+    ensures { result ≡ slot_of base placed.now }
 {
-    let name = import.name;
+    let name = placed.import.name;
     SlotName {
         name,
-        range: range_of(base, import.name_offset() + name.len(), name.len()),
+        range: range_of(base, placed.name_offset + name.len(), name.len()),
     }
 }
 
@@ -63,14 +63,14 @@ fn push_slot<'a>(
     slots: &mut Vec<SlotName<'a>>,
     kind: ExternalKind,
     base: u32,
-    import: &Import<'a>,
+    placed: &PlacedImport<'a>,
 ) -> Result<(), AllocError>
     requires base { base ≤ 2 ^ 30 }
-    requires place { import.now.name_offset + length import.now.name ≤ 2 ^ 30 }
-    ensures { OnOk result (slots.new.items ≡ slots.old.items ++ slots_from kind base import.now) }
+    requires place { placed.now.name_offset + length placed.now.import.name ≤ 2 ^ 30 }
+    ensures { OnOk result (slots.new.items ≡ slots.old.items ++ slots_from kind base placed.now) }
 {
-    if is_of(kind, &import.entity) {
-        slots.push(slot_of(base, import))?;
+    if is_of(kind, &placed.import.entity) {
+        slots.push(slot_of(base, placed))?;
     }
     Ok(())
 }
@@ -81,15 +81,15 @@ pub(crate) fn slots_of<'a>(
     alloc: Global,
     kind: ExternalKind,
     base: u32,
-    imports: &[Import<'a>],
+    imports: &[PlacedImport<'a>],
 ) -> Result<Vec<SlotName<'a>>, AllocError>
     requires base { base ≤ 2 ^ 30 }
     requires places { AllByRecursion IsNamedWithin imports.now }
     ensures { IfOk result (λ slots. slots.items ≡ slots_of kind base imports.now) }
 {
     let mut slots = Vec::new(alloc);
-    for import in imports {
-        push_slot(&mut slots, kind, base, import)?;
+    for placed in imports {
+        push_slot(&mut slots, kind, base, placed)?;
     }
     Ok(slots)
 }

@@ -3,7 +3,7 @@
 
 ghost use Rattle.std.specs.Prelude.{◌≡◌, ◌+◌, ◌==◌, nat_lt, MatchResult};
 ghost use Rattle.std.specs.List.{list_all};
-ghost use Rattle.wl_linking.specs.Spaces.{is_of, count_imports, spaces_of, import_exists, export_exists, segment_exists, number_exists, thing_exists, symbol_exists, init_exists, relocation_exists, type_exists, counts_segments, core_names_exist, linked_names_exist, counts_hold, NamesExist, NamesFault};
+ghost use Rattle.wl_linking.specs.Spaces.{is_of, count_imports, spaces_of, import_exists, export_exists, memory_exists, number_exists, thing_exists, symbol_exists, init_exists, relocation_exists, type_exists, counts_segments, core_names_exist, linked_names_exist, counts_hold, NamesExist, NamesFault};
 ghost use Rattle.wl_linking.specs.Symbols.{is_undefined};
 ghost use Rattle.wl_linking.specs.Verdict.{HasCause};
 
@@ -11,9 +11,7 @@ use crate::contents::Contents;
 use crate::infos::WasmInitFunc;
 use crate::relocations::WasmRelocation;
 use crate::symbols::{WasmSymbol, WasmSymbolKind};
-use wl_module::{
-    ExternalKind, Import, ImportEntity, OutputExport, ReadError, WasmDataSegment, Why,
-};
+use wl_module::{ExternalKind, Import, ImportEntity, OutputExport, ReadError, Why};
 
 /// How many things of each kind an object has.
 #[derive(Clone, Copy, Debug, PartialEq, Eq)]
@@ -115,11 +113,11 @@ fn export_exists(spaces: Spaces, export: &OutputExport<'_>) -> bool
     is_in_space(imported, defined, export.index)
 }
 
-/// Whether the memory that an active segment goes to is there.
-fn segment_exists(spaces: Spaces, segment: &WasmDataSegment<'_>) -> bool
-    ensures { result ≡ segment_exists spaces segment.now }
+/// Whether the memory that a segment goes to is there, if it goes to one when the module starts.
+fn memory_exists(spaces: Spaces, memory: Option<u32>) -> bool
+    ensures { result ≡ memory_exists spaces memory }
 {
-    match segment.memory_index() {
+    match memory {
         None => true,
         Some(memory) => is_in_space(spaces.imported_memories, spaces.memories, memory),
     }
@@ -199,13 +197,11 @@ fn exports_exist(spaces: Spaces, exports: &[OutputExport<'_>]) -> bool
     exports.iter().all(|export| export_exists(spaces, export))
 }
 
-/// Whether each memory that an active segment goes to is there.
-fn segments_exist(spaces: Spaces, segments: &[WasmDataSegment<'_>]) -> bool
-    ensures { result ≡ list_all (segment_exists spaces) segments.now }
+/// Whether each memory that a segment goes to when the module starts is there.
+fn memories_exist(spaces: Spaces, memories: &[Option<u32>]) -> bool
+    ensures { result ≡ list_all (memory_exists spaces) memories.now }
 {
-    segments
-        .iter()
-        .all(|segment| segment_exists(spaces, segment))
+    memories.iter().all(|memory| memory_exists(spaces, *memory))
 }
 
 /// Whether what each symbol stands for is there.
@@ -240,7 +236,7 @@ fn core_names_exist(spaces: Spaces, contents: &Contents<'_>) -> bool
     imports_exist(spaces, contents.imports.as_slice())
         && types_exist(spaces, contents.functions.as_slice())
         && exports_exist(spaces, contents.exports.as_slice())
-        && segments_exist(spaces, contents.segments.as_slice())
+        && memories_exist(spaces, contents.segment_memories.as_slice())
 }
 
 /// Whether all that the linking section and the relocations name is there.
