@@ -1,13 +1,15 @@
 -- The field name of each import stands at its range of the object's bytes, and so do the names that symbols take from there.
-use Rattle.std.proofs.Common.{◌≡◌, ℕ, zero, suc, ◌+◌, Bool, true, false, cond, eqb, List, [], ◌∷◌, ◌++◌, ◌&&◌, length, map, not, Option, Some, None, slice_get, refl, ap, subst, arith, length-append}
+use Rattle.std.proofs.Common.{◌≡◌, ℕ, zero, suc, ◌+◌, Bool, true, false, cond, eqb, List, [], ◌∷◌, ◌++◌, ◌&&◌, length, map, not, Option, Some, None, slice_get, refl, sym, ap, subst, ◌∙◌, arith}
 use Rattle.std.specs.List.{AllByRecursion, flat_map, filter, find, starts_with}
 use Rattle.std.specs.Str.{bytes_eq}
 use Rattle.std.specs.Prelude.{codes, nat_eq}
 use Rattle.std.proofs.lemmas.Bool.{eqb-true}
 use Rattle.std.proofs.lemmas.List.{append-nil}
 use Rattle.wl_module.specs.Chains.{Chain}
-use Rattle.wl_module.specs.Imports.{Imported, IsImport, IsImportAfter, import_seen, AreImports}
-use Rattle.wl_module.specs.Sections.{rank, IsSection, next}
+use Rattle.wl_module.specs.Imports.{PlacedImported}
+use Rattle.wl_module.specs.Places.{StandsAt, PlacedImportStands}
+use Rattle.wl_module.proofs.PlaceLaws.{placed_imports_stand}
+use Rattle.wl_module.specs.Sections.{rank, IsSection, next, Framed}
 use Rattle.wl_module.specs.declared.sections.SectionHeader.{SectionHeader}
 use Rattle.wl_module.specs.declared.imports.ExternalKind.{ExternalKind}
 use Rattle.wl_module.specs.declared.imports.ExternalKind.TheVariants.{Func as FuncImport, Global as GlobalImport}
@@ -17,68 +19,35 @@ use Rattle.wl_linking.specs.Slots.{Slot, slot_of, slots_of, begin_of, import_bas
 use Rattle.wl_linking.specs.Targets.{stretch, kind_of, named_kind, payload_of}
 use Rattle.wl_linking.specs.Sections.{HoldsItems, IsPlaced, AreSound, seen_then, nothing_seen, imports_in, symbols_in}
 use Rattle.wl_linking.specs.Object.{Object}
-use Rattle.wl_linking.specs.Fitting.{IsObject, NameStands}
+use Rattle.wl_linking.specs.SlotsReading.{AreNamedByRange}
+use Rattle.wl_linking.specs.Parts.{parts_of}
+use Rattle.wl_linking.specs.Fitting.{IsObject, NameStands, named_symbols}
 use Rattle.wl_linking.specs.declared.kinds.SectionKind.{SectionKind}
 use Rattle.wl_linking.specs.declared.kinds.SectionKind.TheVariants as kind
 use Rattle.wl_linking.specs.declared.kinds.Seen.{Seen}
 use Rattle.wl_linking.specs.declared.section.Section.{Section}
+use Rattle.wl_linking.specs.declared.section.Section.TheVariants.{Imports}
 use Rattle.wl_linking.specs.declared.symbols.WasmSymbolKind.{WasmSymbolKind}
 use Rattle.wl_linking.specs.declared.symbols.WasmSymbolKind.TheVariants.{Func, Data, Global, Section as SectionSymbol, Event, Table}
-use Rattle.wl_linking.proofs.PlacedLaws.{StandsAt, placed_headers}
+use Rattle.wl_linking.proofs.PlacedLaws.{placed_headers}
+use Rattle.wl_linking.proofs.HeldLaws.{Spelled, spelled, payload_stands, all_follow}
 use Rattle.wl_linking.proofs.OnceLaws.{ComesOnce, IsPast, rank_of, no_second, none_of_all, custom_by, standard_by}
-use Rattle.wl_linking.proofs.NameLaws.{Stands, SymbolStands, all_stands, behind_stands, before_stands, outer_stands, name_stands, payload_stands, sections_stand}
+use Rattle.wl_linking.proofs.NameLaws.{Stands, SymbolStands, outer_stands, name_stands, sections_stand}
 
 -- ---- the imports of a section
 
--- the field name of an import stands in the bytes, before which so many of the object's lie
-abbrev ImportStands : List ℕ → ℕ → Imported → Type 0
-ImportStands bytes base i = Stands bytes base i.name (range_of base i.name_offset (length i.name))
+-- the field name of an import stands at its range of the bytes
+abbrev InObject : List ℕ → ℕ → PlacedImported → Type 0
+InObject bytes base i = Stands bytes 0 i.import.name (range_of base i.name_offset (length i.import.name))
 
-import_stands : (bytes : List ℕ) (base place : ℕ) (i : Imported) (text : List ℕ) → StandsAt bytes text place → IsImport place i text → ImportStands bytes base i
-import_stands bytes base place i text h (origin, behind, parts, first, (front, back, parts', ((head, whole, number, utf8), ends), others)) =
-    let h1 = behind_stands bytes text origin behind place parts h in
-    let h2 = before_stands bytes behind front back (place + length origin) parts' h1 in
-    let there = behind_stands bytes front head i.name (place + length origin) whole h2 in
-    let at : place + length origin + length head ≡ i.name_offset = omega (arith, ends, ap length whole, length-append head i.name) in
-    record { at = i.name_offset; there = subst (λ (n : ℕ). StandsAt bytes i.name n) at there; range_is = refl }
+import_stands : (bytes payload : List ℕ) (base : ℕ) (i : PlacedImported) → StandsAt bytes payload base → PlacedImportStands payload i → InObject bytes base i
+import_stands bytes payload base i there h = outer_stands bytes payload i.import.name base (range_of base i.name_offset (length i.import.name)) there (record { at = i.name_offset; there = h.name; range_is = refl })
 
-chain_stands : (bytes : List ℕ) (base : ℕ) (seen : Bool) (place : ℕ) (xs : List Imported) (text : List ℕ) → StandsAt bytes text place → Chain IsImportAfter import_seen seen place xs text → AllByRecursion (ImportStands bytes base) xs
-chain_stands bytes base seen place [] text h s = tt
-chain_stands bytes base seen place (x ∷ xs) text h (front, back, parts, here, rest) = (
-  import_stands bytes base place x front (before_stands bytes text front back place parts h) here.0,
-  chain_stands bytes base (import_seen seen x) (place + length front) xs back (behind_stands bytes text front back place parts h) rest,
-)
-
-payload_imports_stand : (base : ℕ) (xs : List Imported) (payload : List ℕ) → AreImports xs payload → AllByRecursion (ImportStands payload base) xs
-payload_imports_stand base xs payload (head, body, parts, count, chain) =
-    chain_stands payload base false (0 + length head) xs body (behind_stands payload payload head body 0 parts (all_stands payload)) chain
-
--- the same in the object's own bytes
-abbrev InObject : List ℕ → ℕ → Imported → Type 0
-InObject bytes base i = Stands bytes 0 i.name (range_of base i.name_offset (length i.name))
-
-all_outer : (bytes text : List ℕ) (base : ℕ) (xs : List Imported) → StandsAt bytes text base → AllByRecursion (ImportStands text base) xs → AllByRecursion (InObject bytes base) xs
-all_outer bytes text base [] h s = tt
-all_outer bytes text base (x ∷ xs) h s = (outer_stands bytes text x.name base (range_of base x.name_offset (length x.name)) h s.0, all_outer bytes text base xs h s.1)
-
-section_imports : (k : SectionKind) (bytes : List ℕ) (all : List SectionHeader) (seen : Seen) (s : SectionHeader) (section : Section) (payload : List ℕ) → StandsAt bytes payload s.payload_range.0 → HoldsItems k bytes all seen s section payload → AllByRecursion (InObject bytes s.payload_range.0) (imports_in section)
-section_imports kind.Type bytes all seen s section payload there h = rw h.1 tt
-section_imports kind.Import bytes all seen s section payload there h = rw h.1 (all_outer bytes payload s.payload_range.0 h.0 there (payload_imports_stand s.payload_range.0 h.0 payload h.2))
-section_imports kind.Function bytes all seen s section payload there h = rw h.1 tt
-section_imports kind.Memory bytes all seen s section payload there h = rw h.1 tt
-section_imports kind.Global bytes all seen s section payload there h = rw h.1 tt
-section_imports kind.Export bytes all seen s section payload there h = rw h.1 tt
-section_imports kind.DataCount bytes all seen s section payload there h = rw h.1 tt
-section_imports kind.Code bytes all seen s section payload there h = rw h.1 tt
-section_imports kind.Data bytes all seen s section payload there h = rw h.1 tt
-section_imports kind.Linking bytes all seen s section payload there h = rw h.1 tt
-section_imports kind.Reloc bytes all seen s section payload there h = rw h.1 tt
-section_imports kind.Features bytes all seen s section payload there h = rw h.1 tt
-section_imports kind.Debug bytes all seen s section payload there h = rw h tt
-section_imports kind.Skipped bytes all seen s section payload there h = rw h tt
-section_imports kind.Table bytes all seen s section payload there h = absurd h
-section_imports kind.Start bytes all seen s section payload there h = absurd h
-section_imports kind.Tag bytes all seen s section payload there h = absurd h
+imports_of : (bytes : List ℕ) (s : SectionHeader) (section : Section) → StandsAt bytes (payload_of bytes s) s.payload_range.0 → Spelled s section (payload_of bytes s) → AllByRecursion (InObject bytes s.payload_range.0) (imports_in section)
+imports_of bytes s (Imports imports) there h =
+    let payload = payload_of bytes s in
+    all_follow (PlacedImportStands payload) (InObject bytes s.payload_range.0) imports (λ i stands. import_stands bytes payload s.payload_range.0 i there stands) (placed_imports_stand imports payload h)
+imports_of bytes s _ there h = tt
 
 -- ---- one import section at most
 
@@ -136,7 +105,7 @@ no_import kind.Table bytes all seen s section payload not h = absurd h
 no_import kind.Start bytes all seen s section payload not h = absurd h
 no_import kind.Tag bytes all seen s section payload not h = absurd h
 
-abbrev anything : List Imported → Type 0
+abbrev anything : List PlacedImported → Type 0
 anything xs = Unit {0}
 
 import_once : ComesOnce is_import 2 imports_in anything
@@ -159,7 +128,7 @@ imports_stand bytes all seen last place (s ∷ hs) text (x ∷ held) (front, bac
         let rank_is : rank s.id ≡ rank 2 = rank_of 2 s.id (eqb-true s.id 2 is) in
         let past : IsPast (rank 2) (next last s) = rw rank_is (omega arith) in
         let none = none_of_all is_import 2 imports_in anything import_once bytes all (seen_then seen x) hs held (no_second is_import 2 imports_in anything import_once bytes (next last s) (place + length front) hs back past rest) h.1 in
-        rw (none, append-nil (imports_in x)) (section_imports (kind_of bytes s) bytes all seen s x (payload_of bytes s) (payload_stands bytes s placed.0.begins) h.0)
+        rw (none, append-nil (imports_in x)) (imports_of bytes s x (payload_stands bytes s placed.0.begins) (spelled (kind_of bytes s) bytes all seen s x (payload_of bytes s) h.0))
     by_id false is more =
         let others = no_import (kind_of bytes s) bytes all seen s x (payload_of bytes s) (other (is_import (kind_of bytes s)) refl is) h.0 in
         rw others more
@@ -169,11 +138,11 @@ imports_stand bytes all seen last place (s ∷ hs) text (x ∷ held) (front, bac
 abbrev SlotStands : List ℕ → Slot → Type 0
 SlotStands bytes slot = Stands bytes 0 slot.name slot.range
 
-slots_stand : (bytes : List ℕ) (kind : ExternalKind) (base : ℕ) (xs : List Imported) → AllByRecursion (InObject bytes base) xs → AllByRecursion (SlotStands bytes) (slots_of kind base xs)
+slots_stand : (bytes : List ℕ) (kind : ExternalKind) (base : ℕ) (xs : List PlacedImported) → AllByRecursion (InObject bytes base) xs → AllByRecursion (SlotStands bytes) (slots_of kind base xs)
 slots_stand bytes kind base [] h = tt
-slots_stand bytes kind base (x ∷ xs) h = by_kind (is_of kind x.entity) (slots_stand bytes kind base xs h.1)
+slots_stand bytes kind base (x ∷ xs) h = by_kind (is_of kind x.import.entity) (slots_stand bytes kind base xs h.1)
   where
-    by_kind : (b : Bool) → AllByRecursion (SlotStands bytes) (slots_of kind base xs) → AllByRecursion (SlotStands bytes) (map (slot_of base) (cond b (x ∷ filter (λ (i : Imported). is_of kind i.entity) xs) (filter (λ (i : Imported). is_of kind i.entity) xs)))
+    by_kind : (b : Bool) → AllByRecursion (SlotStands bytes) (slots_of kind base xs) → AllByRecursion (SlotStands bytes) (map (slot_of base) (cond b (x ∷ filter (λ (i : PlacedImported). is_of kind i.import.entity) xs) (filter (λ (i : PlacedImported). is_of kind i.import.entity) xs)))
     by_kind true rest = (h.0, rest)
     by_kind false rest = rest
 
@@ -207,12 +176,30 @@ symbols_named bytes functions globals (s ∷ symbols) f g h =
     let s' = with_import_name functions globals s in
     (name_stands bytes s'.name s'.name_range (symbol_named bytes functions globals s f g h.0), symbols_named bytes functions globals symbols f g h.1)
 
-pub object_names_stand : (bytes : List ℕ) (o : Object) → IsObject o bytes → AllByRecursion (NameStands bytes) o.symbols
-object_names_stand bytes o h =
-    let placed = placed_headers bytes o.sections h.framed in
-    let imports = imports_stand bytes o.sections nothing_seen 0 8 o.sections h.framed.0 h.held h.framed.2 placed h.sound in
-    let base = import_base o.sections in
-    let all = flat_map imports_in h.held in
-    rw h.items.symbols (symbols_named bytes (slots_of FuncImport base all) (slots_of GlobalImport base all) (flat_map symbols_in h.held)
+-- the symbols of sound sections
+pub parts_names_stand : (bytes : List ℕ) (headers : List SectionHeader) (held : List Section) → Framed headers bytes → AreSound bytes headers nothing_seen headers held → AllByRecursion (NameStands bytes) (named_symbols headers (parts_of held))
+parts_names_stand bytes headers held framed sound =
+    let placed = placed_headers bytes headers framed in
+    let imports = imports_stand bytes headers nothing_seen 0 8 headers framed.0 held framed.2 placed sound in
+    let base = import_base headers in
+    let all = flat_map imports_in held in
+    symbols_named bytes (slots_of FuncImport base all) (slots_of GlobalImport base all) (flat_map symbols_in held)
     (slots_stand bytes FuncImport base all imports) (slots_stand bytes GlobalImport base all imports)
-    (sections_stand bytes o.sections nothing_seen o.sections h.held placed h.sound))
+    (sections_stand bytes headers nothing_seen headers held placed sound)
+
+pub object_names_stand : (bytes : List ℕ) (o : Object) → IsObject o bytes → AllByRecursion (NameStands bytes) o.symbols
+object_names_stand bytes o h = rw h.items.symbols (parts_names_stand bytes o.sections h.held h.framed h.sound)
+
+-- ---- names by their ranges
+
+-- what stands at one range of the bytes is one name
+pub named_by_range : (bytes : List ℕ) (symbols : List Symbol) → AllByRecursion (NameStands bytes) symbols → AreNamedByRange symbols
+named_by_range bytes symbols h i j s t here there same =
+    let one = stands_at symbols i s h here in
+    let other = stands_at symbols j t h there in
+    sym one ∙ ap (stretch bytes) same ∙ other
+  where
+    stands_at : (xs : List Symbol) (k : ℕ) (x : Symbol) → AllByRecursion (NameStands bytes) xs → slice_get xs k ≡ Some x → NameStands bytes x
+    stands_at [] k x h is = absurd cc
+    stands_at (y ∷ xs) zero x h is = let same : y ≡ x = cc in subst (NameStands bytes) same h.0
+    stands_at (y ∷ xs) (suc k) x h is = stands_at xs k x h.1 is

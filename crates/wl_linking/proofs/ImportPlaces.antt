@@ -1,66 +1,61 @@
--- The names of imports stand within the bytes of their object.
-use Rattle.std.proofs.Common.{◌≡◌, ℕ, ◌+◌, ◌-◌, ◌≤◌, ◌^◌, Bool, false, List, [], ◌∷◌, ◌++◌, ◌∙◌, length, drop, sym, ap, subst, arith, length-append}
+-- The names of imports stand within the bytes of their object, and so do segments.
+use Rattle.std.proofs.Common.{ℕ, ◌+◌, ◌-◌, ◌≤◌, ◌^◌, List, [], ◌∷◌, ◌++◌, length, drop, ap, arith, length-append}
 use Rattle.std.proofs.lemmas.List.{length-take, length-drop}
 use Rattle.std.specs.List.{flat_map, AllByRecursion}
-use Rattle.wl_module.specs.Chains.{Chain}
-use Rattle.wl_module.specs.Imports.{Imported, IsImport, IsImportAfter, import_seen, AreImports}
+use Rattle.wl_module.specs.Segments.{Targeted, plain_segments}
+use Rattle.wl_module.specs.Places.{StandsAt, PlacedImportStands, TargetedStands}
+use Rattle.wl_module.proofs.PlaceLaws.{placed_imports_stand, targeted_stand}
 use Rattle.wl_module.specs.declared.sections.SectionHeader.{SectionHeader}
-use Rattle.wl_linking.specs.Slots.{IsNamedWithin}
-use Rattle.wl_linking.specs.Targets.{kind_of, payload_of}
-use Rattle.wl_linking.specs.Sections.{HoldsItems, AreSound, seen_then, imports_in}
-use Rattle.wl_linking.specs.declared.kinds.SectionKind.{SectionKind}
-use Rattle.wl_linking.specs.declared.kinds.SectionKind.TheVariants as kind
+use Rattle.wl_linking.specs.SlotsReading.{IsNamedWithin}
+use Rattle.wl_linking.specs.Placing.{IsSpanned}
+use Rattle.wl_linking.specs.Targets.{payload_of}
+use Rattle.wl_linking.specs.Sections.{IsPlaced, AreSound, imports_in, segments_in}
 use Rattle.wl_linking.specs.declared.kinds.Seen.{Seen}
 use Rattle.wl_linking.specs.declared.section.Section.{Section}
+use Rattle.wl_linking.specs.declared.section.Section.TheVariants.{Imports, Data}
+use Rattle.wl_linking.proofs.HeldLaws.{HaveInEach, all_held, all_follow}
 
--- the field name of an import ends where its spelling ends, or before
-name_ends : (place : ℕ) (i : Imported) (text : List ℕ) → IsImport place i text → i.name_offset + length i.name ≤ place + length text
-name_ends place i text (origin, behind, parts, named, (name, rest, parts', (spelled, at), others)) =
-    omega (arith, at, ap length parts, length-append origin behind, ap length parts', length-append name rest)
-
-chain_named : (seen : Bool) (place : ℕ) (xs : List Imported) (text : List ℕ) → Chain IsImportAfter import_seen seen place xs text → place + length text ≤ 2 ^ 30 → AllByRecursion IsNamedWithin xs
-chain_named seen place [] text h le = tt
-chain_named seen place (i ∷ xs) text (front, back, parts, here, rest) le =
-    let whole : length text ≡ length front + length back = ap length parts ∙ length-append front back in
-    (omega (arith, name_ends place i front here.0, whole, le), chain_named (import_seen seen i) (place + length front) xs back rest (omega (arith, whole, le)))
-
-imports_named : (xs : List Imported) (payload : List ℕ) → AreImports xs payload → length payload ≤ 2 ^ 30 → AllByRecursion IsNamedWithin xs
-imports_named xs payload (head, body, parts, count, chain) le =
-    chain_named false (0 + length head) xs body chain (omega (arith, ap length parts, length-append head body, le))
-
--- those of a section
-section_named : (k : SectionKind) (bytes : List ℕ) (all : List SectionHeader) (seen : Seen) (s : SectionHeader) (section : Section) (payload : List ℕ) → HoldsItems k bytes all seen s section payload → length payload ≤ 2 ^ 30 → AllByRecursion IsNamedWithin (imports_in section)
-section_named kind.Type bytes all seen s section payload h le = rw h.1 tt
-section_named kind.Import bytes all seen s section payload h le = subst (λ (x : Section). AllByRecursion IsNamedWithin (imports_in x)) (sym h.1) (imports_named h.0 payload h.2 le)
-section_named kind.Function bytes all seen s section payload h le = rw h.1 tt
-section_named kind.Memory bytes all seen s section payload h le = rw h.1 tt
-section_named kind.Global bytes all seen s section payload h le = rw h.1 tt
-section_named kind.Export bytes all seen s section payload h le = rw h.1 tt
-section_named kind.DataCount bytes all seen s section payload h le = rw h.1 tt
-section_named kind.Code bytes all seen s section payload h le = rw h.1 tt
-section_named kind.Data bytes all seen s section payload h le = rw h.1 tt
-section_named kind.Linking bytes all seen s section payload h le = rw h.1 tt
-section_named kind.Reloc bytes all seen s section payload h le = rw h.1 tt
-section_named kind.Features bytes all seen s section payload h le = rw h.1 tt
-section_named kind.Debug bytes all seen s section payload h le = rw h tt
-section_named kind.Skipped bytes all seen s section payload h le = rw h tt
-section_named kind.Table bytes all seen s section payload h le = absurd h
-section_named kind.Start bytes all seen s section payload h le = absurd h
-section_named kind.Tag bytes all seen s section payload h le = absurd h
-
-all_append : {X : Type 0} (P : X → Type 0) (xs ys : List X) → AllByRecursion P xs → AllByRecursion P ys → AllByRecursion P (xs ++ ys)
-all_append P [] ys h k = k
-all_append P (x ∷ xs) ys h k = (h.0, all_append P xs ys h.1 k)
+-- a text that stands in some bytes ends within them
+ends_within : (bytes text : List ℕ) (place : ℕ) → StandsAt bytes text place → place + length text ≤ length bytes
+ends_within bytes text place h = omega (arith, h.len, ap length h.whole, length-append h.front (text ++ h.back), length-append text h.back)
 
 payload_within : (bytes : List ℕ) (s : SectionHeader) → length (payload_of bytes s) ≤ length bytes
 payload_within bytes s = omega (arith, length-take (s.payload_range.1 - s.payload_range.0) (drop s.payload_range.0 bytes), length-drop s.payload_range.0 bytes)
 
+-- ---- imports
+
+imports_of_each : (bytes : List ℕ) → length bytes ≤ 2 ^ 30 → HaveInEach imports_in IsNamedWithin bytes
+imports_of_each bytes le s (Imports imports) there h =
+    let payload = payload_of bytes s in
+    all_follow (PlacedImportStands payload) IsNamedWithin imports (λ i stands. omega (arith, ends_within payload i.import.name i.name_offset stands.name, payload_within bytes s, le)) (placed_imports_stand imports payload h)
+imports_of_each bytes le s _ there h = tt
+
 -- those of all sections
-pub sections_named : (bytes : List ℕ) (all : List SectionHeader) (seen : Seen) (hs : List SectionHeader) (held : List Section) → length bytes ≤ 2 ^ 30 → AreSound bytes all seen hs held → AllByRecursion IsNamedWithin (flat_map imports_in held)
-sections_named bytes all seen [] [] le h = tt
-sections_named bytes all seen [] (x ∷ held) le h = absurd h
-sections_named bytes all seen (s ∷ hs) [] le h = absurd h
-sections_named bytes all seen (s ∷ hs) (x ∷ held) le h =
-    all_append IsNamedWithin (imports_in x) (flat_map imports_in held)
-    (section_named (kind_of bytes s) bytes all seen s x (payload_of bytes s) h.0 (omega (arith, payload_within bytes s, le)))
-    (sections_named bytes all (seen_then seen x) hs held le h.1)
+pub sections_named : (bytes : List ℕ) (all : List SectionHeader) (seen : Seen) (hs : List SectionHeader) (held : List Section) → length bytes ≤ 2 ^ 30 → AllByRecursion (IsPlaced bytes) hs → AreSound bytes all seen hs held → AllByRecursion IsNamedWithin (flat_map imports_in held)
+sections_named bytes all seen hs held le = all_held imports_in IsNamedWithin bytes (imports_of_each bytes le) all seen hs held
+
+-- ---- segments
+
+abbrev IsTargetSpanned : Targeted → Type 0
+IsTargetSpanned t = IsSpanned t.segment
+
+target_spanned : (payload : List ℕ) (t : Targeted) → length payload ≤ 2 ^ 30 → TargetedStands payload t → IsSpanned t.segment
+target_spanned payload t le h = record {
+  payload = omega (arith, h.size);
+  end = omega (arith, h.size, ends_within payload (h.head ++ t.segment.payload) t.segment.section_offset h.there, length-append h.head t.segment.payload, le);
+}
+
+segments_of_each : (bytes : List ℕ) → length bytes ≤ 2 ^ 30 → HaveInEach segments_in IsTargetSpanned bytes
+segments_of_each bytes le s (Data segments) there h =
+    let payload = payload_of bytes s in
+    let within : length payload ≤ 2 ^ 30 = omega (arith, payload_within bytes s, le) in
+    all_follow (TargetedStands payload) IsTargetSpanned segments (λ t stands. target_spanned payload t within stands) (targeted_stand segments payload h)
+segments_of_each bytes le s _ there h = tt
+
+plain_spanned : (segments : List Targeted) → AllByRecursion IsTargetSpanned segments → AllByRecursion IsSpanned (plain_segments segments)
+plain_spanned [] h = tt
+plain_spanned (t ∷ segments) h = (h.0, plain_spanned segments h.1)
+
+-- those of all sections
+pub sections_spanned : (bytes : List ℕ) (all : List SectionHeader) (seen : Seen) (hs : List SectionHeader) (held : List Section) → length bytes ≤ 2 ^ 30 → AllByRecursion (IsPlaced bytes) hs → AreSound bytes all seen hs held → AllByRecursion IsSpanned (plain_segments (flat_map segments_in held))
+sections_spanned bytes all seen hs held le placed sound = plain_spanned (flat_map segments_in held) (all_held segments_in IsTargetSpanned bytes (segments_of_each bytes le) all seen hs held placed sound)

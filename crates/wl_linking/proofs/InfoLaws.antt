@@ -6,18 +6,20 @@ use Rattle.wl_bytes.specs.Grammar.{Then, ThenFault, then_at}
 use Rattle.wl_bytes.proofs.Readings.{IsReading}
 use Rattle.wl_bytes.proofs.GrammarLaws.{then_reading, map_reading}
 use Rattle.wl_module.specs.Lists.{NumberFault, number_at, WordFault, word_at, Listed, ListedFault, list_at}
+use Rattle.wl_module.specs.Checks.{Where, where_at}
 use Rattle.wl_module.specs.declared.error.Why.TheVariants.{BadAlignment}
 use Rattle.wl_module.specs.declared.error.ReadError.TheVariants.{Malformed}
 use Rattle.wl_module.proofs.ListLaws.{number_reading, word_reading, list_reading, whole_reading, IsWholeReading}
 use Rattle.wl_module.proofs.CheckLaws.{where_reading}
-use Rattle.wl_linking.specs.Infos.{is_exponent, IsAlignment, AlignmentFault, alignment_at, IsInfo, InfoFault, info_from, info_at, AreInfos, InfosFault, infos_of, IsInit, InitFault, init_from, init_at, AreInits, InitsFault, inits_of}
+use Rattle.wl_linking.specs.Infos.{is_exponent, two_to, IsAlignment, AlignmentFault, alignment_at, IsInfo, InfoFault, info_from, info_at, AreInfos, InfosFault, infos_of, IsInit, InitFault, init_from, init_at, AreInits, InitsFault, inits_of}
 use Rattle.wl_linking.specs.declared.infos.WasmInitFunc.{WasmInitFunc}
+use Rattle.wl_linking.proofs.Exact.{seen_as}
 
 -- ---- segments
 
 alignment_reading : IsReading IsAlignment AlignmentFault alignment_at
 unfolding alignment_at
-alignment_reading = where_reading IsU32 NumberFault number_at is_exponent (Malformed BadAlignment) number_reading
+alignment_reading = seen_as (Where IsU32 is_exponent) AlignmentFault (where_at number_at is_exponent (Malformed BadAlignment)) two_to (where_reading IsU32 NumberFault number_at is_exponent (Malformed BadAlignment) number_reading)
 
 abbrev InfoParts : ℕ → List ℕ × (ℕ × ℕ) → List ℕ → Type 0
 InfoParts = Then IsName (λ _. Then IsAlignment (λ _. IsU32))

@@ -11,9 +11,14 @@ pub mod PartLaws
 pub mod OrderLaws
 pub mod SlotLaws
 pub mod ImportPlaces
+pub mod ExistLaws
+pub mod WholeLaws
+pub mod OrderExists
+pub mod AlternativeLaws
 pub mod ObjectLaws
-pub mod FitLaws
 pub mod PlacedLaws
+pub mod HeldLaws
 pub mod NameLaws
 pub mod ImportNameLaws
+pub mod StretchLaws
 pub mod RawNameLaws

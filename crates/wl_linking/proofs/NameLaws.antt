@@ -1,35 +1,34 @@
 -- The name of each symbol stands at its range of the object's bytes.
-use Rattle.std.proofs.Common.{◌≡◌, ℕ, ◌+◌, ◌-◌, ◌≤◌, Bool, true, false, eqb, List, [], ◌∷◌, ◌++◌, length, take, drop, Option, Some, None, refl, sym, ap, subst, ◌∙◌, arith, append_assoc, length-append}
+use Rattle.std.proofs.Common.{◌≡◌, ℕ, ◌+◌, Bool, true, false, eqb, List, [], ◌∷◌, ◌++◌, length, Option, Some, None, refl, sym, ap, subst, ◌∙◌, arith, append_assoc, length-append}
 use Rattle.std.specs.List.{AllByRecursion, flat_map}
 use Rattle.std.proofs.lemmas.Bool.{eqb-true}
-use Rattle.std.proofs.lemmas.List.{append-nil, nil_from_length, length-take-le, take-append-drop}
+use Rattle.std.proofs.lemmas.List.{nil_from_length}
 use Rattle.wl_bytes.specs.Grammar.{Items}
 use Rattle.wl_module.specs.Chains.{Chain}
 use Rattle.wl_module.specs.Checks.{When}
 use Rattle.wl_module.specs.declared.sections.SectionHeader.{SectionHeader}
 use Rattle.wl_linking.specs.Symbols.{Symbol, SymbolDetails, range_of, IsBasedName, name_or_none, IsNameWhere, is_named, IsNumbered, IsLocated, IsDetails, IsSymbol, AreSymbols}
-use Rattle.wl_linking.specs.Linking.{subsection_kind, IsHeld, IsSubsection, seen_after, nothing_seen as no_subsection_seen, table_in, IsLinking}
-use Rattle.wl_linking.specs.Targets.{stretch, kind_of, payload_of}
-use Rattle.wl_linking.specs.Sections.{HoldsItems, IsPlaced, AreSound, seen_then, symbols_in}
-use Rattle.wl_linking.specs.declared.kinds.SectionKind.{SectionKind}
-use Rattle.wl_linking.specs.declared.kinds.SectionKind.TheVariants as kind
+use Rattle.wl_linking.specs.Linking.{subsection_kind, IsHeld, IsSubsection, seen_after, nothing_seen as no_subsection_seen, table_in, linking_of, IsLinking}
+use Rattle.wl_linking.specs.Targets.{stretch, payload_of}
+use Rattle.wl_linking.specs.Sections.{IsPlaced, AreSound, symbols_in}
 use Rattle.wl_linking.specs.declared.kinds.Seen.{Seen}
-use Rattle.wl_linking.specs.declared.linking.Linking.{Linking}
+use Rattle.wl_linking.specs.declared.linking.Linking.{Linking as LinkingHeld}
 use Rattle.wl_linking.specs.declared.linking.SeenSubsections.{SeenSubsections}
 use Rattle.wl_linking.specs.declared.linking.Subsection.{Subsection}
 use Rattle.wl_linking.specs.declared.linking.SubsectionKind.{SubsectionKind}
 use Rattle.wl_linking.specs.declared.linking.SubsectionKind.TheVariants as part
 use Rattle.wl_linking.specs.declared.section.Section.{Section}
+use Rattle.wl_linking.specs.declared.section.Section.TheVariants.{Linking}
 use Rattle.wl_linking.specs.declared.symbols.WasmSymbolKind.{WasmSymbolKind}
 use Rattle.wl_linking.specs.declared.symbols.WasmSymbolKind.TheVariants.{Func, Data, Global, Section as SectionSymbol, Event, Table}
-use Rattle.wl_linking.proofs.PlacedLaws.{StandsAt, front_stands, back_stands, stretch_is}
+use Rattle.wl_module.specs.Places.{StandsAt}
+use Rattle.wl_module.proofs.PlaceLaws.{all_stands, before_stands, behind_stands}
+use Rattle.wl_linking.proofs.PlacedLaws.{stretch_is}
+use Rattle.wl_linking.proofs.HeldLaws.{HaveInEach, all_held, all_append}
 
 -- ---- texts in texts
 
-pub all_stands : (bytes : List ℕ) → StandsAt bytes bytes 0
-all_stands bytes = record { front = []; back = []; whole = sym (append-nil bytes); len = refl }
-
-inside_stands : (bytes text inner : List ℕ) (place at : ℕ) → StandsAt bytes text place → StandsAt text inner at → StandsAt bytes inner (place + at)
+pub inside_stands : (bytes text inner : List ℕ) (place at : ℕ) → StandsAt bytes text place → StandsAt text inner at → StandsAt bytes inner (place + at)
 inside_stands bytes text inner place at h k = record {
   front = h.front ++ k.front;
   back = k.back ++ h.back;
@@ -38,13 +37,6 @@ inside_stands bytes text inner place at h k = record {
       ∙ sym (append_assoc h.front k.front (inner ++ (k.back ++ h.back)));
   len = omega (arith, length-append h.front k.front, h.len, k.len);
 }
-
--- the part behind a front
-pub behind_stands : (bytes text front back : List ℕ) (place : ℕ) → text ≡ front ++ back → StandsAt bytes text place → StandsAt bytes back (place + length front)
-behind_stands bytes text front back place parts h = back_stands bytes front back place (subst (λ (t : List ℕ). StandsAt bytes t place) parts h)
-
-pub before_stands : (bytes text front back : List ℕ) (place : ℕ) → text ≡ front ++ back → StandsAt bytes text place → StandsAt bytes front place
-before_stands bytes text front back place parts h = front_stands bytes front back place (subst (λ (t : List ℕ). StandsAt bytes t place) parts h)
 
 -- ---- names
 
@@ -108,12 +100,11 @@ details_stand bytes base place Event flags d text h s = subst (λ (x : SymbolDet
 details_stand bytes base place Table flags d text h s = numbered_stands bytes base place flags d text h s
 
 symbol_stands : (bytes : List ℕ) (base place : ℕ) (s : Symbol) (text : List ℕ) → StandsAt bytes text place → IsSymbol base place s text → SymbolStands bytes base s
-symbol_stands bytes base place s text h (p, (f1, b1, e1, byte, (f2, b2, e2, judged, (f3, b3, e3, number, (f4, b4, e4, taken, details)))), is) =
+symbol_stands bytes base place s text h (p, (f1, b1, e1, byte, (f2, b2, e2, judged, (f3, b3, e3, number, details))), is) =
     let h1 = behind_stands bytes text f1 b1 place e1 h in
     let h2 = behind_stands bytes b1 f2 b2 (place + length f1) e2 h1 in
     let h3 = behind_stands bytes b2 f3 b3 (place + length f1 + length f2) e3 h2 in
-    let h4 = behind_stands bytes b3 f4 b4 (place + length f1 + length f2 + length f3) e4 h3 in
-    subst (λ (x : Symbol). SymbolStands bytes base x) is (details_stand bytes base (place + length f1 + length f2 + length f3 + length f4) p.1.0 p.1.1.0 p.1.1.1.1 b4 h4 details)
+    subst (λ (x : Symbol). SymbolStands bytes base x) is (details_stand bytes base (place + length f1 + length f2 + length f3) p.1.0 p.1.1.0 p.1.1.1 b3 h3 details)
 
 items_stand : (bytes : List ℕ) (base place : ℕ) (symbols : List Symbol) (text : List ℕ) → StandsAt bytes text place → Items (IsSymbol base) place symbols text → AllByRecursion (SymbolStands bytes base) symbols
 items_stand bytes base place [] text h s = tt
@@ -139,8 +130,13 @@ held_stand bytes base part.SymbolTable s payload h held =
     subst (λ (x : Subsection). AllByRecursion (SymbolStands bytes 0) (table_in x)) held.1 (all_outer bytes payload base held.0 h (table_stands base held.0 payload held.2))
 held_stand bytes base part.Other s payload h held = rw held tt
 
-subsection_stands : (bytes linking : List ℕ) (base : ℕ) (seen : SeenSubsections) (place : ℕ) (s : Subsection) (text : List ℕ) → StandsAt bytes linking base → StandsAt linking text place → IsSubsection base seen place s text → AllByRecursion (SymbolStands bytes 0) (table_in s)
-subsection_stands bytes linking base seen place s text outer h (p, (f1, b1, e1, byte, (f2, b2, e2, judged, (f3, b3, e3, size, (f4, b4, e4, here, (f5, b5, e5, sized, inside))))), is) =
+-- the items of each subsection whose payload stands in the bytes have a property
+abbrev pub HaveInEachPart : {X : Type 0} → (Subsection → List X) → (X → Type 0) → List ℕ → Type 0
+HaveInEachPart items_in P bytes = (base : ℕ) (k : SubsectionKind) (s : Subsection) (payload : List ℕ) → StandsAt bytes payload base → IsHeld base k s payload → AllByRecursion P (items_in s)
+
+subsection_has : {X : Type 0} (items_in : Subsection → List X) (P : X → Type 0) (bytes : List ℕ) → HaveInEachPart items_in P bytes
+    → (linking : List ℕ) (base : ℕ) (seen : SeenSubsections) (place : ℕ) (s : Subsection) (text : List ℕ) → StandsAt bytes linking base → StandsAt linking text place → IsSubsection base seen place s text → AllByRecursion P (items_in s)
+subsection_has items_in P bytes each linking base seen place s text outer h (p, (f1, b1, e1, byte, (f2, b2, e2, judged, (f3, b3, e3, size, (f4, b4, e4, here, (f5, b5, e5, sized, inside))))), is) =
     let h1 = behind_stands linking text f1 b1 place e1 h in
     let h2 = behind_stands linking b1 f2 b2 (place + length f1) e2 h1 in
     let h3 = behind_stands linking b2 f3 b3 (place + length f1 + length f2) e3 h2 in
@@ -149,66 +145,34 @@ subsection_stands bytes linking base seen place s text outer h (p, (f1, b1, e1, 
     let at : place + length f1 + length f2 + length f3 + length f4 ≡ p.1.1.1.0 = omega (arith, ap length here.0, here.1) in
     let payload = p.1.1.1.1.0 in
     let there : StandsAt linking payload p.1.1.1.0 = subst (λ (n : ℕ). StandsAt linking payload n) at (subst (λ (t : List ℕ). StandsAt linking t (place + length f1 + length f2 + length f3 + length f4)) sized.0 h5) in
-    subst (λ (x : Subsection). AllByRecursion (SymbolStands bytes 0) (table_in x)) is
-    (held_stand bytes (base + p.1.1.1.0) (subsection_kind p.0) p.1.1.1.1.1 payload (inside_stands bytes linking payload base p.1.1.1.0 outer there) inside.1)
+    subst (λ (x : Subsection). AllByRecursion P (items_in x)) is
+    (each (base + p.1.1.1.0) (subsection_kind p.0) p.1.1.1.1.1 payload (inside_stands bytes linking payload base p.1.1.1.0 outer there) inside.1)
 
-pub all_append : {X : Type 0} (P : X → Type 0) (xs ys : List X) → AllByRecursion P xs → AllByRecursion P ys → AllByRecursion P (xs ++ ys)
-all_append P [] ys h k = k
-all_append P (x ∷ xs) ys h k = (h.0, all_append P xs ys h.1 k)
+chain_has : {X : Type 0} (items_in : Subsection → List X) (P : X → Type 0) (bytes : List ℕ) → HaveInEachPart items_in P bytes
+    → (linking : List ℕ) (base : ℕ) (seen : SeenSubsections) (place : ℕ) (xs : List Subsection) (text : List ℕ) → StandsAt bytes linking base → StandsAt linking text place → Chain (IsSubsection base) seen_after seen place xs text → AllByRecursion P (flat_map items_in xs)
+chain_has items_in P bytes each linking base seen place [] text outer h s = tt
+chain_has items_in P bytes each linking base seen place (x ∷ xs) text outer h (front, back, parts, here, rest) =
+    all_append P (items_in x) (flat_map items_in xs)
+    (subsection_has items_in P bytes each linking base seen place x front outer (before_stands linking text front back place parts h) here)
+    (chain_has items_in P bytes each linking base (seen_after seen x) (place + length front) xs back outer (behind_stands linking text front back place parts h) rest)
 
-chain_stands : (bytes linking : List ℕ) (base : ℕ) (seen : SeenSubsections) (place : ℕ) (xs : List Subsection) (text : List ℕ) → StandsAt bytes linking base → StandsAt linking text place → Chain (IsSubsection base) seen_after seen place xs text → AllByRecursion (SymbolStands bytes 0) (flat_map table_in xs)
-chain_stands bytes linking base seen place [] text outer h s = tt
-chain_stands bytes linking base seen place (x ∷ xs) text outer h (front, back, parts, here, rest) =
-    all_append (SymbolStands bytes 0) (table_in x) (flat_map table_in xs)
-    (subsection_stands bytes linking base seen place x front outer (before_stands linking text front back place parts h) here)
-    (chain_stands bytes linking base (seen_after seen x) (place + length front) xs back outer (behind_stands linking text front back place parts h) rest)
-
-linking_stands : (bytes payload : List ℕ) (base : ℕ) (linking : Linking) → StandsAt bytes payload base → IsLinking base linking payload → AllByRecursion (SymbolStands bytes 0) linking.symbols
-linking_stands bytes payload base linking outer (version, behind, front, (xs, last, (rows, end), is)) =
+-- then those of the whole section have it
+pub linking_has : {X : Type 0} (items_in : Subsection → List X) (items_of : LinkingHeld → List X) (P : X → Type 0) (bytes : List ℕ) → HaveInEachPart items_in P bytes
+    → ((xs : List Subsection) → flat_map items_in xs ≡ items_of (linking_of xs))
+    → (payload : List ℕ) (base : ℕ) (linking : LinkingHeld) → StandsAt bytes payload base → IsLinking base linking payload → AllByRecursion P (items_of linking)
+linking_has {X} items_in items_of P bytes each same payload base linking outer (version, behind, front, (xs, last, (rows, end), is)) =
     let h : StandsAt payload behind.rest (0 + length front.text) = behind_stands payload payload front.text behind.rest 0 front.parts (all_stands payload) in
     let at : StandsAt payload behind.rest behind.position = subst (λ (n : ℕ). StandsAt payload behind.rest n) (sym front.moved) h in
     let there = before_stands payload behind.rest rows.text last.rest behind.position rows.parts at in
-    rw is (chain_stands bytes payload base no_subsection_seen behind.position xs rows.text outer there rows.spelled)
+    subst (λ (l : LinkingHeld). AllByRecursion P (items_of l)) (sym is)
+    (subst (λ (ys : List X). AllByRecursion P ys) (same xs) (chain_has items_in P bytes each payload base no_subsection_seen behind.position xs rows.text outer there rows.spelled))
 
 -- ---- all sections
 
--- a payload stands where its section's header says
-pub payload_stands : (bytes : List ℕ) (s : SectionHeader) → s.payload_range.0 ≤ length bytes → StandsAt bytes (payload_of bytes s) s.payload_range.0
-payload_stands bytes s le =
-    let many = s.payload_range.1 - s.payload_range.0 in
-    record {
-      front = take s.payload_range.0 bytes;
-      back = drop many (drop s.payload_range.0 bytes);
-      whole = sym (take-append-drop s.payload_range.0 bytes) ∙ ap (λ (t : List ℕ). take s.payload_range.0 bytes ++ t) (sym (take-append-drop many (drop s.payload_range.0 bytes)));
-      len = length-take-le s.payload_range.0 bytes le;
-    }
-
--- the symbols of a section
-section_stands : (k : SectionKind) (bytes : List ℕ) (all : List SectionHeader) (seen : Seen) (s : SectionHeader) (section : Section) (payload : List ℕ) → StandsAt bytes payload s.payload_range.0 → HoldsItems k bytes all seen s section payload → AllByRecursion (SymbolStands bytes 0) (symbols_in section)
-section_stands kind.Type bytes all seen s section payload there h = rw h.1 tt
-section_stands kind.Import bytes all seen s section payload there h = rw h.1 tt
-section_stands kind.Function bytes all seen s section payload there h = rw h.1 tt
-section_stands kind.Memory bytes all seen s section payload there h = rw h.1 tt
-section_stands kind.Global bytes all seen s section payload there h = rw h.1 tt
-section_stands kind.Export bytes all seen s section payload there h = rw h.1 tt
-section_stands kind.DataCount bytes all seen s section payload there h = rw h.1 tt
-section_stands kind.Code bytes all seen s section payload there h = rw h.1 tt
-section_stands kind.Data bytes all seen s section payload there h = rw h.1 tt
-section_stands kind.Linking bytes all seen s section payload there h = rw h.1 (linking_stands bytes payload s.payload_range.0 h.0 there h.2.1)
-section_stands kind.Reloc bytes all seen s section payload there h = rw h.1 tt
-section_stands kind.Features bytes all seen s section payload there h = rw h.1 tt
-section_stands kind.Debug bytes all seen s section payload there h = rw h tt
-section_stands kind.Skipped bytes all seen s section payload there h = rw h tt
-section_stands kind.Table bytes all seen s section payload there h = absurd h
-section_stands kind.Start bytes all seen s section payload there h = absurd h
-section_stands kind.Tag bytes all seen s section payload there h = absurd h
+symbols_of_each : (bytes : List ℕ) → HaveInEach symbols_in (SymbolStands bytes 0) bytes
+symbols_of_each bytes s (Linking linking) there h = linking_has table_in (λ (l : LinkingHeld). l.symbols) (SymbolStands bytes 0) bytes (held_stand bytes) (λ xs. refl) (payload_of bytes s) s.payload_range.0 linking there h
+symbols_of_each bytes s _ there h = tt
 
 -- the symbols of all sections
 pub sections_stand : (bytes : List ℕ) (all : List SectionHeader) (seen : Seen) (hs : List SectionHeader) (held : List Section) → AllByRecursion (IsPlaced bytes) hs → AreSound bytes all seen hs held → AllByRecursion (SymbolStands bytes 0) (flat_map symbols_in held)
-sections_stand bytes all seen [] [] placed h = tt
-sections_stand bytes all seen [] (x ∷ held) placed h = absurd h
-sections_stand bytes all seen (s ∷ hs) [] placed h = absurd h
-sections_stand bytes all seen (s ∷ hs) (x ∷ held) placed h =
-    all_append (SymbolStands bytes 0) (symbols_in x) (flat_map symbols_in held)
-    (section_stands (kind_of bytes s) bytes all seen s x (payload_of bytes s) (payload_stands bytes s placed.0.begins) h.0)
-    (sections_stand bytes all (seen_then seen x) hs held placed.1 h.1)
+sections_stand bytes = all_held symbols_in (SymbolStands bytes 0) bytes (symbols_of_each bytes)

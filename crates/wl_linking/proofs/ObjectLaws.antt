@@ -1,5 +1,5 @@
 -- Bytes are one object at most, or something is wrong with them, and never both.
-use Rattle.std.proofs.Common.{◌≡◌, ℕ, ◌≤◌, ◌^◌, List, length, map, Result, Ok, Err, Bool, true, false, ◌&&◌, refl, sym, ap, subst, ◌∙◌, inl, inr}
+use Rattle.std.proofs.Common.{◌≡◌, ℕ, ◌≤◌, ◌^◌, List, length, map, Result, Ok, Err, Bool, true, false, refl, sym, ap, subst, ◌∙◌, inl, inr, arith}
 use Rattle.std.specs.List.{AllByRecursion}
 use Rattle.std.specs.Prelude.{MatchResult}
 use Rattle.wl_module.specs.declared.sections.SectionHeader.{SectionHeader}
@@ -9,24 +9,30 @@ use Rattle.wl_module.specs.declared.error.ReadError.TheVariants.{OutOfMemory, Ma
 use Rattle.wl_module.specs.Sections.{Framed, FrameFault}
 use Rattle.wl_module.proofs.SectionLaws.{frame_alternatives}
 use Rattle.wl_linking.specs.Verdict.{HasCause}
-use Rattle.wl_linking.specs.Symbols.{Symbol, is_undefined}
+use Rattle.wl_linking.specs.Symbols.{Symbol}
 use Rattle.wl_linking.specs.Sections.{AreSound, AreFaulty, nothing_seen}
 use Rattle.wl_linking.specs.Object.{Object}
 use Rattle.wl_linking.specs.Parts.{parts_of, ArePartsOf}
-use Rattle.wl_linking.specs.Placing.{Ascend}
+use Rattle.wl_module.specs.Segments.{plain_segments}
+use Rattle.wl_linking.specs.Placing.{IsSpanned, Ascend}
 use Rattle.wl_linking.specs.Spaces.{NamesExist, NamesFault, spaces_of, counts_hold, core_names_exist, linked_names_exist}
-use Rattle.wl_linking.specs.Slots.{IsNamedWithin, AgreeOnNames, SlotFault, HasOneName, HasTwoNames, has_claim}
+use Rattle.wl_linking.specs.Slots.{AgreeOnNames, SlotFault, HasOneName, HasTwoNames}
+use Rattle.wl_linking.specs.SlotsReading.{IsNamedWithin}
 use Rattle.wl_linking.specs.Sites.{body_piece, segment_piece, LieApart}
-use Rattle.wl_linking.specs.Fitting.{HasItems, IsFitting, CrossFault, FitsParts, PartsFault, IsObject, IsUnfitting, ObjectFault, ParsesObject, code_pieces, data_pieces}
+use Rattle.wl_linking.specs.Fitting.{HasItems, IsFitting, CrossFault, FitsParts, PartsFault, IsObject, IsUnfitting, ObjectFault, ParsesObject, code_pieces, data_pieces, named_symbols, NameStands}
 use Rattle.wl_linking.specs.declared.parts.Parts.{Parts}
 use Rattle.wl_linking.specs.declared.section.Section.{Section}
 use Rattle.wl_linking.specs.declared.sites.Site.{Site}
+use Rattle.wl_linking.specs.declared.spaces.Spaces.{Spaces}
 use Rattle.wl_linking.specs.declared.symbols.WasmSymbolKind.{WasmSymbolKind}
 use Rattle.wl_linking.specs.declared.symbols.WasmSymbolKind.TheVariants.{Func, Data, Global, Section as SectionSymbol, Event, Table}
 use Rattle.wl_linking.proofs.SectionLaws.{sections_one, sections_either, sections_one_fault}
 use Rattle.wl_linking.proofs.OrderLaws.{order_one, lie_apart_one, lie_apart_either}
 use Rattle.wl_linking.proofs.OnceLaws.{object_code_ascends, object_data_ascends}
-use Rattle.wl_linking.proofs.ImportPlaces.{sections_named}
+use Rattle.wl_linking.proofs.ImportPlaces.{sections_named, sections_spanned}
+use Rattle.wl_linking.proofs.PlacedLaws.{placed_headers}
+use Rattle.wl_linking.proofs.ImportNameLaws.{parts_names_stand}
+use Rattle.wl_linking.proofs.ExistLaws.{counts_pass, core_passes, linked_passes}
 
 -- ---- one object
 
@@ -49,6 +55,7 @@ items_one bytes headers parts o p h k =
       h.data_counts,
       h.bodies,
       h.segments,
+      h.segment_memories,
       h.segment_infos,
       h.init_funcs,
       h.symbols,
@@ -68,6 +75,7 @@ items_one bytes headers parts o p h k =
       k.data_counts,
       k.bodies,
       k.segments,
+      k.segment_memories,
       k.segment_infos,
       k.init_funcs,
       k.symbols,
@@ -114,58 +122,29 @@ both true t f = absurd cc
 both false t f = absurd cc
 
 names_or_not : (o : Object) (e : ReadError) → NamesExist o → NamesFault o e → ⊥
-names_or_not o (Malformed why.Count) h f = both (counts_hold (spaces_of o) o) h.counts f
-names_or_not o (Malformed why.BadIndex) h (inl f) = both (core_names_exist (spaces_of o) o) h.core f
-names_or_not o (Malformed why.BadIndex) h (inr f) = both (linked_names_exist (spaces_of o) o) h.linked f
+names_or_not o (Malformed why.Count) h f = both (counts_hold (spaces_of o) o) (counts_pass o h) f
+names_or_not o (Malformed why.BadIndex) h (inl f) = both (core_names_exist (spaces_of o) o) (core_passes o h) f
+names_or_not o (Malformed why.BadIndex) h (inr f) = both (linked_names_exist (spaces_of o) o) (linked_passes o h) f
 names_or_not o _ h f = f
 
-one_or_two : (kind : WasmSymbolKind) (symbols : List Symbol) → HasOneName kind symbols → HasTwoNames kind symbols → ⊥
-one_or_two kind symbols one (i, j, s, t, here, there, shared, differ) = differ (one i j s t here there shared)
+one_or_two : (kind : WasmSymbolKind) (count : ℕ) (symbols : List Symbol) → HasOneName kind count symbols → HasTwoNames kind count symbols → ⊥
+one_or_two kind count symbols one two = two.differ (one two.first two.second two.one two.other two.one_is two.other_is two.shared)
 
-and_right : (a b : Bool) → (a && b) ≡ true → b ≡ true
-and_right true b e = e
-and_right false b e = absurd cc
+-- no import is for a symbol of the other kinds
+never_two : (kind : WasmSymbolKind) (symbols : List Symbol) → HasTwoNames kind 0 symbols → ⊥
+never_two kind symbols two = absurd (let exists = two.shared.exists in omega arith)
 
-no_data_claim : (k : WasmSymbolKind) (s : Symbol) → has_claim Data k s ≡ false
-no_data_claim Func s = refl
-no_data_claim Data s = refl
-no_data_claim Global s = refl
-no_data_claim SectionSymbol s = refl
-no_data_claim Event s = refl
-no_data_claim Table s = refl
-
-no_section_claim : (k : WasmSymbolKind) (s : Symbol) → has_claim SectionSymbol k s ≡ false
-no_section_claim Func s = refl
-no_section_claim Data s = refl
-no_section_claim Global s = refl
-no_section_claim SectionSymbol s = refl
-no_section_claim Event s = refl
-no_section_claim Table s = refl
-
-no_event_claim : (k : WasmSymbolKind) (s : Symbol) → has_claim Event k s ≡ false
-no_event_claim Func s = refl
-no_event_claim Data s = refl
-no_event_claim Global s = refl
-no_event_claim SectionSymbol s = refl
-no_event_claim Event s = refl
-no_event_claim Table s = refl
-
--- symbols of the other kinds have no names to compare
-never_two : (kind : WasmSymbolKind) (symbols : List Symbol) → ((k : WasmSymbolKind) (s : Symbol) → has_claim kind k s ≡ false) → HasTwoNames kind symbols → ⊥
-never_two kind symbols none (i, j, s, t, here, there, shared, differ) =
-    both (has_claim kind s.kind s) (and_right (is_undefined s) (has_claim kind s.kind s) shared.one) (none s.kind s)
-
-slots_or_not : (symbols : List Symbol) (e : ReadError) → AgreeOnNames symbols → SlotFault symbols e → ⊥
-slots_or_not symbols e h (is, (Func, two)) = one_or_two Func symbols h.functions two
-slots_or_not symbols e h (is, (Global, two)) = one_or_two Global symbols h.globals two
-slots_or_not symbols e h (is, (Table, two)) = one_or_two Table symbols h.tables two
-slots_or_not symbols e h (is, (Data, two)) = never_two Data symbols no_data_claim two
-slots_or_not symbols e h (is, (SectionSymbol, two)) = never_two SectionSymbol symbols no_section_claim two
-slots_or_not symbols e h (is, (Event, two)) = never_two Event symbols no_event_claim two
+slots_or_not : (spaces : Spaces) (symbols : List Symbol) (e : ReadError) → AgreeOnNames spaces symbols → SlotFault spaces symbols e → ⊥
+slots_or_not spaces symbols e h (is, (Func, two)) = one_or_two Func spaces.imported_functions symbols h.functions two
+slots_or_not spaces symbols e h (is, (Global, two)) = one_or_two Global spaces.imported_globals symbols h.globals two
+slots_or_not spaces symbols e h (is, (Table, two)) = one_or_two Table spaces.imported_tables symbols h.tables two
+slots_or_not spaces symbols e h (is, (Data, two)) = never_two Data symbols two
+slots_or_not spaces symbols e h (is, (SectionSymbol, two)) = never_two SectionSymbol symbols two
+slots_or_not spaces symbols e h (is, (Event, two)) = never_two Event symbols two
 
 fitting_or_not : (o : Object) (e : ReadError) → Ascend 0 (code_pieces o) → Ascend 0 (data_pieces o) → IsFitting o → CrossFault o e → ⊥
 fitting_or_not o e code data_ h (inl f) = names_or_not o e h.names f
-fitting_or_not o e code data_ h (inr (inl f)) = slots_or_not o.symbols e h.slots f
+fitting_or_not o e code data_ h (inr (inl f)) = slots_or_not (spaces_of o) o.symbols e h.slots f
 fitting_or_not o e code data_ h (inr (inr (inl f))) = lie_apart_either (code_pieces o) o.code_relocations o.code_sites e code h.code f
 fitting_or_not o e code data_ h (inr (inr (inr f))) = lie_apart_either (data_pieces o) o.data_relocations o.data_sites e data_ h.data_ f
 
@@ -240,11 +219,17 @@ parses bytes (Err (Unsupported w)) h = record {
 pub parts_code_up : (bytes : List ℕ) (headers : List SectionHeader) (parts : Parts) → Framed headers bytes → ArePartsOf bytes headers parts → Ascend 0 (map body_piece parts.bodies)
 parts_code_up bytes headers parts framed (held, sound, is) = rw is (object_code_ascends bytes headers held framed sound)
 
-pub parts_data_up : (bytes : List ℕ) (headers : List SectionHeader) (parts : Parts) → Framed headers bytes → ArePartsOf bytes headers parts → Ascend 0 (map segment_piece parts.segments)
+pub parts_data_up : (bytes : List ℕ) (headers : List SectionHeader) (parts : Parts) → Framed headers bytes → ArePartsOf bytes headers parts → Ascend 0 (map segment_piece (plain_segments parts.segments))
 parts_data_up bytes headers parts framed (held, sound, is) = rw is (object_data_ascends bytes headers held framed sound)
 
-pub parts_named : (bytes : List ℕ) (headers : List SectionHeader) (parts : Parts) → length bytes ≤ 2 ^ 30 → ArePartsOf bytes headers parts → AllByRecursion IsNamedWithin parts.imports
-parts_named bytes headers parts le (held, sound, is) = rw is (sections_named bytes headers nothing_seen headers held le sound)
+pub parts_named : (bytes : List ℕ) (headers : List SectionHeader) (parts : Parts) → length bytes ≤ 2 ^ 30 → Framed headers bytes → ArePartsOf bytes headers parts → AllByRecursion IsNamedWithin parts.imports
+parts_named bytes headers parts le framed (held, sound, is) = rw is (sections_named bytes headers nothing_seen headers held le (placed_headers bytes headers framed) sound)
+
+pub parts_spanned : (bytes : List ℕ) (headers : List SectionHeader) (parts : Parts) → length bytes ≤ 2 ^ 30 → Framed headers bytes → ArePartsOf bytes headers parts → AllByRecursion IsSpanned (plain_segments parts.segments)
+parts_spanned bytes headers parts le framed (held, sound, is) = rw is (sections_spanned bytes headers nothing_seen headers held le (placed_headers bytes headers framed) sound)
+
+pub parts_named_symbols : (bytes : List ℕ) (headers : List SectionHeader) (parts : Parts) → Framed headers bytes → ArePartsOf bytes headers parts → AllByRecursion (NameStands bytes) (named_symbols headers parts)
+parts_named_symbols bytes headers parts framed (held, sound, is) = rw is (parts_names_stand bytes headers held framed sound)
 
 pub object_from : (bytes : List ℕ) (headers : List SectionHeader) (parts : Parts) (r : Result Object ReadError) → Framed headers bytes → ArePartsOf bytes headers parts
     → MatchResult r (FitsParts bytes headers parts) (HasCause (PartsFault bytes headers parts)) → MatchResult r (λ o. IsObject o bytes) (HasCause (λ e. ObjectFault e bytes))

@@ -8,7 +8,7 @@ use Rattle.std.specs.Prelude.{codes, nat_eq}
 use Rattle.wl_bytes.proofs.Steps.{chosen}
 use Rattle.wl_bytes.specs.Grammar.{Items}
 use Rattle.wl_module.specs.Bodies.{Body, IsBody, AreBodies}
-use Rattle.wl_module.specs.Segments.{Segment, IsSegment, AreSegments}
+use Rattle.wl_module.specs.Segments.{Targeted, IsSegment, AreTargeted, plain_segments}
 use Rattle.wl_module.specs.Chains.{Chain}
 use Rattle.wl_module.specs.Sections.{rank, MayCome, IsSection, next, next_rank, Framed}
 use Rattle.wl_module.specs.declared.sections.SectionHeader.{SectionHeader}
@@ -100,7 +100,7 @@ all_good test id items_in Good law bytes all seen last place (s ∷ hs) text (x 
 
 bodies_from : (place : ℕ) (bodies : List Body) (text : List ℕ) → Items IsBody place bodies text → Ascend place (map body_piece bodies)
 bodies_from place [] text h = tt
-bodies_from place (b ∷ bodies) text (front, back, parts, (head, whole, number, at, object), rest) =
+bodies_from place (b ∷ bodies) text (front, back, parts, (head, whole, number, own, at, object), rest) =
     let next_place : place + length front ≡ piece_end (body_piece b) = omega (arith, ap length whole, length-append head b.bytes, at) in
     (omega (arith, at), subst (λ (n : ℕ). Ascend n (map body_piece bodies)) next_place (bodies_from (place + length front) bodies back rest))
 
@@ -113,19 +113,21 @@ bodies_ascend bodies payload (head, rest, parts, count, items) = weaker (0 + len
 
 -- ---- the segments of one section
 
--- a segment ends with its bytes
-segment_begins : (place : ℕ) (s : Segment) (text : List ℕ) → IsSegment place s text → place ≤ s.section_offset
-segment_begins place s text (f, (flag, behind, parts, coded, (target, counted, parts', aimed, (head, whole, number))), kind_is, at, size) =
-    omega (arith, ap length parts, length-append flag behind, ap length parts', length-append target counted, ap length whole, length-append head s.payload, at)
+-- a segment ends with its bytes, and begins where it is said to
+segment_ends : (place : ℕ) (t : Targeted) (text : List ℕ) → IsSegment place t text → (place ≤ (segment_piece t.segment).place) × (place + length text ≡ piece_end (segment_piece t.segment))
+segment_ends place t text (f, (flag, behind, parts, coded, (target, counted, parts', aimed, (head, whole, number))), kind_is, at, size) =
+    let some : length t.segment.payload ≤ length text =
+    omega (arith, ap length parts, length-append flag behind, ap length parts', length-append target counted, ap length whole, length-append head t.segment.payload) in
+    (omega (arith, some, at, size), omega (arith, some, at, size))
 
-segments_from : (place : ℕ) (segments : List Segment) (text : List ℕ) → Items IsSegment place segments text → Ascend place (map segment_piece segments)
+segments_from : (place : ℕ) (segments : List Targeted) (text : List ℕ) → Items IsSegment place segments text → Ascend place (map segment_piece (plain_segments segments))
 segments_from place [] text h = tt
-segments_from place (s ∷ segments) text (front, back, parts, here, rest) =
-    let ends : place + length front ≡ piece_end (segment_piece s) = sym here.3 in
-    (segment_begins place s front here, subst (λ (n : ℕ). Ascend n (map segment_piece segments)) ends (segments_from (place + length front) segments back rest))
+segments_from place (t ∷ segments) text (front, back, parts, here, rest) =
+    let ends = segment_ends place t front here in
+    (ends.0, subst (λ (n : ℕ). Ascend n (map segment_piece (plain_segments segments))) ends.1 (segments_from (place + length front) segments back rest))
 
-segments_ascend : (segments : List Segment) (payload : List ℕ) → AreSegments segments payload → Ascend 0 (map segment_piece segments)
-segments_ascend segments payload (head, rest, parts, count, items) = weaker (0 + length head) 0 (map segment_piece segments) (omega arith) (segments_from (0 + length head) segments rest items)
+segments_ascend : (segments : List Targeted) (payload : List ℕ) → AreTargeted segments payload → Ascend 0 (map segment_piece (plain_segments segments))
+segments_ascend segments payload (head, rest, parts, count, items) = weaker (0 + length head) 0 (map segment_piece (plain_segments segments)) (omega arith) (segments_from (0 + length head) segments rest items)
 
 -- ---- which sections these are
 
@@ -269,7 +271,7 @@ no_data kind.Table bytes all seen s section payload not h = absurd h
 no_data kind.Start bytes all seen s section payload not h = absurd h
 no_data kind.Tag bytes all seen s section payload not h = absurd h
 
-data_ascends : (k : SectionKind) (bytes : List ℕ) (all : List SectionHeader) (seen : Seen) (s : SectionHeader) (section : Section) (payload : List ℕ) → is_data k ≡ true → HoldsItems k bytes all seen s section payload → Ascend 0 (map segment_piece (segments_in section))
+data_ascends : (k : SectionKind) (bytes : List ℕ) (all : List SectionHeader) (seen : Seen) (s : SectionHeader) (section : Section) (payload : List ℕ) → is_data k ≡ true → HoldsItems k bytes all seen s section payload → Ascend 0 (map segment_piece (plain_segments (segments_in section)))
 data_ascends kind.Type bytes all seen s section payload is h = absurd cc
 data_ascends kind.Import bytes all seen s section payload is h = absurd cc
 data_ascends kind.Function bytes all seen s section payload is h = absurd cc
@@ -278,7 +280,7 @@ data_ascends kind.Global bytes all seen s section payload is h = absurd cc
 data_ascends kind.Export bytes all seen s section payload is h = absurd cc
 data_ascends kind.DataCount bytes all seen s section payload is h = absurd cc
 data_ascends kind.Code bytes all seen s section payload is h = absurd cc
-data_ascends kind.Data bytes all seen s section payload is h = subst (λ (x : Section). Ascend 0 (map segment_piece (segments_in x))) (sym h.1) (segments_ascend h.0 payload h.2)
+data_ascends kind.Data bytes all seen s section payload is h = subst (λ (x : Section). Ascend 0 (map segment_piece (plain_segments (segments_in x)))) (sym h.1) (segments_ascend h.0 payload h.2)
 data_ascends kind.Linking bytes all seen s section payload is h = absurd cc
 data_ascends kind.Reloc bytes all seen s section payload is h = absurd cc
 data_ascends kind.Features bytes all seen s section payload is h = absurd cc
@@ -297,11 +299,11 @@ code_once = record { ranked = omega arith; by_id = code_id; none = tt; good = co
 pub object_code_ascends : (bytes : List ℕ) (headers : List SectionHeader) (held : List Section) → Framed headers bytes → AreSound bytes headers nothing_seen headers held → Ascend 0 (map body_piece (flat_map bodies_in held))
 object_code_ascends bytes headers held (text, whole, chain) h = all_good is_code 10 bodies_in code_good code_once bytes headers nothing_seen 0 8 headers text held chain h
 
-abbrev data_good : List Segment → Type 0
-data_good xs = Ascend 0 (map segment_piece xs)
+abbrev data_good : List Targeted → Type 0
+data_good xs = Ascend 0 (map segment_piece (plain_segments xs))
 
 data_once : ComesOnce is_data 11 segments_in data_good
 data_once = record { ranked = omega arith; by_id = data_id; none = tt; good = data_ascends; others = no_data }
 
-pub object_data_ascends : (bytes : List ℕ) (headers : List SectionHeader) (held : List Section) → Framed headers bytes → AreSound bytes headers nothing_seen headers held → Ascend 0 (map segment_piece (flat_map segments_in held))
+pub object_data_ascends : (bytes : List ℕ) (headers : List SectionHeader) (held : List Section) → Framed headers bytes → AreSound bytes headers nothing_seen headers held → Ascend 0 (map segment_piece (plain_segments (flat_map segments_in held)))
 object_data_ascends bytes headers held (text, whole, chain) h = all_good is_data 11 segments_in data_good data_once bytes headers nothing_seen 0 8 headers text held chain h

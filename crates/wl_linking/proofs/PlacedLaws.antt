@@ -1,5 +1,5 @@
 -- The laws of where sections stand: their payloads begin within the bytes, and their names are UTF-8.
-use Rattle.std.proofs.Common.{◌≡◌, ℕ, zero, suc, ◌+◌, ◌-◌, ◌^◌, ◌≤◌, Bool, true, false, cond, eqb, List, [], ◌∷◌, ◌++◌, length, Option, Some, refl, sym, ap, subst, ◌∙◌, arith, append_assoc, length-append}
+use Rattle.std.proofs.Common.{◌≡◌, ℕ, zero, suc, ◌+◌, ◌-◌, ◌^◌, ◌≤◌, Bool, true, false, cond, eqb, List, [], ◌∷◌, ◌++◌, length, Option, Some, refl, sym, subst, ◌∙◌, arith}
 use Rattle.std.specs.List.{AllByRecursion, find}
 use Rattle.std.specs.Str.{IsUtf8}
 use Rattle.std.proofs.lemmas.List.{drop_at, take_at, append-nil}
@@ -7,37 +7,14 @@ use Rattle.std.proofs.lemmas.Str.{IsUtf8-nil}
 use Rattle.wl_module.specs.declared.sections.SectionHeader.{SectionHeader}
 use Rattle.wl_module.specs.Chains.{Chain}
 use Rattle.wl_module.specs.Sections.{Ranges, IsContent, IsSection, next, magic, Framed, LiesWithin}
+use Rattle.wl_module.specs.Places.{StandsAt}
+use Rattle.wl_module.proofs.PlaceLaws.{before_stands, behind_stands}
 use Rattle.wl_module.proofs.SectionLaws.{frame_within}
 use Rattle.wl_linking.specs.Targets.{stretch, name_in}
 use Rattle.wl_linking.specs.Sections.{IsPlaced}
 use Rattle.wl_linking.specs.Slots.{begin_of, import_base}
 
 -- ---- a text that stands in the bytes
-
--- the text stands at that place of the bytes
-pub record StandsAt (bytes text : List ℕ) (place : ℕ) : Type 0 where
-  pub front : List ℕ
-  pub back : List ℕ
-  pub whole : bytes ≡ front ++ (text ++ back)
-  pub len : length front ≡ place
-
--- its front stands there too
-pub front_stands : (bytes xs ys : List ℕ) (place : ℕ) → StandsAt bytes (xs ++ ys) place → StandsAt bytes xs place
-front_stands bytes xs ys place h = record {
-  front = h.front;
-  back = ys ++ h.back;
-  whole = h.whole ∙ ap (λ (zs : List ℕ). h.front ++ zs) (append_assoc xs ys h.back);
-  len = h.len;
-}
-
--- and what is behind that stands behind it
-pub back_stands : (bytes xs ys : List ℕ) (place : ℕ) → StandsAt bytes (xs ++ ys) place → StandsAt bytes ys (place + length xs)
-back_stands bytes xs ys place h = record {
-  front = h.front ++ xs;
-  back = h.back;
-  whole = h.whole ∙ ap (λ (zs : List ℕ). h.front ++ zs) (append_assoc xs ys h.back) ∙ sym (append_assoc h.front xs (ys ++ h.back));
-  len = length-append h.front xs ∙ ap (λ (n : ℕ). n + length xs) h.len;
-}
 
 -- the stretch of so many bytes from there is the text
 pub stretch_is : (bytes text : List ℕ) (place : ℕ) → StandsAt bytes text place → stretch bytes (place, place + length text) ≡ text
@@ -50,26 +27,25 @@ stretch_is bytes text place h =
 -- the name in the content of a section is UTF-8
 content_named : (bytes : List ℕ) (id place : ℕ) (r : Ranges) (text : List ℕ) → IsContent id place r text → StandsAt bytes text place → IsUtf8 (name_in bytes r.0)
 content_named bytes zero place r text (head, name, payload, parts, len, utf8, name_is, payload_is) h =
-    let rest = back_stands bytes head (name ++ payload) place (subst (λ (t : List ℕ). StandsAt bytes t place) parts h) in
-    let there = front_stands bytes name payload (place + length head) rest in
+    let rest = behind_stands bytes text head (name ++ payload) place parts h in
+    let there = before_stands bytes (name ++ payload) name payload (place + length head) refl rest in
     subst (λ (o : Option (ℕ × ℕ)). IsUtf8 (name_in bytes o)) (sym name_is) (subst IsUtf8 (sym (stretch_is bytes name (place + length head) there)) utf8)
 content_named bytes (suc id) place r text (name_is, payload_is) h = subst (λ (o : Option (ℕ × ℕ)). IsUtf8 (name_in bytes o)) (sym name_is) IsUtf8-nil
 
 -- the name of a section is UTF-8
 section_named : (bytes : List ℕ) (last place : ℕ) (s : SectionHeader) (text : List ℕ) → IsSection last place s text → StandsAt bytes text place → IsUtf8 (name_in bytes s.name_range)
 section_named bytes last place s text (size, (front, back, parts, id, (head, content, parts', number, (len, may, is)))) h =
-    let behind_id = back_stands bytes front back place (subst (λ (t : List ℕ). StandsAt bytes t place) parts h) in
-    let behind_size = back_stands bytes head content (place + length front) (subst (λ (t : List ℕ). StandsAt bytes t (place + length front)) parts' behind_id) in
+    let behind_id = behind_stands bytes text front back place parts h in
+    let behind_size = behind_stands bytes back head content (place + length front) parts' behind_id in
     content_named bytes s.id (place + length front + length head) (s.name_range, s.payload_range) content is behind_size
 
 -- each section of some in a row is placed
 chain_placed : (bytes : List ℕ) (last place : ℕ) (ss : List SectionHeader) (text : List ℕ) → Chain IsSection next last place ss text → StandsAt bytes text place → AllByRecursion (LiesWithin (length bytes)) ss → AllByRecursion (IsPlaced bytes) ss
 chain_placed bytes last place [] text chain h within = tt
 chain_placed bytes last place (s ∷ ss) text (front, back, parts, first, others) h within =
-    let whole = subst (λ (t : List ℕ). StandsAt bytes t place) parts h in
     let payload = within.0.payload in (
-      record { begins = omega (arith, payload.0, payload.1); name = section_named bytes last place s front first (front_stands bytes front back place whole) },
-      chain_placed bytes (next last s) (place + length front) ss back others (back_stands bytes front back place whole) within.1,
+      record { begins = omega (arith, payload.0, payload.1); name = section_named bytes last place s front first (before_stands bytes text front back place parts h) },
+      chain_placed bytes (next last s) (place + length front) ss back others (behind_stands bytes text front back place parts h) within.1,
     )
 
 -- the payload of each section of a frame begins within the bytes, and its name is UTF-8
@@ -77,7 +53,7 @@ pub placed_headers : (bytes : List ℕ) (headers : List SectionHeader) → Frame
 placed_headers bytes headers framed =
     let text = framed.0 in
     let stands : StandsAt bytes (magic ++ text) 0 = record { front = []; back = []; whole = framed.1 ∙ sym (append-nil (magic ++ text)); len = refl } in
-    chain_placed bytes 0 8 headers text framed.2 (back_stands bytes magic text 0 stands) (frame_within bytes headers framed)
+    chain_placed bytes 0 8 headers text framed.2 (behind_stands bytes (magic ++ text) magic text 0 refl stands) (frame_within bytes headers framed)
 
 -- ---- where the import section begins
 

@@ -1,12 +1,13 @@
 -- The laws of the names of imports.
-use Rattle.std.proofs.Common.{◌≡◌, ◌≢◌, ℕ, zero, suc, ◌+◌, ◌<◌, ◌≤◌, Bool, true, false, cond, ltb, ◌&&◌, List, [], ◌∷◌, ◌++◌, length, get_or, set, Option, Some, None, refl, sym, ap, subst, ◌∙◌, arith, inl, inr, length-set}
+use Rattle.std.proofs.Common.{◌≡◌, ◌≢◌, ℕ, zero, suc, ◌+◌, ◌<◌, ◌≤◌, Bool, true, false, ◌&&◌, List, [], ◌∷◌, ◌++◌, length, get_or, set, Option, Some, None, refl, sym, ap, subst, ◌∙◌, arith, inl, inr, length-set}
 use Rattle.std.specs.List.{list_all, repeat, slice_get}
 use Rattle.std.proofs.lemmas.Option.{slice_get_within, slice_get_read}
-use Rattle.std.proofs.lemmas.Bool.{cases_lt, cases_eq, ltb-true}
+use Rattle.std.proofs.lemmas.Bool.{cases_lt, cases_eq}
 use Rattle.std.proofs.lemmas.Slice.Eq.{bytes_eq-Decides}
 use Rattle.wl_linking.specs.declared.symbols.WasmSymbolKind.{WasmSymbolKind}
 use Rattle.wl_linking.specs.Symbols.{Symbol}
-use Rattle.wl_linking.specs.Slots.{claims, is_within, Agrees, HasOneName, HasTwoNames}
+use Rattle.wl_linking.specs.Slots.{Slot, claims, HasOneName, HasTwoNames}
+use Rattle.wl_linking.specs.SlotsReading.{AreNamedByRange, IsNamedByRange, is_name_of, named_as, Agrees}
 
 -- ---- symbols and their imports
 
@@ -46,24 +47,31 @@ repeat_more x (suc n) = let e : suc n + 1 ≡ suc (n + 1) = omega arith in rw (e
 
 -- ---- the names that symbols tell
 
--- one of the first i symbols claims the import of that number, with that name
-pub record Tells (kind : WasmSymbolKind) (symbols : List Symbol) (i slot : ℕ) (name : List ℕ) : Type 0 where
+-- one of the first i symbols claims the import of that number, and this is its name
+pub record Tells (kind : WasmSymbolKind) (symbols : List Symbol) (i number : ℕ) (slot : Slot) : Type 0 where
   pub place : ℕ
   pub symbol : Symbol
   pub before : place < i
   pub here : slice_get symbols place ≡ Some symbol
   pub claim : claims kind symbol ≡ true
-  pub index : symbol.index ≡ slot
-  pub same : symbol.name ≡ name
+  pub index : symbol.index ≡ number
+  pub same : symbol.name ≡ slot.name
+  pub range : symbol.name_range ≡ slot.range
+
+-- the name of a symbol is known
+pub record IsKnown (names : List (Option Slot)) (s : Symbol) : Type 0 where
+  pub slot : Slot
+  pub here : slice_get names s.index ≡ Some (Some slot)
+  pub same : slot.name ≡ s.name
 
 -- the names of so many imports as far as the first i symbols tell them, all alike
-pub record Know (kind : WasmSymbolKind) (count : ℕ) (symbols : List Symbol) (i : ℕ) (names : List (Option (List ℕ))) : Type 0 where
+pub record Know (kind : WasmSymbolKind) (count : ℕ) (symbols : List Symbol) (i : ℕ) (names : List (Option Slot)) : Type 0 where
   pub len : length names ≡ count
-  pub known : (j : ℕ) (s : Symbol) → j < i → slice_get symbols j ≡ Some s → claims kind s ≡ true → slice_get names s.index ≡ Some (Some s.name)
-  pub told : (slot : ℕ) (name : List ℕ) → slice_get names slot ≡ Some (Some name) → Tells kind symbols i slot name
+  pub known : (j : ℕ) (s : Symbol) → j < i → slice_get symbols j ≡ Some s → claims kind s ≡ true → s.index < count → IsKnown names s
+  pub told : (number : ℕ) (slot : Slot) → slice_get names number ≡ Some (Some slot) → Tells kind symbols i number slot
 
 -- no name
-abbrev Untold : Option (List ℕ)
+abbrev Untold : Option Slot
 Untold = None
 
 -- before the first symbol nothing is known
@@ -71,36 +79,51 @@ pub know_none : (kind : WasmSymbolKind) (count : ℕ) (symbols : List Symbol) �
 know_none kind count symbols = record {
   len = length_repeat count;
   known = λ j s lt. absurd (omega arith);
-  told = λ slot name e. absurd (nothing count slot name e);
+  told = λ number slot e. absurd (nothing count number slot e);
 }
   where
     length_repeat : (n : ℕ) → length (repeat n (Untold ∷ [])) ≡ n
     length_repeat zero = refl
     length_repeat (suc n) = ap suc (length_repeat n)
 
-    nothing : (n slot : ℕ) (name : List ℕ) → slice_get (repeat n (Untold ∷ [])) slot ≡ Some (Some name) → ⊥
-    nothing zero slot name e = cc
-    nothing (suc n) zero name e = cc
-    nothing (suc n) (suc slot) name e = nothing n slot name e
+    nothing : (n number : ℕ) (slot : Slot) → slice_get (repeat n (Untold ∷ [])) number ≡ Some (Some slot) → ⊥
+    nothing zero number slot e = cc
+    nothing (suc n) zero slot e = cc
+    nothing (suc n) (suc number) slot e = nothing n number slot e
 
 -- what was told before is told still
-told_on : (kind : WasmSymbolKind) (symbols : List Symbol) (i slot : ℕ) (name : List ℕ) → Tells kind symbols i slot name → Tells kind symbols (i + 1) slot name
-told_on kind symbols i slot name t = record { place = t.place; symbol = t.symbol; before = let lt = t.before in omega arith; here = t.here; claim = t.claim; index = t.index; same = t.same }
+told_on : (kind : WasmSymbolKind) (symbols : List Symbol) (i number : ℕ) (slot : Slot) → Tells kind symbols i number slot → Tells kind symbols (i + 1) number slot
+told_on kind symbols i number slot t = record {
+  place = t.place;
+  symbol = t.symbol;
+  before = let lt = t.before in omega arith;
+  here = t.here;
+  claim = t.claim;
+  index = t.index;
+  same = t.same;
+  range = t.range;
+}
 
--- a symbol without a claim tells nothing
-pub know_more : (kind : WasmSymbolKind) (count : ℕ) (symbols : List Symbol) (i : ℕ) (names : List (Option (List ℕ))) (s : Symbol) → slice_get symbols i ≡ Some s → claims kind s ≡ false → Know kind count symbols i names → Know kind count symbols (i + 1) names
+-- the symbol at the end of some, and those before it
+first_or_last : (symbols : List Symbol) (i j : ℕ) (s t : Symbol) (P : Symbol → Type 0) → j < i + 1 → slice_get symbols i ≡ Some s → slice_get symbols j ≡ Some t → (j < i → P t) → P s → P t
+first_or_last symbols i j s t P lt here at first last = elim (cases_lt j i) [
+  | inl old ↦ first old
+  | inr le ↦
+      let now : j ≡ i = omega arith in
+      let at' : slice_get symbols i ≡ Some t = subst (λ (k : ℕ). slice_get symbols k ≡ Some t) now at in
+      let same : s ≡ t = cc in
+      subst P same last
+]
+
+-- where the last symbol tells nothing, those before it know all
+pub know_more : (kind : WasmSymbolKind) (count : ℕ) (symbols : List Symbol) (i : ℕ) (names : List (Option Slot)) (s : Symbol) → slice_get symbols i ≡ Some s
+    → (claims kind s ≡ true → s.index < count → ⊥) → Know kind count symbols i names → Know kind count symbols (i + 1) names
 know_more kind count symbols i names s here none know = record {
   len = know.len;
-  known = λ j t lt at claim. elim (cases_lt j i) [
-    | inl old ↦ know.known j t old at claim
-    | inr le ↦
-        let now : j ≡ i = omega arith in
-        let at' : slice_get symbols i ≡ Some t = subst (λ (k : ℕ). slice_get symbols k ≡ Some t) now at in
-        let same : s ≡ t = cc in
-        let claim' : claims kind s ≡ true = subst (λ (u : Symbol). claims kind u ≡ true) (sym same) claim in
-        absurd cc
-  ];
-  told = λ slot name e. told_on kind symbols i slot name (know.told slot name e);
+  known = λ j t lt at. first_or_last symbols i j s t (λ u. claims kind u ≡ true → u.index < count → IsKnown names u) lt here at
+      (λ old claim within. know.known j t old at claim within)
+      (λ claim within. absurd (none claim within));
+  told = λ number slot e. told_on kind symbols i number slot (know.told number slot e);
 }
 
 -- what a slot has, where it is among them
@@ -109,83 +132,96 @@ some_at [] i lt = absurd (omega arith)
 some_at (x ∷ xs) zero lt = (x, refl)
 some_at (x ∷ xs) (suc i) lt = some_at xs i (omega arith)
 
--- a symbol that claims an import has its number among so many
-claims_within : (kind : WasmSymbolKind) (count : ℕ) (symbols : List Symbol) (i : ℕ) (s : Symbol) → list_all (is_within kind count) symbols ≡ true → slice_get symbols i ≡ Some s → claims kind s ≡ true → s.index < count
-claims_within kind count symbols i s all here claim =
-    let within : cond (claims kind s) (ltb s.index count) true ≡ true = all_at (is_within kind count) symbols i s all here in
-    ltb-true s.index count (subst (λ (b : Bool). cond b (ltb s.index count) true ≡ true) claim within)
+-- a name that was known before, and that of the symbol, are one
+known_name : (slot : Slot) (known : Option Slot) (s : Symbol) → known ≡ Some slot → true ≡ is_name_of known s → slot.name ≡ s.name
+known_name slot None s is same = absurd cc
+known_name slot (Some other) s is same = let e : other ≡ slot = cc in (bytes_eq-Decides slot.name s.name).0 (subst (λ (x : Slot). is_name_of (Some x) s ≡ true) e (sym same))
 
 -- a symbol that agrees is known too
-pub know_agreed : (kind : WasmSymbolKind) (count : ℕ) (symbols : List Symbol) (i : ℕ) (before after : List (Option (List ℕ))) (s : Symbol) → list_all (is_within kind count) symbols ≡ true → slice_get symbols i ≡ Some s → claims kind s ≡ true → Agrees before after s.index s.name true → Know kind count symbols i before → Know kind count symbols (i + 1) after
-know_agreed kind count symbols i before after s all here claim agrees know =
-    let len = know.len in
-    let lt = claims_within kind count symbols i s all here claim in
-    let found = some_at before s.index (omega arith) in
-    split found.0 found.1
+pub know_agreed : (kind : WasmSymbolKind) (count : ℕ) (symbols : List Symbol) (i : ℕ) (before after : List (Option Slot)) (s : Symbol) → slice_get symbols i ≡ Some s
+    → claims kind s ≡ true → Agrees before after s true → Know kind count symbols i before → Know kind count symbols (i + 1) after
+know_agreed kind count symbols i before after s here claim agrees know = split (slice_get before s.index) refl
   where
-    split : (o : Option (List ℕ)) → slice_get before s.index ≡ Some o → Know kind count symbols (i + 1) after
+    new : List (Option Slot)
+    new = set before s.index (Some (named_as s))
+
+    -- a symbol that came before is known still
+    kept : (known : Option Slot) (t : Symbol) → slice_get before s.index ≡ Some known → true ≡ is_name_of known s → IsKnown before t → IsKnown (set before s.index (Some (named_as s))) t
+    kept known t is same k = elim (cases_eq t.index s.index) [
+      | inl at ↦
+          let there : slice_get before s.index ≡ Some (Some k.slot) = subst (λ (n : ℕ). slice_get before n ≡ Some (Some k.slot)) at k.here in
+          let e : known ≡ Some k.slot = cc in
+          record {
+            slot = named_as s;
+            here = subst (λ (n : ℕ). slice_get (set before s.index (Some (named_as s))) n ≡ Some (Some (named_as s))) (sym at) (get_set_same before s.index (Some (named_as s)) (slice_get_within before s.index known is));
+            same = sym (known_name k.slot known s e same) ∙ k.same;
+          }
+      | inr other ↦ record { slot = k.slot; here = get_set_other before s.index t.index (Some (named_as s)) other ∙ k.here; same = k.same }
+    ]
+
+    split : (o : Option (Option Slot)) → slice_get before s.index ≡ o → Know kind count symbols (i + 1) after
     split None is =
-        let new : after ≡ set before s.index (Some s.name) = (agrees.none is).1 in
-        let within = slice_get_within before s.index None is in
-        subst (λ (names : List (Option (List ℕ))). Know kind count symbols (i + 1) names) (sym new) (record {
-          len = length-set before s.index (Some s.name) ∙ know.len;
-          known = λ j t lt' at claim'. elim (cases_lt j i) [
-            | inl old ↦
-                let k = know.known j t old at claim' in
-                let other : t.index ≢ s.index = λ e. absurd (let k' = subst (λ (n : ℕ). slice_get before n ≡ Some (Some t.name)) e k in cc) in
-                get_set_other before s.index t.index (Some s.name) other ∙ k
-            | inr le ↦
-                let now : j ≡ i = omega arith in
-                let at' : slice_get symbols i ≡ Some t = subst (λ (k : ℕ). slice_get symbols k ≡ Some t) now at in
-                let same : s ≡ t = cc in
-                subst (λ (u : Symbol). slice_get (set before s.index (Some s.name)) u.index ≡ Some (Some u.name)) same (get_set_same before s.index (Some s.name) within)
-          ];
-          told = λ slot name e. elim (cases_eq slot s.index) [
-            | inl at ↦
-                let e' : slice_get (set before s.index (Some s.name)) s.index ≡ Some (Some name) = subst (λ (n : ℕ). slice_get (set before s.index (Some s.name)) n ≡ Some (Some name)) at e in
-                let is' = get_set_same before s.index (Some s.name) within in
-                record { place = i; symbol = s; before = omega arith; here = here; claim = claim; index = sym at; same = cc }
-            | inr other ↦ told_on kind symbols i slot name (know.told slot name (sym (get_set_other before s.index slot (Some s.name) other) ∙ e))
-          ];
-        })
+        let p = agrees.beyond is in
+        let beyond : s.index < count → ⊥ = λ lt. absurd (let found = some_at before s.index (let len = know.len in omega arith) in let e = found.1 in cc) in
+        subst (Know kind count symbols (i + 1)) (sym p.0) (know_more kind count symbols i before s here (λ c lt. beyond lt) know)
     split (Some known) is =
-        let p = agrees.some known is in
-        let same' : known ≡ s.name = (bytes_eq-Decides known s.name).0 (sym p.1) in
-        subst (λ (names : List (Option (List ℕ))). Know kind count symbols (i + 1) names) (sym p.0) (record {
-          len = know.len;
-          known = λ j t lt' at claim'. elim (cases_lt j i) [
-            | inl old ↦ know.known j t old at claim'
-            | inr le ↦
-                let now : j ≡ i = omega arith in
-                let at' : slice_get symbols i ≡ Some t = subst (λ (k : ℕ). slice_get symbols k ≡ Some t) now at in
-                let same : s ≡ t = cc in
-                subst (λ (u : Symbol). slice_get before u.index ≡ Some (Some u.name)) same (is ∙ ap (λ (n : List ℕ). Some (Some n)) same')
+        let p = agrees.there known is in
+        let within = slice_get_within before s.index known is in
+        subst (Know kind count symbols (i + 1)) (sym p.0) (record {
+          len = length-set before s.index (Some (named_as s)) ∙ know.len;
+          known = λ j t lt at. first_or_last symbols i j s t (λ u. claims kind u ≡ true → u.index < count → IsKnown (set before s.index (Some (named_as s))) u) lt here at
+              (λ old claim' within'. kept known t is p.1 (know.known j t old at claim' within'))
+              (λ claim' within'. record { slot = named_as s; here = get_set_same before s.index (Some (named_as s)) within; same = refl });
+          told = λ number slot e. elim (cases_eq number s.index) [
+            | inl at ↦
+                let e' : slice_get (set before s.index (Some (named_as s))) s.index ≡ Some (Some slot) = subst (λ (n : ℕ). slice_get (set before s.index (Some (named_as s))) n ≡ Some (Some slot)) at e in
+                let is' = get_set_same before s.index (Some (named_as s)) within in
+                let mine : named_as s ≡ slot = cc in
+                record { place = i; symbol = s; before = omega arith; here = here; claim = claim; index = sym at; same = ap (λ (x : Slot). x.name) mine; range = ap (λ (x : Slot). x.range) mine }
+            | inr other ↦ told_on kind symbols i number slot (know.told number slot (sym (get_set_other before s.index number (Some (named_as s)) other) ∙ e))
           ];
-          told = λ slot name e. told_on kind symbols i slot name (know.told slot name e);
         })
 
 -- where a symbol doesn't agree, an import has two names
-pub two_names : (kind : WasmSymbolKind) (count : ℕ) (symbols : List Symbol) (i : ℕ) (before after : List (Option (List ℕ))) (s : Symbol) → list_all (is_within kind count) symbols ≡ true → slice_get symbols i ≡ Some s → claims kind s ≡ true → Agrees before after s.index s.name false → Know kind count symbols i before → HasTwoNames kind symbols
-two_names kind count symbols i before after s all here claim agrees know =
-    let len = know.len in
-    let lt = claims_within kind count symbols i s all here claim in
-    let found = some_at before s.index (omega arith) in
-    split found.0 found.1
+pub two_names : (kind : WasmSymbolKind) (count : ℕ) (symbols : List Symbol) (i : ℕ) (before after : List (Option Slot)) (s : Symbol) → slice_get symbols i ≡ Some s
+    → claims kind s ≡ true → Agrees before after s false → Know kind count symbols i before → HasTwoNames kind count symbols
+two_names kind count symbols i before after s here claim agrees know = split (slice_get before s.index) refl
   where
-    split : (o : Option (List ℕ)) → slice_get before s.index ≡ Some o → HasTwoNames kind symbols
-    split None is = absurd (let e = (agrees.none is).0 in cc)
-    split (Some known) is =
-        let p = agrees.some known is in
-        let t = know.told s.index known is in
-        let differ : t.symbol.name ≢ s.name = λ e. absurd (let yes = (bytes_eq-Decides known s.name).1 (sym t.same ∙ e) in let no = p.1 in cc) in
-        (t.place, i, t.symbol, s, t.here, here, record { one = t.claim; other = claim; slot = t.index }, differ)
+    split : (o : Option (Option Slot)) → slice_get before s.index ≡ o → HasTwoNames kind count symbols
+    split None is = absurd (let no = (agrees.beyond is).1 in cc)
+    split (Some None) is = absurd (let no = (agrees.there None is).1 in cc)
+    split (Some (Some slot)) is =
+        let no = (agrees.there (Some slot) is).1 in
+        let t = know.told s.index slot is in
+        let within = slice_get_within before s.index (Some slot) is in
+        record {
+          first = t.place;
+          second = i;
+          one = t.symbol;
+          other = s;
+          one_is = t.here;
+          other_is = here;
+          shared = record { one = t.claim; other = claim; slot = t.index; exists = let len = know.len in let at = t.index in omega arith };
+          differ = λ e. absurd (let yes = (bytes_eq-Decides slot.name s.name).1 (sym t.same ∙ e) in cc);
+        }
 
 -- where all agree, each import has one name
-pub one_name : (kind : WasmSymbolKind) (count : ℕ) (symbols : List Symbol) (i : ℕ) (names : List (Option (List ℕ))) → length symbols ≤ i → Know kind count symbols i names → HasOneName kind symbols
+pub one_name : (kind : WasmSymbolKind) (count : ℕ) (symbols : List Symbol) (i : ℕ) (names : List (Option Slot)) → length symbols ≤ i → Know kind count symbols i names → HasOneName kind count symbols
 one_name kind count symbols n names le know i j s t at there shares =
     let lt = slice_get_within symbols i s at in
     let lt' = slice_get_within symbols j t there in
-    let a = know.known i s (omega arith) at shares.one in
-    let b = know.known j t (omega arith) there shares.other in
-    let b' = subst (λ (n : ℕ). slice_get names n ≡ Some (Some t.name)) (sym shares.slot) b in
-    cc
+    let exists = shares.exists in
+    let slot = shares.slot in
+    let a = know.known i s (omega arith) at shares.one exists in
+    let b = know.known j t (omega arith) there shares.other (omega arith) in
+    let mine : slice_get names t.index ≡ Some (Some a.slot) = subst (λ (k : ℕ). slice_get names k ≡ Some (Some a.slot)) slot a.here in
+    let theirs = b.here in
+    let same : a.slot ≡ b.slot = cc in
+    sym a.same ∙ ap (λ (x : Slot). x.name) same ∙ b.same
+
+-- the name that is known for the symbol at a place is that of a symbol before, at the same range if it is
+pub known_by_range : (kind : WasmSymbolKind) (count : ℕ) (symbols : List Symbol) (i : ℕ) (names : List (Option Slot)) (s : Symbol) (known : Option Slot) → AreNamedByRange symbols → slice_get symbols i ≡ Some s
+    → Know kind count symbols i names → slice_get names s.index ≡ Some known → IsNamedByRange known s
+known_by_range kind count symbols i names s known named here know at slot is range =
+    let t = know.told s.index slot (at ∙ ap (λ (o : Option Slot). Some o) is) in
+    sym t.same ∙ named t.place i t.symbol s t.here here (t.range ∙ range)

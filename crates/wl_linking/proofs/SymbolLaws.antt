@@ -12,7 +12,7 @@ use Rattle.wl_module.specs.Words.{IsPlacedName, placed_name_at}
 use Rattle.wl_module.proofs.ListLaws.{number_reading, one_byte_reading, list_reading, whole_reading, IsWholeReading}
 use Rattle.wl_module.proofs.CheckLaws.{when_reading, placed_name_reading}
 use Rattle.wl_linking.specs.Verdict.{Judged, JudgedFault, judged_at}
-use Rattle.wl_linking.specs.Symbols.{symbol_of, kind_verdict, flags_verdict, based_name, IsBasedName, name_or_none, extent_or_none, is_named, is_defined, numbered, located, sectioned, IsNameWhere, IsExtent, ExtentFault, IsExtentWhere, IsNumbered, IsLocated, IsDetails, NumberedFault, LocatedFault, DetailsFault, AreParts, IsSymbol, SymbolFault, AreSymbols, SymbolsFault}
+use Rattle.wl_linking.specs.Symbols.{symbol_of, kind_verdict, based_name, IsBasedName, name_or_none, extent_or_none, is_named, is_defined, numbered, located, sectioned, IsNameWhere, IsExtent, ExtentFault, IsExtentWhere, IsNumbered, IsLocated, IsDetails, NumberedFault, LocatedFault, DetailsFault, AreParts, IsSymbol, SymbolFault, AreSymbols, SymbolsFault}
 use Rattle.wl_linking.specs.SymbolsReading.{based_name_at, name_where_at, extent_at, extent_where_at, numbered_at, located_at, section_at, details_at, parts_at, symbol_at, symbols_of}
 use Rattle.wl_linking.specs.declared.symbols.WasmSymbolKind.{WasmSymbolKind}
 use Rattle.wl_linking.specs.declared.symbols.WasmSymbolKind.TheVariants.{Func, Data, Global, Section, Event, Table}
@@ -65,9 +65,8 @@ parts_reading : (base : ℕ) → IsReading (AreParts base) (SymbolFault base) (p
 parts_reading base =
     then_reading IsByte _ ByteFault _ one_byte_at _ one_byte_reading
     (λ byte. then_reading (Judged (kind_verdict byte)) _ (JudgedFault (kind_verdict byte)) _ (judged_at (kind_verdict byte)) _ (judged_reading (kind_verdict byte))
-    (λ kind. then_reading IsU32 _ NumberFault _ number_at _ number_reading
-    (λ flags. then_reading (Judged (flags_verdict flags)) (λ _. IsDetails base kind flags) (JudgedFault (flags_verdict flags)) (λ _. DetailsFault base kind flags) (judged_at (flags_verdict flags)) (λ _. details_at base kind flags) (judged_reading (flags_verdict flags))
-    (λ _. details_reading base kind flags))))
+    (λ kind. then_reading IsU32 (λ flags. IsDetails base kind flags) NumberFault (λ flags. DetailsFault base kind flags) number_at (λ flags. details_at base kind flags) number_reading
+    (λ flags. details_reading base kind flags)))
 
 pub symbol_reading : (base : ℕ) → IsReading (IsSymbol base) (SymbolFault base) (symbol_at base)
 unfolding symbol_at

@@ -1,9 +1,11 @@
 -- The relocatable object that some bytes are: what its sections hold, and what must hold across them
 -- (core specification, "Modules"; object file linking, version 2).
-use Rattle.std.specs.Prelude.{◌≡◌, ◌⊎◌, ℕ, List, map, Result, Ok, Err, IfOk, IfErr}
+use Rattle.std.specs.Prelude.{◌≡◌, ◌⊎◌, ◌≤◌, ◌^◌, ℕ, List, length, map, Option, Result, Ok, Err, IfOk, IfErr}
 use Rattle.wl_module.specs.declared.sections.SectionHeader.{SectionHeader}
 use Rattle.wl_module.specs.declared.imports.ExternalKind.TheVariants.{Func, Global}
 use Rattle.wl_module.specs.declared.error.ReadError.{ReadError}
+use Rattle.wl_module.specs.Imports.{plain_imports}
+use Rattle.wl_module.specs.Segments.{Targeted, plain_segments}
 use Rattle.wl_module.specs.Sections.{Framed, FrameFault}
 use Rattle.wl_module.specs.Outcome.{Gives}
 use Rattle.wl_linking.specs.Verdict.{HasCause}
@@ -12,13 +14,22 @@ use Rattle.wl_linking.specs.Targets.{stretch}
 use Rattle.wl_linking.specs.Object.{Object}
 use Rattle.wl_linking.specs.Sections.{AreSound, AreFaulty, nothing_seen}
 use Rattle.wl_linking.specs.Parts.{parts_of}
-use Rattle.wl_linking.specs.Spaces.{NamesExist, NamesFault}
+use Rattle.wl_linking.specs.Spaces.{NamesExist, NamesFault, spaces_of}
 use Rattle.wl_linking.specs.Slots.{import_base, slots_of, with_import_name, AgreeOnNames, SlotFault}
 use Rattle.wl_linking.specs.Sites.{PieceOf, body_piece, segment_piece, AreInOrder, LieApart, FieldsFault}
 use Rattle.wl_linking.specs.declared.parts.Parts.{Parts}
 use Rattle.wl_linking.specs.declared.section.Section.{Section}
+use Rattle.wl_linking.specs.declared.spaces.Spaces.{Spaces}
 
 -- ---- the object of some items
+
+-- the symbols of these items, each with the name that it takes from its import
+abbrev pub named_symbols : List SectionHeader → Parts → List Symbol
+named_symbols headers parts = map (with_import_name (slots_of Func (import_base headers) parts.imports) (slots_of Global (import_base headers) parts.imports)) parts.symbols
+
+-- the memory that each segment goes into when the module starts, if it does
+abbrev pub memories_of : List Targeted → List (Option ℕ)
+memories_of = map (λ (t : Targeted). t.memory_index)
 
 -- An object of these bytes and sections has these items: its symbols take the names of imports, and its relocations are in
 -- order of their fields.
@@ -26,17 +37,18 @@ pub record HasItems (bytes : List ℕ) (headers : List SectionHeader) (parts : P
   pub bytes_are : o.bytes ≡ bytes
   pub sections : o.sections ≡ headers
   pub types : o.types ≡ parts.types
-  pub imports : o.imports ≡ parts.imports
+  pub imports : o.imports ≡ plain_imports parts.imports
   pub functions : o.functions ≡ parts.functions
   pub memories : o.memories ≡ parts.memories
   pub globals : o.globals ≡ parts.globals
   pub exports : o.exports ≡ parts.exports
   pub data_counts : o.data_counts ≡ parts.data_counts
   pub bodies : o.bodies ≡ parts.bodies
-  pub segments : o.segments ≡ parts.segments
+  pub segments : o.segments ≡ plain_segments parts.segments
+  pub segment_memories : o.segment_memories ≡ memories_of parts.segments
   pub segment_infos : o.segment_infos ≡ parts.segment_infos
   pub init_funcs : o.init_funcs ≡ parts.init_funcs
-  pub symbols : o.symbols ≡ map (with_import_name (slots_of Func (import_base headers) parts.imports) (slots_of Global (import_base headers) parts.imports)) parts.symbols
+  pub symbols : o.symbols ≡ named_symbols headers parts
   pub reloc_sections : o.reloc_sections ≡ parts.reloc_sections
   pub features : o.features ≡ parts.features
   pub debug_sections : o.debug_sections ≡ parts.debug_sections
@@ -56,13 +68,13 @@ data_pieces o = map segment_piece o.segments
 -- the counts hold, what is named exists, each import has one name, and each field lies by itself in a body or a segment
 pub record IsFitting (o : Object) : Type 0 where
   pub names : NamesExist o
-  pub slots : AgreeOnNames o.symbols
+  pub slots : AgreeOnNames (spaces_of o) o.symbols
   pub code : LieApart (code_pieces o) o.code_relocations o.code_sites
   pub data_ : LieApart (data_pieces o) o.data_relocations o.data_sites
 
 -- one of these doesn't hold
 abbrev pub CrossFault : Object → ReadError → Type 0
-CrossFault o e = NamesFault o e ⊎ (SlotFault o.symbols e ⊎ (FieldsFault (code_pieces o) o.code_relocations e ⊎ FieldsFault (data_pieces o) o.data_relocations e))
+CrossFault o e = NamesFault o e ⊎ (SlotFault (spaces_of o) o.symbols e ⊎ (FieldsFault (code_pieces o) o.code_relocations e ⊎ FieldsFault (data_pieces o) o.data_relocations e))
 
 -- the same object with the places of its fields, and it fits together
 pub record Fitted (before after : Object) : Type 0 where
@@ -90,6 +102,16 @@ pub record IsObject (o : Object) (bytes : List ℕ) : Type 0 where
   pub sound : AreSound bytes o.sections nothing_seen o.sections held
   pub items : HasItems bytes o.sections (parts_of held) o
   pub fitting : IsFitting o
+
+-- an object as it is kept: its bytes are this object, and 2^30 at most
+pub record IsWhole (o : Object) : Type 0 where
+  pub object : IsObject o o.bytes
+  pub within : length o.bytes ≤ 2 ^ 30
+
+-- a whole object, with how many things of each kind it has
+pub record IsFile (o : Object) (spaces : Spaces) : Type 0 where
+  pub whole : IsWhole o
+  pub counted : spaces ≡ spaces_of o
 
 -- sound sections that don't fit together
 pub record IsUnfitting (headers : List SectionHeader) (bytes : List ℕ) (e : ReadError) : Type 0 where

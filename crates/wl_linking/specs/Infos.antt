@@ -1,5 +1,5 @@
 -- What a linking section tells of segments, and of functions that run at the start (object file linking, version 2, "Segment Info Subsection" and "Init Funcs Subsection").
-use Rattle.std.specs.Prelude.{ℕ, ◌==◌, Bool, not, nat_le, List, Result}
+use Rattle.std.specs.Prelude.{ℕ, ◌==◌, ◌^◌, Bool, not, nat_le, List, Result}
 use Rattle.std.specs.Int.RustNames.{bit_and}
 use Rattle.wl_bytes.specs.Cursor.{Cursor}
 use Rattle.wl_bytes.specs.Leb.{IsU32}
@@ -10,11 +10,12 @@ use Rattle.wl_module.specs.Checks.{Where, WhereFault, where_at}
 use Rattle.wl_module.specs.declared.error.Why.TheVariants.{BadAlignment}
 use Rattle.wl_module.specs.declared.error.ReadError.{ReadError}
 use Rattle.wl_module.specs.declared.error.ReadError.TheVariants.{Malformed}
+use Rattle.wl_linking.specs.Verdict.{Seen}
 use Rattle.wl_linking.specs.declared.infos.WasmInitFunc.{WasmInitFunc}
 
 -- ---- segments
 
--- what is told of a segment: its name, the exponent of its alignment, its flags
+-- what is told of a segment: its name, its alignment in bytes, its flags
 pub record SegmentInfo : Type 0 where
   pub name : List ℕ
   pub alignment : ℕ
@@ -28,19 +29,23 @@ is_tls i = not (bit_and i.flags 2 == 0)
 abbrev pub is_exponent : ℕ → Bool
 is_exponent n = nat_le n 31
 
--- an exponent of an alignment
-abbrev pub IsAlignment : ℕ → ℕ → List ℕ → Type 0
-IsAlignment = Where IsU32 is_exponent
+-- a power of two
+abbrev pub two_to : ℕ → ℕ
+two_to n = 2 ^ n
 
--- no number stands there, or one that is too great
+-- an alignment, of which the exponent is spelled
+abbrev pub IsAlignment : ℕ → ℕ → List ℕ → Type 0
+IsAlignment = Seen (Where IsU32 is_exponent) two_to
+
+-- no exponent stands there, or one that is too great
 abbrev pub AlignmentFault : ReadError → Cursor → Type 0
 AlignmentFault = WhereFault IsU32 NumberFault is_exponent (Malformed BadAlignment)
 
--- the exponent in front
+-- the alignment in front
 unfoldable pub alignment_at : Cursor → Result (ℕ × Cursor) ReadError
-alignment_at c = where_at number_at is_exponent (Malformed BadAlignment) c
+alignment_at c = map_at two_to (where_at number_at is_exponent (Malformed BadAlignment)) c
 
--- a name, an exponent and flags
+-- a name, an alignment and flags
 abbrev pub IsInfo : ℕ → SegmentInfo → List ℕ → Type 0
 IsInfo place i text = Then IsName (λ _. Then IsAlignment (λ _. IsU32)) place (i.name, (i.alignment, i.flags)) text
 

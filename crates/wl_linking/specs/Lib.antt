@@ -13,8 +13,10 @@ pub mod Object
 pub mod Parts
 pub mod Spaces
 pub mod Slots
+pub mod SlotsReading
 pub mod Sites
 pub mod Placing
 pub mod Fitting
+pub mod Stretches
 pub mod RawNames
 pub mod Steps

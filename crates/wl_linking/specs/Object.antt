@@ -1,5 +1,5 @@
 -- What a relocatable object holds (core specification, "Modules"; object file linking, version 2).
-use Rattle.std.specs.Prelude.{ℕ, List}
+use Rattle.std.specs.Prelude.{ℕ, List, Option}
 use Rattle.wl_module.specs.declared.sections.SectionHeader.{SectionHeader}
 use Rattle.wl_module.specs.declared.limits.MemoryType.{MemoryType}
 use Rattle.wl_module.specs.Types.{FunctionType}
@@ -17,8 +17,9 @@ use Rattle.wl_linking.specs.declared.relocations.WasmRelocation.{WasmRelocation}
 use Rattle.wl_linking.specs.declared.relocations.WasmRelocSection.{WasmRelocSection}
 use Rattle.wl_linking.specs.declared.sites.Site.{Site}
 
--- What an object holds, in file order: its bytes, and the items of its sections. Symbols have the names that they take
--- from imports. Relocations are in order of their fields, each with the place of its field.
+-- What an object holds, in file order: its bytes, and the items of its sections. For each segment there is the memory that
+-- it goes into when the module starts, if it does. Symbols have the names that they take from imports. Relocations are in
+-- order of their fields, each with the place of its field.
 pub record Object : Type 0 where
   pub bytes : List ℕ
   pub sections : List SectionHeader
@@ -31,6 +32,7 @@ pub record Object : Type 0 where
   pub data_counts : List ℕ
   pub bodies : List Body
   pub segments : List Segment
+  pub segment_memories : List (Option ℕ)
   pub segment_infos : List SegmentInfo
   pub init_funcs : List WasmInitFunc
   pub symbols : List Symbol

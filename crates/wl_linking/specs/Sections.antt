@@ -9,12 +9,12 @@ use Rattle.wl_module.specs.declared.error.ReadError.{ReadError}
 use Rattle.wl_module.specs.declared.error.ReadError.TheVariants.{Malformed, Unsupported}
 use Rattle.wl_module.specs.declared.error.Why.TheVariants.{Repeated}
 use Rattle.wl_module.specs.Types.{FunctionType, AreTypes, TypesFault}
-use Rattle.wl_module.specs.Imports.{Imported, is_memory, AreImports, ImportsFault}
+use Rattle.wl_module.specs.Imports.{PlacedImported, is_memory, ArePlacedImports, ImportsFault}
 use Rattle.wl_module.specs.Bodies.{Body, AreIndices, IndicesFault, AreBodies, BodiesFault}
 use Rattle.wl_module.specs.Memories.{AreMemories, MemoriesFault, IsDataCount, DataCountFault}
 use Rattle.wl_module.specs.Globals.{DefinedGlobal, AreGlobals, GlobalsFault}
 use Rattle.wl_module.specs.Exports.{Exported, AreExports, ExportsFault}
-use Rattle.wl_module.specs.Segments.{Segment, AreSegments, SegmentsFault}
+use Rattle.wl_module.specs.Segments.{Targeted, AreTargeted, SegmentsFault}
 use Rattle.wl_linking.specs.Debug.{DebugInput, debug_of}
 use Rattle.wl_linking.specs.Infos.{SegmentInfo}
 use Rattle.wl_linking.specs.Symbols.{Symbol}
@@ -53,14 +53,14 @@ Holding {X} make spells section payload = (x : X) × (section ≡ make x) × spe
 -- what a section of this kind holds
 abbrev pub HoldsItems : SectionKind → List ℕ → List SectionHeader → Seen → SectionHeader → Section → List ℕ → Type 0
 HoldsItems kind.Type bytes headers seen header = Holding Types AreTypes
-HoldsItems kind.Import bytes headers seen header = Holding Imports AreImports
+HoldsItems kind.Import bytes headers seen header = Holding Imports ArePlacedImports
 HoldsItems kind.Function bytes headers seen header = Holding Functions AreIndices
 HoldsItems kind.Memory bytes headers seen header = Holding Memories (AreMemories seen.memory)
 HoldsItems kind.Global bytes headers seen header = Holding Globals AreGlobals
 HoldsItems kind.Export bytes headers seen header = Holding Exports AreExports
 HoldsItems kind.DataCount bytes headers seen header = Holding DataCount IsDataCount
 HoldsItems kind.Code bytes headers seen header = Holding Code AreBodies
-HoldsItems kind.Data bytes headers seen header = Holding Data AreSegments
+HoldsItems kind.Data bytes headers seen header = Holding Data AreTargeted
 HoldsItems kind.Linking bytes headers seen header = Holding Linking (LinkingItems seen header.payload_range.0)
 HoldsItems kind.Reloc bytes headers seen header = Holding Reloc (IsRelocSection (numbered_verdict bytes headers seen))
 HoldsItems kind.Features bytes headers seen header = Holding Features AreFeatures
@@ -106,8 +106,8 @@ pub record IsPlaced (bytes : List ℕ) (header : SectionHeader) : Type 0 where
 -- ---- all sections
 
 -- a memory is imported
-abbrev pub has_memory : List Imported → Bool
-has_memory imports = list_any (λ i. is_memory i.entity) imports
+abbrev pub has_memory : List PlacedImported → Bool
+has_memory imports = list_any (λ (i : PlacedImported). is_memory i.import.entity) imports
 
 -- what came before, after relocations of that target
 abbrev pub seen_then_reloc : Seen → Target → Seen
@@ -156,8 +156,8 @@ abbrev pub types_in : Section → List FunctionType
 types_in (Types types) = types
 types_in _ = []
 
--- the imports of an import section
-abbrev pub imports_in : Section → List Imported
+-- the imports of an import section, with the places of their names
+abbrev pub imports_in : Section → List PlacedImported
 imports_in (Imports imports) = imports
 imports_in _ = []
 
@@ -191,8 +191,8 @@ abbrev pub bodies_in : Section → List Body
 bodies_in (Code bodies) = bodies
 bodies_in _ = []
 
--- the segments of a data section
-abbrev pub segments_in : Section → List Segment
+-- the segments of a data section, with their memories
+abbrev pub segments_in : Section → List Targeted
 segments_in (Data segments) = segments
 segments_in _ = []
 

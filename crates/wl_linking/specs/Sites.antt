@@ -1,5 +1,5 @@
 -- Where the fields of relocations lie (object file linking, version 2, "Relocation Sections").
-use Rattle.std.specs.Prelude.{◌≡◌, ℕ, ◌+◌, ◌<◌, ◌≤◌, ◌==◌, Bool, true, false, List, [], ◌∷◌, length, take, drop, ◌&&◌, nat_lt, nat_le, Some, ⊤, slice_get, slice_index_or}
+use Rattle.std.specs.Prelude.{◌≡◌, ℕ, ◌+◌, ◌-◌, ◌<◌, ◌≤◌, ◌==◌, Bool, true, false, List, [], ◌∷◌, length, take, drop, ◌&&◌, nat_lt, nat_le, Some, ⊤, slice_get, slice_index_or}
 use Rattle.std.specs.List.Sorted.{IsNonDecreasingBy, IsStableByKey}
 use Rattle.std.specs.Ordering.{nat_cmp}
 use Rattle.wl_module.specs.declared.error.ReadError.{ReadError}
@@ -43,9 +43,9 @@ pub record PieceOf : Type 0 where
 abbrev pub body_piece : Body → PieceOf
 body_piece b = record { place = b.code_offset; bytes = b.bytes }
 
--- fields of data lie in the bytes of segments
+-- fields of data lie in the bytes of segments, with which these end
 abbrev pub segment_piece : Segment → PieceOf
-segment_piece s = record { place = s.section_offset; bytes = s.payload }
+segment_piece s = record { place = s.section_offset + s.encoded_size - length s.payload; bytes = s.payload }
 
 -- ---- where fields lie
 

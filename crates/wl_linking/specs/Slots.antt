@@ -1,15 +1,15 @@
 -- The names of imports, which symbols refer to by slots: numbers among the imports of a kind (object file linking, version 2, "Symbol Table Subsection").
-use Rattle.std.specs.Prelude.{◌≡◌, ◌≢◌, ◌≤◌, ℕ, ◌+◌, ◌^◌, ◌==◌, ◌&&◌, Bool, true, false, not, nat_lt, if◌then◌else◌, List, [], ◌∷◌, length, map, Option, Some, None, slice_get, slice_set}
+use Rattle.std.specs.Prelude.{◌≡◌, ◌≢◌, ◌<◌, ℕ, ◌==◌, ◌&&◌, Bool, true, false, not, if◌then◌else◌, List, length, map, Option, Some, None, slice_get}
 use Rattle.std.specs.List.{filter, find}
-use Rattle.std.specs.Str.{bytes_eq}
 use Rattle.wl_module.specs.declared.imports.ExternalKind.{ExternalKind}
 use Rattle.wl_module.specs.declared.sections.SectionHeader.{SectionHeader}
 use Rattle.wl_module.specs.declared.error.ReadError.{ReadError}
 use Rattle.wl_module.specs.declared.error.ReadError.TheVariants.{Malformed}
 use Rattle.wl_module.specs.declared.error.Why.TheVariants.{SlotNames}
-use Rattle.wl_module.specs.Imports.{Imported}
+use Rattle.wl_module.specs.Imports.{PlacedImported}
 use Rattle.wl_linking.specs.Spaces.{is_of}
 use Rattle.wl_linking.specs.Symbols.{Symbol, is_undefined, has_name, named, range_of}
+use Rattle.wl_linking.specs.declared.spaces.Spaces.{Spaces}
 use Rattle.wl_linking.specs.declared.symbols.WasmSymbolKind.{WasmSymbolKind}
 use Rattle.wl_linking.specs.declared.symbols.WasmSymbolKind.TheVariants.{Func, Data, Global, Section, Event, Table}
 
@@ -30,20 +30,12 @@ abbrev pub import_base : List SectionHeader → ℕ
 import_base headers = begin_of (find (λ (h : SectionHeader). h.id == 2) headers)
 
 -- the field name of an import, where so many bytes of the object lie before its section's payload
-abbrev pub slot_of : ℕ → Imported → Slot
-slot_of base i = record { name = i.name; range = range_of base i.name_offset (length i.name) }
+abbrev pub slot_of : ℕ → PlacedImported → Slot
+slot_of base i = record { name = i.import.name; range = range_of base i.name_offset (length i.import.name) }
 
 -- the field names of the imports of a kind, in order
-abbrev pub slots_of : ExternalKind → ℕ → List Imported → List Slot
-slots_of kind base imports = map (slot_of base) (filter (λ (i : Imported). is_of kind i.entity) imports)
-
--- the field name of one import, if it is of that kind
-abbrev pub slots_from : ExternalKind → ℕ → Imported → List Slot
-slots_from kind base i = if is_of kind i.entity then slot_of base i ∷ [] else []
-
--- the field name stands within 2^30 bytes
-abbrev pub IsNamedWithin : Imported → Type 0
-IsNamedWithin i = i.name_offset + length i.name ≤ 2 ^ 30
+abbrev pub slots_of : ExternalKind → ℕ → List PlacedImported → List Slot
+slots_of kind base imports = map (slot_of base) (filter (λ (i : PlacedImported). is_of kind i.import.entity) imports)
 
 -- ---- symbols that take them
 
@@ -78,35 +70,43 @@ has_claim _ _ s = false
 abbrev pub claims : WasmSymbolKind → Symbol → Bool
 claims kind s = is_undefined s && has_claim kind s.kind s
 
--- two symbols that stand for one import, with names to compare
-pub record SharesSlot (kind : WasmSymbolKind) (s t : Symbol) : Type 0 where
+-- how many imports of that kind there are; symbols of the other kinds stand for none
+abbrev pub imported_of : Spaces → WasmSymbolKind → ℕ
+imported_of spaces Func = spaces.imported_functions
+imported_of spaces Data = 0
+imported_of spaces Global = spaces.imported_globals
+imported_of spaces Section = 0
+imported_of spaces Event = 0
+imported_of spaces Table = spaces.imported_tables
+
+-- two symbols that stand for one of so many imports, with names to compare
+pub record SharesSlot (kind : WasmSymbolKind) (count : ℕ) (s t : Symbol) : Type 0 where
   pub one : claims kind s ≡ true
   pub other : claims kind t ≡ true
   pub slot : s.index ≡ t.index
+  pub exists : s.index < count
 
--- the symbols of one import of that kind have one name
-abbrev pub HasOneName : WasmSymbolKind → List Symbol → Type 0
-HasOneName kind symbols = (i j : ℕ) (s t : Symbol) → slice_get symbols i ≡ Some s → slice_get symbols j ≡ Some t → SharesSlot kind s t → s.name ≡ t.name
+-- the symbols of each of so many imports of that kind have one name
+abbrev pub HasOneName : WasmSymbolKind → ℕ → List Symbol → Type 0
+HasOneName kind count symbols = (i j : ℕ) (s t : Symbol) → slice_get symbols i ≡ Some s → slice_get symbols j ≡ Some t → SharesSlot kind count s t → s.name ≡ t.name
 
--- two symbols of one import of that kind have different names
-abbrev pub HasTwoNames : WasmSymbolKind → List Symbol → Type 0
-HasTwoNames kind symbols = (i : ℕ) × (j : ℕ) × (s : Symbol) × (t : Symbol) × (slice_get symbols i ≡ Some s) × (slice_get symbols j ≡ Some t) × SharesSlot kind s t × (s.name ≢ t.name)
-
--- symbols of that kind with a name to compare stand for one of so many imports
-abbrev pub is_within : WasmSymbolKind → ℕ → Symbol → Bool
-is_within kind count s = if claims kind s then nat_lt s.index count else true
-
--- a known name stays, and an unknown one is taken down; whether the name is the one that is known then
-pub record Agrees (before after : List (Option (List ℕ))) (slot : ℕ) (name : List ℕ) (answer : Bool) : Type 0 where
-  pub none : slice_get before slot ≡ Some None → (answer ≡ true) × (after ≡ slice_set before slot (Some name))
-  pub some : (known : List ℕ) → slice_get before slot ≡ Some (Some known) → (after ≡ before) × (answer ≡ bytes_eq known name)
+-- two symbols of one of so many imports of that kind have different names
+pub record HasTwoNames (kind : WasmSymbolKind) (count : ℕ) (symbols : List Symbol) : Type 0 where
+  pub first : ℕ
+  pub second : ℕ
+  pub one : Symbol
+  pub other : Symbol
+  pub one_is : slice_get symbols first ≡ Some one
+  pub other_is : slice_get symbols second ≡ Some other
+  pub shared : SharesSlot kind count one other
+  pub differ : one.name ≢ other.name
 
 -- each import has one name
-pub record AgreeOnNames (symbols : List Symbol) : Type 0 where
-  pub functions : HasOneName Func symbols
-  pub globals : HasOneName Global symbols
-  pub tables : HasOneName Table symbols
+pub record AgreeOnNames (spaces : Spaces) (symbols : List Symbol) : Type 0 where
+  pub functions : HasOneName Func spaces.imported_functions symbols
+  pub globals : HasOneName Global spaces.imported_globals symbols
+  pub tables : HasOneName Table spaces.imported_tables symbols
 
 -- some import has two
-abbrev pub SlotFault : List Symbol → ReadError → Type 0
-SlotFault symbols e = (e ≡ Malformed SlotNames) × ((kind : WasmSymbolKind) × HasTwoNames kind symbols)
+abbrev pub SlotFault : Spaces → List Symbol → ReadError → Type 0
+SlotFault spaces symbols e = (e ≡ Malformed SlotNames) × ((kind : WasmSymbolKind) × HasTwoNames kind (imported_of spaces kind) symbols)

@@ -10,9 +10,8 @@ use Rattle.wl_module.specs.declared.error.ReadError.TheVariants.{Malformed}
 use Rattle.wl_module.specs.declared.error.Why.TheVariants as why
 use Rattle.wl_module.specs.Imports.{Imported}
 use Rattle.wl_module.specs.Exports.{Exported}
-use Rattle.wl_module.specs.Segments.{Segment}
 use Rattle.wl_linking.specs.RelocationTypes.{names_a_type}
-use Rattle.wl_linking.specs.Symbols.{Symbol, is_undefined}
+use Rattle.wl_linking.specs.Symbols.{Symbol, is_undefined, is_absolute}
 use Rattle.wl_linking.specs.declared.infos.WasmInitFunc.{WasmInitFunc}
 use Rattle.wl_linking.specs.Object.{Object}
 use Rattle.wl_linking.specs.declared.relocations.WasmRelocation.{WasmRelocation}
@@ -87,10 +86,6 @@ abbrev pub memory_exists : Spaces → Option ℕ → Bool
 memory_exists spaces None = true
 memory_exists spaces (Some memory) = nat_lt memory (spaces.imported_memories + spaces.memories)
 
--- an active segment goes into one of the memories
-abbrev pub segment_exists : Spaces → Segment → Bool
-segment_exists spaces s = memory_exists spaces s.memory
-
 -- the number of an undefined symbol is that of an import, and else of a definition, which come behind the imports
 abbrev pub number_exists : Bool → ℕ → ℕ → ℕ → Bool
 number_exists undefined imported defined index = if undefined then nat_lt index imported else nat_le imported index && nat_lt (index - imported) defined
@@ -104,9 +99,9 @@ thing_exists spaces symbol.Data undefined index = undefined || nat_lt index spac
 thing_exists spaces symbol.Section undefined index = true
 thing_exists spaces symbol.Event undefined index = true
 
--- what a symbol stands for exists
+-- what a symbol stands for exists; data at an absolute address lies in no segment, and its index names nothing
 abbrev pub symbol_exists : Spaces → Symbol → Bool
-symbol_exists spaces s = thing_exists spaces s.kind (is_undefined s) s.index
+symbol_exists spaces s = is_absolute s || thing_exists spaces s.kind (is_undefined s) s.index
 
 -- a function that runs at the start has one of the symbols
 abbrev pub init_exists : Spaces → WasmInitFunc → Bool
@@ -116,13 +111,38 @@ init_exists spaces f = nat_lt f.symbol_index spaces.symbols
 abbrev pub relocation_exists : Spaces → WasmRelocation → Bool
 relocation_exists spaces r = nat_lt r.index (if names_a_type r.ty then spaces.types else spaces.symbols)
 
+-- a function's type is one of those there are
+abbrev pub type_exists : Spaces → ℕ → Bool
+type_exists spaces t = nat_lt t spaces.types
+
+-- where there is a data count, it is how many segments there are
+abbrev pub counts_segments : Spaces → ℕ → Bool
+counts_segments spaces count = count == spaces.segments
+
+-- there are as many bodies as functions, the data count is that of the segments, and what is named exists
+pub record NamesExist (o : Object) : Type 0 where
+  pub bodies : length o.bodies ≡ length o.functions
+  pub data_counts : list_all (counts_segments (spaces_of o)) o.data_counts ≡ true
+  pub imports : list_all (import_exists (spaces_of o)) o.imports ≡ true
+  pub functions : list_all (type_exists (spaces_of o)) o.functions ≡ true
+  pub exports : list_all (export_exists (spaces_of o)) o.exports ≡ true
+  pub segment_memories : list_all (memory_exists (spaces_of o)) o.segment_memories ≡ true
+  pub symbols : list_all (symbol_exists (spaces_of o)) o.symbols ≡ true
+  pub init_funcs : list_all (init_exists (spaces_of o)) o.init_funcs ≡ true
+  pub code : list_all (relocation_exists (spaces_of o)) o.code_relocations ≡ true
+  pub data_ : list_all (relocation_exists (spaces_of o)) o.data_relocations ≡ true
+
+-- there are as many bodies as functions, and as many segments as the data count says, where there is one
+abbrev pub counts_hold : Spaces → Object → Bool
+counts_hold spaces o = (length o.bodies == spaces.functions) && list_all (counts_segments spaces) o.data_counts
+
 -- all that the core sections name exists
 abbrev pub core_names_exist : Spaces → Object → Bool
 core_names_exist spaces o =
     list_all (import_exists spaces) o.imports
-    && list_all (λ t. nat_lt t spaces.types) o.functions
+    && list_all (type_exists spaces) o.functions
     && list_all (export_exists spaces) o.exports
-    && list_all (segment_exists spaces) o.segments
+    && list_all (memory_exists spaces) o.segment_memories
 
 -- all that the linking section and the relocations name exists
 abbrev pub linked_names_exist : Spaces → Object → Bool
@@ -131,16 +151,6 @@ linked_names_exist spaces o =
     && list_all (init_exists spaces) o.init_funcs
     && list_all (relocation_exists spaces) o.code_relocations
     && list_all (relocation_exists spaces) o.data_relocations
-
--- there are as many bodies as functions, and as many segments as the data count says, where there is one
-abbrev pub counts_hold : Spaces → Object → Bool
-counts_hold spaces o = (length o.bodies == spaces.functions) && list_all (λ count. count == spaces.segments) o.data_counts
-
--- the counts hold, and what is named exists
-pub record NamesExist (o : Object) : Type 0 where
-  pub counts : counts_hold (spaces_of o) o ≡ true
-  pub core : core_names_exist (spaces_of o) o ≡ true
-  pub linked : linked_names_exist (spaces_of o) o ≡ true
 
 -- a count that doesn't hold, or a name of nothing
 abbrev pub NamesFault : Object → ReadError → Type 0

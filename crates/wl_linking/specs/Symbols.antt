@@ -1,5 +1,5 @@
 -- The symbol table of a linking section (object file linking, version 2, "Symbol Table Subsection").
-use Rattle.std.specs.Prelude.{◌≡◌, ℕ, ◌+◌, ◌==◌, ◌||◌, Bool, not, if◌then◌else◌, List, [], length, Option, Some, None, Result, Ok, Err}
+use Rattle.std.specs.Prelude.{◌≡◌, ℕ, ◌+◌, ◌==◌, ◌&&◌, ◌||◌, Bool, true, false, not, if◌then◌else◌, List, [], length, Option, Some, None, Result, Ok, Err}
 use Rattle.std.specs.Int.RustNames.{bit_and}
 use Rattle.wl_bytes.specs.Cursor.{Cursor}
 use Rattle.wl_bytes.specs.Leb.{IsU32}
@@ -11,7 +11,7 @@ use Rattle.wl_module.specs.Words.{IsPlacedName}
 use Rattle.wl_module.specs.declared.error.ReadError.{ReadError}
 use Rattle.wl_module.specs.declared.error.ReadError.TheVariants.{Malformed, Unsupported}
 use Rattle.wl_module.specs.declared.error.Why.TheVariants.{BadByte}
-use Rattle.wl_module.specs.declared.error.Form.TheVariants.{Tag, Absolute}
+use Rattle.wl_module.specs.declared.error.Form.TheVariants.{Tag}
 use Rattle.wl_linking.specs.Verdict.{Judged, JudgedFault, Seen}
 use Rattle.wl_linking.specs.declared.symbols.WasmSymbolKind.{WasmSymbolKind}
 use Rattle.wl_linking.specs.declared.symbols.WasmSymbolKind.TheVariants.{Func, Data, Global, Section, Event, Table}
@@ -45,6 +45,15 @@ is_local s = has_flag s.flags 2
 abbrev pub is_undefined : Symbol → Bool
 is_undefined s = has_flag s.flags 0x10
 
+-- data lies in a segment; other symbols have no offset there
+abbrev pub is_data : WasmSymbolKind → Bool
+is_data Data = true
+is_data _ = false
+
+-- defined data whose offset is its address, in no segment: ABSOLUTE, 0x200
+abbrev pub is_absolute : Symbol → Bool
+is_absolute s = is_data s.kind && not (is_undefined s) && has_flag s.flags 0x200
+
 -- an empty name is no name
 abbrev pub has_name : Symbol → Bool
 has_name s = not (length s.name == 0)
@@ -65,10 +74,6 @@ kind_verdict kind =
     else if kind == 4 then Err (Unsupported Tag)
     else if kind == 5 then Ok Table
     else Err (Malformed BadByte)
-
--- a symbol of an absolute address, 0x200, isn't taken
-abbrev pub flags_verdict : ℕ → Result (Unit {0}) ReadError
-flags_verdict flags = if has_flag flags 0x200 then Err (Unsupported Absolute) else Ok tt
 
 -- where a name of so many bytes stands, that many bytes behind a base; an empty name stands nowhere
 abbrev pub range_of : ℕ → ℕ → ℕ → ℕ × ℕ
@@ -174,23 +179,23 @@ DetailsFault base Table flags = NumberedFault flags
 
 -- the parts of a symbol as they stand: its kind, its flags, and what stands behind them
 abbrev pub SymbolParts : Type 0
-SymbolParts = ℕ × (WasmSymbolKind × (ℕ × (Unit {0} × SymbolDetails)))
+SymbolParts = ℕ × (WasmSymbolKind × (ℕ × SymbolDetails))
 
 -- the symbol of these parts
 abbrev pub symbol_of : SymbolParts → Symbol
-symbol_of p = record {
-  kind = p.1.0;
-  flags = p.1.1.0;
-  index = p.1.1.1.1.index;
-  offset = p.1.1.1.1.offset;
-  size = p.1.1.1.1.size;
-  name = p.1.1.1.1.name;
-  name_range = p.1.1.1.1.name_range;
+symbol_of (byte, (kind, (flags, details))) = record {
+  kind = kind;
+  flags = flags;
+  index = details.index;
+  offset = details.offset;
+  size = details.size;
+  name = details.name;
+  name_range = details.name_range;
 }
 
 -- a kind byte, flags, and what that kind has with these flags
 abbrev pub AreParts : ℕ → ℕ → SymbolParts → List ℕ → Type 0
-AreParts base = Then IsByte (λ byte. Then (Judged (kind_verdict byte)) (λ kind. Then IsU32 (λ flags. Then (Judged (flags_verdict flags)) (λ _. IsDetails base kind flags))))
+AreParts base = Then IsByte (λ byte. Then (Judged (kind_verdict byte)) (λ kind. Then IsU32 (λ flags. IsDetails base kind flags)))
 
 -- a symbol, where so many bytes of the object lie before those of the table
 abbrev pub IsSymbol : ℕ → ℕ → Symbol → List ℕ → Type 0
@@ -198,9 +203,9 @@ IsSymbol base = Seen (AreParts base) symbol_of
 
 -- the first part at fault
 abbrev pub SymbolFault : ℕ → ReadError → Cursor → Type 0
-SymbolFault base = ThenFault IsByte ByteFault (λ byte. ThenFault (Judged (kind_verdict byte)) (JudgedFault (kind_verdict byte))
-    (λ kind. ThenFault IsU32 NumberFault (λ flags. ThenFault (Judged (flags_verdict flags)) (JudgedFault (flags_verdict flags))
-    (λ _. DetailsFault base kind flags))))
+SymbolFault base = ThenFault IsByte ByteFault (λ byte.
+    ThenFault (Judged (kind_verdict byte)) (JudgedFault (kind_verdict byte)) (λ kind.
+    ThenFault IsU32 NumberFault (λ flags. DetailsFault base kind flags)))
 
 -- a whole symbol table
 abbrev pub AreSymbols : ℕ → List Symbol → List ℕ → Type 0

@@ -7,7 +7,7 @@ use Rattle.wl_module.specs.Checks.{when_at}
 use Rattle.wl_module.specs.Words.{placed_name_at}
 use Rattle.wl_module.specs.declared.error.ReadError.{ReadError}
 use Rattle.wl_linking.specs.Verdict.{judged_at}
-use Rattle.wl_linking.specs.Symbols.{Symbol, SymbolDetails, SymbolParts, symbol_of, kind_verdict, flags_verdict, based_name, name_or_none, extent_or_none, is_named, is_defined, numbered, located, sectioned}
+use Rattle.wl_linking.specs.Symbols.{Symbol, SymbolDetails, SymbolParts, symbol_of, kind_verdict, based_name, name_or_none, extent_or_none, is_named, is_defined, numbered, located, sectioned}
 use Rattle.wl_linking.specs.declared.symbols.WasmSymbolKind.{WasmSymbolKind}
 use Rattle.wl_linking.specs.declared.symbols.WasmSymbolKind.TheVariants.{Func, Data, Global, Section, Event, Table}
 
@@ -50,7 +50,7 @@ details_at base Table flags c = numbered_at base flags c
 
 -- the parts of a symbol, read from a place
 abbrev pub parts_at : ℕ → Cursor → Result (SymbolParts × Cursor) ReadError
-parts_at base c = then_at one_byte_at (λ byte. then_at (judged_at (kind_verdict byte)) (λ kind. then_at number_at (λ flags. then_at (judged_at (flags_verdict flags)) (λ _. details_at base kind flags)))) c
+parts_at base c = then_at one_byte_at (λ byte. then_at (judged_at (kind_verdict byte)) (λ kind. then_at number_at (λ flags. details_at base kind flags))) c
 
 -- a symbol, read from a place
 unfoldable pub symbol_at : ℕ → Cursor → Result (Symbol × Cursor) ReadError

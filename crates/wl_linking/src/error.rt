@@ -50,6 +50,7 @@ pub struct UndefinedSymbol {
 }
 
 /// Why there is no plan. Objects are numbered as given, from 0, and symbols as in their object.
+/// A slot is the number of an import among those of its kind.
 #[derive(Drop)]
 pub enum LinkError {
     /// Memory ran out.
@@ -69,9 +70,9 @@ pub enum LinkError {
     DuplicateSymbol {
         name: Text,
         first_object: usize,
-        first_symbol: usize,
+        first_symbol: u32,
         second_object: usize,
-        second_symbol: usize,
+        second_symbol: u32,
     },
     /// The prefix of a feature is neither `+` nor `-`.
     BadFeature {
@@ -94,7 +95,7 @@ pub enum LinkError {
     /// The symbol stands for another kind of thing than its use asks for.
     WrongKind {
         object: usize,
-        symbol: usize,
+        symbol: u32,
     },
     /// Nothing defines these names.
     UndefinedSymbols(Items<UndefinedSymbol>),
@@ -102,9 +103,9 @@ pub enum LinkError {
     ConflictingTypes {
         name: Text,
         first_object: usize,
-        first_slot: usize,
+        first_slot: u32,
         second_object: usize,
-        second_slot: usize,
+        second_slot: u32,
     },
     /// The size of the stack is no multiple of 16.
     BadStackSize(u32),

@@ -48,8 +48,9 @@ impl<'a> Item<'a> for WasmTargetFeature<'a> {
 
     ghost may_end = { λ _. Unit {0} };
 
-    fn read(_alloc: Global, reader: &mut Reader<'a>) -> Result<Self, ReadError> {
-        read_feature(reader)
+    fn read(_alloc: Global, mut reader: Reader<'a>) -> Result<(Self, Reader<'a>), ReadError> {
+        let feature = read_feature(&mut reader)?;
+        Ok((feature, reader))
     }
 }
 

@@ -17,7 +17,7 @@ use wl_module::{Item, ReadError, Why};
 pub struct WasmSegmentInfo<'a> {
     /// The segment's name.
     pub name: &'a str,
-    /// The exponent of its alignment, a power of two: 31 at most.
+    /// Its alignment in bytes, a power of two: 2^31 at most. The object holds its exponent.
     pub alignment: u32,
     /// Its flags, as they stand in the object: 1 for strings, 2 for data of each thread, 4 for one
     /// that is kept.
@@ -45,19 +45,19 @@ impl<'a> WasmSegmentInfo<'a> {
 const TLS: u32 = 2;
 
 /// The greatest exponent of an alignment.
-const MAX_ALIGNMENT: u32 = 31;
+const MAX_EXPONENT: u32 = 31;
 
-/// The exponent of an alignment in front.
+/// The alignment in front, of which the bytes are the exponent.
 #[tactic(auto, unfolding(crate::specs::Infos::alignment_at))]
 fn read_alignment(reader: &mut Reader<'_>) -> Result<u32, ReadError>
     ensures value { Yields (λ n. n) result reader.new (alignment_at reader.old) }
     ensures end { end_of reader.new ≡ end_of reader.old }
 {
     let exponent = reader.read_u32()?;
-    if exponent > MAX_ALIGNMENT {
+    if exponent > MAX_EXPONENT {
         return Err(ReadError::Malformed(Why::BadAlignment));
     }
-    Ok(exponent)
+    Ok(1 << exponent)
 }
 
 /// What is told of the segment in front.
@@ -83,8 +83,9 @@ impl<'a> Item<'a> for WasmSegmentInfo<'a> {
 
     ghost may_end = { λ _. Unit {0} };
 
-    fn read(_alloc: Global, reader: &mut Reader<'a>) -> Result<Self, ReadError> {
-        read_info(reader)
+    fn read(_alloc: Global, mut reader: Reader<'a>) -> Result<(Self, Reader<'a>), ReadError> {
+        let info = read_info(&mut reader)?;
+        Ok((info, reader))
     }
 }
 
@@ -119,7 +120,8 @@ impl<'a> Item<'a> for WasmInitFunc {
 
     ghost may_end = { λ _. Unit {0} };
 
-    fn read(_alloc: Global, reader: &mut Reader<'a>) -> Result<Self, ReadError> {
-        read_init(reader)
+    fn read(_alloc: Global, mut reader: Reader<'a>) -> Result<(Self, Reader<'a>), ReadError> {
+        let function = read_init(&mut reader)?;
+        Ok((function, reader))
     }
 }

@@ -1,6 +1,6 @@
 //! A list in a record, which clauses see as the list.
 
-ghost use Rattle.std.specs.Prelude.{◌≡◌, [], ◌∷◌, ◌++◌, OnOk};
+ghost use Rattle.std.specs.Prelude.{◌≡◌, [], ◌∷◌, ◌++◌, OnOk, OnErr};
 
 use std::alloc::{AllocError, Global};
 use std::marker::Model;
@@ -43,17 +43,25 @@ impl<T: Drop> Items<T> {
         }
     }
 
-    /// Puts more things at the end. Where memory runs out, nothing is said of the list.
+    /// Puts more things at the end.
+    ///
+    /// # Errors
+    /// `AllocError` where memory runs out. The list is as it was then.
     pub fn append(&mut self, more: Items<T>) -> Result<(), AllocError>
-        ensures { OnOk result (self.new ≡ self.old ++ more) }
+        ensures ok { OnOk result (self.new ≡ self.old ++ more) }
+        ensures err { OnErr result (self.new ≡ self.old) }
     {
         let mut list = more.list;
         self.list.append(&mut list)
     }
 
-    /// Puts one more thing at the end. Where memory runs out, the list is as it was.
+    /// Puts one more thing at the end.
+    ///
+    /// # Errors
+    /// `AllocError` where memory runs out. The list is as it was then.
     pub fn push(&mut self, item: T) -> Result<(), AllocError>
-        ensures { OnOk result (self.new ≡ self.old ++ item ∷ []) }
+        ensures ok { OnOk result (self.new ≡ self.old ++ item ∷ []) }
+        ensures err { OnErr result (self.new ≡ self.old) }
     {
         self.list.push(item)?;
         Ok(())
@@ -68,9 +76,13 @@ impl<T: Drop> Items<T> {
 }
 
 impl<T: Copy + Drop> Items<T> {
-    /// Puts copies of these things at the end. Where memory runs out, nothing is said of the list.
+    /// Puts copies of these things at the end.
+    ///
+    /// # Errors
+    /// `AllocError` where memory runs out. The list is as it was then.
     pub fn extend(&mut self, more: &[T]) -> Result<(), AllocError>
-        ensures { OnOk result (self.new ≡ self.old ++ more.now) }
+        ensures ok { OnOk result (self.new ≡ self.old ++ more.now) }
+        ensures err { OnErr result (self.new ≡ self.old) }
     {
         self.list.extend_from_slice(more)
     }

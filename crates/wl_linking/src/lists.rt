@@ -2,6 +2,7 @@
 
 ghost use Rattle.std.specs.Prelude.{◌≡◌, IfOk};
 ghost use Rattle.std.specs.Cow.{cow_slice_items};
+ghost use Rattle.wl_module.specs.Slices.{is_owned};
 
 use crate::debug::DebugSectionInput;
 use crate::file::File;
@@ -11,7 +12,8 @@ use wl_module::{MemoryType, OutputGlobal, WasmDataSegment, WasmFunctionBody};
 
 /// The same bytes: borrowed ones stay borrowed, and others are copied.
 fn copy_bytes<'a>(alloc: Global, bytes: &CowSlice<'a, u8>) -> Result<CowSlice<'a, u8>, AllocError>
-    ensures { IfOk result (λ copy. cow_slice_items copy ≡ cow_slice_items bytes.now) }
+    ensures items { IfOk result (λ copy. cow_slice_items copy ≡ cow_slice_items bytes.now) }
+    ensures owned { IfOk result (λ copy. is_owned copy ≡ is_owned bytes.now) }
 {
     match bytes {
         CowSlice::Borrowed(bytes) => Ok(CowSlice::Borrowed(*bytes)),

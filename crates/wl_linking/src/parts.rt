@@ -17,22 +17,22 @@ use crate::section::{Section, read_section, seen_then};
 use crate::symbols::WasmSymbol;
 use std::alloc::{AllocError, Global};
 use wl_module::{
-    FuncType, Import, MemoryType, OutputExport, OutputGlobal, ReadError, SectionHeader,
-    WasmDataSegment, WasmFunctionBody,
+    FuncType, MemoryType, OutputExport, OutputGlobal, PlacedImport, ReadError, SectionHeader,
+    TargetedSegment, WasmFunctionBody,
 };
 
 /// The items of the sections that were read so far, in file order.
 #[derive(Drop)]
 pub(crate) struct Parts<'a> {
     pub types: Items<FuncType>,
-    pub imports: Items<Import<'a>>,
+    pub imports: Items<PlacedImport<'a>>,
     pub functions: Items<u32>,
     pub memories: Items<MemoryType>,
     pub globals: Items<OutputGlobal<'a>>,
     pub exports: Items<OutputExport<'a>>,
     pub data_counts: Items<u32>,
     pub bodies: Items<WasmFunctionBody<'a>>,
-    pub segments: Items<WasmDataSegment<'a>>,
+    pub segments: Items<TargetedSegment<'a>>,
     pub segment_infos: Items<WasmSegmentInfo<'a>>,
     pub init_funcs: Items<WasmInitFunc>,
     pub symbols: Items<WasmSymbol<'a>>,

@@ -18,24 +18,24 @@ use crate::relocations::{RelocHeld, Target, WasmRelocSection, read_held};
 use std::alloc::Global;
 use wl_bytes::Reader;
 use wl_module::{
-    Form, FuncType, Import, ImportEntity, MemoryType, OutputExport, OutputGlobal, ReadError,
-    SectionHeader, WasmDataSegment, WasmFunctionBody, Why, read_bodies, read_data_count,
-    read_exports, read_functions, read_globals, read_imports, read_memories, read_segments,
-    read_types,
+    Form, FuncType, ImportEntity, MemoryType, OutputExport, OutputGlobal, PlacedImport, ReadError,
+    SectionHeader, TargetedSegment, WasmFunctionBody, Why, read_bodies, read_data_count,
+    read_exports, read_functions, read_globals, read_memories, read_placed_imports,
+    read_targeted_segments, read_types,
 };
 
 /// What a section holds.
 #[derive(Drop)]
 pub(crate) enum Section<'a> {
     Types(Items<FuncType>),
-    Imports(Items<Import<'a>>),
+    Imports(Items<PlacedImport<'a>>),
     Functions(Items<u32>),
     Memories(Items<MemoryType>),
     Globals(Items<OutputGlobal<'a>>),
     Exports(Items<OutputExport<'a>>),
     DataCount(u32),
     Code(Items<WasmFunctionBody<'a>>),
-    Data(Items<WasmDataSegment<'a>>),
+    Data(Items<TargetedSegment<'a>>),
     Linking(Linking<'a>),
     Reloc(RelocHeld),
     Features(Items<WasmTargetFeature<'a>>),
@@ -112,12 +112,10 @@ fn debug_section<'a>(name: &'a [u8], payload: &'a [u8]) -> Result<DebugSectionIn
 }
 
 /// Whether a memory is among the imports.
-fn has_memory(imports: &[Import<'_>]) -> bool
+fn has_memory(imports: &[PlacedImport<'_>]) -> bool
     ensures { result ≡ has_memory imports.now }
 {
-    imports
-        .iter()
-        .any(|import| matches!(import.entity, ImportEntity::Memory(_)))
+    imports.iter().any(|placed| matches!(placed.import.entity, ImportEntity::Memory(_)))
 }
 
 /// Reads the payload of a section of that kind.
@@ -137,7 +135,9 @@ fn read_items<'a>(
     let payload = stretch(bytes, header.payload_range);
     match kind {
         SectionKind::Type => Ok(Section::Types(Items::new(read_types(alloc, payload)?))),
-        SectionKind::Import => Ok(Section::Imports(Items::new(read_imports(alloc, payload)?))),
+        SectionKind::Import => Ok(Section::Imports(Items::new(read_placed_imports(
+            alloc, payload,
+        )?))),
         SectionKind::Function => Ok(Section::Functions(Items::new(read_functions(
             alloc, payload,
         )?))),
@@ -150,7 +150,7 @@ fn read_items<'a>(
         SectionKind::Export => Ok(Section::Exports(Items::new(read_exports(alloc, payload)?))),
         SectionKind::DataCount => Ok(Section::DataCount(read_data_count(payload)?)),
         SectionKind::Code => Ok(Section::Code(Items::new(read_bodies(alloc, payload)?))),
-        SectionKind::Data => Ok(Section::Data(Items::new(read_segments(alloc, payload)?))),
+        SectionKind::Data => Ok(Section::Data(Items::new(read_targeted_segments(alloc, payload)?))),
         SectionKind::Table => Err(ReadError::Unsupported(Form::TableDef)),
         SectionKind::Start => Err(ReadError::Unsupported(Form::Start)),
         SectionKind::Tag => Err(ReadError::Unsupported(Form::Tag)),

@@ -1,9 +1,10 @@
 //! Where the fields of relocations lie (object file linking, version 2, "Relocation Sections").
 
 ghost use Rattle.std.specs.Prelude.{◌≡◌, nat_le, take, drop, map, IfOk, MatchResult, MatchBool};
+ghost use Rattle.std.specs.List.{AllByRecursion};
 ghost use Rattle.std.specs.List.Sorted.{IsNonDecreasingBy};
 ghost use Rattle.wl_linking.specs.Sites.{AreInOrder, AreSites, AreApart, HasOverlap, LieApart, FieldsFault, body_piece, segment_piece, is_padded, has_form, field_len, offset_of};
-ghost use Rattle.wl_linking.specs.Placing.{piece_end, position_of, site_of, Ascend, FieldFault};
+ghost use Rattle.wl_linking.specs.Placing.{IsSpanned, piece_end, position_of, site_of, Ascend, FieldFault};
 ghost use Rattle.wl_linking.specs.Verdict.{HasCause};
 
 use crate::items::Items;
@@ -62,19 +63,29 @@ pub(crate) fn body_pieces<'a>(
     Ok(pieces)
 }
 
+/// The bytes of a segment, with which it ends.
+fn segment_piece<'a>(segment: &WasmDataSegment<'a>) -> Piece<'a>
+    requires { IsSpanned segment.now }
+    ensures { result ≡ segment_piece segment.now }
+{
+    let head = segment.encoded_size - segment.payload.len() as u32;
+    Piece {
+        place: segment.section_offset + head,
+        bytes: segment.payload,
+    }
+}
+
 /// The segments as the pieces in which fields of data lie.
 pub(crate) fn segment_pieces<'a>(
     alloc: Global,
     segments: &'a [WasmDataSegment<'_>],
 ) -> Result<Vec<Piece<'a>>, AllocError>
+    requires { AllByRecursion IsSpanned segments.now }
     ensures { IfOk result (λ pieces. pieces.items ≡ map segment_piece segments.now) }
 {
     let mut pieces = Vec::new(alloc);
     for segment in segments {
-        pieces.push(Piece {
-            place: segment.section_offset,
-            bytes: segment.payload,
-        })?;
+        pieces.push(segment_piece(segment))?;
     }
     Ok(pieces)
 }

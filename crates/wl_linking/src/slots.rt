@@ -1,10 +1,10 @@
 //! The names of imports, which symbols refer to by slots: numbers among the imports of a kind
 //! (object file linking, version 2, "Symbol Table Subsection").
 
-ghost use Rattle.std.specs.Prelude.{◌≡◌, ◌≤◌, ◌<◌, ◌+◌, ◌^◌, [], ◌∷◌, ◌++◌, length, map, true, None, slice_get, vec_len, OnOk, IfOk, MatchBool, MatchResult};
-ghost use Rattle.std.specs.List.{list_all, repeat, AllByRecursion};
-ghost use Rattle.wl_linking.specs.Slots.{IsNamedWithin, slot_of, slots_from, slots_of, with_slot, with_import_name, claims, Agrees, HasOneName, HasTwoNames, AgreeOnNames, SlotFault, is_within, import_base};
-ghost use Rattle.wl_linking.specs.declared.symbols.WasmSymbolKind.TheVariants.{Func, Global as GlobalKind, Table};
+ghost use Rattle.std.specs.Prelude.{◌≡◌, ◌≤◌, ◌+◌, ◌^◌, [], ◌∷◌, ◌++◌, length, map, Option, Some, None, slice_get, OnOk, IfOk, MatchBool, MatchResult};
+ghost use Rattle.std.specs.List.{repeat, AllByRecursion};
+ghost use Rattle.wl_linking.specs.Slots.{Slot, slot_of, slots_of, with_slot, with_import_name, claims, HasOneName, HasTwoNames, AgreeOnNames, SlotFault, import_base};
+ghost use Rattle.wl_linking.specs.SlotsReading.{IsNamedWithin, slots_from, AreNamedByRange, IsNamedByRange, is_name_of, Agrees};
 ghost use Rattle.wl_linking.specs.Verdict.{HasCause};
 
 use crate::items::Items;
@@ -12,7 +12,7 @@ use crate::spaces::{Spaces, is_of};
 use crate::symbols::{WasmSymbol, WasmSymbolKind, range_of};
 use std::alloc::{AllocError, Global};
 use std::marker::Model;
-use wl_module::{ExternalKind, Import, ReadError, SectionHeader, Why};
+use wl_module::{ExternalKind, PlacedImport, ReadError, SectionHeader, Why, section_id};
 
 /// The field name of an import. Clauses see it as a `Slot`, with the name as a list.
 #[derive(Drop)]
@@ -30,15 +30,15 @@ impl<'a> Model for SlotName<'a> {
     ghost view = { λ s. record { name = s.name.now; range = s.range } };
 }
 
-/// The id of the import section.
-const IMPORT: u8 = 2;
-
 /// How many bytes of the object lie before the payload of its import section; 0 where there is
 /// none.
 pub(crate) fn import_base(headers: &[SectionHeader]) -> u32
     ensures { result ≡ import_base headers.now }
 {
-    match headers.iter().find(|header| header.id == IMPORT) {
+    match headers
+        .iter()
+        .find(|header| header.id == section_id::IMPORT)
+    {
         None => 0,
         Some(header) => header.payload_range.0,
     }
@@ -46,15 +46,15 @@ pub(crate) fn import_base(headers: &[SectionHeader]) -> u32
 
 /// The field name of an import, where so many bytes of the object lie before its section's
 /// payload.
-fn slot_of<'a>(base: u32, import: &Import<'a>) -> SlotName<'a>
+fn slot_of<'a>(base: u32, placed: &PlacedImport<'a>) -> SlotName<'a>
     requires base { base ≤ 2 ^ 30 }
-    requires place { import.now.name_offset + length import.now.name ≤ 2 ^ 30 }
-    ensures { result ≡ slot_of base import.now }
+    requires place { placed.now.name_offset + length placed.now.import.name ≤ 2 ^ 30 }
+    ensures { result ≡ slot_of base placed.now }
 {
-    let name = import.name;
+    let name = placed.import.name;
     SlotName {
         name,
-        range: range_of(base, import.name_offset() + name.len(), name.len()),
+        range: range_of(base, placed.name_offset + name.len(), name.len()),
     }
 }
 
@@ -63,14 +63,14 @@ fn push_slot<'a>(
     slots: &mut Vec<SlotName<'a>>,
     kind: ExternalKind,
     base: u32,
-    import: &Import<'a>,
+    placed: &PlacedImport<'a>,
 ) -> Result<(), AllocError>
     requires base { base ≤ 2 ^ 30 }
-    requires place { import.now.name_offset + length import.now.name ≤ 2 ^ 30 }
-    ensures { OnOk result (slots.new.items ≡ slots.old.items ++ slots_from kind base import.now) }
+    requires place { placed.now.name_offset + length placed.now.import.name ≤ 2 ^ 30 }
+    ensures { OnOk result (slots.new.items ≡ slots.old.items ++ slots_from kind base placed.now) }
 {
-    if is_of(kind, &import.entity) {
-        slots.push(slot_of(base, import))?;
+    if is_of(kind, &placed.import.entity) {
+        slots.push(slot_of(base, placed))?;
     }
     Ok(())
 }
@@ -81,15 +81,15 @@ pub(crate) fn slots_of<'a>(
     alloc: Global,
     kind: ExternalKind,
     base: u32,
-    imports: &[Import<'a>],
+    imports: &[PlacedImport<'a>],
 ) -> Result<Vec<SlotName<'a>>, AllocError>
     requires base { base ≤ 2 ^ 30 }
     requires places { AllByRecursion IsNamedWithin imports.now }
     ensures { IfOk result (λ slots. slots.items ≡ slots_of kind base imports.now) }
 {
     let mut slots = Vec::new(alloc);
-    for import in imports {
-        push_slot(&mut slots, kind, base, import)?;
+    for placed in imports {
+        push_slot(&mut slots, kind, base, placed)?;
     }
     Ok(slots)
 }
@@ -155,19 +155,21 @@ fn claims(kind: WasmSymbolKind, symbol: &WasmSymbol<'_>) -> bool
     }
 }
 
-/// The name of an import as far as symbols have told it. Clauses see it as that list of bytes, if
-/// there is one.
+/// The name of an import as far as symbols have told it, with its place in the object. Clauses see
+/// it as a `Slot`, if there is one.
 #[derive(Drop)]
 struct KnownName<'a> {
     name: Option<&'a str>,
+    range: (u32, u32),
 }
 
 impl<'a> Model for KnownName<'a> {
-    ghost use Rattle.std.specs.Prelude.{List, ℕ, Option, option_map};
+    ghost use Rattle.std.specs.Prelude.{Option, option_map};
+    ghost use Rattle.wl_linking.specs.Slots.{Slot};
 
-    ghost Value = { Option (List ℕ) };
+    ghost Value = { Option Slot };
 
-    ghost view = { λ k. option_map (λ n. n.now) k.name };
+    ghost view = { λ k. option_map (λ n. record { name = n.now; range = k.range }) k.name };
 }
 
 /// No name for each of so many slots.
@@ -176,37 +178,54 @@ fn no_names<'a>(alloc: Global, count: usize) -> Result<Vec<KnownName<'a>>, Alloc
 {
     let mut names = Vec::new(alloc);
     for _ in 0..count {
-        names.push(KnownName { name: None })?;
+        names.push(KnownName {
+            name: None,
+            range: (0, 0),
+        })?;
     }
     Ok(names)
 }
 
-/// Takes down the name of a slot, and answers whether it is the one that was taken down before.
-fn agrees<'a>(names: &mut Vec<KnownName<'a>>, symbol: &WasmSymbol<'a>) -> bool
-    requires { symbol.now.index < vec_len names.old }
-    ensures { Agrees names.old.items names.new.items symbol.now.index symbol.now.name result }
+/// Whether no name is known, or that of the symbol. A name at the same place of the object is the
+/// same, whose bytes aren't looked at.
+fn is_name_of(known: &KnownName<'_>, symbol: &WasmSymbol<'_>) -> bool
+    requires { IsNamedByRange known.now symbol.now }
+    ensures { result ≡ is_name_of known.now symbol.now }
 {
-    let slot = symbol.index as usize;
-    match names[slot].name {
-        None => {
-            names[slot] = KnownName {
-                name: Some(symbol.name),
-            };
-            true
-        }
-        Some(name) => name == symbol.name,
+    match known.name {
+        None => true,
+        Some(name) => known.range == symbol.name_range() || name == symbol.name,
     }
 }
 
-/// Whether the symbols of each import of that kind have one name.
+/// Takes down the name of a slot, and answers whether it is the one that was taken down before. The
+/// name that came last is kept, so that those that take the import's, at one place, find it there.
+/// For a slot that isn't there nothing is told.
+fn agrees<'a>(names: &mut Vec<KnownName<'a>>, symbol: &WasmSymbol<'a>) -> bool
+    requires { (known : Option Slot) → slice_get names.old.items symbol.now.index ≡ Some known → IsNamedByRange known symbol.now }
+    ensures { Agrees names.old.items names.new.items symbol.now result }
+{
+    let slot = symbol.index as usize;
+    if slot >= names.len() {
+        return true;
+    }
+    let agrees = is_name_of(&names[slot], symbol);
+    names[slot] = KnownName {
+        name: Some(symbol.name),
+        range: symbol.name_range(),
+    };
+    agrees
+}
+
+/// Whether the symbols of each of so many imports of that kind have one name.
 fn have_one_name(
     alloc: Global,
     kind: WasmSymbolKind,
     count: usize,
     symbols: &[WasmSymbol<'_>],
 ) -> Result<bool, AllocError>
-    requires { list_all (is_within kind count) symbols.now ≡ true }
-    ensures { IfOk result (λ b. MatchBool b (HasOneName kind symbols.now) (HasTwoNames kind symbols.now)) }
+    requires { AreNamedByRange symbols.now }
+    ensures { IfOk result (λ b. MatchBool b (HasOneName kind count symbols.now) (HasTwoNames kind count symbols.now)) }
 {
     let mut names = no_names(alloc, count)?;
     for symbol in symbols {
@@ -224,10 +243,8 @@ pub(crate) fn check_slots(
     spaces: Spaces,
     symbols: &[WasmSymbol<'_>],
 ) -> Result<(), ReadError>
-    requires functions { list_all (is_within Func spaces.imported_functions) symbols.now ≡ true }
-    requires globals { list_all (is_within GlobalKind spaces.imported_globals) symbols.now ≡ true }
-    requires tables { list_all (is_within Table spaces.imported_tables) symbols.now ≡ true }
-    ensures { MatchResult result (λ _. AgreeOnNames symbols.now) (HasCause (SlotFault symbols.now)) }
+    requires { AreNamedByRange symbols.now }
+    ensures { MatchResult result (λ _. AgreeOnNames spaces symbols.now) (HasCause (SlotFault spaces symbols.now)) }
 {
     let (functions, globals, tables) = (
         spaces.imported_functions,

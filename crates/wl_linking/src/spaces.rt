@@ -3,16 +3,15 @@
 
 ghost use Rattle.std.specs.Prelude.{◌≡◌, ◌+◌, ◌==◌, nat_lt, MatchResult};
 ghost use Rattle.std.specs.List.{list_all};
-ghost use Rattle.wl_linking.specs.Spaces.{is_of, count_imports, spaces_of, import_exists, export_exists, segment_exists, number_exists, symbol_exists, init_exists, relocation_exists, core_names_exist, linked_names_exist, counts_hold, NamesExist, NamesFault};
+ghost use Rattle.wl_linking.specs.Spaces.{is_of, count_imports, spaces_of, import_exists, export_exists, memory_exists, number_exists, thing_exists, symbol_exists, init_exists, relocation_exists, type_exists, counts_segments, core_names_exist, linked_names_exist, counts_hold, NamesExist, NamesFault};
+ghost use Rattle.wl_linking.specs.Symbols.{is_undefined};
 ghost use Rattle.wl_linking.specs.Verdict.{HasCause};
 
-use crate::file::File;
+use crate::contents::Contents;
 use crate::infos::WasmInitFunc;
 use crate::relocations::WasmRelocation;
 use crate::symbols::{WasmSymbol, WasmSymbolKind};
-use wl_module::{
-    ExternalKind, Import, ImportEntity, OutputExport, ReadError, WasmDataSegment, Why,
-};
+use wl_module::{ExternalKind, Import, ImportEntity, OutputExport, ReadError, Why};
 
 /// How many things of each kind an object has.
 #[derive(Clone, Copy, Debug, PartialEq, Eq)]
@@ -52,21 +51,21 @@ pub(crate) fn count_imports(kind: ExternalKind, imports: &[Import<'_>]) -> usize
 }
 
 /// How many things of each kind an object has.
-pub(crate) fn spaces_of(file: &File<'_>) -> Spaces
-    ensures { result ≡ spaces_of file.now }
+pub(crate) fn spaces_of(contents: &Contents<'_>) -> Spaces
+    ensures { result ≡ spaces_of contents.now }
 {
-    let imports = file.imports();
+    let imports = contents.imports.as_slice();
     Spaces {
-        types: file.types().len(),
+        types: contents.types.as_slice().len(),
         imported_functions: count_imports(ExternalKind::Func, imports),
-        functions: file.functions().len(),
+        functions: contents.functions.as_slice().len(),
         imported_tables: count_imports(ExternalKind::Table, imports),
         imported_memories: count_imports(ExternalKind::Memory, imports),
-        memories: file.memory_types().len(),
+        memories: contents.memories.as_slice().len(),
         imported_globals: count_imports(ExternalKind::Global, imports),
-        globals: file.globals().len(),
-        segments: file.segments().len(),
-        symbols: file.symbols().len(),
+        globals: contents.globals.as_slice().len(),
+        segments: contents.segments.as_slice().len(),
+        symbols: contents.symbols.as_slice().len(),
     }
 }
 
@@ -114,19 +113,20 @@ fn export_exists(spaces: Spaces, export: &OutputExport<'_>) -> bool
     is_in_space(imported, defined, export.index)
 }
 
-/// Whether the memory that an active segment goes to is there.
-fn segment_exists(spaces: Spaces, segment: &WasmDataSegment<'_>) -> bool
-    ensures { result ≡ segment_exists spaces segment.now }
+/// Whether the memory that a segment goes to is there, if it goes to one when the module starts.
+fn memory_exists(spaces: Spaces, memory: Option<u32>) -> bool
+    ensures { result ≡ memory_exists spaces memory }
 {
-    match segment.memory_index() {
+    match memory {
         None => true,
         Some(memory) => is_in_space(spaces.imported_memories, spaces.memories, memory),
     }
 }
 
-/// Whether what a symbol stands for is there. That of a section isn't looked at.
-fn symbol_exists(spaces: Spaces, symbol: &WasmSymbol<'_>) -> bool
-    ensures { result ≡ symbol_exists spaces symbol.now }
+/// Whether the thing of that number is there for a symbol of its kind. That of a section isn't looked
+/// at.
+fn thing_exists(spaces: Spaces, symbol: &WasmSymbol<'_>) -> bool
+    ensures { let s = symbol.now in result ≡ thing_exists spaces s.kind (is_undefined s) s.index }
 {
     let undefined = symbol.is_undefined();
     match symbol.kind {
@@ -148,6 +148,13 @@ fn symbol_exists(spaces: Spaces, symbol: &WasmSymbol<'_>) -> bool
         WasmSymbolKind::Data => undefined || (symbol.index as usize) < spaces.segments,
         WasmSymbolKind::Section | WasmSymbolKind::Event => true,
     }
+}
+
+/// Whether what a symbol stands for is there. Data at an absolute address lies in no segment.
+fn symbol_exists(spaces: Spaces, symbol: &WasmSymbol<'_>) -> bool
+    ensures { result ≡ symbol_exists spaces symbol.now }
+{
+    symbol.is_absolute() || thing_exists(spaces, symbol)
 }
 
 /// Whether the type or the symbol of a relocation is there.
@@ -178,7 +185,7 @@ fn imports_exist(spaces: Spaces, imports: &[Import<'_>]) -> bool
 
 /// Whether the type of each function that the object defines is there.
 fn types_exist(spaces: Spaces, functions: &[u32]) -> bool
-    ensures { result ≡ list_all (λ t. nat_lt t spaces.types) functions.now }
+    ensures { result ≡ list_all (type_exists spaces) functions.now }
 {
     functions.iter().all(|ty| (*ty as usize) < spaces.types)
 }
@@ -190,13 +197,11 @@ fn exports_exist(spaces: Spaces, exports: &[OutputExport<'_>]) -> bool
     exports.iter().all(|export| export_exists(spaces, export))
 }
 
-/// Whether each memory that an active segment goes to is there.
-fn segments_exist(spaces: Spaces, segments: &[WasmDataSegment<'_>]) -> bool
-    ensures { result ≡ list_all (segment_exists spaces) segments.now }
+/// Whether each memory that a segment goes to when the module starts is there.
+fn memories_exist(spaces: Spaces, memories: &[Option<u32>]) -> bool
+    ensures { result ≡ list_all (memory_exists spaces) memories.now }
 {
-    segments
-        .iter()
-        .all(|segment| segment_exists(spaces, segment))
+    memories.iter().all(|memory| memory_exists(spaces, *memory))
 }
 
 /// Whether what each symbol stands for is there.
@@ -225,28 +230,28 @@ fn relocations_exist(spaces: Spaces, relocations: &[WasmRelocation]) -> bool
 }
 
 /// Whether all that the core sections name is there.
-fn core_names_exist(spaces: Spaces, file: &File<'_>) -> bool
-    ensures { result ≡ core_names_exist spaces file.now }
+fn core_names_exist(spaces: Spaces, contents: &Contents<'_>) -> bool
+    ensures { result ≡ core_names_exist spaces contents.now }
 {
-    imports_exist(spaces, file.imports())
-        && types_exist(spaces, file.functions())
-        && exports_exist(spaces, file.exports())
-        && segments_exist(spaces, file.segments())
+    imports_exist(spaces, contents.imports.as_slice())
+        && types_exist(spaces, contents.functions.as_slice())
+        && exports_exist(spaces, contents.exports.as_slice())
+        && memories_exist(spaces, contents.segment_memories.as_slice())
 }
 
 /// Whether all that the linking section and the relocations name is there.
-fn linked_names_exist(spaces: Spaces, file: &File<'_>) -> bool
-    ensures { result ≡ linked_names_exist spaces file.now }
+fn linked_names_exist(spaces: Spaces, contents: &Contents<'_>) -> bool
+    ensures { result ≡ linked_names_exist spaces contents.now }
 {
-    symbols_exist(spaces, file.symbols())
-        && inits_exist(spaces, file.init_funcs())
-        && relocations_exist(spaces, file.code_relocations())
-        && relocations_exist(spaces, file.data_relocations())
+    symbols_exist(spaces, contents.symbols.as_slice())
+        && inits_exist(spaces, contents.init_funcs.as_slice())
+        && relocations_exist(spaces, contents.code_relocations.as_slice())
+        && relocations_exist(spaces, contents.data_relocations.as_slice())
 }
 
 /// Whether each count is how many segments there are.
 fn are_segments(spaces: Spaces, counts: &[u32]) -> bool
-    ensures { result ≡ list_all (λ count. count == spaces.segments) counts.now }
+    ensures { result ≡ list_all (counts_segments spaces) counts.now }
 {
     counts
         .iter()
@@ -255,22 +260,24 @@ fn are_segments(spaces: Spaces, counts: &[u32]) -> bool
 
 /// Whether each function has its body, and the data count, where there is one, is how many
 /// segments there are.
-fn counts_hold(spaces: Spaces, file: &File<'_>) -> bool
-    ensures { result ≡ counts_hold spaces file.now }
+fn counts_hold(spaces: Spaces, contents: &Contents<'_>) -> bool
+    ensures { result ≡ counts_hold spaces contents.now }
 {
-    file.bodies().len() == spaces.functions && are_segments(spaces, file.data_counts.as_slice())
+    contents.bodies.as_slice().len() == spaces.functions
+        && are_segments(spaces, contents.data_counts.as_slice())
 }
 
 /// Sees that each function has its body, that the data count is right, and that what is named
 /// exists.
-pub(crate) fn check_names(file: &File<'_>) -> Result<(), ReadError>
-    ensures { MatchResult result (λ _. NamesExist file.now) (HasCause (NamesFault file.now)) }
+#[tactic(auto, using(crate::proofs::ExistLaws::names_exist))]
+pub(crate) fn check_names(contents: &Contents<'_>) -> Result<(), ReadError>
+    ensures { MatchResult result (λ _. NamesExist contents.now) (HasCause (NamesFault contents.now)) }
 {
-    let spaces = spaces_of(file);
-    if !counts_hold(spaces, file) {
+    let spaces = spaces_of(contents);
+    if !counts_hold(spaces, contents) {
         return Err(ReadError::Malformed(Why::Count));
     }
-    if !core_names_exist(spaces, file) || !linked_names_exist(spaces, file) {
+    if !core_names_exist(spaces, contents) || !linked_names_exist(spaces, contents) {
         return Err(ReadError::Malformed(Why::BadIndex));
     }
     Ok(())

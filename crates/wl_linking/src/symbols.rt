@@ -5,7 +5,7 @@ ghost use Rattle.std.specs.Prelude.{◌≡◌, ◌≤◌, ◌^◌, ◌-◌, leng
 ghost use Rattle.wl_bytes.specs.Cursor.{end_of};
 ghost use Rattle.wl_bytes.specs.Grammar.{times_at};
 ghost use Rattle.wl_module.specs.Outcome.{Yields, Gives};
-ghost use Rattle.wl_linking.specs.Symbols.{kind_verdict, flags_verdict, has_flag, has_name, is_undefined, is_weak, is_local, named, range_of};
+ghost use Rattle.wl_linking.specs.Symbols.{kind_verdict, has_flag, has_name, is_undefined, is_weak, is_local, is_absolute, named, range_of};
 ghost use Rattle.wl_linking.specs.SymbolsReading.{based_name_at, name_where_at, extent_where_at, numbered_at, located_at, section_at, details_at, symbol_at, symbols_of};
 
 use crate::flags::SymbolFlags;
@@ -42,9 +42,10 @@ pub struct WasmSymbol<'a> {
     /// Its flags, with bits that have no name.
     pub flags: SymbolFlags,
     /// The number of its function, global, table, section or segment in the object; 0 for data
-    /// that the object doesn't define.
+    /// that the object doesn't define. That of data at an absolute address names nothing.
     pub index: u32,
-    /// How many bytes of its segment lie before the data; 0 for other symbols.
+    /// How many bytes of its segment lie before the data, or its address where that is absolute; 0
+    /// for other symbols.
     pub offset: u32,
     /// How many bytes the data has; 0 for other symbols.
     pub size: u32,
@@ -120,6 +121,16 @@ impl<'a> WasmSymbol<'a> {
         self.flags.contains(SymbolFlags::EXPLICIT_NAME)
     }
 
+    /// Whether it is data that the object defines, and its offset is an address: it lies in no
+    /// segment, and its index is of no use.
+    pub fn is_absolute(&self) -> bool
+        ensures { result ≡ is_absolute self.now }
+    {
+        self.kind == WasmSymbolKind::Data
+            && !self.is_undefined()
+            && self.flags.contains(SymbolFlags::ABSOLUTE)
+    }
+
     /// The flags as they stand in the object.
     pub fn raw_flags(&self) -> u32
         ensures { result ≡ self.now.flags }
@@ -152,16 +163,6 @@ fn read_kind(kind: u8) -> Result<WasmSymbolKind, ReadError>
         5 => Ok(WasmSymbolKind::Table),
         _ => Err(ReadError::Malformed(Why::BadByte)),
     }
-}
-
-/// Symbols of absolute addresses aren't taken.
-fn check_flags(flags: SymbolFlags) -> Result<(), ReadError>
-    ensures { Gives (λ u. u) result (flags_verdict flags.0) }
-{
-    if flags.contains(SymbolFlags::ABSOLUTE) {
-        return Err(ReadError::Unsupported(Form::Absolute));
-    }
-    Ok(())
 }
 
 /// What stands behind the flags of a symbol. Clauses see it as a record of the same fields, with
@@ -348,7 +349,6 @@ fn read_symbol<'a>(base: u32, reader: &mut Reader<'a>) -> Result<WasmSymbol<'a>,
     let kind = reader.read_u8()?;
     let kind = read_kind(kind)?;
     let flags = SymbolFlags::from_bits_retain(reader.read_u32()?);
-    check_flags(flags)?;
     let details = read_details(base, kind, flags, reader)?;
     Ok(WasmSymbol {
         kind,

@@ -1,11 +1,10 @@
 -- Items under a condition are read as the items are.
 use Rattle.std.proofs.Common.{◌≡◌, ℕ, ◌+◌, ◌-◌, ◌≤◌, Bool, true, false, cond, List, [], ◌++◌, length, Option, Some, None, Result, Ok, Err, refl, sym, ap, subst, ◌∙◌, arith, inl, inr, length-append}
 use Rattle.wl_bytes.specs.Cursor.{Cursor}
-use Rattle.wl_bytes.specs.Parse.{Takes, ◌>>=◌}
-use Rattle.wl_bytes.specs.Grammar.{map_at}
+use Rattle.wl_bytes.specs.Parse.{Takes}
 use Rattle.wl_bytes.proofs.Steps.{bind_ok, bind_err, chosen, ok_is, err_is}
 use Rattle.wl_bytes.proofs.Readings.{IsReading}
-use Rattle.wl_bytes.proofs.GrammarLaws.{cursor_is, map_reading, seen_reading}
+use Rattle.wl_bytes.proofs.GrammarLaws.{cursor_is, seen_reading}
 use Rattle.wl_bytes.specs.Items.{IsName}
 use Rattle.wl_module.specs.Lists.{WordFault, word_at}
 use Rattle.wl_module.specs.Words.{IsPlacedName, placed_name, placed_name_at}

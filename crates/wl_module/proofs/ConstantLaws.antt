@@ -1,13 +1,13 @@
 -- The laws of constant expressions.
-use Rattle.std.proofs.Common.{◌≡◌, ◌≢◌, ℕ, suc, ◌+◌, ◌-◌, ◌<◌, ◌≤◌, true, false, List, [], ◌∷◌, ◌++◌, length, take, Option, Some, None, Result, Ok, Err, refl, sym, ap, subst, ◌∙◌, arith, inl, inr, append_assoc, length-append}
+use Rattle.std.proofs.Common.{◌≡◌, ◌≢◌, ℕ, ◌+◌, ◌-◌, ◌<◌, ◌≤◌, true, false, List, [], ◌∷◌, ◌++◌, length, take, Option, Some, None, Result, Ok, Err, refl, sym, ap, subst, ◌∙◌, arith, inl, inr, append_assoc, length-append}
 use Rattle.std.proofs.lemmas.List.{take_at}
 use Rattle.std.specs.Prelude.{is_some}
-use Rattle.wl_bytes.specs.Cursor.{Cursor, end_of}
-use Rattle.wl_bytes.specs.Parse.{Takes, ◌>>=◌}
-use Rattle.wl_bytes.specs.Leb.{Form, form_of, s32_form, s64_form, IsU32, IsSigned, SignedFault}
+use Rattle.wl_bytes.specs.Cursor.{Cursor}
+use Rattle.wl_bytes.specs.Parse.{Takes}
+use Rattle.wl_bytes.specs.Leb.{form_of, s32_form, s64_form, IsU32, IsSigned, SignedFault}
 use Rattle.wl_bytes.specs.Items.{IsStretch, EndsBefore}
 use Rattle.wl_bytes.specs.Reading as bytes
-use Rattle.wl_bytes.specs.Grammar.{Then, ThenFault, then_at, Items}
+use Rattle.wl_bytes.specs.Grammar.{Then, then_at, Items}
 use Rattle.wl_bytes.specs.declared.leb.LebForm.{LebForm}
 use Rattle.wl_bytes.specs.declared.leb.LebForm.TheVariants.{S32, S64}
 use Rattle.wl_bytes.proofs.Steps.{bind_ok, bind_err, ok_is}
@@ -28,13 +28,13 @@ use Rattle.wl_module.specs.Types.{value_type_code}
 use Rattle.wl_module.specs.Reading.{value_type_of}
 use Rattle.wl_module.specs.Bodies.{StretchFault}
 use Rattle.wl_module.specs.BodiesReading.{stretch_at}
-use Rattle.wl_module.specs.Checks.{Where, WhereFault, where_at, Any, any_at, IsNothing, NoFault, nothing_at}
-use Rattle.wl_module.specs.Ends.{ItemOf, Ended, EndedFault, ended_at}
+use Rattle.wl_module.specs.Checks.{Where, WhereFault, where_at, Any}
+use Rattle.wl_module.specs.Ends.{Ended, EndedFault, ended_at}
 use Rattle.wl_module.specs.Constants.{operator_code, step_code, all_steps, step_of, first_at, SignedNumberFault, signed_number_at, is_reference, IsReference, ReferenceFault, reference_at, is_vector_const, IsVector, VectorFault, vector_at, IsImmediate, ImmediateFault, immediate_at, IsOperator, IsStepImmediate, IsStep, StepImmediateFault, StepFault, step_immediate_at, step_at, IsExpression, ExpressionFault, expression_at}
 use Rattle.wl_module.proofs.ListLaws.{Decodes, found_code, coded_reading, number_reading}
 use Rattle.wl_module.proofs.TypeLaws.{value_types_decode}
 use Rattle.wl_module.proofs.CheckLaws.{where_reading, any_reading, nothing_reading}
-use Rattle.wl_module.proofs.EndLaws.{AreSteps, end_of_items, parts_of_end, step_shortens, ended_reading}
+use Rattle.wl_module.proofs.EndLaws.{AreSteps, end_of_items, step_shortens, ended_reading}
 
 -- ---- the first bytes
 

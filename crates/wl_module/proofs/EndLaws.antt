@@ -1,7 +1,7 @@
 -- Items up to what ends them are read as the steps are.
 use Rattle.std.proofs.Common.{◌≡◌, ◌≢◌, ℕ, zero, suc, ◌+◌, ◌<◌, List, [], ◌∷◌, ◌++◌, length, Option, Some, None, Result, Ok, Err, refl, sym, ap, subst, ◌∙◌, arith, inl, inr, append_assoc, length-append}
 use Rattle.wl_bytes.specs.Cursor.{Cursor}
-use Rattle.wl_bytes.specs.Parse.{Takes, ◌>>=◌}
+use Rattle.wl_bytes.specs.Parse.{Takes}
 use Rattle.wl_bytes.specs.Grammar.{Items}
 use Rattle.wl_bytes.proofs.Steps.{bind_ok, bind_err, ok_is}
 use Rattle.wl_bytes.proofs.Readings.{IsReading}

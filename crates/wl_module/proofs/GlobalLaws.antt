@@ -1,13 +1,13 @@
 -- The laws of globals and memories.
-use Rattle.std.proofs.Common.{◌≡◌, ℕ, Bool, true, false, List, [], ◌∷◌, Option, Some, None, refl}
+use Rattle.std.proofs.Common.{◌≡◌, Bool, true, false, [], ◌∷◌, Some, refl}
 use Rattle.wl_bytes.specs.Leb.{IsU32}
-use Rattle.wl_bytes.specs.Grammar.{Then, ThenFault, then_at}
+use Rattle.wl_bytes.specs.Grammar.{Then, then_at}
 use Rattle.wl_bytes.proofs.Readings.{IsReading}
 use Rattle.wl_bytes.proofs.GrammarLaws.{then_reading, map_reading}
 use Rattle.wl_module.specs.declared.error.Why.TheVariants.{BadByte}
 use Rattle.wl_module.specs.declared.error.Form.TheVariants.{ManyMemories}
 use Rattle.wl_module.specs.declared.error.ReadError.TheVariants.{Malformed, Unsupported}
-use Rattle.wl_module.specs.Lists.{NumberFault, number_at, IsCoded, Listed, ListedFault, list_at}
+use Rattle.wl_module.specs.Lists.{NumberFault, number_at, Listed, ListedFault, list_at}
 use Rattle.wl_module.specs.Chains.{ListedAfter, ListedAfterFault, list_after_at}
 use Rattle.wl_module.specs.Types.{IsValueType, ValueTypeFault}
 use Rattle.wl_module.specs.Reading.{value_type_at}
@@ -43,8 +43,8 @@ global_type_reading = map_reading (Then IsValueType (λ _. IsMutability)) IsGlob
 
 global_reading : IsReading IsGlobal GlobalFault global_at
 unfolding global_at
-global_reading = map_reading (Then IsGlobalType (λ _. IsExpression)) IsGlobal GlobalFault (then_at global_type_at (λ _. expression_at)) (λ p. record { ty = p.0; body = p.1 }) (λ g. (g.ty, g.body))
-    (λ place p text s. s) (λ place g text s. (s, refl))
+global_reading = map_reading (Then IsGlobalType (λ _. IsExpression)) IsGlobal GlobalFault (then_at global_type_at (λ _. expression_at)) (λ p. record { ty = p.0; body = p.1; owned = false }) (λ g. (g.ty, g.body))
+    (λ place p text s. (s, refl)) (λ place g text s. (s.0, rw (← s.1) refl))
     (then_reading IsGlobalType (λ _. IsExpression) GlobalTypeFault (λ _. ExpressionFault) global_type_at (λ _. expression_at) global_type_reading (λ _. expression_reading))
 
 pub globals_reading : IsWholeReading AreGlobals GlobalsFault globals_of

@@ -1,6 +1,5 @@
 -- The laws of imports and exports.
-use Rattle.std.proofs.Common.{◌≡◌, ℕ, Bool, true, false, List, [], ◌∷◌, Option, Some, None, refl, sym, subst}
-use Rattle.wl_bytes.specs.Cursor.{Cursor}
+use Rattle.std.proofs.Common.{◌≡◌, ℕ, Bool, false, List, [], ◌∷◌, Some, refl, sym, subst}
 use Rattle.wl_bytes.specs.Leb.{IsU32}
 use Rattle.wl_bytes.specs.Items.{IsName}
 use Rattle.wl_bytes.specs.Grammar.{Then, ThenFault, then_at}
@@ -14,16 +13,15 @@ use Rattle.wl_module.specs.declared.limits.MemoryType.{MemoryType}
 use Rattle.wl_module.specs.declared.limits.TableType.{TableType}
 use Rattle.wl_module.specs.declared.globals.GlobalType.{GlobalType}
 use Rattle.wl_module.specs.declared.error.Form.TheVariants.{ManyMemories}
-use Rattle.wl_module.specs.declared.error.ReadError.{ReadError}
 use Rattle.wl_module.specs.declared.error.ReadError.TheVariants.{Unsupported}
-use Rattle.wl_module.specs.Lists.{NumberFault, number_at, WordFault, word_at, IsCoded, Listed, ListedFault, list_at}
+use Rattle.wl_module.specs.Lists.{NumberFault, number_at, WordFault, word_at, Listed, ListedFault, list_at}
 use Rattle.wl_module.specs.Words.{IsPlacedName, placed_name_at}
 use Rattle.wl_module.specs.Chains.{ListedAfter, ListedAfterFault, list_after_at}
 use Rattle.wl_module.specs.Limits.{IsTableType, TableTypeFault, table_type_at, IsMemoryType, MemoryTypeFault, memory_type_at}
 use Rattle.wl_module.specs.Globals.{IsGlobalType, GlobalTypeFault, global_type_at}
-use Rattle.wl_module.specs.Imports.{kind_code, kind_of_byte, kind_error, IsKind, KindFault, kind_at, entity_kind, IsEntityType, IsEntity, EntityFault, entity_at, Imported, IsImport, ImportFault, import_from, import_at, import_may_be, IsImportAfter, ImportAfterFault, import_after_at, import_seen, AreImports, ImportsFault, imports_of}
-use Rattle.wl_module.specs.Exports.{Exported, IsExport, ExportFault, export_from, export_at, AreExports, ExportsFault, exports_of}
-use Rattle.wl_module.proofs.ListLaws.{Decodes, found_code, coded_reading, number_reading, word_reading, list_reading, whole_reading, IsWholeReading}
+use Rattle.wl_module.specs.Imports.{kind_code, kind_of_byte, kind_error, IsKind, KindFault, kind_at, IsEntity, EntityFault, entity_at, IsImport, ImportFault, import_from, import_at, import_may_be, IsImportAfter, ImportAfterFault, import_after_at, import_seen, import_parts, plain_imports, ArePlacedImports, placed_imports_of, AreImports, ImportsFault, imports_of}
+use Rattle.wl_module.specs.Exports.{IsExport, ExportFault, export_from, export_at, AreExports, ExportsFault, exports_of}
+use Rattle.wl_module.proofs.ListLaws.{Decodes, found_code, coded_reading, number_reading, word_reading, list_reading, whole_reading, IsWholeReading, seen_reading as seen_whole}
 use Rattle.wl_module.proofs.CheckLaws.{where_reading, placed_name_reading}
 use Rattle.wl_module.proofs.AfterLaws.{list_after_reading}
 use Rattle.wl_module.proofs.LimitLaws.{memory_type_reading, table_type_reading}
@@ -84,7 +82,7 @@ ImportText = Then IsName (λ _. Then IsPlacedName (λ _. Then IsKind IsEntity))
 
 import_reading : IsReading IsImport ImportFault import_at
 unfolding import_at
-import_reading = map_reading ImportText IsImport ImportFault (then_at word_at (λ _. then_at placed_name_at (λ _. then_at kind_at entity_at))) import_from (λ i. (i.origin, ((i.name, i.name_offset), (entity_kind i.entity, i.entity))))
+import_reading = map_reading ImportText IsImport ImportFault (then_at word_at (λ _. then_at placed_name_at (λ _. then_at kind_at entity_at))) import_from import_parts
     (λ place p text s. subst (λ (k : ExternalKind). ImportText place (p.0, (p.1.0, (k, p.1.1.1))) text) (sym s.4.4.4.0) s)
     (λ place i text s. (s, refl))
     (then_reading IsName (λ _. Then IsPlacedName (λ _. Then IsKind IsEntity)) WordFault (λ _. ThenFault IsPlacedName WordFault (λ _. ThenFault IsKind KindFault EntityFault)) word_at (λ _. then_at placed_name_at (λ _. then_at kind_at entity_at)) word_reading
@@ -95,10 +93,13 @@ import_after_reading : (seen : Bool) → IsReading (IsImportAfter seen) (ImportA
 unfolding import_after_at
 import_after_reading seen = where_reading IsImport ImportFault import_at (import_may_be seen) (Unsupported ManyMemories) import_reading
 
-pub imports_reading : IsWholeReading AreImports ImportsFault imports_of
-imports_reading =
+pub placed_imports_reading : IsWholeReading ArePlacedImports ImportsFault placed_imports_of
+placed_imports_reading =
     whole_reading (ListedAfter IsImportAfter import_seen false) (ListedAfterFault IsImportAfter import_seen ImportAfterFault false) (list_after_at import_after_at import_seen false)
     (list_after_reading IsImportAfter import_seen ImportAfterFault import_after_at import_after_reading false)
+
+pub imports_reading : IsWholeReading AreImports ImportsFault imports_of
+imports_reading = seen_whole plain_imports ArePlacedImports ImportsFault placed_imports_of placed_imports_reading
 
 -- ---- exports
 

@@ -12,4 +12,6 @@ pub mod GlobalLaws
 pub mod ImportLaws
 pub mod SegmentLaws
 pub mod SectionLaws
+pub mod CountLaws
+pub mod PlaceLaws
 pub mod Ranks

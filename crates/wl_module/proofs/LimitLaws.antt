@@ -1,5 +1,5 @@
 -- The laws of limits.
-use Rattle.std.proofs.Common.{◌≡◌, ℕ, ◌+◌, Bool, true, false, cond, eqb, not, List, [], ◌∷◌, ◌++◌, length, Option, Some, None, Result, Ok, Err, refl, sym, ap, subst, ◌∙◌, inl, inr}
+use Rattle.std.proofs.Common.{◌≡◌, ℕ, ◌+◌, Bool, true, false, cond, eqb, not, List, length, Option, Some, None, Result, refl, sym, ap, subst, inl, inr}
 use Rattle.std.specs.Prelude.{is_some, ◌==◌, if◌then◌else◌}
 use Rattle.std.proofs.lemmas.Bool.{eqb-true}
 use Rattle.wl_bytes.specs.Cursor.{Cursor}
@@ -10,8 +10,6 @@ use Rattle.wl_bytes.proofs.Readings.{IsReading}
 use Rattle.wl_bytes.proofs.GrammarLaws.{then_reading, map_reading}
 use Rattle.wl_module.specs.declared.limits.Limits.{Limits}
 use Rattle.wl_module.specs.declared.limits.LimitsFlags.{LimitsFlags}
-use Rattle.wl_module.specs.declared.limits.MemoryType.{MemoryType}
-use Rattle.wl_module.specs.declared.limits.TableType.{TableType}
 use Rattle.wl_module.specs.declared.error.Why.TheVariants.{BadLimits}
 use Rattle.wl_module.specs.declared.error.Form.TheVariants.{TableForm, TableType as OtherElements}
 use Rattle.wl_module.specs.declared.error.ReadError.{ReadError}

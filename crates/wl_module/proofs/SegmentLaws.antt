@@ -1,7 +1,6 @@
 -- The laws of segments.
-use Rattle.std.proofs.Common.{◌≡◌, ℕ, ◌+◌, ◌-◌, ◌≤◌, List, [], ◌∷◌, ◌++◌, length, Option, Some, None, Result, Ok, refl, sym, ap, subst, ◌∙◌, arith, length-append}
+use Rattle.std.proofs.Common.{◌≡◌, ℕ, ◌-◌, ◌≤◌, List, [], ◌∷◌, ◌++◌, length, Option, Some, None, Result, Ok, refl, sym, ap, subst, ◌∙◌, arith}
 use Rattle.wl_bytes.specs.Cursor.{Cursor}
-use Rattle.wl_bytes.specs.Parse.{Takes}
 use Rattle.wl_bytes.specs.Leb.{IsU32}
 use Rattle.wl_bytes.specs.Items.{IsStretch}
 use Rattle.wl_bytes.specs.Grammar.{Then, ThenFault, then_at}
@@ -17,8 +16,8 @@ use Rattle.wl_module.specs.Bodies.{StretchFault}
 use Rattle.wl_module.specs.BodiesReading.{stretch_at}
 use Rattle.wl_module.specs.Checks.{IsNothing, NoFault, nothing_at}
 use Rattle.wl_module.specs.Constants.{IsExpression, ExpressionFault, expression_at}
-use Rattle.wl_module.specs.Segments.{segment_code, segment_flag_of, SegmentFlagFault, segment_flag_at, IsTarget, TargetFault, target_at, AreCounted, CountedFault, counted_at, Segment, segment_kind, IsSegmentText, IsSegment, SegmentFault, segment_from, segment_at, AreSegments, SegmentsFault, segments_of}
-use Rattle.wl_module.proofs.ListLaws.{Decodes, found_code, coded_reading, number_reading, list_reading, whole_reading, IsWholeReading}
+use Rattle.wl_module.specs.Segments.{segment_code, segment_flag_of, SegmentFlagFault, segment_flag_at, IsTarget, TargetFault, target_at, AreCounted, CountedFault, counted_at, segment_kind, IsSegmentText, IsSegment, SegmentFault, segment_from, segment_at, Targeted, plain_segments, AreTargeted, targeted_of, AreSegments, SegmentsFault, segments_of}
+use Rattle.wl_module.proofs.ListLaws.{Decodes, found_code, coded_reading, number_reading, list_reading, whole_reading, IsWholeReading, seen_reading as seen_whole}
 use Rattle.wl_module.proofs.CheckLaws.{nothing_reading, measured_reading}
 use Rattle.wl_module.proofs.ConstantLaws.{stretch_reading, expression_reading}
 
@@ -50,11 +49,6 @@ counted_reading = map_reading (Then IsU32 IsStretch) AreCounted CountedFault (th
     (λ place bytes text s. ((s.0, bytes, s.1, s.2, (refl, refl)), refl))
     (then_reading IsU32 IsStretch NumberFault StretchFault number_at stretch_at number_reading stretch_reading)
 
--- a segment's payload is a part of it
-payload_within : (place : ℕ) (p : SegmentFlag × (Option ℕ × List ℕ)) (text : List ℕ) → IsSegmentText place p text → length p.1.1 ≤ length text
-payload_within place p text s =
-    omega (arith, ap length s.2, length-append s.0 s.1, ap length s.4.2, length-append s.4.0 s.4.1, ap length s.4.4.1, length-append s.4.4.0 p.1.1)
-
 abbrev text_at : Cursor → Result ((SegmentFlag × (Option ℕ × List ℕ)) × Cursor) ReadError
 text_at = then_at segment_flag_at (λ f. then_at (target_at f) (λ _. counted_at))
 
@@ -63,28 +57,27 @@ text_reading = then_reading (IsCoded segment_code) (λ f. Then (IsTarget f) (λ 
     (λ f. then_reading (IsTarget f) (λ _. AreCounted) (TargetFault f) (λ _. CountedFault) (target_at f) (λ _. counted_at) (target_reading f) (λ _. counted_reading))
 
 -- the same segment, by its kind, its place and its size
-same_segment : (place len : ℕ) (f : SegmentFlag) (s : Segment) → s.kind ≡ segment_kind f → s.section_offset + length s.payload ≡ place + len → s.encoded_size ≡ len → segment_from place len (f, (s.memory, s.payload)) ≡ s
-same_segment place len f s kind offset size =
-    let o : place + len - length s.payload ≡ s.section_offset = omega (arith, offset) in
-    rw (o, ← kind, ← size) refl
+same_segment : (place len : ℕ) (f : SegmentFlag) (t : Targeted) → t.segment.kind ≡ segment_kind f → t.segment.section_offset ≡ place → t.segment.encoded_size ≡ len → segment_from place len (f, (t.memory_index, t.segment.payload)) ≡ t
+same_segment place len f t kind offset size = rw (← kind, ← offset, ← size) refl
 
 pub segment_reading : IsReading IsSegment SegmentFault segment_at
 unfolding segment_at
 segment_reading = measured_reading IsSegmentText IsSegment SegmentFault text_at segment_from
-    (λ place p text s. (p.0, s, refl, omega (arith, payload_within place p text s), refl))
-    (λ place y text s. ((s.0, (y.memory, y.payload)), s.1, same_segment place (length text) s.0 y s.2 s.3 s.4))
+    (λ place p text s. (p.0, s, refl, refl, refl))
+    (λ place y text s. ((s.0, (y.memory_index, y.segment.payload)), s.1, same_segment place (length text) s.0 y s.2 s.3 s.4))
     text_reading
 
 -- a segment whose parts were read one after the other
 pub segment_read : (c m m' m'' to : Cursor) (f : SegmentFlag) (memory : Option ℕ) (n : ℕ) (payload : List ℕ) → segment_flag_at c ≡ Ok (f, m) → target_at f m ≡ Ok (memory, m') → number_at m' ≡ Ok (n, m'') → stretch_at n m'' ≡ Ok (payload, to)
-    → (c.position ≤ to.position) × (segment_at c ≡ Ok (record { kind = segment_kind f; memory = memory; payload = payload; section_offset = m''.position; encoded_size = to.position - c.position }, to))
+    → (c.position ≤ to.position) × (segment_at c ≡ Ok (segment_from c.position (to.position - c.position) (f, (memory, payload)), to))
 unfolding segment_at counted_at
 segment_read c m m' m'' to f memory n payload first target number bytes =
     let whole : text_at c ≡ Ok ((f, (memory, payload)), to) = rw (first, target, number, bytes) refl in
     let t = text_reading.found c (f, (memory, payload)) to whole in
-    let b = (stretch_reading n).found m'' payload to bytes in
-    let offset : c.position + (to.position - c.position) - length payload ≡ m''.position = omega (arith, t.moved, b.moved, ap length b.spelled.0) in
-    (omega (arith, t.moved), rw (whole, offset) refl)
+    (omega (arith, t.moved), rw whole refl)
+
+pub targeted_reading : IsWholeReading AreTargeted SegmentsFault targeted_of
+targeted_reading = whole_reading (Listed IsSegment) (ListedFault IsSegment SegmentFault) (list_at segment_at) (list_reading IsSegment SegmentFault segment_at segment_reading)
 
 pub segments_reading : IsWholeReading AreSegments SegmentsFault segments_of
-segments_reading = whole_reading (Listed IsSegment) (ListedFault IsSegment SegmentFault) (list_at segment_at) (list_reading IsSegment SegmentFault segment_at segment_reading)
+segments_reading = seen_whole plain_segments AreTargeted SegmentsFault targeted_of targeted_reading

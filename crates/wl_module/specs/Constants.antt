@@ -22,7 +22,7 @@ use Rattle.wl_module.specs.Reading.{value_type_of}
 use Rattle.wl_module.specs.Bodies.{StretchFault}
 use Rattle.wl_module.specs.BodiesReading.{stretch_at}
 use Rattle.wl_module.specs.Checks.{Where, WhereFault, where_at, Any, any_at, IsNothing, NoFault, nothing_at}
-use Rattle.wl_module.specs.Ends.{ItemOf, EndedFault, ended_at}
+use Rattle.wl_module.specs.Ends.{ended_at}
 
 -- ---- the first bytes
 

@@ -1,5 +1,5 @@
 -- Global types and the global section (core specification, "Global Types" and "Global Section").
-use Rattle.std.specs.Prelude.{ℕ, ◌==◌, Bool, true, false, List, [], ◌∷◌, Option, Result}
+use Rattle.std.specs.Prelude.{◌≡◌, ℕ, ◌==◌, Bool, true, false, List, [], ◌∷◌, Option, Result}
 use Rattle.std.specs.List.{find}
 use Rattle.wl_bytes.specs.Cursor.{Cursor}
 use Rattle.wl_bytes.specs.Grammar.{Then, ThenFault, then_at, map_at}
@@ -49,14 +49,15 @@ global_type_at c = map_at (λ p. record { content_type = p.0; mutable = p.1 }) (
 
 -- ---- the section
 
--- a global as clauses see it: its type, and the expression that it starts with
+-- a global as clauses see it: its type, the expression that it starts with, and whether that is a copy
 pub record DefinedGlobal : Type 0 where
   pub ty : GlobalType
   pub body : List ℕ
+  pub owned : Bool
 
--- its type, and the expression
+-- its type, and the expression, itself and no copy
 abbrev pub IsGlobal : ℕ → DefinedGlobal → List ℕ → Type 0
-IsGlobal place g text = Then IsGlobalType (λ _. IsExpression) place (g.ty, g.body) text
+IsGlobal place g text = Then IsGlobalType (λ _. IsExpression) place (g.ty, g.body) text × (g.owned ≡ false)
 
 -- the first of the two that is at fault
 abbrev pub GlobalFault : ReadError → Cursor → Type 0
@@ -64,7 +65,8 @@ GlobalFault = ThenFault IsGlobalType GlobalTypeFault (λ _. ExpressionFault)
 
 -- the global in front
 unfoldable pub global_at : Cursor → Result (DefinedGlobal × Cursor) ReadError
-global_at c = map_at (λ p. record { ty = p.0; body = p.1 }) (then_at global_type_at (λ _. expression_at)) c
+global_at c =
+    map_at (λ p. record { ty = p.0; body = p.1; owned = false }) (then_at global_type_at (λ _. expression_at)) c
 
 -- the payload is a list of these globals
 abbrev pub AreGlobals : List DefinedGlobal → List ℕ → Type 0

@@ -1,5 +1,5 @@
 -- The import section (core specification, "Import Section").
-use Rattle.std.specs.Prelude.{◌≡◌, ℕ, ◌==◌, ◌||◌, ◌&&◌, not, Bool, true, false, if◌then◌else◌, List, [], ◌∷◌, Option, Some, None, Result}
+use Rattle.std.specs.Prelude.{◌≡◌, ℕ, ◌==◌, ◌||◌, ◌&&◌, not, Bool, true, false, if◌then◌else◌, List, [], ◌∷◌, map, Option, Some, None, Result}
 use Rattle.std.specs.List.{find}
 use Rattle.wl_bytes.specs.Cursor.{Cursor}
 use Rattle.wl_bytes.specs.Leb.{IsU32}
@@ -14,7 +14,7 @@ use Rattle.wl_module.specs.declared.error.Why.TheVariants.{BadByte}
 use Rattle.wl_module.specs.declared.error.Form.TheVariants.{Tag, ManyMemories}
 use Rattle.wl_module.specs.declared.error.ReadError.{ReadError}
 use Rattle.wl_module.specs.declared.error.ReadError.TheVariants.{Malformed, Unsupported}
-use Rattle.wl_module.specs.Lists.{NumberFault, number_at, WordFault, word_at, IsCoded, CodedFault, coded_at, Whole, WholeFault, whole_of}
+use Rattle.wl_module.specs.Lists.{NumberFault, number_at, WordFault, word_at, IsCoded, CodedFault, coded_at, Whole, WholeFault, whole_of, SeenAs, seen_of}
 use Rattle.wl_module.specs.Words.{IsPlacedName, placed_name_at}
 use Rattle.wl_module.specs.Chains.{ListedAfter, ListedAfterFault, list_after_at}
 use Rattle.wl_module.specs.Checks.{Where, WhereFault, where_at}
@@ -86,27 +86,39 @@ entity_at Global c = map_at (λ g. AGlobal g) global_type_at c
 
 -- ---- imports
 
--- an import as clauses see it: from which module, under which name, how many bytes lie before that, and what
+-- an import as clauses see it: from which module, under which name, and what
 pub record Imported : Type 0 where
   pub origin : List ℕ
   pub name : List ℕ
-  pub name_offset : ℕ
   pub entity : ImportEntity
 
+-- an import, and how many bytes lie before its name
+pub record PlacedImported : Type 0 where
+  pub import : Imported
+  pub name_offset : ℕ
+
+-- its two names with the place of the second, its kind, and its type
+abbrev pub import_parts : PlacedImported → List ℕ × ((List ℕ × ℕ) × (ExternalKind × ImportEntity))
+import_parts i = (i.import.origin, ((i.import.name, i.name_offset), (entity_kind i.import.entity, i.import.entity)))
+
 -- two names, the kind, and the type
-abbrev pub IsImport : ℕ → Imported → List ℕ → Type 0
-IsImport place i text = Then IsName (λ _. Then IsPlacedName (λ _. Then IsKind IsEntity)) place (i.origin, ((i.name, i.name_offset), (entity_kind i.entity, i.entity))) text
+abbrev pub IsImport : ℕ → PlacedImported → List ℕ → Type 0
+IsImport place i text =
+    Then IsName (λ _. Then IsPlacedName (λ _. Then IsKind IsEntity)) place (import_parts i) text
 
 -- the first of the four that is at fault
 abbrev pub ImportFault : ReadError → Cursor → Type 0
 ImportFault = ThenFault IsName WordFault (λ _. ThenFault IsPlacedName WordFault (λ _. ThenFault IsKind KindFault EntityFault))
 
 -- what was read as an import
-abbrev pub import_from : List ℕ × ((List ℕ × ℕ) × (ExternalKind × ImportEntity)) → Imported
-import_from p = record { origin = p.0; name = p.1.0.0; name_offset = p.1.0.1; entity = p.1.1.1 }
+abbrev pub import_from : List ℕ × ((List ℕ × ℕ) × (ExternalKind × ImportEntity)) → PlacedImported
+import_from p = record {
+  import = record { origin = p.0; name = p.1.0.0; entity = p.1.1.1 };
+  name_offset = p.1.0.1;
+}
 
 -- the import in front
-unfoldable pub import_at : Cursor → Result (Imported × Cursor) ReadError
+unfoldable pub import_at : Cursor → Result (PlacedImported × Cursor) ReadError
 import_at c = map_at import_from (then_at word_at (λ _. then_at placed_name_at (λ _. then_at kind_at entity_at))) c
 
 -- a memory is imported
@@ -117,11 +129,11 @@ is_memory (AMemory m) = true
 is_memory (AGlobal g) = false
 
 -- no second memory
-abbrev pub import_may_be : Bool → Imported → Bool
-import_may_be seen i = not (seen && is_memory i.entity)
+abbrev pub import_may_be : Bool → PlacedImported → Bool
+import_may_be seen i = not (seen && is_memory i.import.entity)
 
 -- an import that is no second memory
-abbrev pub IsImportAfter : Bool → ℕ → Imported → List ℕ → Type 0
+abbrev pub IsImportAfter : Bool → ℕ → PlacedImported → List ℕ → Type 0
 IsImportAfter seen = Where IsImport (import_may_be seen)
 
 -- the import is at fault, or it is a second memory
@@ -129,24 +141,36 @@ abbrev pub ImportAfterFault : Bool → ReadError → Cursor → Type 0
 ImportAfterFault seen = WhereFault IsImport ImportFault (import_may_be seen) (Unsupported ManyMemories)
 
 -- the import in front
-unfoldable pub import_after_at : Bool → Cursor → Result (Imported × Cursor) ReadError
+unfoldable pub import_after_at : Bool → Cursor → Result (PlacedImported × Cursor) ReadError
 import_after_at seen c = where_at import_at (import_may_be seen) (Unsupported ManyMemories) c
 
 -- whether there is a memory behind an import
-abbrev pub import_seen : Bool → Imported → Bool
-import_seen seen i = seen || is_memory i.entity
+abbrev pub import_seen : Bool → PlacedImported → Bool
+import_seen seen i = seen || is_memory i.import.entity
 
 -- the payload is a list of these imports, at most one of them a memory
+abbrev pub ArePlacedImports : List PlacedImported → List ℕ → Type 0
+ArePlacedImports = Whole (ListedAfter IsImportAfter import_seen false)
+
+-- the same without the places of the names
+abbrev pub plain_imports : List PlacedImported → List Imported
+plain_imports = map (λ i. i.import)
+
+-- the payload is a list of these imports, wherever their names stand
 abbrev pub AreImports : List Imported → List ℕ → Type 0
-AreImports = Whole (ListedAfter IsImportAfter import_seen false)
+AreImports = SeenAs plain_imports ArePlacedImports
 
 -- what is wrong with a payload that is no such list
 abbrev pub ImportsFault : ReadError → List ℕ → Type 0
 ImportsFault = WholeFault (ListedAfter IsImportAfter import_seen false) (ListedAfterFault IsImportAfter import_seen ImportAfterFault false)
 
+-- the imports of a whole payload, with the places of their names
+abbrev pub placed_imports_of : List ℕ → Result (List PlacedImported) ReadError
+placed_imports_of payload = whole_of (list_after_at import_after_at import_seen false) payload
+
 -- the imports of a whole payload
 abbrev pub imports_of : List ℕ → Result (List Imported) ReadError
-imports_of payload = whole_of (list_after_at import_after_at import_seen false) payload
+imports_of payload = seen_of plain_imports placed_imports_of payload
 
 -- ---- imports of one kind
 

@@ -3,6 +3,7 @@ pub mod Outcome
 pub mod Lists
 pub mod Types
 pub mod Reading
+pub mod Slices
 pub mod Bodies
 pub mod BodiesReading
 pub mod Chains
@@ -17,3 +18,4 @@ pub mod Exports
 pub mod Segments
 pub mod Limits
 pub mod Sections
+pub mod Places

@@ -1,5 +1,5 @@
 -- Limits of memories and tables (core specification, "Limits", "Memory Types" and "Table Types").
-use Rattle.std.specs.Prelude.{◌≡◌, ℕ, ◌+◌, ◌/◌, ◌%◌, ◌==◌, ◌||◌, ◌&&◌, not, Bool, true, false, nat_lt, nat_le, if◌then◌else◌, List, [], ◌∷◌, Option, Some, None, is_some, Result}
+use Rattle.std.specs.Prelude.{ℕ, ◌+◌, ◌/◌, ◌%◌, ◌==◌, ◌||◌, ◌&&◌, not, Bool, true, false, nat_lt, nat_le, if◌then◌else◌, List, [], ◌∷◌, Option, Some, None, is_some, Result}
 use Rattle.std.specs.List.{find}
 use Rattle.wl_bytes.specs.Cursor.{Cursor}
 use Rattle.wl_bytes.specs.Leb.{IsU32}

@@ -1,9 +1,8 @@
 -- The data section (core specification, "Data Section").
-use Rattle.std.specs.Prelude.{◌≡◌, ℕ, ◌+◌, ◌-◌, ◌==◌, List, [], ◌∷◌, ◌++◌, length, Option, Some, None, Result}
+use Rattle.std.specs.Prelude.{◌≡◌, ℕ, ◌==◌, List, [], ◌∷◌, ◌++◌, length, map, Option, Some, None, Result}
 use Rattle.std.specs.List.{find}
 use Rattle.wl_bytes.specs.Cursor.{Cursor}
 use Rattle.wl_bytes.specs.Leb.{IsU32}
-use Rattle.wl_bytes.specs.Items.{IsStretch}
 use Rattle.wl_bytes.specs.Grammar.{Then, ThenFault, then_at, map_at}
 use Rattle.wl_module.specs.declared.segments.DataKind.{DataKind}
 use Rattle.wl_module.specs.declared.segments.DataKind.TheVariants.{Passive, Active}
@@ -12,10 +11,10 @@ use Rattle.wl_module.specs.declared.segments.SegmentFlag.TheVariants.{InMemory, 
 use Rattle.wl_module.specs.declared.error.Why.TheVariants.{BadByte}
 use Rattle.wl_module.specs.declared.error.ReadError.{ReadError}
 use Rattle.wl_module.specs.declared.error.ReadError.TheVariants.{Malformed}
-use Rattle.wl_module.specs.Lists.{NumberFault, number_at, IsCoded, CodedFault, coded_at, Listed, ListedFault, list_at, Whole, WholeFault, whole_of}
+use Rattle.wl_module.specs.Lists.{NumberFault, number_at, IsCoded, CodedFault, coded_at, Listed, ListedFault, list_at, Whole, WholeFault, whole_of, SeenAs, seen_of}
 use Rattle.wl_module.specs.Bodies.{StretchFault}
 use Rattle.wl_module.specs.BodiesReading.{stretch_at}
-use Rattle.wl_module.specs.Checks.{IsNothing, NoFault, nothing_at, measured_at}
+use Rattle.wl_module.specs.Checks.{NoFault, nothing_at, measured_at}
 use Rattle.wl_module.specs.Constants.{IsExpression, ExpressionFault, expression_at}
 
 -- ---- flags
@@ -74,14 +73,18 @@ counted_at c = map_at (λ p. p.1) (then_at number_at stretch_at) c
 
 -- ---- segments
 
--- A segment as clauses see it: whether it goes into a memory when the module starts, and into which; its bytes; how many
--- bytes of the section's payload lie before them; and how many bytes the whole segment takes.
+-- A segment as clauses see it: whether it goes into a memory when the module starts; its bytes; how many bytes of the
+-- section's payload lie before its flag; and how many bytes it takes from there to the end of its own.
 pub record Segment : Type 0 where
   pub kind : DataKind
-  pub memory : Option ℕ
   pub payload : List ℕ
   pub section_offset : ℕ
   pub encoded_size : ℕ
+
+-- a segment, and the memory that it goes into when the module starts
+pub record Targeted : Type 0 where
+  pub segment : Segment
+  pub memory_index : Option ℕ
 
 -- which kind a flag says
 abbrev pub segment_kind : SegmentFlag → DataKind
@@ -93,37 +96,46 @@ segment_kind InMemoryOf = Active
 abbrev pub IsSegmentText : ℕ → SegmentFlag × (Option ℕ × List ℕ) → List ℕ → Type 0
 IsSegmentText = Then (IsCoded segment_code) (λ f. Then (IsTarget f) (λ _. AreCounted))
 
--- that text; the payload ends where it ends
-abbrev pub IsSegment : ℕ → Segment → List ℕ → Type 0
-IsSegment place s text = (f : SegmentFlag) × IsSegmentText place (f, (s.memory, s.payload)) text
-    × (s.kind ≡ segment_kind f) × (s.section_offset + length s.payload ≡ place + length text) × (s.encoded_size ≡ length text)
+-- that text, of which the segment tells the place and the size
+abbrev pub IsSegment : ℕ → Targeted → List ℕ → Type 0
+IsSegment place t text = (f : SegmentFlag) × IsSegmentText place (f, (t.memory_index, t.segment.payload)) text
+    × (t.segment.kind ≡ segment_kind f) × (t.segment.section_offset ≡ place) × (t.segment.encoded_size ≡ length text)
 
 -- the first of the three that is at fault
 abbrev pub SegmentFault : ReadError → Cursor → Type 0
 SegmentFault = ThenFault (IsCoded segment_code) SegmentFlagFault (λ f. ThenFault (IsTarget f) (TargetFault f) (λ _. CountedFault))
 
 -- what was read as a segment of so many bytes, which stands at a place
-abbrev pub segment_from : ℕ → ℕ → SegmentFlag × (Option ℕ × List ℕ) → Segment
+abbrev pub segment_from : ℕ → ℕ → SegmentFlag × (Option ℕ × List ℕ) → Targeted
 segment_from place len p = record {
-  kind = segment_kind p.0;
-  memory = p.1.0;
-  payload = p.1.1;
-  section_offset = place + len - length p.1.1;
-  encoded_size = len;
+  segment = record { kind = segment_kind p.0; payload = p.1.1; section_offset = place; encoded_size = len };
+  memory_index = p.1.0;
 }
 
 -- the segment in front
-unfoldable pub segment_at : Cursor → Result (Segment × Cursor) ReadError
+unfoldable pub segment_at : Cursor → Result (Targeted × Cursor) ReadError
 segment_at c = measured_at segment_from (then_at segment_flag_at (λ f. then_at (target_at f) (λ _. counted_at))) c
 
 -- the payload is a list of these segments
+abbrev pub AreTargeted : List Targeted → List ℕ → Type 0
+AreTargeted = Whole (Listed IsSegment)
+
+-- the same without their memories
+abbrev pub plain_segments : List Targeted → List Segment
+plain_segments = map (λ t. t.segment)
+
+-- the payload is a list of these segments, whatever their memories
 abbrev pub AreSegments : List Segment → List ℕ → Type 0
-AreSegments = Whole (Listed IsSegment)
+AreSegments = SeenAs plain_segments AreTargeted
 
 -- what is wrong with a payload that is no list of segments
 abbrev pub SegmentsFault : ReadError → List ℕ → Type 0
 SegmentsFault = WholeFault (Listed IsSegment) (ListedFault IsSegment SegmentFault)
 
+-- the segments of a whole payload, with their memories
+abbrev pub targeted_of : List ℕ → Result (List Targeted) ReadError
+targeted_of payload = whole_of (list_at segment_at) payload
+
 -- the segments of a whole payload
 abbrev pub segments_of : List ℕ → Result (List Segment) ReadError
-segments_of payload = whole_of (list_at segment_at) payload
+segments_of payload = seen_of plain_segments targeted_of payload

@@ -1,6 +1,6 @@
 //! The export section: what a module gives to others.
 
-ghost use Rattle.std.specs.Prelude.{◌≡◌};
+ghost use Rattle.std.specs.Prelude.{◌≡◌, ◌≤◌, length, IfOk};
 ghost use Rattle.wl_bytes.specs.Cursor.{end_of};
 ghost use Rattle.wl_module.specs.Exports.{export_at, AreExports, ExportsFault};
 ghost use Rattle.wl_module.specs.Outcome.{Yields, ReadsWhole, AreAlternatives};
@@ -39,8 +39,9 @@ impl<'a> Item<'a> for OutputExport<'a> {
 
     ghost may_end = { λ _. Unit {0} };
 
-    fn read(_alloc: Global, reader: &mut Reader<'a>) -> Result<Self, ReadError> {
-        read_export(reader)
+    fn read(_alloc: Global, mut reader: Reader<'a>) -> Result<(Self, Reader<'a>), ReadError> {
+        let export = read_export(&mut reader)?;
+        Ok((export, reader))
     }
 }
 
@@ -62,7 +63,8 @@ fn read_export<'a>(reader: &mut Reader<'a>) -> Result<OutputExport<'a>, ReadErro
 /// A kind above 4 is `Malformed(BadByte)`, the kind 4 of an exception tag `Unsupported(Tag)`; each
 /// is judged in front of the index.
 pub fn read_exports(alloc: Global, payload: &[u8]) -> Result<Vec<OutputExport<'_>>, ReadError>
-    ensures { ReadsWhole (λ v. v.items) AreExports ExportsFault payload.now result }
+    ensures reads { ReadsWhole (λ v. v.items) AreExports ExportsFault payload.now result }
+    ensures count { IfOk result (λ v. length v.items ≤ length payload.now) }
 {
     read_payload(alloc, payload)
 }

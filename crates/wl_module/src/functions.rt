@@ -1,5 +1,6 @@
 //! The function section: which type each function of a module has.
 
+ghost use Rattle.std.specs.Prelude.{◌≤◌, length, IfOk};
 ghost use Rattle.wl_module.specs.Bodies.{AreIndices, IndicesFault};
 ghost use Rattle.wl_module.specs.Lists.{number_at};
 ghost use Rattle.wl_module.specs.Outcome.{ReadsWhole, AreAlternatives};
@@ -14,8 +15,9 @@ impl<'a> Item<'a> for u32 {
 
     ghost may_end = { λ _. Unit {0} };
 
-    fn read(_alloc: Global, reader: &mut Reader<'a>) -> Result<Self, ReadError> {
-        Ok(reader.read_u32()?)
+    fn read(_alloc: Global, mut reader: Reader<'a>) -> Result<(Self, Reader<'a>), ReadError> {
+        let index = reader.read_u32()?;
+        Ok((index, reader))
     }
 }
 
@@ -25,7 +27,8 @@ impl<'a> Item<'a> for u32 {
 /// The indices are as the bytes have them: that there is such a type isn't looked at. Bytes after
 /// the last index are `Malformed(Trailing)`.
 pub fn read_functions(alloc: Global, payload: &[u8]) -> Result<Vec<u32>, ReadError>
-    ensures { ReadsWhole (λ v. v.items) AreIndices IndicesFault payload.now result }
+    ensures reads { ReadsWhole (λ v. v.items) AreIndices IndicesFault payload.now result }
+    ensures count { IfOk result (λ v. length v.items ≤ length payload.now) }
 {
     read_payload(alloc, payload)
 }

@@ -1,6 +1,6 @@
 //! The global section: the globals that a module defines.
 
-ghost use Rattle.std.specs.Prelude.{◌≡◌};
+ghost use Rattle.std.specs.Prelude.{◌≡◌, ◌≤◌, length, IfOk};
 ghost use Rattle.wl_bytes.specs.Cursor.{end_of};
 ghost use Rattle.wl_module.specs.Globals.{mutability_at, global_type_at, global_at, AreGlobals, GlobalsFault};
 ghost use Rattle.wl_module.specs.Outcome.{Yields, ReadsWhole, AreAlternatives};
@@ -23,8 +23,8 @@ pub struct GlobalType {
     pub mutable: bool,
 }
 
-/// A global that a module defines. Clauses see it as a `DefinedGlobal`, a record of its type and
-/// of the bytes as a list.
+/// A global that a module defines. Clauses see it as a `DefinedGlobal`, a record of its type, of
+/// the bytes as a list, and of whether that is a copy.
 #[derive(Drop)]
 pub struct OutputGlobal<'a> {
     /// Its type.
@@ -37,10 +37,15 @@ pub struct OutputGlobal<'a> {
 impl<'a> Model for OutputGlobal<'a> {
     ghost use Rattle.std.specs.Cow.{cow_slice_items};
     ghost use Rattle.wl_module.specs.Globals.{DefinedGlobal};
+    ghost use Rattle.wl_module.specs.Slices.{is_owned};
 
     ghost Value = { DefinedGlobal };
 
-    ghost view = { λ g. record { ty = g.ty; body = cow_slice_items g.init_expr_body } };
+    ghost view = { λ g. record {
+      ty = g.ty;
+      body = cow_slice_items g.init_expr_body;
+      owned = is_owned g.init_expr_body;
+    } };
 }
 
 impl<'a> Item<'a> for OutputGlobal<'a> {
@@ -50,8 +55,9 @@ impl<'a> Item<'a> for OutputGlobal<'a> {
 
     ghost may_end = { λ _. Unit {0} };
 
-    fn read(_alloc: Global, reader: &mut Reader<'a>) -> Result<Self, ReadError> {
-        read_global(reader)
+    fn read(_alloc: Global, mut reader: Reader<'a>) -> Result<(Self, Reader<'a>), ReadError> {
+        let global = read_global(&mut reader)?;
+        Ok((global, reader))
     }
 }
 
@@ -99,11 +105,13 @@ fn read_global<'a>(reader: &mut Reader<'a>) -> Result<OutputGlobal<'a>, ReadErro
 /// Reads the payload of a global section (core specification, "Global Section"): the globals that
 /// the module defines, in order. Their expressions are slices of the payload.
 ///
-/// A byte other than 0 and 1 behind the value type is `Malformed(BadByte)`, another operator than
-/// those of constant expressions `Unsupported(ConstOperator)`. The expressions aren't typed, and
-/// the indices in them aren't looked at.
+/// A byte other than 0 and 1 behind the value type is `Malformed(BadByte)`. Another operator than
+/// those of constant expressions is `Unsupported(ConstOperator)`, a null reference of another type
+/// than `funcref` and `externref` `Unsupported(Operator)`. The expressions aren't typed, and the
+/// indices in them aren't looked at.
 pub fn read_globals(alloc: Global, payload: &[u8]) -> Result<Vec<OutputGlobal<'_>>, ReadError>
-    ensures { ReadsWhole (λ v. v.items) AreGlobals GlobalsFault payload.now result }
+    ensures reads { ReadsWhole (λ v. v.items) AreGlobals GlobalsFault payload.now result }
+    ensures count { IfOk result (λ v. length v.items ≤ length payload.now) }
 {
     read_payload(alloc, payload)
 }

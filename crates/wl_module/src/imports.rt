@@ -1,16 +1,16 @@
 //! The import section: what a module takes from others.
 
-ghost use Rattle.std.specs.Prelude.{◌≡◌, false};
+ghost use Rattle.std.specs.Prelude.{◌≡◌, false, IfOk, ◌≤◌, length};
 ghost use Rattle.wl_bytes.specs.Cursor.{end_of};
 ghost use Rattle.wl_module.specs.Chains.{times_after_at};
-ghost use Rattle.wl_module.specs.Imports.{kind_at, entity_at, import_at, is_memory, import_after_at, import_seen, imports_of, AreImports, ImportsFault, function_import, global_import};
+ghost use Rattle.wl_module.specs.Imports.{kind_at, entity_at, import_at, is_memory, import_after_at, import_seen, plain_imports, placed_imports_of, ArePlacedImports, imports_of, AreImports, ImportsFault, function_import, global_import};
 ghost use Rattle.wl_module.specs.Outcome.{Yields, Gives, ReadsWhole, AreAlternatives};
 
 use crate::error::{Form, ReadError, Why};
 use crate::globals::{GlobalType, read_global_type};
 use crate::limits::{MemoryType, TableType, read_memory_type, read_table_type};
 use crate::words::read_placed_name;
-use std::alloc::Global;
+use std::alloc::{AllocError, Global};
 use std::marker::Model;
 use wl_bytes::Reader;
 
@@ -50,7 +50,6 @@ pub struct Import<'a> {
     pub name: &'a str,
     /// What it is.
     pub entity: ImportEntity,
-    name_offset: usize,
 }
 
 impl<'a> Model for Import<'a> {
@@ -58,12 +57,24 @@ impl<'a> Model for Import<'a> {
 
     ghost Value = { Imported };
 
-    ghost view = { λ i. record {
-      origin = i.module.now;
-      name = i.name.now;
-      name_offset = i.name_offset;
-      entity = i.entity;
-    } };
+    ghost view = { λ i. record { origin = i.module.now; name = i.name.now; entity = i.entity } };
+}
+
+/// An import that tells where its name stands. Clauses see it as a `PlacedImported`.
+#[derive(Drop)]
+pub struct PlacedImport<'a> {
+    /// The import.
+    pub import: Import<'a>,
+    /// How many bytes of the section's payload lie before the name that it has in its module.
+    pub name_offset: usize,
+}
+
+impl<'a> Model for PlacedImport<'a> {
+    ghost use Rattle.wl_module.specs.Imports.{PlacedImported};
+
+    ghost Value = { PlacedImported };
+
+    ghost view = { λ p. record { import = p.import; name_offset = p.name_offset } };
 }
 
 /// An imported function. Clauses see it as an `ImportedFunction`.
@@ -105,13 +116,6 @@ impl<'a> Model for WasmGlobalImport<'a> {
 }
 
 impl<'a> Import<'a> {
-    /// How many bytes of the section's payload lie before `name`.
-    pub fn name_offset(&self) -> usize
-        ensures { result ≡ self.now.name_offset }
-    {
-        self.name_offset
-    }
-
     /// The import as one of a function, where it is one.
     pub fn as_function(&self) -> Option<WasmFunctionImport<'a>>
         ensures { result ≡ function_import self.now }
@@ -180,40 +184,43 @@ fn read_entity(kind: ExternalKind, reader: &mut Reader<'_>) -> Result<ImportEnti
     }
 }
 
-/// The import in front.
+/// The import in front, with the place of its name.
 #[tactic(auto, unfolding(crate::specs::Imports::import_at))]
-fn read_import<'a>(reader: &mut Reader<'a>) -> Result<Import<'a>, ReadError>
+fn read_import<'a>(reader: &mut Reader<'a>) -> Result<PlacedImport<'a>, ReadError>
     ensures { Yields (λ i. i) result reader.new (import_at reader.old) }
 {
     let module = reader.read_name()?;
     let (name, name_offset) = read_placed_name(reader)?;
     let kind = read_kind(reader)?;
     let entity = read_entity(kind, reader)?;
-    Ok(Import {
+    let import = Import {
         module,
         name,
         entity,
+    };
+    Ok(PlacedImport {
+        import,
         name_offset,
     })
 }
 
 /// The import in front, which may not be a memory where there is one.
 #[tactic(auto, unfolding(crate::specs::Imports::import_after_at))]
-fn read_import_after<'a>(seen: bool, reader: &mut Reader<'a>) -> Result<Import<'a>, ReadError>
+fn read_import_after<'a>(seen: bool, reader: &mut Reader<'a>) -> Result<PlacedImport<'a>, ReadError>
     ensures { Yields (λ i. i) result reader.new (import_after_at seen reader.old) }
 {
-    let import = read_import(reader)?;
-    if seen && import.is_memory() {
+    let placed = read_import(reader)?;
+    if seen && placed.import.is_memory() {
         return Err(ReadError::Unsupported(Form::ManyMemories));
     }
-    Ok(import)
+    Ok(placed)
 }
 
 /// Whether there is a memory behind one more import.
-fn seen_after(seen: bool, import: &Import<'_>) -> bool
-    ensures { result ≡ import_seen seen import.now }
+fn seen_after(seen: bool, placed: &PlacedImport<'_>) -> bool
+    ensures { result ≡ import_seen seen placed.now }
 {
-    seen || import.is_memory()
+    seen || placed.import.is_memory()
 }
 
 /// So many imports, in a list that grows as they are read.
@@ -221,7 +228,7 @@ fn imports_in<'a>(
     alloc: Global,
     reader: &mut Reader<'a>,
     count: u32,
-) -> Result<Vec<Import<'a>>, ReadError>
+) -> Result<Vec<PlacedImport<'a>>, ReadError>
     ensures { Yields (λ v. v.items) result reader.new (times_after_at import_after_at import_seen count false reader.old) }
 {
     let mut imports = Vec::new(alloc);
@@ -234,9 +241,9 @@ fn imports_in<'a>(
     Ok(imports)
 }
 
-/// The imports of a whole payload.
-fn payload_imports(alloc: Global, payload: &[u8]) -> Result<Vec<Import<'_>>, ReadError>
-    ensures { Gives (λ v. v.items) result (imports_of payload.now) }
+/// The imports of a whole payload, with the places of their names.
+fn payload_imports(alloc: Global, payload: &[u8]) -> Result<Vec<PlacedImport<'_>>, ReadError>
+    ensures { Gives (λ v. v.items) result (placed_imports_of payload.now) }
 {
     let mut reader = Reader::new(payload);
     let count = reader.read_u32()?;
@@ -245,6 +252,27 @@ fn payload_imports(alloc: Global, payload: &[u8]) -> Result<Vec<Import<'_>>, Rea
         return Err(ReadError::Malformed(Why::Trailing));
     }
     Ok(imports)
+}
+
+/// The imports by themselves.
+fn without_places<'a>(
+    alloc: Global,
+    placed: Vec<PlacedImport<'a>>,
+) -> Result<Vec<Import<'a>>, AllocError>
+    ensures { IfOk result (λ v. v.items ≡ plain_imports placed.entry.items) }
+{
+    placed
+        .into_iter()
+        .map(|placed| placed.import)
+        .collect(alloc)
+}
+
+/// The imports of a whole payload.
+fn payload_plain(alloc: Global, payload: &[u8]) -> Result<Vec<Import<'_>>, ReadError>
+    ensures { Gives (λ v. v.items) result (imports_of payload.now) }
+{
+    let placed = payload_imports(alloc, payload)?;
+    Ok(without_places(alloc, placed)?)
 }
 
 /// Reads the payload of an import section (core specification, "Import Section"): the imports in
@@ -257,10 +285,28 @@ fn payload_imports(alloc: Global, payload: &[u8]) -> Result<Vec<Import<'_>>, Rea
 /// `Unsupported(PageSize)`; limits that can't be are `Malformed(BadLimits)`. A second memory is
 /// `Unsupported(ManyMemories)`, once its limits are read.
 pub fn read_imports(alloc: Global, payload: &[u8]) -> Result<Vec<Import<'_>>, ReadError>
-    ensures { ReadsWhole (λ v. v.items) AreImports ImportsFault payload.now result }
+    ensures reads { ReadsWhole (λ v. v.items) AreImports ImportsFault payload.now result }
+    ensures count { IfOk result (λ v. length v.items ≤ length payload.now) }
+{
+    payload_plain(alloc, payload)
+}
+
+/// Reads the same as [`read_imports`], and tells for each import where its name stands in the
+/// payload.
+pub fn read_placed_imports(
+    alloc: Global,
+    payload: &[u8],
+) -> Result<Vec<PlacedImport<'_>>, ReadError>
+    ensures reads { ReadsWhole (λ v. v.items) ArePlacedImports ImportsFault payload.now result }
+    ensures count { IfOk result (λ v. length v.items ≤ length payload.now) }
 {
     payload_imports(alloc, payload)
 }
+
+/// Each payload spells one list of imports and places of names or has one fault, and never both.
+pub fn placed_imports_or_fault()
+    ensures { AreAlternatives ArePlacedImports ImportsFault }
+{}
 
 /// Each payload spells one list of imports or has one fault, and never both.
 pub fn imports_or_fault()

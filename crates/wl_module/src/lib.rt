@@ -14,8 +14,10 @@ mod functions;
 mod globals;
 mod imports;
 mod items;
+mod laws;
 mod limits;
 mod memories;
+pub mod section_id;
 mod sections;
 mod segments;
 mod types;
@@ -27,29 +29,22 @@ pub use exports::{OutputExport, exports_or_fault, read_exports};
 pub use functions::{functions_or_fault, read_functions};
 pub use globals::{GlobalType, OutputGlobal, globals_or_fault, read_globals};
 pub use imports::{
-    ExternalKind, Import, ImportEntity, WasmFunctionImport, WasmGlobalImport, imports_or_fault,
-    read_imports,
+    ExternalKind, Import, ImportEntity, PlacedImport, WasmFunctionImport, WasmGlobalImport,
+    imports_or_fault, placed_imports_or_fault, read_imports, read_placed_imports,
 };
-pub use items::{Item, read_list, read_payload};
+pub use items::{Item, read_payload};
+pub use laws::{lists_are_few, parts_stand};
 pub use limits::{Limits, MemoryType, TableType};
 pub use memories::{data_count_or_fault, memories_or_fault, read_data_count, read_memories};
 pub use sections::{
-    SectionAttributes, SectionFlags, SectionHeader, SectionType, ranges_lie_within,
-    sections_or_fault, split_sections,
+    STANDARD_SECTION_LOOKUP_LEN, SectionAttributes, SectionFlags, SectionHeader, SectionType,
+    WASM_MAGIC, WASM_VERSION, ranges_lie_within, sections_or_fault, split_sections,
 };
-pub use segments::{DataKind, WasmDataSegment, read_segments, segments_or_fault};
+pub use segments::{
+    DataKind, TargetedSegment, WasmDataSegment, read_segments, read_targeted_segments,
+    segments_or_fault, targeted_segments_or_fault,
+};
 pub use types::{FuncType, ValType, read_types, types_or_fault};
-pub use words::read_placed_name;
 
-#[cfg(test)]
-mod export_tests;
-#[cfg(test)]
-mod global_tests;
-#[cfg(test)]
-mod import_tests;
-#[cfg(test)]
-mod memory_tests;
-#[cfg(test)]
-mod segment_tests;
 #[cfg(test)]
 mod tests;

@@ -1,6 +1,6 @@
 //! The memory section, and the data count section.
 
-ghost use Rattle.std.specs.Prelude.{◌≡◌, ◌≢◌, Bool, IfErr};
+ghost use Rattle.std.specs.Prelude.{◌≡◌, ◌≢◌, Bool, IfErr, ◌≤◌, length, IfOk};
 ghost use Rattle.wl_module.specs.declared.error.ReadError.TheVariants.{OutOfMemory};
 ghost use Rattle.wl_module.specs.Chains.{times_after_at};
 ghost use Rattle.wl_module.specs.Memories.{memory_after_at, memory_seen, memories_of, AreMemories, MemoriesFault, data_count_of, IsDataCount, DataCountFault};
@@ -70,7 +70,8 @@ pub fn read_memories(
     imported: bool,
     payload: &[u8],
 ) -> Result<Vec<MemoryType>, ReadError>
-    ensures { ReadsWhole (λ v. v.items) (AreMemories imported) (MemoriesFault imported) payload.now result }
+    ensures reads { ReadsWhole (λ v. v.items) (AreMemories imported) (MemoriesFault imported) payload.now result }
+    ensures count { IfOk result (λ v. length v.items ≤ length payload.now) }
 {
     payload_memories(alloc, imported, payload)
 }

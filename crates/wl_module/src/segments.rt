@@ -1,14 +1,14 @@
 //! The data section: the bytes that a module's memory starts with.
 
-ghost use Rattle.std.specs.Prelude.{◌≡◌, ◌≤◌, ◌^◌, length};
+ghost use Rattle.std.specs.Prelude.{◌≡◌, ◌≤◌, ◌^◌, length, IfOk};
 ghost use Rattle.wl_bytes.specs.Cursor.{end_of};
-ghost use Rattle.wl_module.specs.Outcome.{Yields, ReadsWhole, AreAlternatives};
-ghost use Rattle.wl_module.specs.Segments.{segment_flag_at, segment_kind, target_at, segment_at, AreSegments, SegmentsFault};
+ghost use Rattle.wl_module.specs.Outcome.{Yields, Gives, ReadsWhole, AreAlternatives};
+ghost use Rattle.wl_module.specs.Segments.{segment_flag_at, segment_kind, target_at, segment_at, plain_segments, AreTargeted, segments_of, AreSegments, SegmentsFault};
 
 use crate::constants::read_expression;
 use crate::error::{ReadError, Why};
 use crate::items::{Item, read_payload};
-use std::alloc::Global;
+use std::alloc::{AllocError, Global};
 use std::marker::Model;
 use wl_bytes::Reader;
 
@@ -29,11 +29,10 @@ pub struct WasmDataSegment<'a> {
     pub kind: DataKind,
     /// Its bytes.
     pub payload: &'a [u8],
-    /// How many bytes of the section's payload lie before `payload`.
+    /// How many bytes of the section's payload lie before the segment's first one, its flag.
     pub section_offset: u32,
     /// How many bytes the segment takes, from its flag to the end of `payload`.
     pub encoded_size: u32,
-    memory_index: Option<u32>,
 }
 
 impl<'a> Model for WasmDataSegment<'a> {
@@ -43,21 +42,30 @@ impl<'a> Model for WasmDataSegment<'a> {
 
     ghost view = { λ s. record {
       kind = s.kind;
-      memory = s.memory_index;
       payload = s.payload.now;
       section_offset = s.section_offset;
       encoded_size = s.encoded_size;
     } };
 }
 
-impl<'a> WasmDataSegment<'a> {
+/// A segment that tells which memory it is written to. Clauses see it as a `Targeted`.
+#[derive(Drop)]
+pub struct TargetedSegment<'a> {
+    /// The segment.
+    pub segment: WasmDataSegment<'a>,
     /// The memory that an active segment is written to, by its number; `None` for a passive one.
-    pub fn memory_index(&self) -> Option<u32>
-        ensures { result ≡ self.now.memory }
-    {
-        self.memory_index
-    }
+    pub memory_index: Option<u32>,
+}
 
+impl<'a> Model for TargetedSegment<'a> {
+    ghost use Rattle.wl_module.specs.Segments.{Targeted};
+
+    ghost Value = { Targeted };
+
+    ghost view = { λ t. record { segment = t.segment; memory_index = t.memory_index } };
+}
+
+impl<'a> WasmDataSegment<'a> {
     /// The same segment once more. Its bytes aren't copied.
     pub fn duplicate(&self) -> Self
         ensures { result ≡ self.now }
@@ -67,12 +75,11 @@ impl<'a> WasmDataSegment<'a> {
             payload: self.payload,
             section_offset: self.section_offset,
             encoded_size: self.encoded_size,
-            memory_index: self.memory_index,
         }
     }
 }
 
-impl<'a> Item<'a> for WasmDataSegment<'a> {
+impl<'a> Item<'a> for TargetedSegment<'a> {
     ghost use Rattle.std.specs.Prelude.{◌≤◌, ◌^◌};
     ghost use Rattle.wl_module.specs.Segments.{segment_at};
 
@@ -80,8 +87,9 @@ impl<'a> Item<'a> for WasmDataSegment<'a> {
 
     ghost may_end = { λ end. end ≤ 2 ^ 30 };
 
-    fn read(_alloc: Global, reader: &mut Reader<'a>) -> Result<Self, ReadError> {
-        read_segment(reader)
+    fn read(_alloc: Global, mut reader: Reader<'a>) -> Result<(Self, Reader<'a>), ReadError> {
+        let segment = read_segment(&mut reader)?;
+        Ok((segment, reader))
     }
 }
 
@@ -139,7 +147,7 @@ fn read_target(flag: SegmentFlag, reader: &mut Reader<'_>) -> Result<Option<u32>
 
 /// The segment in front.
 #[tactic(auto, unfolding(crate::specs::Segments::segment_at, crate::specs::Segments::counted_at))]
-fn read_segment<'a>(reader: &mut Reader<'a>) -> Result<WasmDataSegment<'a>, ReadError>
+fn read_segment<'a>(reader: &mut Reader<'a>) -> Result<TargetedSegment<'a>, ReadError>
     requires { end_of reader.old ≤ 2 ^ 30 }
     ensures value { Yields (λ s. s) result reader.new (segment_at reader.old) }
     ensures end { end_of reader.new ≡ end_of reader.old }
@@ -148,29 +156,72 @@ fn read_segment<'a>(reader: &mut Reader<'a>) -> Result<WasmDataSegment<'a>, Read
     let flag = read_flag(reader)?;
     let memory_index = read_target(flag, reader)?;
     let len = reader.read_u32()?;
-    let section_offset = reader.position() as u32;
     let payload = reader.take(len as usize)?;
-    Ok(WasmDataSegment {
+    let segment = WasmDataSegment {
         kind: flag.kind(),
         payload,
-        section_offset,
+        section_offset: start as u32,
         encoded_size: (reader.position() - start) as u32,
+    };
+    Ok(TargetedSegment {
+        segment,
         memory_index,
     })
 }
 
+/// The segments by themselves.
+fn without_memories<'a>(
+    alloc: Global,
+    targeted: Vec<TargetedSegment<'a>>,
+) -> Result<Vec<WasmDataSegment<'a>>, AllocError>
+    ensures { IfOk result (λ v. v.items ≡ plain_segments targeted.entry.items) }
+{
+    targeted
+        .into_iter()
+        .map(|targeted| targeted.segment)
+        .collect(alloc)
+}
+
+/// The segments of a whole payload.
+fn payload_segments(alloc: Global, payload: &[u8]) -> Result<Vec<WasmDataSegment<'_>>, ReadError>
+    requires { length payload.now ≤ 2 ^ 30 }
+    ensures { Gives (λ v. v.items) result (segments_of payload.now) }
+{
+    let targeted = read_payload(alloc, payload)?;
+    Ok(without_memories(alloc, targeted)?)
+}
+
 /// Reads the payload of a data section (core specification, "Data Section"): the segments in
-/// order, each with the place of its bytes in the payload. The bytes are slices of the payload.
-/// The number of a memory isn't looked at, nor what the expression of a place computes.
+/// order, each with its place in the payload. Their bytes are slices of the payload. The number of
+/// a memory isn't looked at, nor what the expression of a place computes.
 ///
-/// A flag above 2 is `Malformed(BadByte)`, another operator than those of constant expressions
-/// `Unsupported(ConstOperator)`.
+/// A flag above 2 is `Malformed(BadByte)`. Another operator than those of constant expressions is
+/// `Unsupported(ConstOperator)`, a null reference of another type than `funcref` and `externref`
+/// `Unsupported(Operator)`.
 pub fn read_segments(alloc: Global, payload: &[u8]) -> Result<Vec<WasmDataSegment<'_>>, ReadError>
     requires { length payload.now ≤ 2 ^ 30 }
-    ensures { ReadsWhole (λ v. v.items) AreSegments SegmentsFault payload.now result }
+    ensures reads { ReadsWhole (λ v. v.items) AreSegments SegmentsFault payload.now result }
+    ensures count { IfOk result (λ v. length v.items ≤ length payload.now) }
+{
+    payload_segments(alloc, payload)
+}
+
+/// Reads the same as [`read_segments`], and tells for each segment which memory it is written to.
+pub fn read_targeted_segments(
+    alloc: Global,
+    payload: &[u8],
+) -> Result<Vec<TargetedSegment<'_>>, ReadError>
+    requires { length payload.now ≤ 2 ^ 30 }
+    ensures reads { ReadsWhole (λ v. v.items) AreTargeted SegmentsFault payload.now result }
+    ensures count { IfOk result (λ v. length v.items ≤ length payload.now) }
 {
     read_payload(alloc, payload)
 }
+
+/// Each payload spells one list of segments and memories or has one fault, and never both.
+pub fn targeted_segments_or_fault()
+    ensures { AreAlternatives AreTargeted SegmentsFault }
+{}
 
 /// Each payload spells one list of segments or has one fault, and never both.
 pub fn segments_or_fault()

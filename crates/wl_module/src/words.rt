@@ -8,10 +8,10 @@ ghost use Rattle.wl_module.specs.Words.{placed_name_at};
 use crate::error::ReadError;
 use wl_bytes::Reader;
 
-/// Reads a name (core specification, "Names"), and answers with it how many bytes lie before its
-/// first one, counted as the reader counts.
+/// The name in front (core specification, "Names"), and how many bytes lie before its first one,
+/// counted as the reader counts.
 #[tactic(auto, unfolding(crate::specs::Words::placed_name_at))]
-pub fn read_placed_name<'a>(reader: &mut Reader<'a>) -> Result<(&'a str, usize), ReadError>
+pub(crate) fn read_placed_name<'a>(reader: &mut Reader<'a>) -> Result<(&'a str, usize), ReadError>
     ensures value { Yields (λ w. (w.0.now, w.1)) result reader.new (placed_name_at reader.old) }
     ensures end { end_of reader.new ≡ end_of reader.old }
 {

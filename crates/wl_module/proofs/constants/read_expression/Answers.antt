@@ -1,7 +1,6 @@
-use Rattle.std.proofs.Common.{◌≡◌, ◌∙◌, ◌-◌, ◌≤◌, length, true, false, refl, sym, arith}
-use Rattle.std.specs.Prelude.{is_some}
+use Rattle.std.proofs.Common.{◌∙◌, sym}
 use Rattle.std.proofs.lemmas.Result.{err_from_is_err_and}
-use Rattle.wl_module.proofs.ConstantLaws.{skips_none, skips_more, skips_less, skips_within, expression_ends, expression_fails}
+use Rattle.wl_module.proofs.ConstantLaws.{skips_more, skips_less, expression_ends, expression_fails}
 use Rattle.wl_module.proofs.constants.read_expression.Goals as goal
 
 pub returns-in_err-read_step-clause-value : goal.returns-in_err-read_step-clause-value

@@ -5,4 +5,4 @@ use Rattle.wl_module.proofs.Loops.{with_front}
 use Rattle.wl_module.proofs.items.read_items.Given as goal
 
 abbrev pub invariant-loop : goal.invariant-loop
-invariant-loop t l = (with_front l.items.items (times_at t.T.Item.item_at (l.count - l.counter) l.reader) ≡ times_at t.T.Item.item_at l.count l.fn.reader) × (end_of l.reader ≡ end_of l.fn.reader)
+invariant-loop t l = (with_front l.items.items (times_at t.T.Item.item_at (l.count - l.counter) l.rest) ≡ times_at t.T.Item.item_at l.count l.fn.reader) × (end_of l.rest ≡ end_of l.fn.reader)

@@ -1,4 +1,3 @@
-use Rattle.std.proofs.Common.{false}
 use Rattle.std.proofs.lemmas.Result.{err_from_is_err_and}
 use Rattle.wl_module.specs.Chains.{times_after_at}
 use Rattle.wl_module.specs.Memories.{memory_after_at, memory_seen}

@@ -1,4 +1,4 @@
-use Rattle.std.proofs.Common.{◌≡◌, ◌-◌, false}
+use Rattle.std.proofs.Common.{◌≡◌, ◌-◌}
 use Rattle.wl_module.specs.Chains.{times_after_at}
 use Rattle.wl_module.specs.Memories.{memory_after_at, memory_seen}
 use Rattle.wl_module.proofs.Loops.{with_front}

@@ -1,4 +1,4 @@
-use Rattle.std.proofs.Common.{◌≡◌, Ok, length, refl}
+use Rattle.std.proofs.Common.{◌≡◌, Ok, refl}
 use Rattle.wl_module.specs.Lists.{word_at}
 use Rattle.wl_module.proofs.CheckLaws.{name_placed}
 use Rattle.wl_module.proofs.words.read_placed_name.Goals as goal

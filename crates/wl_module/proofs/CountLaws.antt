@@ -1,0 +1,112 @@
+-- Items take at least a byte each, so a list has at most as many as there are bytes.
+use Rattle.std.proofs.Common.{ℕ, ◌+◌, ◌≤◌, ◌<◌, Bool, false, List, [], ◌∷◌, length, map, Result, Ok, Err, ap, arith, length-append}
+use Rattle.std.specs.Prelude.{IfOk}
+use Rattle.std.proofs.lemmas.List.{length-map}
+use Rattle.wl_bytes.specs.Leb.{IsU32}
+use Rattle.wl_bytes.specs.Items.{IsName}
+use Rattle.wl_bytes.specs.Grammar.{Then, Items}
+use Rattle.wl_module.specs.declared.error.ReadError.{ReadError}
+use Rattle.wl_module.specs.Outcome.{ReadsWhole}
+use Rattle.wl_module.specs.Lists.{IsCoded, Listed, Whole, SeenAs, AreFew}
+use Rattle.wl_module.specs.Chains.{Chain, ListedAfter}
+use Rattle.wl_module.specs.Checks.{Where}
+use Rattle.wl_module.specs.Types.{IsValueType, mark, IsFuncType, AreTypes}
+use Rattle.wl_module.specs.Bodies.{AreIndices, IsBody, AreBodies}
+use Rattle.wl_module.specs.Memories.{IsMemoryAfter, memory_seen, AreMemories}
+use Rattle.wl_module.specs.Globals.{IsGlobal, AreGlobals}
+use Rattle.wl_module.specs.Imports.{IsImportAfter, import_seen, ArePlacedImports, AreImports}
+use Rattle.wl_module.specs.Exports.{IsExport, AreExports}
+use Rattle.wl_module.specs.Segments.{IsSegment, AreTargeted, AreSegments}
+use Rattle.wl_module.specs.Sections.{IsSection, next, magic, Framed}
+
+-- an item is never spelled by no bytes
+abbrev pub HasBytes : {X : Type 0} → (ℕ → X → List ℕ → Type 0) → Type 0
+HasBytes {X} item = (place : ℕ) (x : X) (text : List ℕ) → item place x text → 0 < length text
+
+-- ---- items put together
+
+pub then_bytes : {X Y : Type 0} (first : ℕ → X → List ℕ → Type 0) (second : X → ℕ → Y → List ℕ → Type 0) → HasBytes first → HasBytes (Then first second)
+then_bytes first second h place p text s = let some = h place p.0 s.0 s.3 in omega (arith, some, ap length s.2, length-append s.0 s.1)
+
+pub where_bytes : {X : Type 0} (item : ℕ → X → List ℕ → Type 0) (test : X → Bool) → HasBytes item → HasBytes (Where item test)
+where_bytes item test h place x text s = h place x text s.0
+
+pub coded_bytes : {X : Type 0} (code : X → ℕ) → HasBytes (IsCoded code)
+coded_bytes code place x text s = omega (arith, ap length s)
+
+pub number_bytes : HasBytes IsU32
+number_bytes place n text s = omega (arith, ap length s.leb.parts, length-append s.leb.front (s.leb.end ∷ []))
+
+pub name_bytes : HasBytes IsName
+name_bytes place name text s = let some = number_bytes place (length name) s.0 s.2 in omega (arith, some, ap length s.1, length-append s.0 name)
+
+-- ---- lists put together
+
+pub items_few : {X : Type 0} (item : ℕ → X → List ℕ → Type 0) → HasBytes item → (place : ℕ) (xs : List X) (text : List ℕ) → Items item place xs text → length xs ≤ length text
+items_few item h place [] text s = omega arith
+items_few item h place (x ∷ xs) text s =
+    let some = h place x s.0 s.3 in
+    let others = items_few item h (place + length s.0) xs s.1 s.4 in
+    omega (arith, some, others, ap length s.2, length-append s.0 s.1)
+
+pub chain_few : {S X : Type 0} (item : S → ℕ → X → List ℕ → Type 0) (next : S → X → S) → ((s : S) → HasBytes (item s)) → (s : S) (place : ℕ) (xs : List X) (text : List ℕ) → Chain item next s place xs text → length xs ≤ length text
+chain_few item next h s place [] text t = omega arith
+chain_few item next h s place (x ∷ xs) text t =
+    let some = h s place x t.0 t.3 in
+    let others = chain_few item next h (next s x) (place + length t.0) xs t.1 t.4 in
+    omega (arith, some, others, ap length t.2, length-append t.0 t.1)
+
+pub listed_few : {X : Type 0} (item : ℕ → X → List ℕ → Type 0) → HasBytes item → AreFew (Whole (Listed item))
+listed_few item h xs payload s =
+    let few = items_few item h (0 + length s.0) xs s.1 s.4 in
+    omega (arith, few, ap length s.2, length-append s.0 s.1)
+
+pub listed_after_few : {S X : Type 0} (item : S → ℕ → X → List ℕ → Type 0) (next : S → X → S) → ((s : S) → HasBytes (item s)) → (s : S) → AreFew (Whole (ListedAfter item next s))
+listed_after_few item next h s xs payload t =
+    let few = chain_few item next h s (0 + length t.0) xs t.1 t.4 in
+    omega (arith, few, ap length t.2, length-append t.0 t.1)
+
+pub seen_few : {X Y : Type 0} (f : X → Y) (spells : List X → List ℕ → Type 0) → AreFew spells → AreFew (SeenAs (map f) spells)
+seen_few f spells h ys payload s = let few = h s.0 payload s.1 in omega (arith, few, ap length s.2, length-map s.0 f)
+
+-- so it is with what a call answers
+pub count_of : {X Y : Type 0} (view : X → List Y) (spells : List Y → List ℕ → Type 0) (faults : ReadError → List ℕ → Type 0) (payload : List ℕ) (r : Result X ReadError) → AreFew spells → ReadsWhole view spells faults payload r → IfOk r (λ x. length (view x) ≤ length payload)
+count_of view spells faults payload (Ok x) few h = few (view x) payload h.sound
+count_of view spells faults payload (Err e) few h = tt
+
+-- ---- the sections
+
+pub types_few : AreFew AreTypes
+types_few = listed_few IsFuncType (λ place t text s. then_bytes (IsCoded mark) (λ _. Then (Listed IsValueType) (λ _. Listed IsValueType)) (coded_bytes mark) place (tt, (t.params, t.results)) text s)
+
+pub indices_few : AreFew AreIndices
+indices_few = listed_few IsU32 number_bytes
+
+pub memories_few : (imported : Bool) → AreFew (AreMemories imported)
+memories_few imported = listed_after_few IsMemoryAfter memory_seen (λ seen place m text s. omega (arith, ap length s.0.0.3, ap length s.0.0.2, length-append s.0.0.0 s.0.0.1)) imported
+
+pub globals_few : AreFew AreGlobals
+globals_few = listed_few IsGlobal (λ place g text s. omega (arith, ap length s.0.3.3, ap length s.0.3.2, length-append s.0.3.0 s.0.3.1, ap length s.0.2, length-append s.0.0 s.0.1))
+
+pub placed_imports_few : AreFew ArePlacedImports
+placed_imports_few = listed_after_few IsImportAfter import_seen (λ seen place i text s. let some = name_bytes place i.import.origin s.0.0 s.0.3 in omega (arith, some, ap length s.0.2, length-append s.0.0 s.0.1)) false
+
+pub imports_few : AreFew AreImports
+imports_few = seen_few (λ i. i.import) ArePlacedImports placed_imports_few
+
+pub exports_few : AreFew AreExports
+exports_few = listed_few IsExport (λ place x text s. let some = name_bytes place x.name s.0 s.3 in omega (arith, some, ap length s.2, length-append s.0 s.1))
+
+pub bodies_few : AreFew AreBodies
+bodies_few = listed_few IsBody (λ place b text s. let some = number_bytes place (length b.bytes) s.0 s.2 in omega (arith, some, ap length s.1, length-append s.0 b.bytes))
+
+pub targeted_few : AreFew AreTargeted
+targeted_few = listed_few IsSegment (λ place t text s. omega (arith, ap length s.1.3, ap length s.1.2, length-append s.1.0 s.1.1))
+
+pub segments_few : AreFew AreSegments
+segments_few = seen_few (λ t. t.segment) AreTargeted targeted_few
+
+pub sections_few : AreFew Framed
+sections_few ss b s =
+    let few = chain_few IsSection next (λ last place x text t. omega (arith, ap length t.1.3.0, ap length t.1.2, length-append t.1.0 t.1.1)) 0 8 ss s.0 s.2 in
+    omega (arith, few, ap length s.1, length-append magic s.0)
