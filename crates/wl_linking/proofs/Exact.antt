@@ -1,5 +1,5 @@
 -- What is read is determined by its bytes: one value, or one fault.
-use Rattle.std.proofs.Common.{◌≡◌, ℕ, List, [], ◌++◌, Result, Ok, Err, refl, sym, ap, subst, ◌∙◌, arith, length, inl, inr}
+use Rattle.std.proofs.Common.{◌≡◌, ◌⊎◌, ℕ, List, [], ◌++◌, Result, Ok, Err, refl, sym, ap, subst, ◌∙◌, arith, length, inl, inr}
 use Rattle.std.specs.Prelude.{MatchResult}
 use Rattle.wl_bytes.specs.Cursor.{Cursor}
 use Rattle.wl_bytes.specs.Parse.{Takes}
@@ -14,18 +14,24 @@ use Rattle.wl_module.specs.Checks.{NoFault}
 use Rattle.wl_module.proofs.ListLaws.{IsWholeReading}
 use Rattle.wl_linking.specs.Verdict.{Judged, JudgedFault, judged_at, Inside, InsideFault, Seen, IsHere, here_at}
 
--- the bytes spell one thing at most, or have one fault, and never both
+-- the bytes spell one thing, or have one fault: always one of the two, and never both
 pub record IsExact {X : Type 0} (spells : X → List ℕ → Type 0) (faults : ReadError → List ℕ → Type 0) : Type 0 where
+  pub some : (payload : List ℕ) → ((x : X) × spells x payload) ⊎ ((e : ReadError) × faults e payload)
   pub one : (payload : List ℕ) (x y : X) → spells x payload → spells y payload → x ≡ y
   pub either : (payload : List ℕ) (x : X) (e : ReadError) → spells x payload → faults e payload → ⊥
   pub one_fault : (payload : List ℕ) (e d : ReadError) → faults e payload → faults d payload → e ≡ d
 
 pub exact_from : {X : Type 0} (spells : X → List ℕ → Type 0) (faults : ReadError → List ℕ → Type 0) (read : List ℕ → Result X ReadError) → IsWholeReading spells faults read → IsExact spells faults
 exact_from {X} spells faults read law = record {
+  some = λ payload. by_answer payload (read payload) refl;
   one = λ payload x y s t. ok_is {E = ReadError} x y (sym (law.again payload x s) ∙ law.again payload y t);
   either = λ payload x e s f. let a = law.again payload x s in let b = law.fails payload e f in cc;
   one_fault = λ payload e d f g. err_is {A = X} e d (sym (law.fails payload e f) ∙ law.fails payload d g);
 }
+  where
+    by_answer : (payload : List ℕ) (r : Result X ReadError) → read payload ≡ r → ((x : X) × spells x payload) ⊎ ((e : ReadError) × faults e payload)
+    by_answer payload (Ok x) is = inl (x, law.found payload x is)
+    by_answer payload (Err e) is = inr (e, law.fault payload e is)
 
 abbrev right : {Y : Type 0} → Y → Result Y ReadError
 right y = Ok y

@@ -12,6 +12,9 @@ pub mod OrderLaws
 pub mod SlotLaws
 pub mod ImportPlaces
 pub mod ExistLaws
+pub mod WholeLaws
+pub mod OrderExists
+pub mod AlternativeLaws
 pub mod ObjectLaws
 pub mod PlacedLaws
 pub mod HeldLaws

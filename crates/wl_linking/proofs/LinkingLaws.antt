@@ -1,5 +1,5 @@
 -- The laws of the linking section.
-use Rattle.std.proofs.Common.{◌≡◌, ◌≢◌, ℕ, ◌+◌, ◌<◌, eqb, false, List, [], ◌∷◌, ◌++◌, length, Option, Some, None, Result, Ok, Err, refl, sym, ap, subst, ◌∙◌, inl, inr}
+use Rattle.std.proofs.Common.{◌≡◌, ◌≢◌, ◌⊎◌, ℕ, ◌+◌, ◌<◌, eqb, false, List, [], ◌∷◌, ◌++◌, length, Option, Some, None, Result, Ok, Err, refl, sym, ap, subst, ◌∙◌, arith, inl, inr}
 use Rattle.std.proofs.lemmas.List.{append-nil}
 use Rattle.std.specs.List.{flat_map}
 use Rattle.std.specs.Prelude.{MatchResult}
@@ -23,7 +23,7 @@ use Rattle.wl_module.specs.Outcome.{Fails, IsFault}
 use Rattle.wl_module.specs.declared.error.ReadError.{ReadError}
 use Rattle.wl_module.specs.declared.error.ReadError.TheVariants.{OutOfMemory, Malformed, Unsupported}
 use Rattle.wl_module.proofs.ListLaws.{number_reading, one_byte_reading, IsWholeReading}
-use Rattle.wl_module.proofs.ChainLaws.{AreReadings, Stops, chains_agree, chain_goes_on, chain_begins, after-push, item_shortens}
+use Rattle.wl_module.proofs.ChainLaws.{AreReadings, Stops, chains_agree, chain_stops, chain_goes_on, chain_begins, after-push, item_shortens}
 use Rattle.wl_linking.specs.Verdict.{Judged, JudgedFault, judged_at, Inside, InsideFault, IsHere, here_at}
 use Rattle.wl_linking.specs.Infos.{AreInfos, InfosFault, infos_of, AreInits, InitsFault, inits_of}
 use Rattle.wl_linking.specs.Symbols.{AreSymbols, SymbolsFault}
@@ -151,8 +151,23 @@ linking_one_fault base payload e d (inr (v, a, t, (ss, mid, stand, some, w))) (i
     let there = subst (λ (c : Cursor). AreBehind base ss' c mid') same stand' in
     one_is e d (agree base ss ss' a mid mid' (one e) (one d) stand (some, w) there (some', w')).1
 
+-- a linking section, or a fault
+linking_some : (base : ℕ) (payload : List ℕ) → ((linking : Linking) × IsLinking base linking payload) ⊎ ((e : ReadError) × LinkingFault base e payload)
+linking_some base payload = by_version (version_at (start payload)) refl
+  where
+    by_end : (v : ℕ × Unit {0}) (behind : Cursor) → Takes IsVersion v (start payload) behind → (ss : List Subsection) (last : Cursor) (o : Option ReadError) → AreBehind base ss behind last → IsBehind base ss last o
+        → ((linking : Linking) × IsLinking base linking payload) ⊎ ((e : ReadError) × LinkingFault base e payload)
+    by_end v behind t ss last None stand stop = inl (linking_of ss, (v, behind, t, (ss, last, (stand, stop), refl)))
+    by_end v behind t ss last (Some e) stand stop = inr (e, inr (v, behind, t, (ss, last, stand, stop.0, stop.1)))
+
+    by_version : (r : Result ((ℕ × Unit {0}) × Cursor) ReadError) → version_at (start payload) ≡ r → ((linking : Linking) × IsLinking base linking payload) ⊎ ((e : ReadError) × LinkingFault base e payload)
+    by_version (Err e) is = inr (e, inl (version_reading.fault (start payload) e is))
+    by_version (Ok (v, behind)) is =
+        let h = chain_stops (IsSubsection base) seen_after (SubsectionFault base) (subsection_at base) (subsections_read base) (length behind.rest) nothing_seen behind (omega arith) in
+        by_end v behind (version_reading.found (start payload) v behind is) h.0 h.1 h.2 h.3 h.4
+
 pub linking_exact : (base : ℕ) → IsExact (IsLinking base) (LinkingFault base)
-linking_exact base = record { one = linking_one base; either = linking_either base; one_fault = linking_one_fault base }
+linking_exact base = record { some = linking_some base; one = linking_one base; either = linking_either base; one_fault = linking_one_fault base }
 
 -- ---- the loop
 

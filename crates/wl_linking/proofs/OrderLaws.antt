@@ -16,7 +16,7 @@ use Rattle.wl_linking.proofs.SiteLaws.{site_is_found, some_is}
 -- ---- one order
 
 -- the entries of one offset tie
-abbrev ties_with : WasmRelocation → WasmRelocation → Bool
+abbrev pub ties_with : WasmRelocation → WasmRelocation → Bool
 ties_with x y = ties (λ a b. is_lt (nat_cmp (offset_of a) (offset_of b))) x y
 
 tie : (x y : WasmRelocation) → x.offset ≡ y.offset → ties_with x y ≡ true
@@ -25,11 +25,11 @@ tie x y e =
     let other : eqb y.offset x.offset ≡ true = eq-eqb y.offset x.offset (sym e) in
     rw (le-ltb x.offset y.offset (omega (arith, e)), same, le-ltb y.offset x.offset (omega (arith, e)), other) refl
 
-no_tie : (x y : WasmRelocation) → x.offset < y.offset → ties_with x y ≡ false
+pub no_tie : (x y : WasmRelocation) → x.offset < y.offset → ties_with x y ≡ false
 no_tie x y lt = rw (lt-ltb x.offset y.offset lt) refl
 
 -- each is at least as far as the one before
-abbrev Rises : List WasmRelocation → Type 0
+abbrev pub Rises : List WasmRelocation → Type 0
 Rises [] = Unit {0}
 Rises (x ∷ xs) = AllByRecursion (λ (y : WasmRelocation). x.offset ≤ y.offset) xs × Rises xs
 

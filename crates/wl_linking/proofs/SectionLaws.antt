@@ -1,9 +1,10 @@
 -- A section holds one thing, or has one fault.
-use Rattle.std.proofs.Common.{◌≡◌, ℕ, List, [], ◌∷◌, Bool, true, false, refl, sym, ap, subst, ◌∙◌, inl, inr}
+use Rattle.std.proofs.Common.{◌≡◌, ◌⊎◌, ℕ, List, [], ◌∷◌, Bool, true, false, refl, sym, ap, subst, ◌∙◌, inl, inr}
 use Rattle.wl_module.specs.declared.sections.SectionHeader.{SectionHeader}
 use Rattle.wl_module.specs.declared.error.Form.TheVariants as form
 use Rattle.wl_module.specs.declared.error.ReadError.{ReadError}
-use Rattle.wl_module.specs.declared.error.ReadError.TheVariants.{Unsupported}
+use Rattle.wl_module.specs.declared.error.ReadError.TheVariants.{Malformed, Unsupported}
+use Rattle.wl_module.specs.declared.error.Why.TheVariants.{Repeated}
 use Rattle.wl_module.specs.Types.{AreTypes, TypesFault}
 use Rattle.wl_module.specs.Reading.{types_of}
 use Rattle.wl_module.specs.Imports.{ArePlacedImports, ImportsFault, placed_imports_of}
@@ -20,9 +21,10 @@ use Rattle.wl_module.proofs.GlobalLaws.{globals_reading, memories_reading, data_
 use Rattle.wl_module.proofs.SegmentLaws.{targeted_reading}
 use Rattle.wl_linking.specs.Debug.{debug_of}
 use Rattle.wl_linking.specs.Features.{AreFeatures, FeaturesFault, features_of}
+use Rattle.wl_linking.specs.Linking.{IsLinking, LinkingFault}
 use Rattle.wl_linking.specs.Relocations.{IsRelocSection, RelocSectionFault, reloc_section_of}
 use Rattle.wl_linking.specs.Targets.{name_of, kind_of, numbered_verdict, payload_of}
-use Rattle.wl_linking.specs.Sections.{LinkingItems, LinkingItemsFault, Holding, HoldsItems, ItemsFault, AreSound, AreFaulty, seen_then}
+use Rattle.wl_linking.specs.Sections.{LinkingItems, LinkingItemsFault, Holding, HoldsItems, ItemsFault, IsSound, IsFaulty, AreSound, AreFaulty, seen_then}
 use Rattle.wl_linking.specs.declared.kinds.SectionKind.{SectionKind}
 use Rattle.wl_linking.specs.declared.kinds.SectionKind.TheVariants as kind
 use Rattle.wl_linking.specs.declared.kinds.Seen.{Seen}
@@ -50,17 +52,30 @@ first_one_fault seen base payload e d (inl f) (inr g) = both seen.linking f.0 g.
 first_one_fault seen base payload e d (inr f) (inl g) = both seen.linking g.0 f.0
 first_one_fault seen base payload e d (inr f) (inr g) = (linking_exact base).one_fault payload e d f.1 g.1
 
+first_some : (seen : Seen) (base : ℕ) (payload : List ℕ) → ((linking : LinkingHeld) × LinkingItems seen base linking payload) ⊎ ((e : ReadError) × LinkingItemsFault seen base e payload)
+first_some seen base payload = by_seen seen.linking refl ((linking_exact base).some payload)
+  where
+    by_seen : (b : Bool) → seen.linking ≡ b → ((linking : LinkingHeld) × IsLinking base linking payload) ⊎ ((e : ReadError) × LinkingFault base e payload) → ((linking : LinkingHeld) × LinkingItems seen base linking payload) ⊎ ((e : ReadError) × LinkingItemsFault seen base e payload)
+    by_seen true is h = inr (Malformed Repeated, inl (is, refl))
+    by_seen false is (inl h) = inl (h.0, (is, h.1))
+    by_seen false is (inr f) = inr (f.0, inr (is, f.1))
+
 first_exact : (seen : Seen) (base : ℕ) → IsExact (LinkingItems seen base) (LinkingItemsFault seen base)
-first_exact seen base = record { one = λ payload x y s t. (linking_exact base).one payload x y s.1 t.1; either = first_either seen base; one_fault = first_one_fault seen base }
+first_exact seen base = record { some = first_some seen base; one = λ payload x y s t. (linking_exact base).one payload x y s.1 t.1; either = first_either seen base; one_fault = first_one_fault seen base }
 
 -- ---- a section
 
 holding_exact : {X : Type 0} (make : X → Section) (spells : X → List ℕ → Type 0) (faults : ReadError → List ℕ → Type 0) → IsExact spells faults → IsExact (Holding make spells) faults
-holding_exact make spells faults law = record {
+holding_exact {X} make spells faults law = record {
+  some = λ payload. held (law.some payload);
   one = λ payload x y s t. s.1 ∙ ap make (law.one payload s.0 t.0 s.2 t.2) ∙ sym t.1;
   either = λ payload x e s f. law.either payload s.0 e s.2 f;
   one_fault = law.one_fault;
 }
+  where
+    held : {payload : List ℕ} → ((x : X) × spells x payload) ⊎ ((e : ReadError) × faults e payload) → ((section : Section) × Holding make spells section payload) ⊎ ((e : ReadError) × faults e payload)
+    held (inl h) = inl (make h.0, (h.0, refl, h.1))
+    held (inr f) = inr f
 
 abbrev Never : Section → List ℕ → Type 0
 Never section payload = ⊥
@@ -72,11 +87,11 @@ abbrev Is : ReadError → ReadError → List ℕ → Type 0
 Is known e payload = e ≡ known
 
 foreign_exact : (known : ReadError) → IsExact Never (Is known)
-foreign_exact known = record { one = λ payload x y s t. absurd s; either = λ payload x e s f. s; one_fault = λ payload e d f g. f ∙ sym g }
+foreign_exact known = record { some = λ payload. inr (known, refl); one = λ payload x y s t. absurd s; either = λ payload x e s f. s; one_fault = λ payload e d f g. f ∙ sym g }
 
 -- a section that holds what its payload gives
 fixed_exact : (section_of : List ℕ → Section) → IsExact (λ section payload. section ≡ section_of payload) NoneAtFault
-fixed_exact section_of = record { one = λ payload x y s t. s ∙ sym t; either = λ payload x e s f. f; one_fault = λ payload e d f g. absurd f }
+fixed_exact section_of = record { some = λ payload. inl (section_of payload, refl); one = λ payload x y s t. s ∙ sym t; either = λ payload x e s f. f; one_fault = λ payload e d f g. absurd f }
 
 items_exact : (k : SectionKind) (bytes : List ℕ) (headers : List SectionHeader) (seen : Seen) (header : SectionHeader) → IsExact (HoldsItems k bytes headers seen header) (ItemsFault k bytes headers seen header)
 items_exact kind.Type bytes headers seen header = holding_exact Types AreTypes TypesFault (exact_from AreTypes TypesFault types_of types_reading)
@@ -100,6 +115,21 @@ items_exact kind.Start bytes headers seen header = foreign_exact (Unsupported fo
 items_exact kind.Tag bytes headers seen header = foreign_exact (Unsupported form.Tag)
 
 -- ---- all sections
+
+-- all are sound, or one is at fault
+pub sections_some : (bytes : List ℕ) (all : List SectionHeader) (seen : Seen) (hs : List SectionHeader) → ((xs : List Section) × AreSound bytes all seen hs xs) ⊎ ((e : ReadError) × AreFaulty bytes all seen hs e)
+sections_some bytes all seen [] = inl ([], tt)
+sections_some bytes all seen (h ∷ hs) = by_first ((items_exact (kind_of bytes h) bytes all seen h).some (payload_of bytes h)) (λ x. sections_some bytes all (seen_then seen x) hs)
+  where
+    by_rest : (x : Section) → IsSound bytes all seen h x → ((xs : List Section) × AreSound bytes all (seen_then seen x) hs xs) ⊎ ((e : ReadError) × AreFaulty bytes all (seen_then seen x) hs e)
+        → ((xs : List Section) × AreSound bytes all seen (h ∷ hs) xs) ⊎ ((e : ReadError) × AreFaulty bytes all seen (h ∷ hs) e)
+    by_rest x s (inl t) = inl (x ∷ t.0, (s, t.1))
+    by_rest x s (inr f) = inr (f.0, inr (x, s, f.1))
+
+    by_first : ((x : Section) × IsSound bytes all seen h x) ⊎ ((e : ReadError) × IsFaulty bytes all seen h e) → ((x : Section) → ((xs : List Section) × AreSound bytes all (seen_then seen x) hs xs) ⊎ ((e : ReadError) × AreFaulty bytes all (seen_then seen x) hs e))
+        → ((xs : List Section) × AreSound bytes all seen (h ∷ hs) xs) ⊎ ((e : ReadError) × AreFaulty bytes all seen (h ∷ hs) e)
+    by_first (inl s) rest = by_rest s.0 s.1 (rest s.0)
+    by_first (inr f) rest = inr (f.0, inl f.1)
 
 pub sections_one : (bytes : List ℕ) (all : List SectionHeader) (seen : Seen) (hs : List SectionHeader) (xs ys : List Section) → AreSound bytes all seen hs xs → AreSound bytes all seen hs ys → xs ≡ ys
 sections_one bytes all seen [] [] [] s t = refl

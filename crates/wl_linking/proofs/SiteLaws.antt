@@ -188,7 +188,7 @@ pub record PlacesOn (pieces : List PieceOf) (rs : List WasmRelocation) (i unit :
   pub later : (j : ℕ) (d : WasmRelocation) → i ≤ j → j < length rs → site_from unit pieces (get_or rs j d) ≡ site_among pieces (get_or rs j d)
 
 -- a site that is found is one
-site_is : (pieces : List PieceOf) (r : WasmRelocation) (s : Site) → site_among pieces r ≡ Some s → IsSite pieces r s
+pub site_is : (pieces : List PieceOf) (r : WasmRelocation) (s : Site) → site_among pieces r ≡ Some s → IsSite pieces r s
 site_is pieces r s e =
     let t = site_found 0 pieces (form_of r.ty) r.offset s e in
     let number : s.unit ≡ t.k = omega (arith, t.number) in

@@ -1,6 +1,6 @@
 -- The relocatable object that some bytes are: what its sections hold, and what must hold across them
 -- (core specification, "Modules"; object file linking, version 2).
-use Rattle.std.specs.Prelude.{◌≡◌, ◌⊎◌, ℕ, List, map, Option, Result, Ok, Err, IfOk, IfErr}
+use Rattle.std.specs.Prelude.{◌≡◌, ◌⊎◌, ◌≤◌, ◌^◌, ℕ, List, length, map, Option, Result, Ok, Err, IfOk, IfErr}
 use Rattle.wl_module.specs.declared.sections.SectionHeader.{SectionHeader}
 use Rattle.wl_module.specs.declared.imports.ExternalKind.TheVariants.{Func, Global}
 use Rattle.wl_module.specs.declared.error.ReadError.{ReadError}
@@ -14,11 +14,12 @@ use Rattle.wl_linking.specs.Targets.{stretch}
 use Rattle.wl_linking.specs.Object.{Object}
 use Rattle.wl_linking.specs.Sections.{AreSound, AreFaulty, nothing_seen}
 use Rattle.wl_linking.specs.Parts.{parts_of}
-use Rattle.wl_linking.specs.Spaces.{spaces_of, NamesExist, NamesFault}
+use Rattle.wl_linking.specs.Spaces.{NamesExist, NamesFault, spaces_of}
 use Rattle.wl_linking.specs.Slots.{import_base, slots_of, with_import_name, AgreeOnNames, SlotFault}
 use Rattle.wl_linking.specs.Sites.{PieceOf, body_piece, segment_piece, AreInOrder, LieApart, FieldsFault}
 use Rattle.wl_linking.specs.declared.parts.Parts.{Parts}
 use Rattle.wl_linking.specs.declared.section.Section.{Section}
+use Rattle.wl_linking.specs.declared.spaces.Spaces.{Spaces}
 
 -- ---- the object of some items
 
@@ -101,6 +102,16 @@ pub record IsObject (o : Object) (bytes : List ℕ) : Type 0 where
   pub sound : AreSound bytes o.sections nothing_seen o.sections held
   pub items : HasItems bytes o.sections (parts_of held) o
   pub fitting : IsFitting o
+
+-- an object as it is kept: its bytes are this object, and 2^30 at most
+pub record IsWhole (o : Object) : Type 0 where
+  pub object : IsObject o o.bytes
+  pub within : length o.bytes ≤ 2 ^ 30
+
+-- a whole object, with how many things of each kind it has
+pub record IsFile (o : Object) (spaces : Spaces) : Type 0 where
+  pub whole : IsWhole o
+  pub counted : spaces ≡ spaces_of o
 
 -- sound sections that don't fit together
 pub record IsUnfitting (headers : List SectionHeader) (bytes : List ℕ) (e : ReadError) : Type 0 where

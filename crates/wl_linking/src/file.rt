@@ -4,20 +4,21 @@ ghost use Rattle.std.specs.Prelude.{◌≡◌, length};
 ghost use Rattle.wl_module.specs.declared.imports.ExternalKind.TheVariants.{Func as FuncKind, Global as GlobalKind};
 ghost use Rattle.wl_linking.specs.Spaces.{count_imports};
 ghost use Rattle.wl_linking.specs.Targets.{is_debug_at};
+ghost use Rattle.wl_linking.specs.Fitting.{IsWhole};
 
+use crate::contents::Contents;
 use crate::debug::DebugSectionInput;
 use crate::features::WasmTargetFeature;
 use crate::infos::{WasmInitFunc, WasmSegmentInfo};
-use crate::items::Items;
 use crate::kinds::is_debug;
 use crate::relocations::{WasmRelocSection, WasmRelocation};
 use crate::sites::Site;
-use crate::spaces::count_imports;
+use crate::spaces::Spaces;
 use crate::symbols::WasmSymbol;
 use std::marker::Model;
 use wl_module::{
-    ExternalKind, FuncType, Import, MemoryType, OutputExport, OutputGlobal, SectionHeader,
-    WasmDataSegment, WasmFunctionBody,
+    FuncType, Import, MemoryType, OutputExport, OutputGlobal, SectionHeader, WasmDataSegment,
+    WasmFunctionBody,
 };
 
 /// A relocatable object: what its sections hold, in file order (core specification, "Modules";
@@ -26,29 +27,8 @@ use wl_module::{
 /// take an allocator answer a list of their own with the same things in it.
 #[derive(Drop)]
 pub struct File<'a> {
-    pub(crate) bytes: &'a [u8],
-    pub(crate) sections: Items<SectionHeader>,
-    pub(crate) types: Items<FuncType>,
-    pub(crate) imports: Items<Import<'a>>,
-    pub(crate) functions: Items<u32>,
-    pub(crate) memories: Items<MemoryType>,
-    pub(crate) globals: Items<OutputGlobal<'a>>,
-    pub(crate) exports: Items<OutputExport<'a>>,
-    pub(crate) data_counts: Items<u32>,
-    pub(crate) bodies: Items<WasmFunctionBody<'a>>,
-    pub(crate) segments: Items<WasmDataSegment<'a>>,
-    /// Of each segment the memory that it goes into when the module starts, if it does.
-    pub(crate) segment_memories: Items<Option<u32>>,
-    pub(crate) segment_infos: Items<WasmSegmentInfo<'a>>,
-    pub(crate) init_funcs: Items<WasmInitFunc>,
-    pub(crate) symbols: Items<WasmSymbol<'a>>,
-    pub(crate) reloc_sections: Items<WasmRelocSection>,
-    pub(crate) features: Items<WasmTargetFeature<'a>>,
-    pub(crate) debug_sections: Items<DebugSectionInput<'a>>,
-    pub(crate) code_relocations: Items<WasmRelocation>,
-    pub(crate) code_sites: Items<Site>,
-    pub(crate) data_relocations: Items<WasmRelocation>,
-    pub(crate) data_sites: Items<Site>,
+    pub(crate) contents: Contents<'a>,
+    pub(crate) spaces: Spaces,
 }
 
 impl<'a> Model for File<'a> {
@@ -56,59 +36,47 @@ impl<'a> Model for File<'a> {
 
     ghost Value = { Object };
 
-    ghost view = { λ f. record {
-      bytes = f.bytes.now;
-      sections = f.sections;
-      types = f.types;
-      imports = f.imports;
-      functions = f.functions;
-      memories = f.memories;
-      globals = f.globals;
-      exports = f.exports;
-      data_counts = f.data_counts;
-      bodies = f.bodies;
-      segments = f.segments;
-      segment_memories = f.segment_memories;
-      segment_infos = f.segment_infos;
-      init_funcs = f.init_funcs;
-      symbols = f.symbols;
-      reloc_sections = f.reloc_sections;
-      features = f.features;
-      debug_sections = f.debug_sections;
-      code_relocations = f.code_relocations;
-      code_sites = f.code_sites;
-      data_relocations = f.data_relocations;
-      data_sites = f.data_sites;
-    } };
+    ghost use Rattle.wl_linking.specs.Fitting.{IsFile};
+
+    ghost view = { λ f. f.contents };
+
+    ghost invariant = { λ f. IsFile f.contents f.spaces };
 }
 
 impl<'a> File<'a> {
+    /// A file stands for one object: the one that its bytes are.
+    pub fn stands_for_an_object(&self)
+        ensures { IsWhole self.now }
+    {
+        let _ = &self.contents;
+    }
+
     /// The bytes of the object.
     pub fn bytes(&self) -> &'a [u8]
         ensures { result.now ≡ self.now.bytes }
     {
-        self.bytes
+        self.contents.bytes
     }
 
     /// Where each section stands in the bytes of the object, those that aren't read too.
     pub fn sections(&self) -> &[SectionHeader]
         ensures { result.now ≡ self.now.sections }
     {
-        self.sections.as_slice()
+        self.contents.sections.as_slice()
     }
 
     /// The types of the type section (core specification, "Type Section").
     pub fn types(&self) -> &[FuncType]
         ensures { result.now ≡ self.now.types }
     {
-        self.types.as_slice()
+        self.contents.types.as_slice()
     }
 
     /// The imports (core specification, "Import Section").
     pub fn imports(&self) -> &[Import<'a>]
         ensures { result.now ≡ self.now.imports }
     {
-        self.imports.as_slice()
+        self.contents.imports.as_slice()
     }
 
     /// The type of each function that the object defines, as its number among the types (core
@@ -116,7 +84,7 @@ impl<'a> File<'a> {
     pub fn functions(&self) -> &[u32]
         ensures { result.now ≡ self.now.functions }
     {
-        self.functions.as_slice()
+        self.contents.functions.as_slice()
     }
 
     /// The memories that the object defines: one at most, and none where one is imported (core
@@ -124,35 +92,35 @@ impl<'a> File<'a> {
     pub fn memory_types(&self) -> &[MemoryType]
         ensures { result.now ≡ self.now.memories }
     {
-        self.memories.as_slice()
+        self.contents.memories.as_slice()
     }
 
     /// The globals that the object defines (core specification, "Global Section").
     pub fn globals(&self) -> &[OutputGlobal<'a>]
         ensures { result.now ≡ self.now.globals }
     {
-        self.globals.as_slice()
+        self.contents.globals.as_slice()
     }
 
     /// The exports (core specification, "Export Section").
     pub fn exports(&self) -> &[OutputExport<'a>]
         ensures { result.now ≡ self.now.exports }
     {
-        self.exports.as_slice()
+        self.contents.exports.as_slice()
     }
 
     /// The body of each function that the object defines (core specification, "Code Section").
     pub fn bodies(&self) -> &[WasmFunctionBody<'a>]
         ensures { result.now ≡ self.now.bodies }
     {
-        self.bodies.as_slice()
+        self.contents.bodies.as_slice()
     }
 
     /// The segments (core specification, "Data Section").
     pub fn segments(&self) -> &[WasmDataSegment<'a>]
         ensures { result.now ≡ self.now.segments }
     {
-        self.segments.as_slice()
+        self.contents.segments.as_slice()
     }
 
     /// What is told of segments, by their numbers (object file linking, version 2, "Segment Info
@@ -160,7 +128,7 @@ impl<'a> File<'a> {
     pub fn segment_infos(&self) -> &[WasmSegmentInfo<'a>]
         ensures { result.now ≡ self.now.segment_infos }
     {
-        self.segment_infos.as_slice()
+        self.contents.segment_infos.as_slice()
     }
 
     /// The functions that run at the start (object file linking, version 2, "Init Funcs
@@ -168,7 +136,7 @@ impl<'a> File<'a> {
     pub fn init_funcs(&self) -> &[WasmInitFunc]
         ensures { result.now ≡ self.now.init_funcs }
     {
-        self.init_funcs.as_slice()
+        self.contents.init_funcs.as_slice()
     }
 
     /// The symbols (object file linking, version 2, "Symbol Table Subsection"). An undefined function
@@ -176,7 +144,7 @@ impl<'a> File<'a> {
     pub fn symbols(&self) -> &[WasmSymbol<'a>]
         ensures { result.now ≡ self.now.symbols }
     {
-        self.symbols.as_slice()
+        self.contents.symbols.as_slice()
     }
 
     /// The relocation sections (object file linking, version 2, "Relocation Sections"), with their
@@ -184,21 +152,21 @@ impl<'a> File<'a> {
     pub fn reloc_sections(&self) -> &[WasmRelocSection]
         ensures { result.now ≡ self.now.reloc_sections }
     {
-        self.reloc_sections.as_slice()
+        self.contents.reloc_sections.as_slice()
     }
 
     /// The features of all target features sections (tool conventions, "Target Features Section").
     pub fn target_features(&self) -> &[WasmTargetFeature<'a>]
         ensures { result.now ≡ self.now.features }
     {
-        self.features.as_slice()
+        self.contents.features.as_slice()
     }
 
     /// The debug sections.
     pub fn debug_inputs(&self) -> &[DebugSectionInput<'a>]
         ensures { result.now ≡ self.now.debug_sections }
     {
-        self.debug_sections.as_slice()
+        self.contents.debug_sections.as_slice()
     }
 
     /// The relocations of the code section, in order of their fields, whatever their order in the
@@ -206,14 +174,14 @@ impl<'a> File<'a> {
     pub fn code_relocations(&self) -> &[WasmRelocation]
         ensures { result.now ≡ self.now.code_relocations }
     {
-        self.code_relocations.as_slice()
+        self.contents.code_relocations.as_slice()
     }
 
     /// Where the field of each relocation of the code section lies, in the same order as these.
     pub fn code_sites(&self) -> &[Site]
         ensures { result.now ≡ self.now.code_sites }
     {
-        self.code_sites.as_slice()
+        self.contents.code_sites.as_slice()
     }
 
     /// The relocations of the data section, in order of their fields, whatever their order in the
@@ -221,14 +189,14 @@ impl<'a> File<'a> {
     pub fn data_relocations(&self) -> &[WasmRelocation]
         ensures { result.now ≡ self.now.data_relocations }
     {
-        self.data_relocations.as_slice()
+        self.contents.data_relocations.as_slice()
     }
 
     /// Where the field of each relocation of the data section lies, in the same order as these.
     pub fn data_sites(&self) -> &[Site]
         ensures { result.now ≡ self.now.data_sites }
     {
-        self.data_sites.as_slice()
+        self.contents.data_sites.as_slice()
     }
 
     /// Whether the section of that number, among all sections, is a debug section; there may be no
@@ -238,7 +206,7 @@ impl<'a> File<'a> {
     {
         match self.sections().get(section) {
             None => false,
-            Some(header) => is_debug(self.bytes, header),
+            Some(header) => is_debug(self.bytes(), header),
         }
     }
 
@@ -246,14 +214,14 @@ impl<'a> File<'a> {
     pub fn num_function_imports(&self) -> usize
         ensures { result ≡ count_imports FuncKind self.now.imports }
     {
-        count_imports(ExternalKind::Func, self.imports())
+        self.spaces.imported_functions
     }
 
     /// How many globals are imported.
     pub fn num_global_imports(&self) -> usize
         ensures { result ≡ count_imports GlobalKind self.now.imports }
     {
-        count_imports(ExternalKind::Global, self.imports())
+        self.spaces.imported_globals
     }
 
     /// How many functions the object defines.

@@ -1,6 +1,8 @@
 //! The objects of a link.
 
-ghost use Rattle.std.specs.Prelude.{◌≡◌, ◌==◌, option_map, [], ◌∷◌, ◌++◌, length, slice_get, MatchResult};
+ghost use Rattle.std.specs.Prelude.{◌≡◌, ◌==◌, option_map, [], ◌∷◌, ◌++◌, length, slice_get, OnOk, OnErr, IfErr, IfSome};
+ghost use Rattle.std.specs.List.{AllByRecursion};
+ghost use Rattle.wl_linking.specs.Fitting.{IsWhole};
 
 use crate::file::File;
 use std::alloc::Global;
@@ -18,7 +20,12 @@ impl<'a> Model for FileList<'a> {
 
     ghost Value = { List Object };
 
+    ghost use Rattle.std.specs.List.{AllByRecursion};
+    ghost use Rattle.wl_linking.specs.Fitting.{IsWhole};
+
     ghost view = { λ l. l.files.items };
+
+    ghost invariant = { λ l. AllByRecursion IsWhole l.files.items };
 }
 
 impl<'a> FileList<'a> {
@@ -36,8 +43,11 @@ impl<'a> FileList<'a> {
     /// # Errors
     /// Where memory runs out the object is handed back, and the list is as it was.
     pub fn push(&mut self, file: File<'a>) -> Result<(), File<'a>>
-        ensures { MatchResult result (λ _. self.new ≡ self.old ++ file.entry ∷ []) (λ back. (back ≡ file.entry) × (self.new ≡ self.old)) }
+        ensures pushed { OnOk result (self.new ≡ self.old ++ file.entry ∷ []) }
+        ensures kept { OnErr result (self.new ≡ self.old) }
+        ensures handed_back { IfErr result (λ back. back ≡ file.entry) }
     {
+        file.stands_for_an_object();
         match self.files.push(file) {
             Ok(()) => Ok(()),
             Err(failed) => Err(failed.value),
@@ -60,14 +70,16 @@ impl<'a> FileList<'a> {
 
     /// The object of that number, from 0.
     pub fn get(&self, object: usize) -> Option<&File<'a>>
-        ensures { option_map (λ f. f.now) result ≡ slice_get self.now object }
+        ensures object { option_map (λ f. f.now) result ≡ slice_get self.now object }
+        ensures whole { IfSome result (λ f. IsWhole f.now) }
     {
         self.files.get(object)
     }
 
     /// The objects as a slice.
     pub fn as_slice(&self) -> &[File<'a>]
-        ensures { result.now ≡ self.now }
+        ensures objects { result.now ≡ self.now }
+        ensures whole { AllByRecursion IsWhole result.now }
     {
         self.files.as_slice()
     }

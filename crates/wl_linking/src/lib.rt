@@ -5,6 +5,7 @@
 //! why objects can't be linked.
 #![tactic(auto)]
 
+mod contents;
 mod debug;
 mod error;
 mod features;
@@ -37,7 +38,9 @@ pub use file_list::FileList;
 pub use flags::SymbolFlags;
 pub use infos::{WasmInitFunc, WasmSegmentInfo};
 pub use items::Items;
-pub use object::{names_stand, object_or_fault, parse_wasm_module, parts_of_objects_stand};
+pub use object::{
+    names_stand, object_or_fault, parse_wasm_module, parts_of_objects_stand, whole_objects,
+};
 pub use raw_name::{RawSymbolName, wasm_symbol_name_str};
 pub use relocation_type::{FieldForm, RelocationType, relocation_type_to_string};
 pub use relocations::{RelocationList, WasmRelocSection, WasmRelocation};

@@ -1,6 +1,6 @@
 //! A relocatable object: its sections, and what must hold across them.
 
-ghost use Rattle.std.specs.Prelude.{◌≡◌, ◌≤◌, ◌^◌, ℕ, List, length, map, IfOk, MatchResult};
+ghost use Rattle.std.specs.Prelude.{◌≡◌, ◌⊎◌, ◌<◌, ◌≤◌, ◌^◌, ℕ, List, length, map, Some, slice_get, IfOk, MatchResult};
 ghost use Rattle.std.specs.List.{AllByRecursion};
 ghost use Rattle.std.specs.List.Sorted.{IsNonDecreasingBy};
 ghost use Rattle.wl_module.specs.Segments.{plain_segments};
@@ -12,11 +12,13 @@ ghost use Rattle.wl_linking.specs.Object.{Object};
 ghost use Rattle.wl_linking.specs.Slots.{import_base};
 ghost use Rattle.wl_linking.specs.SlotsReading.{IsNamedWithin};
 ghost use Rattle.wl_linking.specs.Sites.{body_piece, segment_piece, offset_of, LieApart, FieldsFault};
-ghost use Rattle.wl_linking.specs.Fitting.{HasItems, named_symbols, NameStands, code_pieces, data_pieces, Fitted, CrossFault, FitsParts, PartsFault, IsObject, ObjectFault, ParsesObject};
+ghost use Rattle.wl_linking.specs.Fitting.{HasItems, named_symbols, NameStands, code_pieces, data_pieces, Fitted, CrossFault, FitsParts, PartsFault, IsFitting, IsObject, IsWhole, ObjectFault, ParsesObject};
+ghost use Rattle.wl_linking.specs.declared.sites.Site.{Site as PlacedSite};
 ghost use Rattle.wl_linking.specs.Stretches.{PartsStandIn};
 ghost use Rattle.wl_linking.specs.Placing.{IsSpanned, Ascend};
 ghost use Rattle.wl_linking.specs.Verdict.{HasCause};
 
+use crate::contents::Contents;
 use crate::file::File;
 use crate::items::Items;
 use crate::parts::{Parts, read_parts};
@@ -33,7 +35,7 @@ fn assemble<'a>(
     bytes: &'a [u8],
     sections: Items<SectionHeader>,
     parts: Parts<'a>,
-) -> Result<File<'a>, AllocError>
+) -> Result<Contents<'a>, AllocError>
     requires base { import_base sections ≤ 2 ^ 30 }
     requires names { AllByRecursion IsNamedWithin parts.imports }
     ensures { IfOk result (HasItems bytes.now sections parts.entry) }
@@ -48,7 +50,7 @@ fn assemble<'a>(
     let imports = plain_imports(alloc, parts.imports)?;
     let segment_memories = memories_of(alloc, parts.segments.as_slice())?;
     let segments = plain_segments(alloc, parts.segments)?;
-    Ok(File {
+    Ok(Contents {
         bytes,
         sections,
         types: parts.types,
@@ -75,43 +77,43 @@ fn assemble<'a>(
 }
 
 /// Where the fields of code lie: each in a body, and by itself.
-fn find_code_sites(alloc: Global, file: &File<'_>) -> Result<Items<Site>, ReadError>
-    requires bodies { Ascend 0 (code_pieces file.now) }
-    requires order { IsNonDecreasingBy offset_of file.now.code_relocations }
-    ensures { MatchResult result (LieApart (code_pieces file.now) file.now.code_relocations) (HasCause (FieldsFault (code_pieces file.now) file.now.code_relocations)) }
+fn find_code_sites(alloc: Global, contents: &Contents<'_>) -> Result<Items<Site>, ReadError>
+    requires bodies { Ascend 0 (code_pieces contents.now) }
+    requires order { IsNonDecreasingBy offset_of contents.now.code_relocations }
+    ensures { MatchResult result (LieApart (code_pieces contents.now) contents.now.code_relocations) (HasCause (FieldsFault (code_pieces contents.now) contents.now.code_relocations)) }
 {
-    let pieces = body_pieces(alloc, file.bodies())?;
-    place_fields(alloc, &pieces, file.code_relocations())
+    let pieces = body_pieces(alloc, contents.bodies.as_slice())?;
+    place_fields(alloc, &pieces, contents.code_relocations.as_slice())
 }
 
 /// Where the fields of data lie: each in a segment, and by itself.
-fn find_data_sites(alloc: Global, file: &File<'_>) -> Result<Items<Site>, ReadError>
-    requires spans { AllByRecursion IsSpanned file.now.segments }
-    requires segments { Ascend 0 (data_pieces file.now) }
-    requires order { IsNonDecreasingBy offset_of file.now.data_relocations }
-    ensures { MatchResult result (LieApart (data_pieces file.now) file.now.data_relocations) (HasCause (FieldsFault (data_pieces file.now) file.now.data_relocations)) }
+fn find_data_sites(alloc: Global, contents: &Contents<'_>) -> Result<Items<Site>, ReadError>
+    requires spans { AllByRecursion IsSpanned contents.now.segments }
+    requires segments { Ascend 0 (data_pieces contents.now) }
+    requires order { IsNonDecreasingBy offset_of contents.now.data_relocations }
+    ensures { MatchResult result (LieApart (data_pieces contents.now) contents.now.data_relocations) (HasCause (FieldsFault (data_pieces contents.now) contents.now.data_relocations)) }
 {
-    let pieces = segment_pieces(alloc, file.segments())?;
-    place_fields(alloc, &pieces, file.data_relocations())
+    let pieces = segment_pieces(alloc, contents.segments.as_slice())?;
+    place_fields(alloc, &pieces, contents.data_relocations.as_slice())
 }
 
 /// Sees that what the object names exists, that each import has one name, and that each field lies
 /// by itself; and takes down where the fields lie.
-fn fit_file(alloc: Global, file: &mut File<'_>) -> Result<(), ReadError>
-    requires names { AllByRecursion (NameStands file.old.bytes) file.old.symbols }
-    requires bodies { Ascend 0 (code_pieces file.old) }
-    requires spans { AllByRecursion IsSpanned file.old.segments }
-    requires segments { Ascend 0 (data_pieces file.old) }
-    requires code { IsNonDecreasingBy offset_of file.old.code_relocations }
-    requires data_ { IsNonDecreasingBy offset_of file.old.data_relocations }
-    ensures { MatchResult result (λ _. Fitted file.old file.new) (HasCause (CrossFault file.old)) }
+fn fit_together(alloc: Global, contents: &mut Contents<'_>) -> Result<(), ReadError>
+    requires names { AllByRecursion (NameStands contents.old.bytes) contents.old.symbols }
+    requires bodies { Ascend 0 (code_pieces contents.old) }
+    requires spans { AllByRecursion IsSpanned contents.old.segments }
+    requires segments { Ascend 0 (data_pieces contents.old) }
+    requires code { IsNonDecreasingBy offset_of contents.old.code_relocations }
+    requires data_ { IsNonDecreasingBy offset_of contents.old.data_relocations }
+    ensures { MatchResult result (λ _. Fitted contents.old contents.new) (HasCause (CrossFault contents.old)) }
 {
-    check_names(file)?;
-    check_slots(alloc, spaces_of(file), file.symbols())?;
-    let code_sites = find_code_sites(alloc, file)?;
-    let data_sites = find_data_sites(alloc, file)?;
-    file.code_sites = code_sites;
-    file.data_sites = data_sites;
+    check_names(contents)?;
+    check_slots(alloc, spaces_of(contents), contents.symbols.as_slice())?;
+    let code_sites = find_code_sites(alloc, contents)?;
+    let data_sites = find_data_sites(alloc, contents)?;
+    contents.code_sites = code_sites;
+    contents.data_sites = data_sites;
     Ok(())
 }
 
@@ -121,7 +123,7 @@ fn fit<'a>(
     bytes: &'a [u8],
     sections: Items<SectionHeader>,
     parts: Parts<'a>,
-) -> Result<File<'a>, ReadError>
+) -> Result<Contents<'a>, ReadError>
     requires base { import_base sections ≤ 2 ^ 30 }
     requires names { AllByRecursion IsNamedWithin parts.imports }
     requires symbols { AllByRecursion (NameStands bytes.now) (named_symbols sections parts) }
@@ -130,13 +132,13 @@ fn fit<'a>(
     requires segments { Ascend 0 (map segment_piece (plain_segments parts.segments)) }
     ensures { MatchResult result (FitsParts bytes.now sections parts.entry) (HasCause (PartsFault bytes.now sections parts.entry)) }
 {
-    let mut file = assemble(alloc, bytes, sections, parts)?;
-    fit_file(alloc, &mut file)?;
-    Ok(file)
+    let mut contents = assemble(alloc, bytes, sections, parts)?;
+    fit_together(alloc, &mut contents)?;
+    Ok(contents)
 }
 
 /// The object that the bytes are.
-fn object(alloc: Global, bytes: &[u8]) -> Result<File<'_>, ReadError>
+fn object(alloc: Global, bytes: &[u8]) -> Result<Contents<'_>, ReadError>
     requires { length bytes.now ≤ 2 ^ 30 }
     ensures { MatchResult result (λ o. IsObject o bytes.now) (HasCause (λ e. ObjectFault e bytes.now)) }
 {
@@ -156,11 +158,15 @@ pub fn parse_wasm_module(alloc: Global, bytes: &[u8]) -> Result<File<'_>, ReadEr
     requires { length bytes.now ≤ 2 ^ 30 }
     ensures { ParsesObject bytes.now result }
 {
-    object(alloc, bytes)
+    let contents = object(alloc, bytes)?;
+    let spaces = spaces_of(&contents);
+    Ok(File { contents, spaces })
 }
 
-/// Bytes are one object at most, and never both an object and at fault.
+/// Bytes are one object or at fault: always one of the two, and never both. A fault of the frame is the
+/// only one, and so is that of the first section that isn't sound.
 pub fn object_or_fault()
+    ensures some { (bytes : List ℕ) → ((o : Object) × IsObject o bytes) ⊎ ((e : Fault) × ObjectFault e bytes) }
     ensures one { (bytes : List ℕ) (o p : Object) → IsObject o bytes → IsObject p bytes → o ≡ p }
     ensures either { (bytes : List ℕ) (o : Object) (e : Fault) → IsObject o bytes → ObjectFault e bytes → ⊥ }
     ensures frame_first { (bytes : List ℕ) (e d : Fault) → FrameFault e bytes → ObjectFault d bytes → d ≡ e }
@@ -176,4 +182,15 @@ pub fn names_stand()
 /// bodies, and the bytes of segments stand in the object's bytes.
 pub fn parts_of_objects_stand()
     ensures { (bytes : List ℕ) (o : Object) → IsObject o bytes → PartsStandIn bytes o }
+{}
+
+/// What holds of each object that is kept: it fits together, each function has one of its types, and
+/// each relocation has one site, in one of the bodies or of the segments.
+pub fn whole_objects()
+    ensures fitting { (o : Object) → IsWhole o → IsFitting o }
+    ensures types { (o : Object) (i t : ℕ) → IsWhole o → slice_get o.functions i ≡ Some t → t < length o.types }
+    ensures code_sites { (o : Object) → IsWhole o → length o.code_sites ≡ length o.code_relocations }
+    ensures code_units { (o : Object) (i : ℕ) (s : PlacedSite) → IsWhole o → slice_get o.code_sites i ≡ Some s → s.unit < length o.bodies }
+    ensures data_sites { (o : Object) → IsWhole o → length o.data_sites ≡ length o.data_relocations }
+    ensures data_units { (o : Object) (i : ℕ) (s : PlacedSite) → IsWhole o → slice_get o.data_sites i ≡ Some s → s.unit < length o.segments }
 {}

@@ -7,7 +7,7 @@ ghost use Rattle.wl_linking.specs.Spaces.{is_of, count_imports, spaces_of, impor
 ghost use Rattle.wl_linking.specs.Symbols.{is_undefined};
 ghost use Rattle.wl_linking.specs.Verdict.{HasCause};
 
-use crate::file::File;
+use crate::contents::Contents;
 use crate::infos::WasmInitFunc;
 use crate::relocations::WasmRelocation;
 use crate::symbols::{WasmSymbol, WasmSymbolKind};
@@ -51,21 +51,21 @@ pub(crate) fn count_imports(kind: ExternalKind, imports: &[Import<'_>]) -> usize
 }
 
 /// How many things of each kind an object has.
-pub(crate) fn spaces_of(file: &File<'_>) -> Spaces
-    ensures { result ≡ spaces_of file.now }
+pub(crate) fn spaces_of(contents: &Contents<'_>) -> Spaces
+    ensures { result ≡ spaces_of contents.now }
 {
-    let imports = file.imports();
+    let imports = contents.imports.as_slice();
     Spaces {
-        types: file.types().len(),
+        types: contents.types.as_slice().len(),
         imported_functions: count_imports(ExternalKind::Func, imports),
-        functions: file.functions().len(),
+        functions: contents.functions.as_slice().len(),
         imported_tables: count_imports(ExternalKind::Table, imports),
         imported_memories: count_imports(ExternalKind::Memory, imports),
-        memories: file.memory_types().len(),
+        memories: contents.memories.as_slice().len(),
         imported_globals: count_imports(ExternalKind::Global, imports),
-        globals: file.globals().len(),
-        segments: file.segments().len(),
-        symbols: file.symbols().len(),
+        globals: contents.globals.as_slice().len(),
+        segments: contents.segments.as_slice().len(),
+        symbols: contents.symbols.as_slice().len(),
     }
 }
 
@@ -230,23 +230,23 @@ fn relocations_exist(spaces: Spaces, relocations: &[WasmRelocation]) -> bool
 }
 
 /// Whether all that the core sections name is there.
-fn core_names_exist(spaces: Spaces, file: &File<'_>) -> bool
-    ensures { result ≡ core_names_exist spaces file.now }
+fn core_names_exist(spaces: Spaces, contents: &Contents<'_>) -> bool
+    ensures { result ≡ core_names_exist spaces contents.now }
 {
-    imports_exist(spaces, file.imports())
-        && types_exist(spaces, file.functions())
-        && exports_exist(spaces, file.exports())
-        && memories_exist(spaces, file.segment_memories.as_slice())
+    imports_exist(spaces, contents.imports.as_slice())
+        && types_exist(spaces, contents.functions.as_slice())
+        && exports_exist(spaces, contents.exports.as_slice())
+        && memories_exist(spaces, contents.segment_memories.as_slice())
 }
 
 /// Whether all that the linking section and the relocations name is there.
-fn linked_names_exist(spaces: Spaces, file: &File<'_>) -> bool
-    ensures { result ≡ linked_names_exist spaces file.now }
+fn linked_names_exist(spaces: Spaces, contents: &Contents<'_>) -> bool
+    ensures { result ≡ linked_names_exist spaces contents.now }
 {
-    symbols_exist(spaces, file.symbols())
-        && inits_exist(spaces, file.init_funcs())
-        && relocations_exist(spaces, file.code_relocations())
-        && relocations_exist(spaces, file.data_relocations())
+    symbols_exist(spaces, contents.symbols.as_slice())
+        && inits_exist(spaces, contents.init_funcs.as_slice())
+        && relocations_exist(spaces, contents.code_relocations.as_slice())
+        && relocations_exist(spaces, contents.data_relocations.as_slice())
 }
 
 /// Whether each count is how many segments there are.
@@ -260,23 +260,24 @@ fn are_segments(spaces: Spaces, counts: &[u32]) -> bool
 
 /// Whether each function has its body, and the data count, where there is one, is how many
 /// segments there are.
-fn counts_hold(spaces: Spaces, file: &File<'_>) -> bool
-    ensures { result ≡ counts_hold spaces file.now }
+fn counts_hold(spaces: Spaces, contents: &Contents<'_>) -> bool
+    ensures { result ≡ counts_hold spaces contents.now }
 {
-    file.bodies().len() == spaces.functions && are_segments(spaces, file.data_counts.as_slice())
+    contents.bodies.as_slice().len() == spaces.functions
+        && are_segments(spaces, contents.data_counts.as_slice())
 }
 
 /// Sees that each function has its body, that the data count is right, and that what is named
 /// exists.
 #[tactic(auto, using(crate::proofs::ExistLaws::names_exist))]
-pub(crate) fn check_names(file: &File<'_>) -> Result<(), ReadError>
-    ensures { MatchResult result (λ _. NamesExist file.now) (HasCause (NamesFault file.now)) }
+pub(crate) fn check_names(contents: &Contents<'_>) -> Result<(), ReadError>
+    ensures { MatchResult result (λ _. NamesExist contents.now) (HasCause (NamesFault contents.now)) }
 {
-    let spaces = spaces_of(file);
-    if !counts_hold(spaces, file) {
+    let spaces = spaces_of(contents);
+    if !counts_hold(spaces, contents) {
         return Err(ReadError::Malformed(Why::Count));
     }
-    if !core_names_exist(spaces, file) || !linked_names_exist(spaces, file) {
+    if !core_names_exist(spaces, contents) || !linked_names_exist(spaces, contents) {
         return Err(ReadError::Malformed(Why::BadIndex));
     }
     Ok(())

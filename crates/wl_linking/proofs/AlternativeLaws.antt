@@ -1,0 +1,270 @@
+-- Bytes are an object, or something is wrong with them: always one of the two.
+use Rattle.std.proofs.Common.{◌≡◌, ◌≢◌, ◌⊎◌, ℕ, zero, suc, ◌+◌, ◌<◌, ◌≤◌, Bool, true, false, List, [], ◌∷◌, map, get_or, Option, Some, None, refl, sym, subst, arith, inl, inr}
+use Rattle.std.specs.List.{slice_get}
+use Rattle.std.specs.Str.{bytes_eq}
+use Rattle.std.proofs.lemmas.Bool.{cases_lt, cases_eq}
+use Rattle.std.proofs.lemmas.Option.{slice_get-get_or, slice_get_within, get_or_from_slice_get}
+use Rattle.std.proofs.lemmas.Slice.Eq.{bytes_eq-Decides}
+use Rattle.wl_module.specs.declared.sections.SectionHeader.{SectionHeader}
+use Rattle.wl_module.specs.declared.error.Why.TheVariants as why
+use Rattle.wl_module.specs.declared.error.ReadError.{ReadError}
+use Rattle.wl_module.specs.declared.error.ReadError.TheVariants.{Malformed}
+use Rattle.wl_module.specs.Sections.{Framed, FrameFault}
+use Rattle.wl_module.proofs.SectionLaws.{frame_alternatives}
+use Rattle.wl_module.specs.Imports.{plain_imports}
+use Rattle.wl_module.specs.Segments.{plain_segments}
+use Rattle.wl_linking.specs.RelocationTypes.{form_of}
+use Rattle.wl_linking.specs.Symbols.{Symbol}
+use Rattle.wl_linking.specs.Sections.{AreSound, AreFaulty, nothing_seen}
+use Rattle.wl_linking.specs.Object.{Object}
+use Rattle.wl_linking.specs.Parts.{parts_of}
+use Rattle.wl_linking.specs.Placing.{Ascend}
+use Rattle.wl_linking.specs.Spaces.{NamesExist, NamesFault, spaces_of, counts_hold, core_names_exist, linked_names_exist}
+use Rattle.wl_linking.specs.Slots.{claims, SharesSlot, HasOneName, HasTwoNames, AgreeOnNames, SlotFault}
+use Rattle.wl_linking.specs.Sites.{PieceOf, IsSite, AreSites, IsBefore, AreApart, HasNoSite, HasOverlap, LieApart, FieldsFault, field_len, body_piece, segment_piece}
+use Rattle.wl_linking.specs.Fitting.{HasItems, named_symbols, IsFitting, PartsFault, IsObject, ObjectFault, memories_of}
+use Rattle.wl_linking.specs.declared.parts.Parts.{Parts}
+use Rattle.wl_linking.specs.declared.relocations.WasmRelocation.{WasmRelocation}
+use Rattle.wl_linking.specs.declared.section.Section.{Section}
+use Rattle.wl_linking.specs.declared.sites.Site.{Site}
+use Rattle.wl_linking.specs.declared.spaces.Spaces.{Spaces}
+use Rattle.wl_linking.specs.declared.symbols.WasmSymbolKind.{WasmSymbolKind}
+use Rattle.wl_linking.specs.declared.symbols.WasmSymbolKind.TheVariants.{Func, Global, Table}
+use Rattle.wl_linking.proofs.ExistLaws.{names_exist}
+use Rattle.wl_linking.proofs.OnceLaws.{object_code_ascends, object_data_ascends}
+use Rattle.wl_linking.proofs.OrderExists.{ordered, order_exists}
+use Rattle.wl_linking.proofs.SectionLaws.{sections_some}
+use Rattle.wl_linking.proofs.SiteLaws.{site_among, site_is, site_is_found}
+
+-- ---- what is named exists, or doesn't
+
+names_or_fault : (o : Object) → NamesExist o ⊎ ((e : ReadError) × NamesFault o e)
+names_or_fault o = by_tests (counts_hold (spaces_of o) o) (core_names_exist (spaces_of o) o) (linked_names_exist (spaces_of o) o) refl refl refl
+  where
+    by_tests : (counts core linked : Bool) → counts_hold (spaces_of o) o ≡ counts → core_names_exist (spaces_of o) o ≡ core → linked_names_exist (spaces_of o) o ≡ linked → NamesExist o ⊎ ((e : ReadError) × NamesFault o e)
+    by_tests false core linked e f g = inr (Malformed why.Count, e)
+    by_tests true false linked e f g = inr (Malformed why.BadIndex, inl f)
+    by_tests true true false e f g = inr (Malformed why.BadIndex, inr g)
+    by_tests true true true e f g = inl (names_exist o e f g)
+
+-- ---- each of some things, or one of them
+
+-- P holds of each at its number, or Q of one
+each_or_one : {X : Type 0} (P Q : X → Type 0) → ((x : X) → P x ⊎ Q x) → (xs : List X) → ((i : ℕ) (x : X) → slice_get xs i ≡ Some x → P x) ⊎ ((i : ℕ) × (x : X) × (slice_get xs i ≡ Some x) × Q x)
+each_or_one {X} P Q decide [] = inl (λ i x here. absurd cc)
+each_or_one {X} P Q decide (x ∷ xs) = by_rest (decide x) (each_or_one P Q decide xs)
+  where
+    at : P x → ((i : ℕ) (y : X) → slice_get xs i ≡ Some y → P y) → (i : ℕ) (y : X) → slice_get (x ∷ xs) i ≡ Some y → P y
+    at p rest zero y here = let same : x ≡ y = cc in subst P same p
+    at p rest (suc i) y here = rest i y here
+
+    by_rest : P x ⊎ Q x → ((i : ℕ) (y : X) → slice_get xs i ≡ Some y → P y) ⊎ ((i : ℕ) × (y : X) × (slice_get xs i ≡ Some y) × Q y)
+        → ((i : ℕ) (y : X) → slice_get (x ∷ xs) i ≡ Some y → P y) ⊎ ((i : ℕ) × (y : X) × (slice_get (x ∷ xs) i ≡ Some y) × Q y)
+    by_rest (inr q) rest = inr (zero, x, refl, q)
+    by_rest (inl p) (inr found) = inr (suc found.0, found.1, found.2, found.3)
+    by_rest (inl p) (inl rest) = inl (at p rest)
+
+-- ---- each import has one name, or one has two
+
+-- two symbols share an import, or don't
+shares_or_not : (kind : WasmSymbolKind) (count : ℕ) (s t : Symbol) → SharesSlot kind count s t ⊎ (SharesSlot kind count s t → ⊥)
+shares_or_not kind count s t = by_tests (claims kind s) (claims kind t) refl refl (cases_eq s.index t.index) (cases_lt s.index count)
+  where
+    by_tests : (one other : Bool) → claims kind s ≡ one → claims kind t ≡ other → (s.index ≡ t.index) ⊎ (s.index ≡ t.index → ⊥) → (s.index < count) ⊎ (count ≤ s.index) → SharesSlot kind count s t ⊎ (SharesSlot kind count s t → ⊥)
+    by_tests false other e f slot exists = inr (λ h. absurd (let yes = h.one in cc))
+    by_tests true false e f slot exists = inr (λ h. absurd (let yes = h.other in cc))
+    by_tests true true e f (inr differ) exists = inr (λ h. differ h.slot)
+    by_tests true true e f (inl slot) (inr le) = inr (λ h. absurd (let lt = h.exists in omega arith))
+    by_tests true true e f (inl slot) (inl lt) = inl (record { one = e; other = f; slot = slot; exists = lt })
+
+-- they have one name where they share one, or two
+alike_or_not : (kind : WasmSymbolKind) (count : ℕ) (s t : Symbol) → (SharesSlot kind count s t → s.name ≡ t.name) ⊎ (SharesSlot kind count s t × (s.name ≢ t.name))
+alike_or_not kind count s t = by_share (shares_or_not kind count s t) (bytes_eq s.name t.name) refl
+  where
+    by_share : SharesSlot kind count s t ⊎ (SharesSlot kind count s t → ⊥) → (b : Bool) → bytes_eq s.name t.name ≡ b → (SharesSlot kind count s t → s.name ≡ t.name) ⊎ (SharesSlot kind count s t × (s.name ≢ t.name))
+    by_share (inr not) b is = inl (λ h. absurd (not h))
+    by_share (inl h) true is = inl (λ _. (bytes_eq-Decides s.name t.name).0 is)
+    by_share (inl h) false is = inr (h, λ e. absurd (let yes = (bytes_eq-Decides s.name t.name).1 e in cc))
+
+one_name_or_two : (kind : WasmSymbolKind) (count : ℕ) (symbols : List Symbol) → HasOneName kind count symbols ⊎ HasTwoNames kind count symbols
+one_name_or_two kind count symbols = by_pairs (each_or_one Agrees Differs agree_or_not symbols)
+  where
+    Agrees : Symbol → Type 0
+    Agrees s = (j : ℕ) (t : Symbol) → slice_get symbols j ≡ Some t → SharesSlot kind count s t → s.name ≡ t.name
+
+    Differs : Symbol → Type 0
+    Differs s = (j : ℕ) × (t : Symbol) × (slice_get symbols j ≡ Some t) × (SharesSlot kind count s t × (s.name ≢ t.name))
+
+    agree_or_not : (s : Symbol) → Agrees s ⊎ Differs s
+    agree_or_not s = each_or_one (λ t. SharesSlot kind count s t → s.name ≡ t.name) (λ t. SharesSlot kind count s t × (s.name ≢ t.name)) (alike_or_not kind count s) symbols
+
+    by_pairs : ((i : ℕ) (s : Symbol) → slice_get symbols i ≡ Some s → Agrees s) ⊎ ((i : ℕ) × (s : Symbol) × (slice_get symbols i ≡ Some s) × Differs s) → HasOneName kind count symbols ⊎ HasTwoNames kind count symbols
+    by_pairs (inl all) = inl (λ i j s t here there. all i s here j t there)
+    by_pairs (inr (i, s, here, (j, t, there, differ))) = inr (record { first = i; second = j; one = s; other = t; one_is = here; other_is = there; shared = differ.0; differ = differ.1 })
+
+slots_or_fault : (spaces : Spaces) (symbols : List Symbol) → AgreeOnNames spaces symbols ⊎ ((e : ReadError) × SlotFault spaces symbols e)
+slots_or_fault spaces symbols = by_kind (one_name_or_two Func spaces.imported_functions symbols) (one_name_or_two Global spaces.imported_globals symbols) (one_name_or_two Table spaces.imported_tables symbols)
+  where
+    by_kind : HasOneName Func spaces.imported_functions symbols ⊎ HasTwoNames Func spaces.imported_functions symbols
+        → HasOneName Global spaces.imported_globals symbols ⊎ HasTwoNames Global spaces.imported_globals symbols
+        → HasOneName Table spaces.imported_tables symbols ⊎ HasTwoNames Table spaces.imported_tables symbols
+        → AgreeOnNames spaces symbols ⊎ ((e : ReadError) × SlotFault spaces symbols e)
+    by_kind (inr two) globals tables = inr (Malformed why.SlotNames, (refl, (Func, two)))
+    by_kind (inl functions) (inr two) tables = inr (Malformed why.SlotNames, (refl, (Global, two)))
+    by_kind (inl functions) (inl globals) (inr two) = inr (Malformed why.SlotNames, (refl, (Table, two)))
+    by_kind (inl functions) (inl globals) (inl tables) = inl (record { functions = functions; globals = globals; tables = tables })
+
+-- ---- each field lies apart, or one is at fault
+
+-- a field has its site, or none
+site_or_none : (pieces : List PieceOf) (r : WasmRelocation) → Ascend 0 pieces → ((s : Site) × IsSite pieces r s) ⊎ ((s : Site) → IsSite pieces r s → ⊥)
+site_or_none pieces r up = by_search (site_among pieces r) refl
+  where
+    by_search : (o : Option Site) → site_among pieces r ≡ o → ((s : Site) × IsSite pieces r s) ⊎ ((s : Site) → IsSite pieces r s → ⊥)
+    by_search None is = inr (λ s h. absurd (let found = site_is_found pieces r s up h in cc))
+    by_search (Some s) is = inl (s, site_is pieces r s is)
+
+sites_or_none : (pieces : List PieceOf) (rs : List WasmRelocation) → Ascend 0 pieces → ((ss : List Site) × AreSites pieces rs ss) ⊎ HasNoSite pieces rs
+sites_or_none pieces [] up = inl ([], tt)
+sites_or_none pieces (r ∷ rs) up = by_rest (site_or_none pieces r up) (sites_or_none pieces rs up)
+  where
+    by_rest : ((s : Site) × IsSite pieces r s) ⊎ ((s : Site) → IsSite pieces r s → ⊥) → ((ss : List Site) × AreSites pieces rs ss) ⊎ HasNoSite pieces rs → ((ss : List Site) × AreSites pieces (r ∷ rs) ss) ⊎ HasNoSite pieces (r ∷ rs)
+    by_rest (inr none) rest = inr (zero, r, refl, none)
+    by_rest (inl site) (inr found) = inr (suc found.0, found.1, found.2, found.3)
+    by_rest (inl site) (inl sites) = inl (site.0 ∷ sites.0, (site.1, sites.1))
+
+before_or_not : (r q : WasmRelocation) → IsBefore r q ⊎ (IsBefore r q → ⊥)
+before_or_not r q = elim (cases_lt q.offset (r.offset + field_len (form_of r.ty))) [
+  | inl lt ↦ inr (λ before. omega arith)
+  | inr le ↦ inl le
+]
+
+apart_or_overlap : (rs : List WasmRelocation) → AreApart rs ⊎ HasOverlap rs
+apart_or_overlap [] = inl (λ i j d lt within. absurd (omega arith))
+apart_or_overlap (r ∷ rs) = by_rest (each_or_one (IsBefore r) (λ q. IsBefore r q → ⊥) (before_or_not r) rs) (apart_or_overlap rs)
+  where
+    apart : ((j : ℕ) (q : WasmRelocation) → slice_get rs j ≡ Some q → IsBefore r q) → AreApart rs → AreApart (r ∷ rs)
+    apart first rest i zero d lt within = absurd (omega arith)
+    apart first rest zero (suc j) d lt within = first j (get_or rs j d) (slice_get-get_or rs j d (omega arith))
+    apart first rest (suc i) (suc j) d lt within = rest i j d (omega arith) (omega arith)
+
+    overlap : (j : ℕ) (q : WasmRelocation) → slice_get rs j ≡ Some q → (IsBefore r q → ⊥) → HasOverlap (r ∷ rs)
+    overlap j q here late = (zero, suc j, q, omega arith, omega (arith, slice_get_within rs j q here), subst (λ (x : WasmRelocation). IsBefore r x → ⊥) (sym (get_or_from_slice_get rs j q q here)) late)
+
+    by_rest : ((j : ℕ) (q : WasmRelocation) → slice_get rs j ≡ Some q → IsBefore r q) ⊎ ((j : ℕ) × (q : WasmRelocation) × (slice_get rs j ≡ Some q) × (IsBefore r q → ⊥)) → AreApart rs ⊎ HasOverlap rs → AreApart (r ∷ rs) ⊎ HasOverlap (r ∷ rs)
+    by_rest (inr found) rest = inr (overlap found.0 found.1 found.2 found.3)
+    by_rest (inl first) (inr (i, j, d, lt, within, late)) = inr (suc i, suc j, d, omega arith, omega arith, late)
+    by_rest (inl first) (inl rest) = inl (apart first rest)
+
+fields_or_fault : (pieces : List PieceOf) (rs : List WasmRelocation) → Ascend 0 pieces → ((ss : List Site) × LieApart pieces rs ss) ⊎ ((e : ReadError) × FieldsFault pieces rs e)
+fields_or_fault pieces rs up = by_both (sites_or_none pieces rs up) (apart_or_overlap rs)
+  where
+    by_both : ((ss : List Site) × AreSites pieces rs ss) ⊎ HasNoSite pieces rs → AreApart rs ⊎ HasOverlap rs → ((ss : List Site) × LieApart pieces rs ss) ⊎ ((e : ReadError) × FieldsFault pieces rs e)
+    by_both (inr none) apart = inr (Malformed why.Field, none)
+    by_both (inl sites) (inr overlap) = inr (Malformed why.Overlap, overlap)
+    by_both (inl sites) (inl apart) = inl (sites.0, record { sited = sites.1; apart = apart })
+
+-- ---- the object of sound sections
+
+-- the object of these items, with these places of fields
+abbrev object_of : List ℕ → List SectionHeader → Parts → List Site → List Site → Object
+object_of bytes headers parts code data_ = record {
+  bytes = bytes;
+  sections = headers;
+  types = parts.types;
+  imports = plain_imports parts.imports;
+  functions = parts.functions;
+  memories = parts.memories;
+  globals = parts.globals;
+  exports = parts.exports;
+  data_counts = parts.data_counts;
+  bodies = parts.bodies;
+  segments = plain_segments parts.segments;
+  segment_memories = memories_of parts.segments;
+  segment_infos = parts.segment_infos;
+  init_funcs = parts.init_funcs;
+  symbols = named_symbols headers parts;
+  reloc_sections = parts.reloc_sections;
+  features = parts.features;
+  debug_sections = parts.debug_sections;
+  code_relocations = ordered parts.code_entries;
+  code_sites = code;
+  data_relocations = ordered parts.data_entries;
+  data_sites = data_;
+}
+
+has_items : (bytes : List ℕ) (headers : List SectionHeader) (parts : Parts) (code data_ : List Site) → HasItems bytes headers parts (object_of bytes headers parts code data_)
+has_items bytes headers parts code data_ = record {
+  bytes_are = refl;
+  sections = refl;
+  types = refl;
+  imports = refl;
+  functions = refl;
+  memories = refl;
+  globals = refl;
+  exports = refl;
+  data_counts = refl;
+  bodies = refl;
+  segments = refl;
+  segment_memories = refl;
+  segment_infos = refl;
+  init_funcs = refl;
+  symbols = refl;
+  reloc_sections = refl;
+  features = refl;
+  debug_sections = refl;
+  code = order_exists parts.code_entries;
+  data_ = order_exists parts.data_entries;
+}
+
+-- the items fit together, or don't
+abbrev FitsOrNot : List ℕ → List SectionHeader → Parts → Type 0
+FitsOrNot bytes headers parts = ((o : Object) × HasItems bytes headers parts o × IsFitting o) ⊎ ((e : ReadError) × PartsFault bytes headers parts e)
+
+fits_or_fault : (bytes : List ℕ) (headers : List SectionHeader) (parts : Parts) → Ascend 0 (map body_piece parts.bodies) → Ascend 0 (map segment_piece (plain_segments parts.segments)) → FitsOrNot bytes headers parts
+fits_or_fault bytes headers parts code_up data_up = by_fields (fields_or_fault (map body_piece parts.bodies) (ordered parts.code_entries) code_up) (fields_or_fault (map segment_piece (plain_segments parts.segments)) (ordered parts.data_entries) data_up)
+  where
+    by_names : (code data_ : List Site) → LieApart (map body_piece parts.bodies) (ordered parts.code_entries) code → LieApart (map segment_piece (plain_segments parts.segments)) (ordered parts.data_entries) data_
+        → (let o = object_of bytes headers parts code data_ in NamesExist o ⊎ ((e : ReadError) × NamesFault o e) → AgreeOnNames (spaces_of o) o.symbols ⊎ ((e : ReadError) × SlotFault (spaces_of o) o.symbols e) → FitsOrNot bytes headers parts)
+    by_names code data_ c d (inr f) slots = inr (f.0, (object_of bytes headers parts code data_, has_items bytes headers parts code data_, inl f.1))
+    by_names code data_ c d (inl names) (inr f) = inr (f.0, (object_of bytes headers parts code data_, has_items bytes headers parts code data_, inr (inl f.1)))
+    by_names code data_ c d (inl names) (inl slots) = inl (object_of bytes headers parts code data_, has_items bytes headers parts code data_, record { names = names; slots = slots; code = c; data_ = d })
+
+    by_fields : ((ss : List Site) × LieApart (map body_piece parts.bodies) (ordered parts.code_entries) ss) ⊎ ((e : ReadError) × FieldsFault (map body_piece parts.bodies) (ordered parts.code_entries) e)
+        → ((ss : List Site) × LieApart (map segment_piece (plain_segments parts.segments)) (ordered parts.data_entries) ss) ⊎ ((e : ReadError) × FieldsFault (map segment_piece (plain_segments parts.segments)) (ordered parts.data_entries) e) → FitsOrNot bytes headers parts
+    by_fields (inr f) data_ = inr (f.0, (object_of bytes headers parts [] [], has_items bytes headers parts [] [], inr (inr (inl f.1))))
+    by_fields (inl code) (inr f) = inr (f.0, (object_of bytes headers parts [] [], has_items bytes headers parts [] [], inr (inr (inr f.1))))
+    by_fields (inl code) (inl data_) =
+        let o = object_of bytes headers parts code.0 data_.0 in
+        by_names code.0 data_.0 code.1 data_.1 (names_or_fault o) (slots_or_fault (spaces_of o) o.symbols)
+
+-- ---- the object of some bytes
+
+abbrev ObjectOrFault : List ℕ → Type 0
+ObjectOrFault bytes = ((o : Object) × IsObject o bytes) ⊎ ((e : ReadError) × ObjectFault e bytes)
+
+-- bytes are an object, or have a fault
+pub object_some : (bytes : List ℕ) → ObjectOrFault bytes
+object_some bytes = by_frame (frame_alternatives.some bytes)
+  where
+    by_fit : (headers : List SectionHeader) (held : List Section) → Framed headers bytes → AreSound bytes headers nothing_seen headers held → FitsOrNot bytes headers (parts_of held) → ObjectOrFault bytes
+    by_fit headers held framed sound (inl (o, items, fitting)) = inl (
+      o,
+      record {
+        framed = rw items.sections framed;
+        held = held;
+        sound = rw items.sections sound;
+        items = subst (λ (hs : List SectionHeader). HasItems bytes hs (parts_of held) o) (sym items.sections) items;
+        fitting = fitting;
+      },
+    )
+    by_fit headers held framed sound (inr (e, f)) = inr (e, inr (headers, framed, inr (record { held = held; sound = sound; fault = f })))
+
+    by_sections : (headers : List SectionHeader) → Framed headers bytes → ((held : List Section) × AreSound bytes headers nothing_seen headers held) ⊎ ((e : ReadError) × AreFaulty bytes headers nothing_seen headers e) → ObjectOrFault bytes
+    by_sections headers framed (inr (e, f)) = inr (e, inr (headers, framed, inl f))
+    by_sections headers framed (inl (held, sound)) =
+        by_fit headers held framed sound (fits_or_fault bytes headers (parts_of held) (object_code_ascends bytes headers held framed sound) (object_data_ascends bytes headers held framed sound))
+
+    by_frame : ((headers : List SectionHeader) × Framed headers bytes) ⊎ ((e : ReadError) × FrameFault e bytes) → ObjectOrFault bytes
+    by_frame (inr (e, f)) = inr (e, inl f)
+    by_frame (inl (headers, framed)) = by_sections headers framed (sections_some bytes headers nothing_seen headers)
