@@ -53,26 +53,6 @@ pub use symbols::{WasmSymbol, WasmSymbolKind};
 pub use text::Text;
 
 #[cfg(test)]
-mod core_tests;
-#[cfg(test)]
-mod feature_tests;
-#[cfg(test)]
-mod field_tests;
-#[cfg(test)]
-mod linking_tests;
-#[cfg(test)]
 mod list_tests;
 #[cfg(test)]
-mod name_tests;
-#[cfg(test)]
-mod object_tests;
-#[cfg(test)]
-mod relocation_tests;
-#[cfg(test)]
-mod slot_tests;
-#[cfg(test)]
-mod symbol_tests;
-#[cfg(test)]
-mod target_tests;
-#[cfg(test)]
-mod test_bytes;
+mod tests;
