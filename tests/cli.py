@@ -1,15 +1,19 @@
 #!/usr/bin/env python3
-"""Runs the built program on real files, and compares its status and what it wrote to each stream."""
+"""Runs the proved program on real files, and compares its status and what it wrote to each stream."""
 
 import os
 import pathlib
+import re
+import shutil
 import subprocess
 import sys
 import tempfile
 
 ROOT = pathlib.Path(__file__).resolve().parent.parent
+PROGRAM = ROOT / "crates" / "wildplan" / "out" / "wildplan"
 EXAMPLES = ROOT / "examples"
 OBJECTS = ROOT / "tests" / "objects"
+ROWS = ROOT / "tests" / "rows.txt"
 FLAGS = ["--no-gc-sections", "--no-entry"]
 LARGEST = 1 << 30
 
@@ -20,7 +24,7 @@ failed = 0
 def run(words, **streams):
     """Runs the program, with both streams caught unless the caller gives one."""
     streams = {"stdout": subprocess.PIPE, "stderr": subprocess.PIPE, **streams}
-    command = [os.fsencode(ROOT / "wildplan"), *map(os.fsencode, words)]
+    command = [os.fsencode(PROGRAM), *map(os.fsencode, words)]
     return subprocess.run(command, stdin=subprocess.DEVNULL, timeout=120, **streams)
 
 
@@ -47,13 +51,50 @@ def listings():
 
 
 def words():
-    """Words that aren't a command line."""
-    check("no words", run([]), 2, err=b"error: BadWords NoInputs\n")
-    check("no object", run(FLAGS), 2, err=b"error: BadWords NoInputs\n")
-    check("an unknown option", run([*FLAGS, "a.o", "--static"]), 2, err=b"error: BadWords UnknownOption 3\n")
-    check("two dashes", run(["--"]), 2, err=b"error: BadWords UnknownOption 0\n")
-    check("a value too many", run(["--no-entry=1", "a.o"]), 2, err=b"error: BadWords UnknownOption 0\n")
-    check("a word that isn't text", run([*FLAGS, b"\xff.o"]), 2, err=b"error: BadWords NotUtf8\n")
+    """Words that aren't a command line: the first at fault is told, by its number."""
+    faults = [
+        ([], "NoInputs"),
+        (FLAGS, "NoInputs"),
+        (["-entry", "a.o", "-e=main", "--import-memory=a,b"], "NoInputs"),
+        (["--initial-memory=0000065536"], "NoInputs"),
+        ([*FLAGS, "a.o", "--static"], "UnknownOption 3"),
+        (["a.o", "--no-entry=x", "-x"], "UnknownOption 1"),
+        (["--"], "UnknownOption 0"),
+        (["--e", "main"], "UnknownOption 0"),
+        (["-zstack-size=1"], "UnknownOption 0"),
+        (["-z", "other=1"], "UnknownOption 1"),
+        (["a.o", "--entry"], "MissingValue 1"),
+        (["a.o", "-z"], "MissingValue 1"),
+        (["-z", "stack-size=+1"], "BadNumber 1"),
+        (["--max-memory", ""], "BadNumber 1"),
+        (["--initial-memory=1 "], "BadNumber 0"),
+        (["--initial-memory=18446744073709551616"], "BadNumber 0"),
+        (["-z", "stack-size=4294967296"], "BadNumber 1"),
+        ([b"\xff.o"], "NotUtf8"),
+    ]
+    for given, fault in faults:
+        check(f"words {given}", run(given), 2, err=f"error: BadWords {fault}\n".encode())
+
+
+def options():
+    """Of options the last counts; those that ask for what has no plan yet are told so."""
+    made = EXAMPLES / "two_functions.o"
+    listing = (EXAMPLES / "two_functions.plan").read_bytes()
+    idle = [
+        ["--check-features", "--no-stack-first", "-z", "stack-size=65536"],
+        ["--keep-section=a", "-o", "a.wasm"],
+        ["--stack-first", "--no-stack-first", "-z", "stack-size=1", "-z=stack-size=65536"],
+    ]
+    for others in idle:
+        check(f"words {others}", run([*others, made, *FLAGS]), 0, listing)
+        check(f"words {others}", run(["--gc-sections", "-e", "a", *others, *FLAGS, made]), 0, listing)
+    unplanned = """--gc-sections --entry=a --export=a --export-if-defined=a --export-dynamic --allow-undefined
+        --stack-first --no-check-features -z=stack-size=16 --initial-memory=65536 --max-memory=65536
+        --import-memory --export-memory --extra-features=a --strip-all -s --strip-debug -S"""
+    for option in unplanned.split():
+        check(f"word {option}", run([*FLAGS, option, made]), 1, err=b"error: Unsupported 0 NotYet\n")
+    check("units dropped", run([made, "--no-entry"]), 1, err=b"error: Unsupported 0 NotYet\n")
+    check("an entry asked for", run([made, "--no-gc-sections"]), 1, err=b"error: Unsupported 0 NotYet\n")
 
 
 def reads(folder):
@@ -65,29 +106,66 @@ def reads(folder):
     check("an empty name", run([*FLAGS, ""]), 3, err=b"error: ReadFault 0\n")
 
 
-def refusals(folder):
-    """Objects without a plan."""
+def named_stretches():
+    """The stretches of bytes that rows call by a name."""
     sound = (EXAMPLES / "two_functions.o").read_bytes()
-    made = folder / "a.o"
+    stretches = {"a": sound, "header": sound[:8]}
+    names = ["linking", "producers", "target_features", ".debug_str", ".debug_info", ".debug_x", "reloc..debug_x"]
+    for name in names:
+        word = name.replace("..", "_").lstrip(".")
+        stretches[word] = bytes([len(name)]) + name.encode()
+    return stretches
 
-    def refused(title, content, line):
-        made.write_bytes(content)
-        check(title, run([*FLAGS, made]), 1, err=line)
 
-    refused("an empty file", b"", b"error: Malformed 0 Header\n")
-    refused("a text", b"int main(void) { return 0; }\n", b"error: Malformed 0 Header\n")
-    refused("an object cut off", sound[:-1], b"error: Malformed 0 Truncated\n")
-    refused("functions without bodies", sound[:19], b"error: Malformed 0 Count\n")
-    refused("a call outside every body", sound[:74] + b"\x0a\x01", b"error: Malformed 0 Field\n")
-    refused("a tag section", sound + b"\x0d\x00", b"error: Unsupported 0 Tag\n")
-    memory = b"\x05\x03\x01\x00\x01"
-    refused("a memory", sound[:8] + memory, b"error: Unsupported 0 NotYet\n")
-    # Behind one more section, section 2 isn't the code any more.
-    refused("relocations for a memory", sound[:19] + memory + sound[19:], b"error: Unsupported 0 RelocTarget\n")
-    made.write_bytes(sound)
-    check("a name twice", run([*FLAGS, made, made]), 1, err=b'error: DuplicateSymbol "a" 0 0 1 0\n')
-    check("units dropped", run([made, "--no-entry"]), 1, err=b"error: Unsupported 0 NotYet\n")
-    check("an entry asked for", run([made, "--no-gc-sections"]), 1, err=b"error: Unsupported 0 NotYet\n")
+def object_of(text, stretches):
+    """The bytes of an object as a row writes it: stretches with their ends and changed bytes, and hexadecimal."""
+    content = b""
+    for term in text.split():
+        stretch = re.fullmatch(r"(\w+?)(?:\[(\d*):(\d*)\]|\{(.*)\})?", term)
+        if stretch is None or stretch[1] not in stretches:
+            content += bytes.fromhex(term)
+            continue
+        part = bytearray(stretches[stretch[1]])
+        for change in filter(None, (stretch[4] or "").split(",")):
+            place, byte = change.split(":")
+            part[int(place)] = int(byte, 16)
+        content += part[int(stretch[2] or 0) : int(stretch[3] or len(part))]
+    return content
+
+
+def rows_of(text):
+    """A row for each length that is asked for, as in a[:0-7]."""
+    lengths = re.search(r"\[:(\d+)-(\d+)\]", text)
+    if lengths is None:
+        return [text]
+    first, last = int(lengths[1]), int(lengths[2])
+    return [f"{text[:lengths.start()]}[:{n}]{text[lengths.end():]}" for n in range(first, last + 1)]
+
+
+def rows(folder):
+    """The table of objects and answers."""
+    stretches, listings, words, rule, listing = named_stretches(), {}, [], "", ""
+    for line in ROWS.read_text().splitlines():
+        kind, _, rest = line.partition(" ")
+        if kind == "##":
+            rule = rest
+        elif kind == "words":
+            words = rest.split()
+        elif kind == "listing":
+            listing = rest
+            listings[listing] = ""
+        elif kind == ">":
+            listings[listing] += rest + "\n"
+        elif kind and kind != "#":
+            objects, answer = line.split(" = ")
+            status, told = answer.split(" ", 1)
+            for row in rows_of(objects):
+                files = []
+                for i, text in enumerate(row.split(" & ")):
+                    files.append(folder / f"{i}.o")
+                    files[-1].write_bytes(object_of(text, stretches))
+                out, err = (listings[told], "") if status == "0" else ("", f"error: {told}\n")
+                check(f"{rule}: {row}", run([*words, *files]), int(status), out.encode(), err.encode())
 
 
 def compiled(folder):
@@ -99,22 +177,6 @@ def compiled(folder):
         cut = folder / "cut.o"
         cut.write_bytes(made.read_bytes()[:-1])
         check(f"{made.name}, cut off", run([*FLAGS, bare, cut]), 1, err=b"error: Malformed 1 Truncated\n")
-
-
-def debug_sections(folder):
-    """Debug sections are listed, and other custom sections skipped."""
-
-    def section(name, payload):
-        content = bytes([len(name)]) + name + payload
-        return b"\0" + bytes([len(content)]) + content
-
-    made = folder / "debug.o"
-    sections = [(b"producers", b"ignore me"), (b".debug_str", b"hello"), (b".debug_info", b"world!")]
-    bare = (EXAMPLES / "bare_module.o").read_bytes()
-    made.write_bytes(bare + b"".join(section(*named) for named in sections))
-    listing = (EXAMPLES / "bare_module.plan").read_bytes()
-    lines = b'debug 0 ".debug_str" 5\ndebug 0 ".debug_info" 6\n'
-    check("debug sections", run([*FLAGS, made]), 0, listing.replace(b"end\n", lines + b"end\n"))
 
 
 def sizes(folder):
@@ -149,20 +211,34 @@ def objects_as_written():
     sys.stdout.write(made.stderr.decode())
 
 
+def launched(folder):
+    """The launcher runs the proved program, and where there is none the sources, and says so."""
+    ended = subprocess.run([ROOT / "wildplan"], stdin=subprocess.DEVNULL, capture_output=True, timeout=600)
+    check("the proved program is that of the sources", ended, 2, err=b"error: BadWords NoInputs\n")
+    copy = folder / "copy"
+    shutil.copytree(ROOT / "crates", copy / "crates", ignore=shutil.ignore_patterns("out"))
+    for name in ["crates.txt", "wildplan", "examples/two_functions.o"]:
+        shutil.copy(ROOT / name, copy)
+    command = ["./wildplan", *FLAGS, "two_functions.o"]
+    ended = subprocess.run(command, cwd=copy, stdin=subprocess.DEVNULL, capture_output=True, timeout=600)
+    notice = b"wildplan: running unproved, which takes half a minute; .ci/run proves and builds it\n"
+    check("no proved program", ended, 0, (EXAMPLES / "two_functions.plan").read_bytes(), notice)
+
+
 def main():
-    # The first run builds the program, where that is still to be done, and says so.
-    if subprocess.run([ROOT / "wildplan"], stdin=subprocess.DEVNULL).returncode != 2:
-        sys.exit("the program wasn't built: 0 passed, 1 failed")
+    if not PROGRAM.exists():
+        sys.exit("the program isn't built yet, .ci/run does: 0 passed, 1 failed")
     objects_as_written()
     listings()
     words()
+    options()
     with tempfile.TemporaryDirectory() as name:
         folder = pathlib.Path(name)
         reads(folder)
-        refusals(folder)
+        rows(folder)
         compiled(folder)
-        debug_sections(folder)
         sizes(folder)
+        launched(folder)
     writes()
     print(f"{passed} passed, {failed} failed")
     sys.exit(1 if failed else 0)

@@ -3,13 +3,16 @@
 ghost use Rattle.std.specs.Prelude.{◌≡◌, [], ◌∷◌, ◌++◌, IfOk, OnOk, codes, decimal, string_bytes};
 ghost use Rattle.std.specs.Fmt.{signed_decimal};
 ghost use Rattle.std.specs.List.{flat_map};
-ghost use Rattle.wildplan.specs.Listing.{quoted};
-ghost use Rattle.wildplan.specs.Refusals.{numbers_text, need_text, undefined_text, refusal_line, named_text, error_line};
+ghost use Rattle.wl_text.specs.Pieces.{quoted, numbers_text};
+ghost use Rattle.wl_text.specs.Names.{need_text};
+ghost use Rattle.wildplan.specs.Refusals.{undefined_text, refusal_line, named_text, error_line};
 
-use crate::names::{bound_name_of, form_name_of, quantity_name_of, why_name_of};
-use crate::pieces::{push_decimal, push_quoted, push_signed};
 use std::alloc::{AllocError, Global};
 use wl_linking::{LinkError, SharedMemoryNeed, UndefinedSymbol};
+use wl_text::{
+    bound_name, form_name, push_decimal, push_need, push_numbers, push_quoted, push_signed,
+    quantity_name, why_name,
+};
 
 /// The line of a refusal by its name, as far as that.
 fn begin_line(alloc: Global, name: &str) -> Result<Vec<u8>, AllocError>
@@ -18,16 +21,6 @@ fn begin_line(alloc: Global, name: &str) -> Result<Vec<u8>, AllocError>
     let mut text = Vec::from_slice(alloc, b"error: ")?;
     text.extend_from_slice(name.as_bytes())?;
     Ok(text)
-}
-
-/// Numbers, each behind a blank.
-fn push_numbers(text: &mut Vec<u8>, numbers: &[u64]) -> Result<(), AllocError>
-    ensures { OnOk result (text.new.items ≡ text.old.items ++ numbers_text numbers.now) }
-{
-    for number in numbers {
-        push_decimal(text, b" ", *number)?;
-    }
-    Ok(())
 }
 
 /// The line of a refusal that tells numbers.
@@ -62,16 +55,16 @@ fn pair_line(
     alloc: Global,
     refusal: &str,
     name: &str,
-    first: (usize, usize),
-    second: (usize, usize),
+    first: (usize, u32),
+    second: (usize, u32),
 ) -> Result<Vec<u8>, AllocError>
     ensures { IfOk result (λ text. text.items ≡ refusal_line refusal.now (named_text name.now (first.0 ∷ first.1 ∷ second.0 ∷ second.1 ∷ []))) }
 {
     let numbers = [
         first.0 as u64,
-        first.1 as u64,
+        u64::from(first.1),
         second.0 as u64,
-        second.1 as u64,
+        u64::from(second.1),
     ];
     named_line(alloc, refusal, name, &numbers)
 }
@@ -121,13 +114,11 @@ fn conflict_line(alloc: Global, object: usize, feature: &str) -> Result<Vec<u8>,
 fn need_line(alloc: Global, need: SharedMemoryNeed) -> Result<Vec<u8>, AllocError>
     ensures { IfOk result (λ text. text.items ≡ refusal_line (codes "SharedMemoryFeature") (codes " " ++ need_text need)) }
 {
-    match need {
-        SharedMemoryNeed::Disallowed(object) => {
-            word_line(alloc, "SharedMemoryFeature", "Disallowed", &[object as u64])
-        }
-        SharedMemoryNeed::Atomics => word_line(alloc, "SharedMemoryFeature", "Atomics", &[]),
-        SharedMemoryNeed::BulkMemory => word_line(alloc, "SharedMemoryFeature", "BulkMemory", &[]),
-    }
+    let mut text = begin_line(alloc, "SharedMemoryFeature")?;
+    text.push(b' ')?;
+    push_need(&mut text, need)?;
+    text.push(b'\n')?;
+    Ok(text)
 }
 
 /// An object's number and the name that it refers to.
@@ -169,10 +160,10 @@ pub fn error_text(alloc: Global, error: &LinkError) -> Result<Vec<u8>, AllocErro
     match error {
         LinkError::OutOfMemory => Ok(Vec::new(alloc)),
         LinkError::Malformed { object, why } => {
-            object_line(alloc, "Malformed", *object, why_name_of(*why))
+            object_line(alloc, "Malformed", *object, why_name(*why))
         }
         LinkError::Unsupported { object, form } => {
-            object_line(alloc, "Unsupported", *object, form_name_of(*form))
+            object_line(alloc, "Unsupported", *object, form_name(*form))
         }
         LinkError::DuplicateSymbol {
             name,
@@ -211,15 +202,13 @@ pub fn error_text(alloc: Global, error: &LinkError) -> Result<Vec<u8>, AllocErro
             named_line(alloc, "EntryNotDefined", name.as_str(), &[])
         }
         LinkError::WrongKind { object, symbol } => {
-            numbers_line(alloc, "WrongKind", &[*object as u64, *symbol as u64])
+            numbers_line(alloc, "WrongKind", &[*object as u64, u64::from(*symbol)])
         }
         LinkError::UndefinedSymbols(symbols) => undefined_line(alloc, symbols.as_slice()),
         LinkError::BadStackSize(size) => {
             numbers_line(alloc, "BadStackSize", &[u64::from(*size)])
         }
-        LinkError::TooLarge { what } => {
-            word_line(alloc, "TooLarge", quantity_name_of(*what), &[])
-        }
+        LinkError::TooLarge { what } => { word_line(alloc, "TooLarge", quantity_name(*what), &[]) }
         LinkError::BadMemorySize {
             which,
             requested,
@@ -227,7 +216,7 @@ pub fn error_text(alloc: Global, error: &LinkError) -> Result<Vec<u8>, AllocErro
         } => word_line(
             alloc,
             "BadMemorySize",
-            bound_name_of(*which),
+            bound_name(*which),
             &[*requested, *needed],
         ),
         LinkError::RelocationRange {

@@ -43,7 +43,8 @@ pub use infos::{WasmInitFunc, WasmSegmentInfo};
 pub use items::Items;
 pub use kinds::{LINKING_SECTION_NAME, RELOC_SECTION_PREFIX, TARGET_FEATURES_SECTION_NAME};
 pub use object::{
-    names_stand, object_or_fault, parse_wasm_module, parts_of_objects_stand, whole_objects,
+    lists_are_few, names_stand, object_or_fault, parse_wasm_module, parts_of_objects_stand,
+    whole_objects,
 };
 pub use raw_name::{RawSymbolName, wasm_symbol_name_str};
 pub use relocation_type::{FieldForm, RelocationType, relocation_type_to_string};

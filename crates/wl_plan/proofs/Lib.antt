@@ -5,4 +5,8 @@ pub mod PlainLaws
 pub mod PlannedLaws
 pub mod SpaceLaws
 pub mod PlanLaws
-pub mod NameLaws
+pub mod Folds
+pub mod ContentLaws
+pub mod OnceLaws
+pub mod UniqueLaws
+pub mod FilesLaws

@@ -10,6 +10,7 @@ use Rattle.wl_module.specs.Types.{FunctionType}
 use Rattle.wl_linking.specs.Object.{Object}
 use Rattle.wl_plan.specs.Types.{same_type, add_new, firsts_onto, used_from, live_types}
 use Rattle.wl_plan.specs.Merging.{IsFull, LeadsToTypes}
+use Rattle.wl_plan.specs.declared.types.TheConstants.{WASM_DEAD_INDEX}
 use Rattle.wl_linking.specs.declared.error.LinkError.{LinkError}
 use Rattle.wl_linking.specs.declared.error.LinkError.TheVariants.{OutOfMemory, TooLarge}
 
@@ -92,6 +93,7 @@ merged_stays false merger ty k x e = e
 pub record MergesOn (before : List FunctionType) (o : Object) (i : ℕ) (merger : List FunctionType) (indices : List ℕ) : Type 0 where
   pub len : length indices ≡ i
   pub rest : firsts_onto merger (used_from i (drop i o.types) o.functions) ≡ firsts_onto before (live_types o)
+  pub removed : (k : ℕ) → k < i → list_any (λ f. eqb f k) o.functions ≡ false → get_or indices k 0 ≡ WASM_DEAD_INDEX
   pub place : (k : ℕ) (d : FunctionType) → k < i → list_any (λ f. eqb f k) o.functions ≡ true → slice_get merger (get_or indices k 0) ≡ Some (get_or o.types k d)
 
 -- what is still to be merged, with the next type in front
@@ -106,10 +108,20 @@ step before o i merger indices ty used lt ty-is is h =
     sym one ∙ h.rest
 
 pub merges_more : (before : List FunctionType) (o : Object) (i : ℕ) (merger : List FunctionType) (indices : List ℕ) (ty : FunctionType) (used : Bool) (index : ℕ) → i < length o.types → ty ≡ get_or o.types i ty → used ≡ list_any (λ f. eqb f i) o.functions
-    → (used ≡ true → slice_get (merged used merger ty) index ≡ Some ty) → MergesOn before o i merger indices → MergesOn before o (i + 1) (merged used merger ty) (indices ++ index ∷ [])
-merges_more before o i merger indices ty used index lt ty-is is here h = record {
+    → (used ≡ true → slice_get (merged used merger ty) index ≡ Some ty) → (used ≡ false → index ≡ WASM_DEAD_INDEX) → MergesOn before o i merger indices → MergesOn before o (i + 1) (merged used merger ty) (indices ++ index ∷ [])
+merges_more before o i merger indices ty used index lt ty-is is here dead h = record {
   len = omega (arith, h.len, length-append indices (index ∷ []));
   rest = step before o i merger indices ty used lt ty-is is h;
+  removed = λ k small unused.
+      elim (cases_lt k i) [
+        | inl lower ↦
+            let same : get_or (indices ++ index ∷ []) k 0 ≡ get_or indices k 0 = get_or_append_left indices (index ∷ []) 0 k (omega (arith, h.len)) in
+            rw same (h.removed k lower unused)
+        | inr high ↦
+            let k-is : k ≡ i = omega arith in
+            let last : get_or (indices ++ index ∷ []) k 0 ≡ index = ap (λ (n : ℕ). get_or (indices ++ index ∷ []) n 0) (k-is ∙ sym h.len) ∙ get_or-append_seam indices index [] 0 in
+            rw last (dead (is ∙ subst (λ (n : ℕ). list_any (λ f. eqb f n) o.functions ≡ false) k-is unused))
+      ];
   place = λ k e small live.
       elim (cases_lt k i) [
         | inl lower ↦
@@ -128,7 +140,7 @@ pub merges_all : (before : List FunctionType) (o : Object) (i : ℕ) (merger : L
 merges_all before o i merger indices all h =
     let none : drop i o.types ≡ [] = drop_all i o.types (omega (arith, all)) in
     let done : firsts_onto merger (used_from i (drop i o.types) o.functions) ≡ merger = ap (λ (ts : List FunctionType). firsts_onto merger (used_from i ts o.functions)) none in
-    (sym done ∙ h.rest, record { len = omega (arith, h.len, all); place = λ k d lt live. h.place k d (omega (arith, all)) live })
+    (sym done ∙ h.rest, record { len = omega (arith, h.len, all); removed = λ k lt unused. h.removed k (omega (arith, all)) unused; place = λ k d lt live. h.place k d (omega (arith, all)) live })
 
 -- a list that is full stays so
 pub full_later : (before : List FunctionType) (o : Object) (i : ℕ) (merger : List FunctionType) (indices : List ℕ) (ty : FunctionType) (used : Bool) (e : LinkError) → i < length o.types → ty ≡ get_or o.types i ty → used ≡ list_any (λ f. eqb f i) o.functions

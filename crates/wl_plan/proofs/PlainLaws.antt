@@ -16,14 +16,6 @@ nowhere test (b ∷ bytes) h =
     ]
 
 -- a search finds such a byte exactly where there is one
-searched : (byte : ℕ) (bytes : List ℕ) (found : Option ℕ) → IsFirstByte (is_byte byte) bytes found → is_some found ≡ list_any (λ b. eqb b byte) bytes
+pub searched : (byte : ℕ) (bytes : List ℕ) (found : Option ℕ) → IsFirstByte (is_byte byte) bytes found → is_some found ≡ list_any (λ b. eqb b byte) bytes
 searched byte bytes None h = rw (nowhere (is_byte byte) bytes (λ k. h k (omega arith))) refl
 searched byte bytes (Some k) h = rw (list_any_at (is_byte byte) bytes k 0 h.0.high h.1) refl
-
-not_swaps : (a b : Bool) → a ≡ not b → b ≡ not a
-not_swaps a true e = rw e refl
-not_swaps a false e = rw e refl
-
--- it finds none exactly where there is none
-pub found_none : (byte : ℕ) (bytes : List ℕ) (found : Option ℕ) (none : Bool) → IsFirstByte (is_byte byte) bytes found → is_some found ≡ not none → none ≡ not (list_any (λ b. eqb b byte) bytes)
-found_none byte bytes found none h e = not_swaps (list_any (λ b. eqb b byte) bytes) none (sym (searched byte bytes found h) ∙ e)

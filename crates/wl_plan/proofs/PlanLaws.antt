@@ -1,5 +1,5 @@
 -- The passes over the objects: types, functions, maps, fixups.
-use Rattle.std.proofs.Common.{◌≡◌, ◌<◌, ◌≤◌, ◌+◌, ◌++◌, ℕ, zero, suc, true, eqb, List, [], ◌∷◌, length, get_or, drop, take, map, Some, refl, sym, ap, subst, ◌∙◌, arith, slice_get, add-one, drop-cons, append_assoc, length-append, inl, inr, eq-eqb, append-nil}
+use Rattle.std.proofs.Common.{◌≡◌, ◌<◌, ◌≤◌, ◌+◌, ◌-◌, ◌++◌, ℕ, zero, suc, true, false, eqb, List, [], ◌∷◌, length, get_or, drop, take, map, Some, refl, sym, ap, subst, ◌∙◌, arith, slice_get, add-one, drop-cons, append_assoc, length-append, inl, inr, eq-eqb, append-nil}
 use Rattle.std.specs.List.{AllByRecursion, list_all, list_any, flat_map, range_with_len}
 use Rattle.std.proofs.Math.Seq.{take-suc}
 use Rattle.std.proofs.lemmas.List.{length-map, length-take, map-append, take_all, drop_all}
@@ -9,18 +9,21 @@ use Rattle.wl_module.specs.Types.{FunctionType}
 use Rattle.wl_module.specs.Bodies.{Body}
 use Rattle.wl_linking.specs.Debug.{DebugInput}
 use Rattle.wl_linking.specs.Object.{Object}
-use Rattle.wl_linking.specs.Fitting.{IsFitting, code_pieces}
+use Rattle.wl_linking.specs.Fitting.{IsFitting, IsWhole, code_pieces}
 use Rattle.wl_linking.specs.Sites.{AreSites}
 use Rattle.wl_linking.specs.declared.relocations.WasmRelocation.{WasmRelocation}
 use Rattle.wl_linking.specs.declared.sites.Site.{Site}
 use Rattle.wl_plan.specs.Types.{types_exist, firsts_onto, live_types, output_types}
-use Rattle.wl_plan.specs.Planned.{is_planned, is_planned_relocation, AllPlanned}
-use Rattle.wl_plan.specs.Space.{functions_from, functions_of, function_space}
-use Rattle.wl_plan.specs.Plan.{HasItsType, bodies_of, debug_of, target_of, AreFixupsIn, AreFixups, IsTooLarge, max_entries}
-use Rattle.wl_plan.specs.Steps.{Clear, Refuses}
+use Rattle.wl_plan.specs.Planned.{is_planned, is_unplanned_relocation, AllPlanned}
+use Rattle.wl_plan.specs.Space.{functions_from, functions_of, function_space, max_entries}
+use Rattle.wl_plan.specs.Plan.{HasItsType, bodies_of, debug_of, function_maps}
+use Rattle.wl_plan.specs.declared.layout.WasmObjectIndexMap.{WasmObjectIndexMap}
+use Rattle.wl_plan.specs.Fixups.{target_of, AreFixupsIn, AreFixups}
+use Rattle.wl_plan.specs.Faults.{IsTooLarge}
+use Rattle.wl_linking.specs.Steps.{Clear, Refuses}
 use Rattle.wl_plan.proofs.StepLaws.{refuses_for, refuses_memory}
 use Rattle.wl_plan.specs.Merging.{IsFull, LeadsToTypes, AreLed}
-use Rattle.wl_plan.specs.Maps.{LeadsToPlaces, AreMaps}
+use Rattle.wl_plan.specs.Maps.{imported_functions, LeadsToPlaces, AreMaps}
 use Rattle.wl_plan.specs.Building.{outputs_from, body_in, debug_in, index_of, fixups_from, HasMap}
 use Rattle.wl_linking.specs.declared.error.LinkError.{LinkError}
 use Rattle.wl_linking.specs.declared.error.LinkError.TheVariants.{OutOfMemory, TooLarge}
@@ -28,8 +31,8 @@ use Rattle.wl_plan.specs.declared.layout.FunctionOrigin.{FunctionOrigin}
 use Rattle.wl_plan.specs.declared.layout.FunctionOrigin.TheVariants as origin
 use Rattle.wl_plan.specs.declared.layout.OutputFunction.{OutputFunction}
 use Rattle.wl_plan.specs.declared.layout.Fixup.{Fixup}
-use Rattle.wl_linking.proofs.SlotLaws.{both, all_at}
-use Rattle.wl_plan.proofs.PlannedLaws.{functions_typed, function_named, relocations_planned, code_sited}
+use Rattle.wl_plan.proofs.Folds.{neither, all_at, each_at}
+use Rattle.wl_plan.proofs.PlannedLaws.{functions_typed, function_named, nothing_imported, holds, code_sited}
 use Rattle.wl_plan.proofs.Merges.{stays_all, grows_all, onto_append, below_all}
 
 -- ---- functions
@@ -80,17 +83,23 @@ function_at object k (ty ∷ functions) rest zero lt = let z : k + 0 ≡ k = ome
 function_at object k (ty ∷ functions) rest (suc j) lt =
     let z : k + suc j ≡ k + 1 + j = omega arith in rw z (function_at object (k + 1) functions rest j (omega arith))
 
-value_is : (space : List FunctionOrigin) (i : ℕ) (o : Object) (indices : List ℕ) (r : WasmRelocation) → IsFitting o → is_planned o ≡ true → is_planned_relocation o.symbols r ≡ true → LeadsToPlaces space i o indices
+value_is : (space : List FunctionOrigin) (i : ℕ) (o : Object) (indices : List ℕ) (r : WasmRelocation) → IsFitting o → is_planned o ≡ true → is_unplanned_relocation o.symbols r ≡ false → LeadsToPlaces space i o indices
     → slice_get space (get_or indices (index_of (slice_get o.symbols r.index)) 0) ≡ target_of i o r
-value_is space i o indices r fits planned here leads = let s = function_named o r fits planned here in rw s.1 (leads.place s.0.index s.2)
+value_is space i o indices r fits planned here leads =
+    let n = function_named o r fits planned here in
+    let none = nothing_imported o planned in
+    let z : 0 + n.symbol.index ≡ n.symbol.index = omega arith in
+    let zero_less : n.symbol.index - 0 ≡ n.symbol.index = omega arith in
+    let led : slice_get space (get_or indices n.symbol.index 0) ≡ Some (origin.Object i n.symbol.index) = rw (none, z) at (leads.place n.symbol.index n.within) in
+    rw (n.at, n.defined, none, zero_less) led
 
-fixups_are : (space : List FunctionOrigin) (i : ℕ) (o : Object) (indices : List ℕ) (rs : List WasmRelocation) (ss : List Site) → IsFitting o → is_planned o ≡ true → list_all (is_planned_relocation o.symbols) rs ≡ true → AreSites (code_pieces o) rs ss → LeadsToPlaces space i o indices
+fixups_are : (space : List FunctionOrigin) (i : ℕ) (o : Object) (indices : List ℕ) (rs : List WasmRelocation) (ss : List Site) → IsFitting o → is_planned o ≡ true → list_any (is_unplanned_relocation o.symbols) rs ≡ false → AreSites (code_pieces o) rs ss → LeadsToPlaces space i o indices
     → AreFixupsIn space i o rs ss (fixups_from indices i o rs ss)
 fixups_are space i o indices [] [] fits planned all sited leads = tt
 fixups_are space i o indices [] (s ∷ ss) fits planned all sited leads = absurd sited
 fixups_are space i o indices (r ∷ rs) [] fits planned all sited leads = absurd sited
 fixups_are space i o indices (r ∷ rs) (s ∷ ss) fits planned all sited leads =
-    let each = both (is_planned_relocation o.symbols r) (list_all (is_planned_relocation o.symbols) rs) all in (
+    let each = neither (is_unplanned_relocation o.symbols r) (list_any (is_unplanned_relocation o.symbols) rs) all in (
       record { object = refl; place = refl; unit = refl; position = refl; ty = refl; value = (refl, value_is space i o indices r fits planned each.0 leads) },
       fixups_are space i o indices rs ss fits planned each.1 sited.1 leads,
     )
@@ -118,10 +127,16 @@ object_at objects i o lt is = slice_get-get_or objects i o lt ∙ ap (λ (x : Ob
 pub map_at : (maps : List (List ℕ)) (i : ℕ) (m : List ℕ) → i < length maps → m ≡ get_or maps i m → slice_get maps i ≡ Some m
 map_at maps i m lt is = slice_get-get_or maps i m lt ∙ ap (λ (x : List ℕ). Some x) (sym is)
 
+-- the map of functions of the object at a place
+pub map_is : (maps : List WasmObjectIndexMap) (i : ℕ) (m : WasmObjectIndexMap) → i < length maps → m ≡ get_or maps i m → m.function_indices ≡ get_or (function_maps maps) i m.function_indices
+map_is [] i m lt is = absurd (omega arith)
+map_is (n ∷ maps) zero m lt is = ap (λ (x : WasmObjectIndexMap). x.function_indices) is
+map_is (n ∷ maps) (suc i) m lt is = map_is maps i m (omega arith) is
+
 -- ---- the types
 
 leads_stays : (before types : List FunctionType) (o : Object) (indices : List ℕ) → LeadsToTypes before o indices → LeadsToTypes (firsts_onto before types) o indices
-leads_stays before types o indices h = record { len = h.len; place = λ k d lt live. stays_all before types (get_or indices k 0) (get_or o.types k d) (h.place k d lt live) }
+leads_stays before types o indices h = record { len = h.len; removed = h.removed; place = λ k d lt live. stays_all before types (get_or indices k 0) (get_or o.types k d) (h.place k d lt live) }
 
 led_stays : (before types : List FunctionType) (objects : List Object) (maps : List (List ℕ)) → AreLed before objects maps → AreLed (firsts_onto before types) objects maps
 led_stays before types [] [] h = tt
@@ -247,20 +262,20 @@ maps_room objects i o base maps lt is room h =
     let rest = functions_of (i + 1) (drop (i + 1) objects) in
     omega (arith, room, h.len, ap length (functions_step objects i o h.front lt is h.is_front), length-append h.front (functions_from i 0 o.functions ++ rest), length-append (functions_from i 0 o.functions) rest, length-functions_from i 0 o.functions)
 
-leads_to_places : (front : List FunctionOrigin) (i : ℕ) (o : Object) (rest : List FunctionOrigin) → LeadsToPlaces (front ++ (functions_from i 0 o.functions ++ rest)) i o (range_with_len (length front) (length o.functions))
-leads_to_places front i o rest = record {
-  len = range_length (length front) (length o.functions);
+leads_to_places : (front : List FunctionOrigin) (i : ℕ) (o : Object) (rest : List FunctionOrigin) → imported_functions o ≡ 0 → LeadsToPlaces (front ++ (functions_from i 0 o.functions ++ rest)) i o (range_with_len (length front) (length o.functions))
+leads_to_places front i o rest none = record {
+  len = omega (arith, none, range_length (length front) (length o.functions));
   place = λ unit lt.
       let z : 0 + unit ≡ unit = omega arith in
-      rw (range_at (length front) (length o.functions) unit lt) (slice_get_behind front (functions_from i 0 o.functions ++ rest) unit ∙ function_at i 0 o.functions rest unit lt ∙ rw z refl);
+      rw (none, z, range_at (length front) (length o.functions) unit lt) (slice_get_behind front (functions_from i 0 o.functions ++ rest) unit ∙ function_at i 0 o.functions rest unit lt ∙ rw z refl);
 }
 
-pub maps_on : (objects : List Object) (i : ℕ) (o : Object) (base : ℕ) (maps : List (List ℕ)) (m : List ℕ) → i < length objects → o ≡ get_or objects i o → m ≡ range_with_len base (length o.functions) → MapsOn objects i base maps → MapsOn objects (i + 1) (base + length o.functions) (maps ++ m ∷ [])
-maps_on objects i o base maps m lt is m-is h =
+pub maps_on : (objects : List Object) (i : ℕ) (o : Object) (base : ℕ) (maps : List (List ℕ)) (m : List ℕ) → i < length objects → o ≡ get_or objects i o → imported_functions o ≡ 0 → m ≡ range_with_len base (length o.functions) → MapsOn objects i base maps → MapsOn objects (i + 1) (base + length o.functions) (maps ++ m ∷ [])
+maps_on objects i o base maps m lt is none m-is h =
     let rest = functions_of (i + 1) (drop (i + 1) objects) in
     let space = functions_step objects i o h.front lt is h.is_front in
     let leads : LeadsToPlaces (function_space objects) i o m =
-    rw (m-is, ← h.len) (subst (λ (fs : List FunctionOrigin). LeadsToPlaces fs i o (range_with_len (length h.front) (length o.functions))) space (leads_to_places h.front i o rest)) in
+    rw (m-is, ← h.len) (subst (λ (fs : List FunctionOrigin). LeadsToPlaces fs i o (range_with_len (length h.front) (length o.functions))) space (leads_to_places h.front i o rest none)) in
     record {
       front = h.front ++ functions_from i 0 o.functions;
       is_front = append_assoc h.front (functions_from i 0 o.functions) rest ∙ space;
@@ -296,9 +311,9 @@ has_map objects i o maps m lt is m-is fits planned room all =
     let here = object_at objects i o lt is in
     let there = map_at maps i m (omega (arith, lt, maps_length (function_space objects) 0 objects maps all)) m-is in
     record {
-      fits = fits;
+      whole = fits;
       planned = planned;
-      len = (leads_at (function_space objects) 0 objects maps i o m all here there).len;
+      len = omega (arith, nothing_imported o planned, (leads_at (function_space objects) 0 objects maps i o m all here there).len);
       room = omega (arith, room, functions_within 0 objects i o here);
     }
 
@@ -311,7 +326,7 @@ fixups_on objects i o maps m fixups lt is m-is fits planned all h =
     let z : 0 + i ≡ i = omega arith in
     let leads : LeadsToPlaces space i o m = rw z at (leads_at space 0 objects maps i o m all here there) in
     rw (grows_to objects i o lt is) (fixups_push space 0 i (take i objects) o fixups (fixups_from m i o o.code_relocations o.code_sites) (omega (arith, length-take i objects)) h
-    (fixups_are space i o m o.code_relocations o.code_sites fits planned (relocations_planned o planned) (code_sited o fits) leads))
+    (fixups_are space i o m o.code_relocations o.code_sites fits planned (holds o planned).relocations (code_sited o fits) leads))
 
 pub fixups_done : (objects : List Object) (i : ℕ) (fixups : List Fixup) → length objects ≤ i → AreFixups (function_space objects) 0 (take i objects) fixups → AreFixups (function_space objects) 0 objects fixups
 fixups_done objects i fixups le h = subst (λ (os : List Object). AreFixups (function_space objects) 0 os fixups) (take_all i objects le) h
@@ -341,10 +356,8 @@ refuses_functions objects _ f = absurd f
 
 -- ---- what holds of all objects
 
-pub fits_at : (objects : List Object) (i : ℕ) (d : Object) → AllByRecursion IsFitting objects → i < length objects → IsFitting (get_or objects i d)
-fits_at [] i d h lt = absurd (omega arith)
-fits_at (o ∷ objects) zero d h lt = h.0
-fits_at (o ∷ objects) (suc i) d h lt = fits_at objects i d h.1 (omega arith)
+pub fits_at : (objects : List Object) (i : ℕ) (d : Object) → AllByRecursion IsWhole objects → i < length objects → IsFitting (get_or objects i d)
+fits_at objects i d h lt = (each_at IsWhole objects i d h lt).object.fitting
 
 pub planned_at : (objects : List Object) (i : ℕ) (d : Object) → AllPlanned objects → i < length objects → is_planned (get_or objects i d) ≡ true
 planned_at objects i d h lt = all_at is_planned objects i (get_or objects i d) h (slice_get-get_or objects i d lt)

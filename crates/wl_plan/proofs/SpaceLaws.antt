@@ -27,8 +27,8 @@ pub fixup_is : (indices : List ℕ) (object : ℕ) (o : Object) (i : ℕ) (d r :
       to = Value (get_or indices symbol.index 0) (pos 0);
     } in made ≡ fixup_of indices object o (get_or o.code_relocations i r) (get_or o.code_sites i s))
 fixup_is indices object o i d r e s symbol room lt is =
-    let lt' : i < length o.code_sites = omega (arith, as_many_sites o room.fits) in
-    let within = symbol_within o i d room.fits room.planned lt in
+    let lt' : i < length o.code_sites = omega (arith, as_many_sites o room.whole) in
+    let within = symbol_within o i d room.whole room.planned lt in
     let found : slice_get o.symbols (get_or o.code_relocations i d).index ≡ Some symbol = slice_get-get_or o.symbols (get_or o.code_relocations i d).index symbol within ∙ ap (λ (x : Symbol). Some x) (sym is) in
     rw (get_or_default o.code_relocations i r d lt, get_or_default o.code_sites i s e lt', found) refl
 
@@ -37,7 +37,7 @@ pub fixups_more : (indices : List ℕ) (object : ℕ) (o : Object) (i : ℕ) (be
     → so_far ++ fixups_from indices object o (drop i o.code_relocations) (drop i o.code_sites) ≡ before
     → (so_far ++ f ∷ []) ++ fixups_from indices object o (drop (i + 1) o.code_relocations) (drop (i + 1) o.code_sites) ≡ before
 fixups_more indices object o i before so_far f room lt is h =
-    let lt' : i < length o.code_sites = omega (arith, as_many_sites o room.fits) in
+    let lt' : i < length o.code_sites = omega (arith, as_many_sites o room.whole) in
     let r : WasmRelocation = record { ty = FunctionIndexLeb; offset = 0; index = 0; addend = pos 0 } in
     let s : Site = record { unit = 0; position = 0 } in
     let split = fixups_step indices object o o.code_relocations o.code_sites i r s lt lt' in

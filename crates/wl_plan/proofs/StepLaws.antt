@@ -2,7 +2,7 @@
 use Rattle.std.proofs.Common.{◌≡◌}
 use Rattle.wl_linking.specs.declared.error.LinkError.{LinkError}
 use Rattle.wl_linking.specs.declared.error.LinkError.TheVariants.{OutOfMemory}
-use Rattle.wl_plan.specs.Steps.{Clear, Step, here, behind, NoStep, Refuses}
+use Rattle.wl_linking.specs.Steps.{Clear, Step, here, behind, NoStep, Refuses}
 
 -- ---- each step by itself
 

@@ -10,7 +10,8 @@ use Rattle.wl_linking.specs.declared.sites.Site.{Site}
 use Rattle.std.specs.List.{AllByRecursion}
 use Rattle.wl_plan.specs.Space.{function_space}
 use Rattle.wl_plan.specs.Planned.{is_planned}
-use Rattle.wl_plan.specs.Plan.{max_entries, HasItsType}
+use Rattle.wl_plan.specs.Space.{max_entries}
+use Rattle.wl_plan.specs.Plan.{HasItsType, function_origins}
 use Rattle.wl_plan.specs.declared.layout.FunctionOrigin.TheVariants as origin
 use Rattle.wl_plan.specs.declared.layout.OutputFunction.{OutputFunction}
 use Rattle.wl_plan.specs.declared.merge.MergedTypes.{MergedTypes}
@@ -52,9 +53,9 @@ abbrev pub fixups_from : List ℕ → ℕ → Object → List WasmRelocation →
 fixups_from indices object o (r ∷ rs) (s ∷ ss) = fixup_of indices object o r s ∷ fixups_from indices object o rs ss
 fixups_from indices object o _ _ = []
 
--- the map has an index for each function of an object that fits together and is planned
+-- the map has an index for each function of a whole object that is planned
 pub record HasMap (indices : List ℕ) (o : Object) : Type 0 where
-  pub fits : IsFitting o
+  pub whole : IsFitting o
   pub planned : is_planned o ≡ true
   pub len : length indices ≡ length o.functions
   pub room : length o.functions ≤ max_entries
@@ -62,5 +63,5 @@ pub record HasMap (indices : List ℕ) (o : Object) : Type 0 where
 -- the functions of all objects, each with its type
 pub record AreFunctions (objects : List Object) (merged : MergedTypes) (functions : Vec OutputFunction Global) : Type 0 where
   pub room : length functions.items ≤ max_entries
-  pub origins : map (λ (f : OutputFunction). f.origin) functions.items ≡ function_space objects
+  pub origins : function_origins functions.items ≡ function_space objects
   pub typed : AllByRecursion (HasItsType objects merged.merger) functions.items

@@ -5,7 +5,8 @@ use Rattle.wl_module.specs.Types.{FunctionType}
 use Rattle.wl_linking.specs.Object.{Object}
 use Rattle.wl_plan.specs.Types.{same_type, output_types}
 use Rattle.wl_plan.specs.declared.merge.MergedTypes.{MergedTypes}
-use Rattle.wl_plan.specs.Plan.{max_entries}
+use Rattle.wl_plan.specs.Space.{max_entries}
+use Rattle.wl_plan.specs.declared.types.TheConstants.{WASM_DEAD_INDEX}
 use Rattle.wl_linking.specs.declared.error.LinkError.{LinkError}
 use Rattle.wl_linking.specs.declared.error.LinkError.TheVariants.{OutOfMemory, TooLarge}
 use Rattle.wl_linking.specs.declared.error.Quantity.TheVariants.{Space}
@@ -21,9 +22,10 @@ IsFull types OutOfMemory = ⊤
 IsFull types (TooLarge what) = (what ≡ Space) × (max_entries < length types)
 IsFull types _ = ⊥
 
--- each local type that a function has is led to itself
+-- each local type that a function has is led to itself, and every other to nothing
 pub record LeadsToTypes (types : List FunctionType) (o : Object) (indices : List ℕ) : Type 0 where
   pub len : length indices ≡ length o.types
+  pub removed : (k : ℕ) → k < length o.types → list_any (λ f. f == k) o.functions ≡ false → slice_index indices k ≡ WASM_DEAD_INDEX
   pub place : (k : ℕ) (d : FunctionType) → k < length o.types → list_any (λ f. f == k) o.functions ≡ true → slice_get types (slice_index indices k) ≡ Some (slice_index_or o.types k d)
 
 -- the indices of each object lead to its types

@@ -2,18 +2,19 @@
 
 ghost use Rattle.std.specs.Prelude.{◌≡◌, ◌≤◌, ◌<◌, ◌++◌, length, OnOk, IfOk, slice_index_or};
 ghost use Rattle.std.specs.List.{AllByRecursion};
-ghost use Rattle.wl_linking.specs.Fitting.{IsFitting};
+ghost use Rattle.wl_linking.specs.Fitting.{IsWhole};
 ghost use Rattle.wl_linking.specs.declared.relocations.WasmRelocation.{WasmRelocation as SpecRelocation};
 ghost use Rattle.wl_linking.specs.declared.sites.Site.{Site as SpecSite};
 ghost use Rattle.wl_plan.specs.Planned.{AllPlanned};
-ghost use Rattle.wl_plan.specs.Space.{function_space};
-ghost use Rattle.wl_plan.specs.Plan.{AreFixups, max_entries};
+ghost use Rattle.wl_plan.specs.Space.{function_space, max_entries};
+ghost use Rattle.wl_plan.specs.Fixups.{AreFixups};
+ghost use Rattle.wl_plan.specs.Plan.{function_maps};
 ghost use Rattle.wl_plan.specs.Maps.{AreMaps};
 ghost use Rattle.wl_plan.specs.Building.{fixup_of, fixups_from, HasMap};
 
-use crate::layout::{Fixup, FixupPlace, FixupTo};
+use crate::layout::{Fixup, FixupPlace, FixupTo, WasmObjectIndexMap};
 use std::alloc::{AllocError, Global};
-use wl_linking::{File, Items};
+use wl_linking::File;
 
 /// What a relocation of an object becomes, whose functions the map leads to the space.
 fn fixup_at(object: usize, map: &[u32], file: &File<'_>, i: usize) -> Fixup
@@ -57,18 +58,18 @@ fn push_fixups(
 pub(crate) fn all_fixups(
     alloc: Global,
     files: &[File<'_>],
-    maps: &[Items<u32>],
+    maps: &[WasmObjectIndexMap],
 ) -> Result<Vec<Fixup>, AllocError>
-    requires fits { AllByRecursion IsFitting files.now }
+    requires whole { AllByRecursion IsWhole files.now }
     requires planned { AllPlanned files.now }
     requires room { length (function_space files.now) ≤ max_entries }
-    requires maps { AreMaps (function_space files.now) 0 files.now maps.now }
+    requires maps { AreMaps (function_space files.now) 0 files.now (function_maps maps.now) }
     ensures { IfOk result (λ fixups. AreFixups (function_space files.now) 0 files.now fixups.items) }
 {
     let mut fixups = Vec::new(alloc);
     for (object, file) in files.iter().enumerate() {
-        let map = &maps[object];
-        push_fixups(&mut fixups, object, map.as_slice(), file)?;
+        let indices = maps[object].function_indices.as_slice();
+        push_fixups(&mut fixups, object, indices, file)?;
     }
     Ok(fixups)
 }

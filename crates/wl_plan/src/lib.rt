@@ -1,24 +1,29 @@
-//! The plan of the output module.
+//! The plan of the output module: [`plan_link`] leads from the bytes of objects to it.
 #![tactic(auto)]
 
+mod bodies;
 mod fixups;
+mod globals;
+mod laws;
 mod layout;
+mod link;
 mod maps;
 mod merge;
-mod names;
+mod objects;
 mod plan;
 mod planned;
 mod spaces;
 mod types;
 
+pub use laws::{functions_stand_once, link_plan_or_fault, plan_or_fault, types_stand_once};
 pub use layout::{
-    Fixup, FixupPlace, FixupTo, FunctionOrigin, LinkPlan, MadeGlobal, OutputExport, OutputFunction,
-    PlannedGlobal, WasmLayout,
+    Fixup, FixupPlace, FixupTo, FunctionOrigin, GlobalOrigin, LinkPlan, MadeGlobal, OutputFunction,
+    OutputImport, OutputImportEntity, PlannedGlobal, WasmLayout, WasmObjectIndexMap,
+    count_output_imports,
 };
-pub use names::check_names;
-pub use plan::plan_objects;
-pub use planned::check_planned;
-pub use types::TypeMerger;
+pub use link::{plan_files, plan_link};
+pub use objects::{MAX_OBJECT, ObjectList, PushError};
+pub use types::{TypeMerger, WASM_DEAD_INDEX};
 
 #[cfg(test)]
 mod tests;

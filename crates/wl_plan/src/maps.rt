@@ -1,11 +1,13 @@
 //! Where the things of each object stand in the spaces of the output.
 
-ghost use Rattle.std.specs.Prelude.{◌≡◌, ◌≤◌, ◌+◌, length, IfOk};
+ghost use Rattle.std.specs.Prelude.{◌≡◌, ◌≤◌, ◌+◌, length, map, IfOk};
 ghost use Rattle.std.specs.List.{range_with_len};
-ghost use Rattle.wl_plan.specs.Plan.{max_entries};
-ghost use Rattle.wl_plan.specs.Space.{function_space};
+ghost use Rattle.wl_plan.specs.Planned.{AllPlanned};
+ghost use Rattle.wl_plan.specs.Space.{function_space, max_entries};
 ghost use Rattle.wl_plan.specs.Maps.{AreMaps};
+ghost use Rattle.wl_plan.specs.Plan.{type_maps, function_maps};
 
+use crate::layout::WasmObjectIndexMap;
 use std::alloc::{AllocError, Global};
 use wl_linking::{File, Items};
 
@@ -21,20 +23,28 @@ fn indices_from(alloc: Global, base: usize, count: usize) -> Result<Items<u32>, 
     Ok(Items::new(map))
 }
 
-/// For each object, the index of each of its functions in the space.
-pub(crate) fn function_maps(
+/// For each object, where its types went and the index of each of its functions in the space. No
+/// object imports a function.
+pub(crate) fn index_maps(
     alloc: Global,
     files: &[File<'_>],
-) -> Result<Vec<Items<u32>>, AllocError>
-    requires { length (function_space files.now) ≤ max_entries }
-    ensures { IfOk result (λ maps. AreMaps (function_space files.now) 0 files.now maps.items) }
+    type_indices: Vec<Items<u32>>,
+) -> Result<Items<WasmObjectIndexMap>, AllocError>
+    requires planned { AllPlanned files.now }
+    requires room { length (function_space files.now) ≤ max_entries }
+    requires as_many { length type_indices.items ≡ length files.now }
+    ensures types { IfOk result (λ maps. type_maps maps ≡ type_indices.items) }
+    ensures functions { IfOk result (λ maps. AreMaps (function_space files.now) 0 files.now (function_maps maps)) }
 {
     let mut maps = Vec::new(alloc);
     let mut base: usize = 0;
-    for file in files {
-        let count = file.functions().len();
-        maps.push(indices_from(alloc, base, count)?)?;
+    for type_indices in type_indices {
+        let count = files[maps.len()].functions().len();
+        maps.push(WasmObjectIndexMap {
+            type_indices,
+            function_indices: indices_from(alloc, base, count)?,
+        })?;
         base += count;
     }
-    Ok(maps)
+    Ok(Items::new(maps))
 }

@@ -1,21 +1,19 @@
 //! The types of an object's functions among the output types.
 
-ghost use Rattle.std.specs.Prelude.{◌≡◌, ◌≤◌, ◌<◌, ◌==◌, ℕ, length, true, IfOk, IfErr, Some, slice_get, slice_index_or, if◌then◌else◌, Bool};
+ghost use Rattle.std.specs.Prelude.{◌≡◌, ◌≤◌, ◌<◌, ◌==◌, ℕ, length, true, false, IfOk, IfErr, Some, slice_get, slice_index_or, if◌then◌else◌, Bool};
 ghost use Rattle.std.specs.List.{list_any};
 ghost use Rattle.wl_plan.specs.Types.{types_exist};
 ghost use Rattle.wl_plan.specs.Types.{add_new, firsts_onto, live_types};
 ghost use Rattle.std.specs.List.{AllByRecursion};
-ghost use Rattle.wl_linking.specs.Fitting.{IsFitting};
+ghost use Rattle.wl_linking.specs.Fitting.{IsWhole};
 ghost use Rattle.wl_plan.specs.Types.{output_types};
 ghost use Rattle.wl_plan.specs.Merging.{IsFull, LeadsToTypes, AreMerged};
+ghost use Rattle.wl_plan.specs.declared.types.TheConstants.{WASM_DEAD_INDEX};
 
-use crate::types::TypeMerger;
+use crate::types::{TypeMerger, WASM_DEAD_INDEX};
 use std::alloc::{AllocError, Global};
 use wl_linking::{File, Items, LinkError};
 use wl_module::FuncType;
-
-/// The index of what the output doesn't hold.
-pub const DEAD_INDEX: u32 = 4_294_967_295;
 
 /// Which of so many types a function has.
 fn used_types(alloc: Global, count: usize, functions: &[u32]) -> Result<Vec<bool>, AllocError>
@@ -34,9 +32,14 @@ fn used_types(alloc: Global, count: usize, functions: &[u32]) -> Result<Vec<bool
 fn merge_type(merger: &mut TypeMerger, ty: &FuncType, used: bool) -> Result<u32, LinkError>
     ensures merged { IfOk result (λ index. merger.new ≡ (if used then add_new merger.old ty.now else merger.old)) }
     ensures place { IfOk result (λ index. used ≡ true → slice_get merger.new index ≡ Some ty.now) }
+    ensures removed { IfOk result (λ index. used ≡ false → index ≡ WASM_DEAD_INDEX) }
     ensures err { IfErr result (λ e. (used ≡ true) × IsFull (add_new merger.old ty.now) e) }
 {
-    if used { merger.add(ty) } else { Ok(DEAD_INDEX) }
+    if used {
+        merger.add(ty)
+    } else {
+        Ok(WASM_DEAD_INDEX)
+    }
 }
 
 /// Merges the types of an object's functions, and answers where each local type went.
@@ -72,7 +75,7 @@ pub(crate) struct MergedTypes {
 /// # Errors
 /// `TooLarge` where there would be more than 4294967294 of them.
 pub(crate) fn merge_all(alloc: Global, files: &[File<'_>]) -> Result<MergedTypes, LinkError>
-    requires { AllByRecursion IsFitting files.now }
+    requires { AllByRecursion IsWhole files.now }
     ensures ok { IfOk result (AreMerged files.now) }
     ensures err { IfErr result (IsFull (output_types files.now)) }
 {

@@ -1,43 +1,27 @@
-//! The plan of the output module.
+//! The plan of objects that can be planned, part by part.
 
 ghost use Rattle.std.specs.Prelude.{◌≡◌, [], ◌∷◌, OnOk, IfOk, IfErr};
-ghost use Rattle.std.specs.List.{AllByRecursion};
-ghost use Rattle.wl_linking.specs.Fitting.{IsFitting};
+ghost use Rattle.wl_symbols.specs.declared.args.WasmArgs.{WasmArgs as SpecArgs};
+ghost use Rattle.wl_plan.specs.Link.{link_of};
 ghost use Rattle.wl_plan.specs.Planned.{AllPlanned};
-ghost use Rattle.wl_plan.specs.Plan.{IsPlan, IsTooLarge, IsStackPointer, IsMemoryExport};
-ghost use Rattle.wl_plan.specs.Steps.{Clear, Refuses};
-ghost use Rattle.wl_plan.specs.declared.layout.PlannedGlobal.{PlannedGlobal as SpecGlobal};
-ghost use Rattle.wl_plan.specs.declared.layout.OutputExport.{OutputExport as SpecExport};
+ghost use Rattle.wl_plan.specs.Plan.{IsPlan, memory_export};
+ghost use Rattle.wl_plan.specs.Faults.{IsTooLarge};
+ghost use Rattle.wl_linking.specs.Steps.{Clear, Refuses};
 
+use crate::bodies::{all_bodies, all_debug_sections};
 use crate::fixups::all_fixups;
-use crate::layout::{LinkPlan, MadeGlobal, OutputExport, PlannedGlobal, WasmLayout};
-use crate::maps::function_maps;
+use crate::globals::made_globals;
+use crate::layout::{LinkPlan, WasmLayout};
+use crate::maps::index_maps;
 use crate::merge::merge_all;
-use crate::spaces::{all_bodies, all_debug_sections, function_space};
+use crate::spaces::function_space;
 use std::alloc::{AllocError, Global};
-use wl_linking::{File, Items, LinkError};
-use wl_module::{ExternalKind, MemoryType, ValType};
+use wl_linking::{FileList, Items, LinkError};
+use wl_module::{ExternalKind, MemoryType, OutputExport};
 
-/// The first value of the stack pointer: `i32.const 65536`, the size of the stack.
-const STACK_POINTER: [u8; 4] = [0x41, 0x80, 0x80, 0x04];
-
-/// The globals that the linker makes.
-fn made_globals<'a>(alloc: Global) -> Result<Items<PlannedGlobal<'a>>, AllocError>
-    ensures { IfOk result (λ globals. (g : SpecGlobal) × (globals ≡ g ∷ []) × IsStackPointer g) }
-{
-    let mut globals = Vec::new(alloc);
-    globals.push(PlannedGlobal {
-        content_type: ValType::I32,
-        mutable: true,
-        init_expr_body: &STACK_POINTER,
-        made: MadeGlobal::StackPointer,
-    })?;
-    Ok(Items::new(globals))
-}
-
-/// The exports that the linker makes.
-fn made_exports<'a>(alloc: Global) -> Result<Items<OutputExport<'a>>, AllocError>
-    ensures { IfOk result (λ exports. (e : SpecExport) × (exports ≡ e ∷ []) × IsMemoryExport e) }
+/// The exports: the memory.
+fn exports<'a>(alloc: Global) -> Result<Items<OutputExport<'a>>, AllocError>
+    ensures { IfOk result (λ exports. exports ≡ memory_export ∷ []) }
 {
     let mut exports = Vec::new(alloc);
     exports.push(OutputExport {
@@ -59,30 +43,33 @@ const MEMORY: MemoryType = MemoryType {
 ///
 /// # Errors
 /// `TooLarge` where a space would get more than 4294967294 entries.
-pub fn plan_objects<'a>(alloc: Global, files: &[File<'a>]) -> Result<LinkPlan<'a>, LinkError>
-    requires fits { AllByRecursion IsFitting files.now }
-    requires planned { AllPlanned files.now }
-    ensures ok { IfOk result (IsPlan files.now) }
+pub(crate) fn plan_objects<'a>(
+    alloc: Global,
+    files: &FileList<'a>,
+) -> Result<LinkPlan<'a>, LinkError>
+    requires { AllPlanned files.now }
+    ensures ok { (args : SpecArgs) → IfOk result (IsPlan (link_of files.now args)) }
     ensures clear { OnOk result (Clear (IsTooLarge files.now)) }
     ensures err { IfErr result (Refuses (IsTooLarge files.now)) }
 {
+    let files = files.as_slice();
     let merged = merge_all(alloc, files)?;
     let functions = function_space(alloc, files, &merged)?;
-    let maps = function_maps(alloc, files)?;
-    let fixups = all_fixups(alloc, files, &maps)?;
-    let bodies = all_bodies(alloc, files)?;
-    let debug_sections = all_debug_sections(alloc, files)?;
-    let globals = made_globals(alloc)?;
-    let exports = made_exports(alloc)?;
+    let maps = index_maps(alloc, files, merged.indices)?;
+    let fixups = all_fixups(alloc, files, maps.as_slice())?;
     Ok(LinkPlan {
         layout: WasmLayout {
             output_types: merged.merger.into_types(),
-            functions: Items::new(functions),
-            function_bodies: Items::new(bodies),
-            debug_sections: Items::new(debug_sections),
-            globals,
-            memory: MEMORY,
-            exports,
+            imports: Items::empty(alloc),
+            function_type_indices: Items::new(functions),
+            function_bodies: Items::new(all_bodies(alloc, files)?),
+            globals: made_globals(alloc)?,
+            memory: Some(MEMORY),
+            table: None,
+            exports: exports(alloc)?,
+            start_function: None,
+            debug_sections: Items::new(all_debug_sections(alloc, files)?),
+            object_index_maps: maps,
         },
         fixups: Items::new(fixups),
     })

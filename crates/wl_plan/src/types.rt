@@ -1,10 +1,10 @@
 //! The types of the output.
 
-ghost use Rattle.std.specs.Prelude.{◌≡◌, ◌≤◌, ◌<◌, ℕ, List, [], length, IfOk, OnOk, IfErr, Some, slice_get, slice_get, ◌==◌};
+ghost use Rattle.std.specs.Prelude.{◌≡◌, ◌≤◌, ◌<◌, ℕ, List, [], length, IfOk, OnOk, OnErr, IfErr, Some, slice_get, slice_get, ◌==◌};
 ghost use Rattle.std.specs.List.{list_any};
 ghost use Rattle.wl_plan.specs.Types.{same_type, add_new};
 ghost use Rattle.wl_plan.specs.Merging.{IsFull, Finds};
-ghost use Rattle.wl_plan.specs.Plan.{max_entries};
+ghost use Rattle.wl_plan.specs.Space.{max_entries};
 
 use std::alloc::{AllocError, Global};
 use std::marker::Model;
@@ -49,6 +49,9 @@ impl Model for TypeMerger {
 /// The number of entries that a space may have.
 pub(crate) const MAX_ENTRIES: usize = 4_294_967_294;
 
+/// The index of what the output doesn't hold.
+pub const WASM_DEAD_INDEX: u32 = 4_294_967_295;
+
 impl TypeMerger {
     /// No types.
     pub fn new(alloc: Global) -> Self
@@ -75,10 +78,12 @@ impl TypeMerger {
     /// Adds a type, unless it is there, and answers its place.
     ///
     /// # Errors
-    /// `TooLarge` where the space would get more than 4294967294 types.
+    /// `TooLarge` where the space would get more than 4294967294 types. A refusal leaves the types
+    /// as they were.
     pub fn add(&mut self, ty: &FuncType) -> Result<u32, LinkError>
         ensures ok { IfOk result (λ place. (self.new ≡ add_new self.old ty.now) × (slice_get self.new place ≡ Some ty.now)) }
         ensures err { IfErr result (IsFull (add_new self.old ty.now)) }
+        ensures same { OnErr result (self.new ≡ self.old) }
     {
         if let Some(place) = self.find(ty) {
             return Ok(place as u32);
@@ -94,6 +99,13 @@ impl TypeMerger {
     }
 
     /// The types, in order.
+    pub fn types(&self) -> &[FuncType]
+        ensures { result.now ≡ self.now }
+    {
+        self.types.as_slice()
+    }
+
+    /// The types, in order, without the merger.
     pub fn into_types(self) -> Items<FuncType>
         ensures types { result ≡ self }
         ensures room { length result ≤ max_entries }

@@ -1,6 +1,7 @@
-use Rattle.std.proofs.Common.{◌≡◌, ◌++◌, drop}
-use Rattle.wildplan.specs.Listing.{numbered, body_line}
+use Rattle.std.proofs.Common.{◌≡◌, ◌+◌, ◌++◌, drop}
+use Rattle.wl_text.specs.Pieces.{numbered}
+use Rattle.wildplan.specs.Listing.{body_line}
 use Rattle.wildplan.proofs.listing.push_bodies.Given as goal
 
 abbrev pub invariant-loop-i : goal.invariant-loop-i
-invariant-loop-i l = l.text.items ++ numbered body_line l.i (drop l.i l.bodies) ≡ l.initial.text.items ++ numbered body_line 0 l.bodies
+invariant-loop-i l = l.text.items ++ numbered body_line (l.first + l.i) (drop l.i l.bodies) ≡ l.initial.text.items ++ numbered body_line l.first l.bodies

@@ -1,6 +1,7 @@
-use Rattle.std.proofs.Common.{◌≡◌, ◌++◌, drop}
-use Rattle.wildplan.specs.Listing.{numbered, function_line}
+use Rattle.std.proofs.Common.{◌≡◌, ◌+◌, ◌++◌, drop}
+use Rattle.wl_text.specs.Pieces.{numbered}
+use Rattle.wildplan.specs.Listing.{function_line}
 use Rattle.wildplan.proofs.listing.push_functions.Given as goal
 
 abbrev pub invariant-loop-i : goal.invariant-loop-i
-invariant-loop-i l = l.text.items ++ numbered function_line l.i (drop l.i l.functions) ≡ l.initial.text.items ++ numbered function_line 0 l.functions
+invariant-loop-i l = l.text.items ++ numbered function_line (l.first + l.i) (drop l.i l.functions) ≡ l.initial.text.items ++ numbered function_line l.first l.functions

@@ -1,5 +1,6 @@
 use Rattle.std.proofs.Common.{◌≡◌, ◌++◌, drop}
-use Rattle.wildplan.specs.Listing.{numbered, type_line}
+use Rattle.wl_text.specs.Pieces.{numbered}
+use Rattle.wildplan.specs.Listing.{type_line}
 use Rattle.wildplan.proofs.listing.push_types.Given as goal
 
 abbrev pub invariant-loop-i : goal.invariant-loop-i

@@ -1,6 +1,6 @@
 use Rattle.std.proofs.Common.{take}
 use Rattle.wl_plan.specs.Space.{function_space}
-use Rattle.wl_plan.specs.Plan.{AreFixups}
+use Rattle.wl_plan.specs.Fixups.{AreFixups}
 use Rattle.wl_plan.proofs.fixups.all_fixups.Given as goal
 
 abbrev pub invariant-loop-object : goal.invariant-loop-object

@@ -23,4 +23,4 @@ loop-local-preserved c =
     let lt : i < length o.types = rw c.types-types.ensures at c.loop-local-test.true in
     let ty-is : ty ≡ get_or o.types i ty = rw c.types-types.ensures at c.index-types-local.is in
     let used : c.index.result.now ≡ list_any (λ f. eqb f i) o.functions = c.index.ensures ∙ (rw c.functions.ensures at (c.in_ok-used.ensures.marks i c.index.result.now c.loop-local-test.true)) in
-    rw (c.in_ok-push.ensures.items, c.in_ok-index.ensures.merged) (merges_more c.args.merger.now o i c.loop-local.merger c.loop-local.indices.items ty c.index.result.now c.in_ok-index.index lt ty-is used (λ e. rw c.in_ok-index.ensures.merged at (c.in_ok-index.ensures.place e)) c.loop-local.invariant)
+    rw (c.in_ok-push.ensures.items, c.in_ok-index.ensures.merged) (merges_more c.args.merger.now o i c.loop-local.merger c.loop-local.indices.items ty c.index.result.now c.in_ok-index.index lt ty-is used (λ e. rw c.in_ok-index.ensures.merged at (c.in_ok-index.ensures.place e)) c.in_ok-index.ensures.removed c.loop-local.invariant)

@@ -1,9 +1,0 @@
-use Rattle.std.proofs.Common.{◌-◌, length, take, vec_len}
-use Rattle.wildplan.specs.Plan.{AreObjects}
-use Rattle.wildplan.proofs.plan.parse_objects.Given as goal
-
-abbrev pub invariant-loop-bytes : goal.invariant-loop-bytes
-invariant-loop-bytes l = AreObjects l.files.items (take (vec_len l.files) l.objects)
-
-abbrev pub decreases-loop-bytes : goal.decreases-loop-bytes
-decreases-loop-bytes l = length l.objects - vec_len l.files

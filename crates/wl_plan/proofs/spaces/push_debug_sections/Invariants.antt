@@ -1,6 +1,0 @@
-use Rattle.std.proofs.Common.{◌≡◌, ◌++◌, drop, map}
-use Rattle.wl_plan.specs.Building.{debug_in}
-use Rattle.wl_plan.proofs.spaces.push_debug_sections.Given as goal
-
-abbrev pub invariant-loop-section : goal.invariant-loop-section
-invariant-loop-section l = l.sections.items ++ map (debug_in l.object) (drop l.section-index l.more) ≡ l.initial.sections.items ++ map (debug_in l.object) l.more

@@ -1,0 +1,66 @@
+-- What the words of the command line are: items, each in one word or two.
+use Rattle.std.specs.Prelude.{◌≡◌, ℕ, ◌+◌, true, false, List, [], ◌∷◌, Option, Some, None, slice_get, ⊤}
+use Rattle.wl_symbols.specs.Options.{is_option, front_of, value_of, taken_by}
+use Rattle.wl_symbols.specs.Values.{number_of, stack_size}
+use Rattle.wl_symbols.specs.declared.options.Takes.{Takes}
+use Rattle.wl_symbols.specs.declared.options.Takes.TheVariants.{Nothing, Value, OptionalValue}
+use Rattle.wl_symbols.specs.declared.options.Flag.{Flag}
+use Rattle.wl_symbols.specs.declared.options.Setting.{Setting}
+use Rattle.wl_symbols.specs.declared.options.Setting.TheVariants as setting
+use Rattle.wl_symbols.specs.declared.options.MemoryOption.{MemoryOption}
+
+-- the name of an object, in the word of this number; an option without a value; one with its value;
+-- and one that may have a value
+pub data Item : Type 0 where
+  Object : ℕ → Item
+  Given : Flag → Item
+  Set : Setting → List ℕ → Item
+  Memory : MemoryOption → Option (List ℕ) → Item
+
+-- the word of this number names an object
+pub record NamesObject (words : List (List ℕ)) (at : ℕ) : Type 0 where
+  pub word : List ℕ
+  pub here : slice_get words at ≡ Some word
+  pub plain : is_option word ≡ false
+
+-- the word of this number is an option's, which takes this, and this stands behind its equals sign
+pub record NamesOption (words : List (List ℕ)) (at : ℕ) (takes : Takes) (behind : Option (List ℕ)) : Type 0 where
+  pub word : List ℕ
+  pub here : slice_get words at ≡ Some word
+  pub dashed : is_option word ≡ true
+  pub named : taken_by (front_of word) ≡ Some takes
+  pub value : value_of word ≡ behind
+
+-- the word of this number is an option's that takes a value, and this is the value, in the word of
+-- that place: the same word, behind its equals sign, or the next
+pub data HasValue (words : List (List ℕ)) (at : ℕ) (setting : Setting) (value : List ℕ) (place : ℕ) : Type 0 where
+  joined : NamesOption words at (Value setting) (Some value) → place ≡ at
+      → HasValue words at setting value place
+  parted : NamesOption words at (Value setting) None → slice_get words (at + 1) ≡ Some value
+      → place ≡ at + 1 → HasValue words at setting value place
+
+-- the option may have this value: of some the value says a number
+abbrev pub IsSound : Setting → List ℕ → Type 0
+IsSound setting.Export value = ⊤
+IsSound setting.ExportIfDefined value = ⊤
+IsSound setting.Entry value = ⊤
+IsSound setting.Keyword value = (n : ℕ) × (stack_size value ≡ Some n)
+IsSound setting.InitialMemory value = (n : ℕ) × (number_of 64 value ≡ Some n)
+IsSound setting.MaxMemory value = (n : ℕ) × (number_of 64 value ≡ Some n)
+IsSound setting.ExtraFeatures value = ⊤
+IsSound setting.KeepSection value = ⊤
+IsSound setting.Output value = ⊤
+
+-- the item stands at this word, and the next item at that one
+abbrev pub StandsAt : List (List ℕ) → ℕ → Item → ℕ → Type 0
+StandsAt words at (Object place) next = NamesObject words at × (place ≡ at) × (next ≡ at + 1)
+StandsAt words at (Given flag) next = NamesOption words at (Nothing flag) None × (next ≡ at + 1)
+StandsAt words at (Set setting value) next =
+    (place : ℕ) × HasValue words at setting value place × IsSound setting value × (next ≡ place + 1)
+StandsAt words at (Memory option value) next =
+    NamesOption words at (OptionalValue option) value × (next ≡ at + 1)
+
+-- the items stand one behind the other, from this word to that one
+abbrev pub Items : List (List ℕ) → ℕ → List Item → ℕ → Type 0
+Items words at [] end = at ≡ end
+Items words at (item ∷ items) end = (next : ℕ) × StandsAt words at item next × Items words next items end
