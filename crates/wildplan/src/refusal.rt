@@ -55,16 +55,16 @@ fn pair_line(
     alloc: Global,
     refusal: &str,
     name: &str,
-    first: (usize, usize),
-    second: (usize, usize),
+    first: (usize, u32),
+    second: (usize, u32),
 ) -> Result<Vec<u8>, AllocError>
     ensures { IfOk result (λ text. text.items ≡ refusal_line refusal.now (named_text name.now (first.0 ∷ first.1 ∷ second.0 ∷ second.1 ∷ []))) }
 {
     let numbers = [
         first.0 as u64,
-        first.1 as u64,
+        u64::from(first.1),
         second.0 as u64,
-        second.1 as u64,
+        u64::from(second.1),
     ];
     named_line(alloc, refusal, name, &numbers)
 }
@@ -202,7 +202,7 @@ pub fn error_text(alloc: Global, error: &LinkError) -> Result<Vec<u8>, AllocErro
             named_line(alloc, "EntryNotDefined", name.as_str(), &[])
         }
         LinkError::WrongKind { object, symbol } => {
-            numbers_line(alloc, "WrongKind", &[*object as u64, *symbol as u64])
+            numbers_line(alloc, "WrongKind", &[*object as u64, u64::from(*symbol)])
         }
         LinkError::UndefinedSymbols(symbols) => undefined_line(alloc, symbols.as_slice()),
         LinkError::BadStackSize(size) => {

@@ -9,6 +9,8 @@ use Rattle.wl_module.specs.declared.sections.SectionHeader.{SectionHeader}
 use Rattle.wl_module.specs.declared.error.Why.TheVariants as why
 use Rattle.wl_module.specs.declared.error.ReadError.{ReadError}
 use Rattle.wl_module.specs.declared.error.ReadError.TheVariants.{Malformed}
+use Rattle.wl_module.specs.Imports.{plain_imports}
+use Rattle.wl_module.specs.Segments.{plain_segments}
 use Rattle.wl_module.specs.Sections.{Framed, FrameFault}
 use Rattle.wl_module.proofs.SectionLaws.{frame_alternatives}
 use Rattle.wl_linking.specs.RelocationTypes.{form_of}
@@ -20,7 +22,7 @@ use Rattle.wl_linking.specs.Placing.{Ascend}
 use Rattle.wl_linking.specs.Spaces.{NamesExist, NamesFault, spaces_of, counts_hold, core_names_exist, linked_names_exist}
 use Rattle.wl_linking.specs.Slots.{claims, SharesSlot, HasOneName, HasTwoNames, AgreeOnNames, SlotFault}
 use Rattle.wl_linking.specs.Sites.{PieceOf, IsSite, AreSites, IsBefore, AreApart, HasNoSite, HasOverlap, LieApart, FieldsFault, field_len, body_piece, segment_piece}
-use Rattle.wl_linking.specs.Fitting.{HasItems, named_symbols, IsFitting, PartsFault, IsObject, ObjectFault}
+use Rattle.wl_linking.specs.Fitting.{HasItems, named_symbols, memories_of, IsFitting, PartsFault, IsObject, ObjectFault}
 use Rattle.wl_linking.specs.declared.parts.Parts.{Parts}
 use Rattle.wl_linking.specs.declared.relocations.WasmRelocation.{WasmRelocation}
 use Rattle.wl_linking.specs.declared.section.Section.{Section}

@@ -15,6 +15,7 @@ pub mod ExistLaws
 pub mod WholeLaws
 pub mod OrderExists
 pub mod AlternativeLaws
+pub mod FewLaws
 pub mod ObjectLaws
 pub mod PlacedLaws
 pub mod HeldLaws

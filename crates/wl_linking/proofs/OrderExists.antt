@@ -9,7 +9,7 @@ use Rattle.wl_linking.specs.declared.relocations.WasmRelocation.{WasmRelocation}
 use Rattle.wl_linking.proofs.OrderLaws.{ties_with, no_tie, Rises}
 
 -- one entry among others in order
-abbrev put : WasmRelocation → List WasmRelocation → List WasmRelocation
+abbrev pub put : WasmRelocation → List WasmRelocation → List WasmRelocation
 put x [] = x ∷ []
 put x (y ∷ ys) = cond (leb x.offset y.offset) (x ∷ y ∷ ys) (y ∷ put x ys)
 

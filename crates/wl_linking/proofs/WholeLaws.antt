@@ -27,7 +27,7 @@ whole_types o i t w here = ltb-true t (length o.types) (all_at (type_exists (spa
 -- ---- the sites of relocations
 
 -- there are as many sites as relocations
-as_many : (pieces : List PieceOf) (rs : List WasmRelocation) (ss : List Site) → AreSites pieces rs ss → length ss ≡ length rs
+pub as_many : (pieces : List PieceOf) (rs : List WasmRelocation) (ss : List Site) → AreSites pieces rs ss → length ss ≡ length rs
 as_many pieces [] [] h = refl
 as_many pieces [] (s ∷ ss) h = absurd h
 as_many pieces (r ∷ rs) [] h = absurd h

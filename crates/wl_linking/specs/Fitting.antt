@@ -108,6 +108,30 @@ pub record IsWhole (o : Object) : Type 0 where
   pub object : IsObject o o.bytes
   pub within : length o.bytes ≤ 2 ^ 30
 
+-- each list of an object has at most n items
+pub record HasFewItems (n : ℕ) (o : Object) : Type 0 where
+  pub sections : length o.sections ≤ n
+  pub types : length o.types ≤ n
+  pub imports : length o.imports ≤ n
+  pub functions : length o.functions ≤ n
+  pub memories : length o.memories ≤ n
+  pub globals : length o.globals ≤ n
+  pub exports : length o.exports ≤ n
+  pub data_counts : length o.data_counts ≤ n
+  pub bodies : length o.bodies ≤ n
+  pub segments : length o.segments ≤ n
+  pub segment_memories : length o.segment_memories ≤ n
+  pub segment_infos : length o.segment_infos ≤ n
+  pub init_funcs : length o.init_funcs ≤ n
+  pub symbols : length o.symbols ≤ n
+  pub reloc_sections : length o.reloc_sections ≤ n
+  pub features : length o.features ≤ n
+  pub debug_sections : length o.debug_sections ≤ n
+  pub code_relocations : length o.code_relocations ≤ n
+  pub code_sites : length o.code_sites ≤ n
+  pub data_relocations : length o.data_relocations ≤ n
+  pub data_sites : length o.data_sites ≤ n
+
 -- a whole object, with how many things of each kind it has
 pub record IsFile (o : Object) (spaces : Spaces) : Type 0 where
   pub whole : IsWhole o

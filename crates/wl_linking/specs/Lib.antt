@@ -19,4 +19,3 @@ pub mod Placing
 pub mod Fitting
 pub mod Stretches
 pub mod RawNames
-pub mod Steps

@@ -1,10 +1,10 @@
 //! What a relocatable object holds.
 
-ghost use Rattle.std.specs.Prelude.{◌≡◌, length};
+ghost use Rattle.std.specs.Prelude.{◌≡◌, ◌^◌, length};
 ghost use Rattle.wl_module.specs.declared.imports.ExternalKind.TheVariants.{Func as FuncKind, Global as GlobalKind};
 ghost use Rattle.wl_linking.specs.Spaces.{count_imports};
 ghost use Rattle.wl_linking.specs.Targets.{is_debug_at};
-ghost use Rattle.wl_linking.specs.Fitting.{IsWhole};
+ghost use Rattle.wl_linking.specs.Fitting.{HasFewItems, IsWhole};
 
 use crate::contents::Contents;
 use crate::debug::DebugSectionInput;
@@ -44,9 +44,11 @@ impl<'a> Model for File<'a> {
 }
 
 impl<'a> File<'a> {
-    /// A file stands for one object: the one that its bytes are.
+    /// A file stands for one object: the one that its bytes are. Each of its lists has 2^30 items at
+    /// most.
     pub fn stands_for_an_object(&self)
-        ensures { IsWhole self.now }
+        ensures whole { IsWhole self.now }
+        ensures few { HasFewItems (2 ^ 30) self.now }
     {
         let _ = &self.contents;
     }

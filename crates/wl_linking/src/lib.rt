@@ -39,7 +39,8 @@ pub use flags::SymbolFlags;
 pub use infos::{WasmInitFunc, WasmSegmentInfo};
 pub use items::Items;
 pub use object::{
-    names_stand, object_or_fault, parse_wasm_module, parts_of_objects_stand, whole_objects,
+    lists_are_few, names_stand, object_or_fault, parse_wasm_module, parts_of_objects_stand,
+    whole_objects,
 };
 pub use raw_name::{RawSymbolName, wasm_symbol_name_str};
 pub use relocation_type::{FieldForm, RelocationType, relocation_type_to_string};

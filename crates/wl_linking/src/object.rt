@@ -12,7 +12,9 @@ ghost use Rattle.wl_linking.specs.Object.{Object};
 ghost use Rattle.wl_linking.specs.Slots.{import_base};
 ghost use Rattle.wl_linking.specs.SlotsReading.{IsNamedWithin};
 ghost use Rattle.wl_linking.specs.Sites.{body_piece, segment_piece, offset_of, LieApart, FieldsFault};
-ghost use Rattle.wl_linking.specs.Fitting.{HasItems, named_symbols, NameStands, code_pieces, data_pieces, Fitted, CrossFault, FitsParts, PartsFault, IsFitting, IsObject, IsWhole, ObjectFault, ParsesObject};
+ghost use Rattle.wl_linking.specs.Fitting.{HasItems, named_symbols, NameStands, code_pieces, data_pieces, Fitted, CrossFault, FitsParts, PartsFault, HasFewItems, IsFitting, IsObject, IsWhole, ObjectFault, ParsesObject};
+ghost use Rattle.wl_linking.specs.Spaces.{count_imports};
+ghost use Rattle.wl_module.specs.declared.imports.ExternalKind.{ExternalKind as Kind};
 ghost use Rattle.wl_linking.specs.declared.sites.Site.{Site as PlacedSite};
 ghost use Rattle.wl_linking.specs.Placing.{IsSpanned, Ascend};
 ghost use Rattle.wl_linking.specs.Stretches.{PartsStandIn};
@@ -184,10 +186,18 @@ pub fn parts_of_objects_stand()
     ensures { (bytes : List ℕ) (o : Object) → IsObject o bytes → PartsStandIn bytes o }
 {}
 
-/// What holds of each object that is kept: it fits together, each function has one of its types, and
-/// each relocation has one site, in one of the bodies or of the segments.
+/// Each list of an object has at most as many items as the object has bytes.
+pub fn lists_are_few()
+    ensures { (bytes : List ℕ) (o : Object) → IsObject o bytes → HasFewItems (length bytes) o }
+{}
+
+/// What holds of each object that is kept: it fits together, its lists have 2^30 items at most, each
+/// function has one of its types, and each relocation has one site, in one of the bodies or of the
+/// segments.
 pub fn whole_objects()
     ensures fitting { (o : Object) → IsWhole o → IsFitting o }
+    ensures few { (o : Object) → IsWhole o → HasFewItems (2 ^ 30) o }
+    ensures imports { (o : Object) (k : Kind) → IsWhole o → count_imports k o.imports ≤ 2 ^ 30 }
     ensures types { (o : Object) (i t : ℕ) → IsWhole o → slice_get o.functions i ≡ Some t → t < length o.types }
     ensures code_sites { (o : Object) → IsWhole o → length o.code_sites ≡ length o.code_relocations }
     ensures code_units { (o : Object) (i : ℕ) (s : PlacedSite) → IsWhole o → slice_get o.code_sites i ≡ Some s → s.unit < length o.bodies }

@@ -9,7 +9,7 @@ use Rattle.wl_module.specs.Types.{FunctionType}
 use Rattle.wl_module.specs.Bodies.{Body}
 use Rattle.wl_linking.specs.Debug.{DebugInput}
 use Rattle.wl_linking.specs.Object.{Object}
-use Rattle.wl_linking.specs.Fitting.{IsFitting, code_pieces}
+use Rattle.wl_linking.specs.Fitting.{IsFitting, IsWhole, code_pieces}
 use Rattle.wl_linking.specs.Sites.{AreSites}
 use Rattle.wl_linking.specs.declared.relocations.WasmRelocation.{WasmRelocation}
 use Rattle.wl_linking.specs.declared.sites.Site.{Site}
@@ -356,8 +356,8 @@ refuses_functions objects _ f = absurd f
 
 -- ---- what holds of all objects
 
-pub fits_at : (objects : List Object) (i : ℕ) (d : Object) → AllByRecursion IsFitting objects → i < length objects → IsFitting (get_or objects i d)
-fits_at objects i d h lt = each_at IsFitting objects i d h lt
+pub fits_at : (objects : List Object) (i : ℕ) (d : Object) → AllByRecursion IsWhole objects → i < length objects → IsFitting (get_or objects i d)
+fits_at objects i d h lt = (each_at IsWhole objects i d h lt).object.fitting
 
 pub planned_at : (objects : List Object) (i : ℕ) (d : Object) → AllPlanned objects → i < length objects → is_planned (get_or objects i d) ≡ true
 planned_at objects i d h lt = all_at is_planned objects i (get_or objects i d) h (slice_get-get_or objects i d lt)

@@ -1,12 +1,12 @@
 -- Laws of objects that fit together and are planned: what they name is their own.
-use Rattle.std.proofs.Common.{◌≡◌, ◌<◌, ◌-◌, ◌+◌, ◌||◌, ℕ, zero, suc, Bool, true, false, not, eqb, ltb, leb, List, [], ◌∷◌, length, get_or, map, Option, Some, None, refl, ap, take, inl, inr, arith, slice_get}
+use Rattle.std.proofs.Common.{◌≡◌, ◌<◌, ◌-◌, ◌+◌, ◌||◌, ◌&&◌, ℕ, zero, suc, Bool, true, false, not, eqb, ltb, leb, List, [], ◌∷◌, length, get_or, map, Option, Some, None, refl, ap, take, inl, inr, arith, slice_get}
 use Rattle.std.specs.List.{list_all, list_any}
 use Rattle.std.proofs.lemmas.Bool.{eqb-true, ltb-true, cases_Bool}
 use Rattle.std.proofs.lemmas.List.{length-map}
 use Rattle.std.proofs.lemmas.Option.{slice_get-get_or, slice_get_within, get_or_from_slice_get}
 use Rattle.wl_module.specs.Imports.{Imported}
 use Rattle.wl_module.specs.Globals.{DefinedGlobal}
-use Rattle.wl_linking.specs.Symbols.{Symbol, is_undefined, is_weak}
+use Rattle.wl_linking.specs.Symbols.{Symbol, is_undefined, is_weak, is_data, has_flag}
 use Rattle.wl_linking.specs.Object.{Object}
 use Rattle.wl_linking.specs.Spaces.{spaces_of, symbol_exists, thing_exists, number_exists}
 use Rattle.wl_linking.specs.Fitting.{IsFitting}
@@ -28,15 +28,15 @@ use Rattle.wl_plan.proofs.Folds.{both, neither, all_at, none_at}
 
 -- each function has one of the types
 pub functions_typed : (o : Object) → IsFitting o → types_exist (length o.types) o.functions ≡ true
-functions_typed o fits = (both _ _ (both _ _ (both _ _ fits.names.core).0).0).1
+functions_typed o fits = fits.names.functions
 
 -- there are as many bodies as functions
 pub as_many_bodies : (o : Object) → IsFitting o → length o.bodies ≡ length o.functions
-as_many_bodies o fits = eqb-true (length o.bodies) (length o.functions) (both _ _ fits.names.counts).0
+as_many_bodies o fits = fits.names.bodies
 
 -- what each symbol stands for exists
 symbols_exist : (o : Object) → IsFitting o → list_all (symbol_exists (spaces_of o)) o.symbols ≡ true
-symbols_exist o fits = (both _ _ (both _ _ (both _ _ fits.names.linked).0).0).0
+symbols_exist o fits = fits.names.symbols
 
 -- ---- what a planned object holds
 
@@ -90,7 +90,7 @@ below_count true imported count index defined none e = absurd cc
 below_count false imported count index defined none e = omega (arith, none, ltb-true (index - imported) count (both (leb imported index) (ltb (index - imported) count) e).1)
 
 -- a planned symbol of a function that exists is that of one of the object's functions
-function_below : (o : Object) (s : Symbol) (k : WasmSymbolKind) → is_function_kind k ≡ true → is_unplanned_kind k s ≡ false → thing_exists (spaces_of o) k (is_undefined s) s.index ≡ true → imported_functions o ≡ 0 → (is_undefined s ≡ false) × (s.index < length o.functions)
+function_below : (o : Object) (s : Symbol) (k : WasmSymbolKind) → is_function_kind k ≡ true → is_unplanned_kind k s ≡ false → ((is_data k && not (is_undefined s) && has_flag s.flags 0x200) || thing_exists (spaces_of o) k (is_undefined s) s.index) ≡ true → imported_functions o ≡ 0 → (is_undefined s ≡ false) × (s.index < length o.functions)
 function_below o s Func is planned exists none = let defined = (neither (is_undefined s) (is_weak s) planned).0 in (defined, below_count (is_undefined s) (imported_functions o) (length o.functions) s.index defined none exists)
 function_below o s Data is planned exists none = absurd cc
 function_below o s Global is planned exists none = absurd cc

@@ -136,8 +136,8 @@ same_maps (m ∷ ms) (n ∷ ns) a b =
 abbrev pub OneForm : Type 0
 OneForm = (z : ℤ) (x y : List ℕ) → IsShortestSleb z x → IsShortestSleb z y → x ≡ y
 
-make_defined : GlobalType → List ℕ → DefinedGlobal
-make_defined ty body = record { ty = ty; body = body }
+make_defined : GlobalType → List ℕ → Bool → DefinedGlobal
+make_defined ty body owned = record { ty = ty; body = body; owned = owned }
 
 same_start : (objects : List Object) (from : GlobalOrigin) (a b : DefinedGlobal) → OneForm → StartsAs objects from a → StartsAs objects from b → a ≡ b
 unfolding make_defined
@@ -145,7 +145,9 @@ same_start objects (global_origin.Object object unit) a b one p q = cc
 same_start objects (global_origin.Made StackPointer) a b one p q =
     let text = one _ p.1.text q.1.text p.1.short q.1.short in
     let body : a.body ≡ b.body = p.1.parts ∙ ap (λ (x : List ℕ). 0x41 ∷ x) text ∙ sym q.1.parts in
-    ap (λ (t : GlobalType). make_defined t a.body) (p.0 ∙ sym q.0) ∙ ap (make_defined b.ty) body
+    let ty : a.ty ≡ b.ty = p.0 ∙ sym q.0 in
+    let owned : a.owned ≡ b.owned = p.2 ∙ sym q.2 in
+    let h : make_defined a.ty a.body a.owned ≡ make_defined b.ty b.body b.owned = rw (ty, body, owned) refl in h
 same_start objects (global_origin.Made MemoryBase) a b one p q = absurd p
 same_start objects (global_origin.Made TableBase) a b one p q = absurd p
 same_start objects (global_origin.Made TlsBase) a b one p q = absurd p

@@ -23,7 +23,7 @@ IsConstant number body = AppendsSleb number (0x41 ∷ []) body
 
 -- what a global that the linker makes starts with: the stack pointer at the top of the stack, below which no data lies
 abbrev pub IsMade : MadeGlobal → DefinedGlobal → Type 0
-IsMade StackPointer g = (g.ty ≡ variable_i32) × IsConstant (pos DEFAULT_STACK_SIZE) g.body
+IsMade StackPointer g = (g.ty ≡ variable_i32) × IsConstant (pos DEFAULT_STACK_SIZE) g.body × (g.owned ≡ true)
 IsMade _ g = ⊥
 
 -- a global that an object defines is as that has it

@@ -2,7 +2,7 @@
 
 ghost use Rattle.std.specs.Prelude.{◌≡◌, ◌≤◌, ◌<◌, ◌++◌, length, OnOk, IfOk, slice_index_or};
 ghost use Rattle.std.specs.List.{AllByRecursion};
-ghost use Rattle.wl_linking.specs.Fitting.{IsFitting};
+ghost use Rattle.wl_linking.specs.Fitting.{IsWhole};
 ghost use Rattle.wl_linking.specs.declared.relocations.WasmRelocation.{WasmRelocation as SpecRelocation};
 ghost use Rattle.wl_linking.specs.declared.sites.Site.{Site as SpecSite};
 ghost use Rattle.wl_plan.specs.Planned.{AllPlanned};
@@ -60,7 +60,7 @@ pub(crate) fn all_fixups(
     files: &[File<'_>],
     maps: &[WasmObjectIndexMap],
 ) -> Result<Vec<Fixup>, AllocError>
-    requires fits { AllByRecursion IsFitting files.now }
+    requires whole { AllByRecursion IsWhole files.now }
     requires planned { AllPlanned files.now }
     requires room { length (function_space files.now) ≤ max_entries }
     requires maps { AreMaps (function_space files.now) 0 files.now (function_maps maps.now) }

@@ -1,8 +1,9 @@
 //! The globals that the linker makes.
 
-ghost use Rattle.std.specs.Prelude.{◌≡◌, List, IfOk, pos};
+ghost use Rattle.std.specs.Prelude.{◌≡◌, List, IfOk, pos, true};
 ghost use Rattle.std.specs.List.{AllByRecursion};
 ghost use Rattle.std.specs.Cow.{cow_slice_items};
+ghost use Rattle.wl_module.specs.Slices.{is_owned};
 ghost use Rattle.wl_linking.specs.Object.{Object};
 ghost use Rattle.wl_plan.specs.Space.{made_globals};
 ghost use Rattle.wl_plan.specs.Globals.{IsConstant, IsMade, IsRightGlobal};
@@ -22,7 +23,8 @@ const I32_CONST: u8 = 0x41;
 
 /// The expression of a number.
 fn constant<'a>(alloc: Global, number: u32) -> Result<CowSlice<'a, u8>, AllocError>
-    ensures { IfOk result (λ body. IsConstant (pos number) (cow_slice_items body)) }
+    ensures value { IfOk result (λ body. IsConstant (pos number) (cow_slice_items body)) }
+    ensures owned { IfOk result (λ body. is_owned body ≡ true) }
 {
     let mut body = Vec::new(alloc);
     body.push(I32_CONST)?;

@@ -1,8 +1,6 @@
 //! From the bytes of objects to the plan of one module, step by step.
 
 ghost use Rattle.std.specs.Prelude.{◌≡◌, IfOk, IfErr};
-ghost use Rattle.std.specs.List.{AllByRecursion};
-ghost use Rattle.wl_linking.specs.Fitting.{IsFitting};
 ghost use Rattle.wl_linking.specs.Steps.{Clear, Refuses};
 ghost use Rattle.wl_plan.specs.Link.{link_of};
 ghost use Rattle.wl_plan.specs.Objects.{AreObjects, IsBadObject};
@@ -33,7 +31,6 @@ fn link_error(object: usize, error: ReadError) -> LinkError
 /// The objects that the bytes are, up to the first that isn't one.
 fn parse_objects<'a>(alloc: Global, objects: &'a ObjectList) -> Result<FileList<'a>, LinkError>
     ensures ok { IfOk result (λ files. AreObjects files objects.now) }
-    ensures fits { IfOk result (AllByRecursion IsFitting) }
     ensures err { IfErr result (Refuses (IsBadObject objects.now)) }
 {
     let mut files = FileList::new(alloc);
@@ -61,7 +58,6 @@ pub fn plan_files<'a>(
     files: &FileList<'a>,
     args: &WasmArgs,
 ) -> Result<LinkPlan<'a>, LinkError>
-    requires { AllByRecursion IsFitting files.now }
     ensures ok { IfOk result (IsPlanOf (link_of files.now args.now)) }
     ensures err { IfErr result (Refuses (link_fault (link_of files.now args.now))) }
 {

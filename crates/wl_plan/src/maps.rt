@@ -1,8 +1,7 @@
 //! Where the things of each object stand in the spaces of the output.
 
 ghost use Rattle.std.specs.Prelude.{◌≡◌, ◌≤◌, ◌+◌, length, map, IfOk};
-ghost use Rattle.std.specs.List.{range_with_len, AllByRecursion};
-ghost use Rattle.wl_linking.specs.Fitting.{IsFitting};
+ghost use Rattle.std.specs.List.{range_with_len};
 ghost use Rattle.wl_plan.specs.Planned.{AllPlanned};
 ghost use Rattle.wl_plan.specs.Space.{function_space, max_entries};
 ghost use Rattle.wl_plan.specs.Maps.{AreMaps};

@@ -5,7 +5,7 @@ ghost use Rattle.std.specs.List.{list_any};
 ghost use Rattle.wl_plan.specs.Types.{types_exist};
 ghost use Rattle.wl_plan.specs.Types.{add_new, firsts_onto, live_types};
 ghost use Rattle.std.specs.List.{AllByRecursion};
-ghost use Rattle.wl_linking.specs.Fitting.{IsFitting};
+ghost use Rattle.wl_linking.specs.Fitting.{IsWhole};
 ghost use Rattle.wl_plan.specs.Types.{output_types};
 ghost use Rattle.wl_plan.specs.Merging.{IsFull, LeadsToTypes, AreMerged};
 ghost use Rattle.wl_plan.specs.declared.types.TheConstants.{WASM_DEAD_INDEX};
@@ -75,7 +75,7 @@ pub(crate) struct MergedTypes {
 /// # Errors
 /// `TooLarge` where there would be more than 4294967294 of them.
 pub(crate) fn merge_all(alloc: Global, files: &[File<'_>]) -> Result<MergedTypes, LinkError>
-    requires { AllByRecursion IsFitting files.now }
+    requires { AllByRecursion IsWhole files.now }
     ensures ok { IfOk result (AreMerged files.now) }
     ensures err { IfErr result (IsFull (output_types files.now)) }
 {

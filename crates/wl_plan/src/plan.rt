@@ -1,8 +1,6 @@
 //! The plan of objects that can be planned, part by part.
 
 ghost use Rattle.std.specs.Prelude.{◌≡◌, [], ◌∷◌, OnOk, IfOk, IfErr};
-ghost use Rattle.std.specs.List.{AllByRecursion};
-ghost use Rattle.wl_linking.specs.Fitting.{IsFitting};
 ghost use Rattle.wl_symbols.specs.declared.args.WasmArgs.{WasmArgs as SpecArgs};
 ghost use Rattle.wl_plan.specs.Link.{link_of};
 ghost use Rattle.wl_plan.specs.Planned.{AllPlanned};
@@ -49,8 +47,7 @@ pub(crate) fn plan_objects<'a>(
     alloc: Global,
     files: &FileList<'a>,
 ) -> Result<LinkPlan<'a>, LinkError>
-    requires fits { AllByRecursion IsFitting files.now }
-    requires planned { AllPlanned files.now }
+    requires { AllPlanned files.now }
     ensures ok { (args : SpecArgs) → IfOk result (IsPlan (link_of files.now args)) }
     ensures clear { OnOk result (Clear (IsTooLarge files.now)) }
     ensures err { IfErr result (Refuses (IsTooLarge files.now)) }

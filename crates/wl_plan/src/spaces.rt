@@ -2,7 +2,7 @@
 
 ghost use Rattle.std.specs.Prelude.{◌≡◌, ◌≤◌, ◌++◌, length, true, OnOk, IfOk, IfErr};
 ghost use Rattle.std.specs.List.{AllByRecursion};
-ghost use Rattle.wl_linking.specs.Fitting.{IsFitting};
+ghost use Rattle.wl_linking.specs.Fitting.{IsWhole};
 ghost use Rattle.wl_plan.specs.Types.{types_exist};
 ghost use Rattle.wl_plan.specs.Space.{function_space};
 ghost use Rattle.wl_plan.specs.Merging.{IsFull, AreMerged};
@@ -46,7 +46,7 @@ pub(crate) fn function_space(
     files: &[File<'_>],
     merged: &MergedTypes,
 ) -> Result<Vec<OutputFunction>, LinkError>
-    requires fits { AllByRecursion IsFitting files.now }
+    requires whole { AllByRecursion IsWhole files.now }
     requires merged { AreMerged files.now merged.now }
     ensures ok { IfOk result (AreFunctions files.now merged.now) }
     ensures err { IfErr result (IsFull (function_space files.now)) }

@@ -1,6 +1,6 @@
 //! The strong names of objects: those by which other objects refer to what they define.
 
-ghost use Rattle.std.specs.Prelude.{◌≡◌, ◌++◌, OnOk, IfOk, IfErr, MatchOption};
+ghost use Rattle.std.specs.Prelude.{◌≡◌, ◌≤◌, ◌^◌, ◌++◌, length, OnOk, IfOk, IfErr, MatchOption};
 ghost use Rattle.wl_symbols.specs.StrongNames.{is_strong, strong_from, strong_of, HasDistinctNames, IsDuplicate, LacksName, HasName, Tells};
 ghost use Rattle.wl_linking.specs.Steps.{Clear, Refuses};
 
@@ -13,7 +13,7 @@ use wl_linking::{File, FileList, LinkError, Text, WasmSymbol};
 struct StrongSymbol<'a> {
     name: &'a str,
     object: usize,
-    symbol: usize,
+    symbol: u32,
 }
 
 impl<'a> Model for StrongSymbol<'a> {
@@ -38,6 +38,7 @@ fn push_strong<'a>(
     object: usize,
     symbols: &[WasmSymbol<'a>],
 ) -> Result<(), AllocError>
+    requires { length symbols.now ≤ 2 ^ 30 }
     ensures { OnOk result (strong.new.items ≡ strong.old.items ++ strong_from object 0 symbols.now) }
 {
     for (i, symbol) in symbols.iter().enumerate() {
@@ -45,7 +46,7 @@ fn push_strong<'a>(
             strong.push(StrongSymbol {
                 name: symbol.name,
                 object,
-                symbol: i,
+                symbol: i as u32,
             })?;
         }
     }
@@ -61,6 +62,7 @@ fn strong_symbols<'a>(
 {
     let mut strong = Vec::new(alloc);
     for (object, file) in files.iter().enumerate() {
+        file.stands_for_an_object();
         push_strong(&mut strong, object, file.symbols())?;
     }
     Ok(strong)

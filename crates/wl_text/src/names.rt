@@ -80,7 +80,6 @@ pub fn form_name(form: Form) -> &'static str
         Form::Tag => "Tag",
         Form::ConstOperator => "ConstOperator",
         Form::LinkingVersion => "LinkingVersion",
-        Form::Absolute => "Absolute",
         Form::RelocType => "RelocType",
         Form::RelocTarget => "RelocTarget",
         Form::Operator => "Operator",

@@ -19,7 +19,7 @@ pub push_fixups-requires : goal.push_fixups-requires
 push_fixups-requires c =
     let o = c.index-files-object.result in
     let m = c.index-maps-object.result in
-    let fits : IsFitting o = rw c.index-files-object.is (fits_at c.args.files.now c.loop-object.object o c.requires.fits c.loop-object-test.true) in
+    let fits : IsFitting o = rw c.index-files-object.is (fits_at c.args.files.now c.loop-object.object o c.requires.whole c.loop-object-test.true) in
     let planned : is_planned o ≡ true = rw c.index-files-object.is (planned_at c.args.files.now c.loop-object.object o c.requires.planned c.loop-object-test.true) in
     let len = maps_length (function_space c.args.files.now) 0 c.args.files.now (function_maps c.args.maps.now) c.requires.maps in
     let lt : c.loop-object.object < length c.args.maps.now = omega (arith, len, length-map c.args.maps.now (λ (n : WasmObjectIndexMap). n.function_indices), c.loop-object-test.true) in
@@ -30,7 +30,7 @@ pub loop-object-preserved : goal.loop-object-preserved
 loop-object-preserved c =
     let o = c.index-files-object.result in
     let m = c.index-maps-object.result in
-    let fits : IsFitting o = rw c.index-files-object.is (fits_at c.args.files.now c.loop-object.object o c.requires.fits c.loop-object-test.true) in
+    let fits : IsFitting o = rw c.index-files-object.is (fits_at c.args.files.now c.loop-object.object o c.requires.whole c.loop-object-test.true) in
     let planned : is_planned o ≡ true = rw c.index-files-object.is (planned_at c.args.files.now c.loop-object.object o c.requires.planned c.loop-object-test.true) in
     let len = maps_length (function_space c.args.files.now) 0 c.args.files.now (function_maps c.args.maps.now) c.requires.maps in
     let lt : c.loop-object.object < length c.args.maps.now = omega (arith, len, length-map c.args.maps.now (λ (n : WasmObjectIndexMap). n.function_indices), c.loop-object-test.true) in

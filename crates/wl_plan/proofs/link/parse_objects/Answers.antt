@@ -1,5 +1,5 @@
 use Rattle.std.proofs.Common.{◌≡◌, ◌+◌, ◌++◌, ◌∷◌, [], length, length-append}
-use Rattle.wl_plan.proofs.ContentLaws.{parses_more, bad_object, all_taken, all_fit}
+use Rattle.wl_plan.proofs.ContentLaws.{parses_more, bad_object, all_taken}
 use Rattle.wl_plan.proofs.link.parse_objects.Goals as goal
 
 pub returns-in-Err-clause-err : goal.returns-in-Err-clause-err
@@ -10,14 +10,9 @@ returns-in-Err-clause-err c =
 pub returns-clause-ok : goal.returns-clause-ok
 returns-clause-ok c = all_taken c.loop-bytes.files c.args.objects.now (length c.loop-bytes.files) c.loop-bytes.invariant (rw c.len.ensures at c.in_default.ensures.bytes)
 
-pub returns-clause-fits : goal.returns-clause-fits
-returns-clause-fits c =
-    let files = c.loop-bytes.files in
-    all_fit files c.args.objects.now (all_taken files c.args.objects.now (length files) c.loop-bytes.invariant (rw c.len.ensures at c.in_default.ensures.bytes))
-
 pub loop-bytes-preserved : goal.loop-bytes-preserved
 loop-bytes-preserved c =
     let files = c.loop-bytes.files in
     let more = parses_more files c.args.objects.now (length files) c.in-Ok.file c.in-Some.bytes.now c.loop-bytes.invariant (rw c.len.ensures at c.in-Some.ensures.bytes) c.in-Ok.ensures.sound in
     let longer : length (files ++ c.in-Ok.file ∷ []) ≡ length files + 1 = length-append files (c.in-Ok.file ∷ []) in
-    rw (c.in-Ok-push.ensures, longer) more
+    rw (c.in-Ok-push.ensures.pushed, longer) more

@@ -17,7 +17,7 @@ pub returns-clause-clear : goal.returns-clause-clear
 returns-clause-clear c =
     let merged = c.in_ok-merged.ensures.ok in
     let functions = c.in_ok-functions.ensures.ok in
-    let files : c.as_slice-files.result.now ≡ c.args.files.now = c.as_slice-files.ensures in
+    let files : c.as_slice-files.result.now ≡ c.args.files.now = c.as_slice-files.ensures.objects in
     let types : length (output_types c.as_slice-files.result.now) ≤ max_entries = rw (← merged.types, ← c.into_types.ensures.types) c.into_types.ensures.room in
     let space : length (function_space c.as_slice-files.result.now) ≤ max_entries = omega (arith, functions.room, ap length functions.origins, length-map c.in_ok-functions.functions.items origin_of) in
     room_clear c.args.files.now (subst (λ (os : List Object). length (output_types os) ≤ max_entries) files types) (subst (λ (os : List Object). length (function_space os) ≤ max_entries) files space)
@@ -26,8 +26,8 @@ pub returns-clause-ok : goal.returns-clause-ok
 returns-clause-ok c = λ args.
     let merged = c.in_ok-merged.ensures.ok in
     let functions = c.in_ok-functions.ensures.ok in
-    let planned : AllPlanned c.as_slice-files.result.now = subst AllPlanned (sym c.as_slice-files.ensures) c.requires.planned in
-    rw (← c.as_slice-files.ensures) (record {
+    let planned : AllPlanned c.as_slice-files.result.now = subst AllPlanned (sym c.as_slice-files.ensures.objects) c.requires in
+    rw (← c.as_slice-files.ensures.objects) (record {
       entities = record { imports = c.empty.ensures; table = refl; start_function = refl };
       places = record { memory = refl };
       spaces = record {

@@ -18,7 +18,7 @@ index-indices-requires c = let len = led_length c.args.merged.now.merger c.args.
 pub push_functions-requires-clause-types : goal.push_functions-requires-clause-types
 push_functions-requires-clause-types c =
     let o = c.index-files-object.result in
-    let fits : IsFitting o = rw c.index-files-object.is (fits_at c.args.files.now c.loop-object.object o c.requires.fits c.loop-object-test.true) in
+    let fits : IsFitting o = rw c.index-files-object.is (fits_at c.args.files.now c.loop-object.object o c.requires.whole c.loop-object-test.true) in
     let len = led_length c.args.merged.now.merger c.args.files.now c.args.merged.now.indices.items c.requires.merged.led in
     let there = map_at c.args.merged.now.indices.items c.loop-object.object c.index-indices.result.now (omega (arith, len, c.loop-object-test.true)) c.index-indices.ensures in
     let leads = led_at c.args.merged.now.merger c.args.files.now c.args.merged.now.indices.items c.loop-object.object o c.index-indices.result.now c.requires.merged.led (object_at c.args.files.now c.loop-object.object o c.loop-object-test.true c.index-files-object.is) there in
@@ -27,7 +27,7 @@ push_functions-requires-clause-types c =
 pub loop-object-preserved : goal.loop-object-preserved
 loop-object-preserved c =
     let o = c.index-files-object.result in
-    let fits : IsFitting o = rw c.index-files-object.is (fits_at c.args.files.now c.loop-object.object o c.requires.fits c.loop-object-test.true) in
+    let fits : IsFitting o = rw c.index-files-object.is (fits_at c.args.files.now c.loop-object.object o c.requires.whole c.loop-object-test.true) in
     let len = led_length c.args.merged.now.merger c.args.files.now c.args.merged.now.indices.items c.requires.merged.led in
     let there = map_at c.args.merged.now.indices.items c.loop-object.object c.index-indices.result.now (omega (arith, len, c.loop-object-test.true)) c.index-indices.ensures in
     let leads = led_at c.args.merged.now.merger c.args.files.now c.args.merged.now.indices.items c.loop-object.object o c.index-indices.result.now c.requires.merged.led (object_at c.args.files.now c.loop-object.object o c.loop-object-test.true c.index-files-object.is) there in

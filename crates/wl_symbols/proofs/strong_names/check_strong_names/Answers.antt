@@ -19,7 +19,7 @@ returns-in-Some-clause-err c =
     let found : HasName (take c.loop-later.later L) c.symbol-item.result.name c.in-Some.earlier = rw (← same, ← c.symbol.view_is) c.in-Some.ensures in
     let s-is : c.index.result.now ≡ get_or L c.in-Some.earlier c.index.result.now = rw c.deref-symbol-items.ensures.value c.index.ensures in
     let h = repeats L c.in-Some.earlier c.loop-later.later c.index.result.now c.symbol-item.result c.loop-later-test.true c.symbol-item.is c.loop-later.invariant found s-is in
-    record { cause_is = λ not. (c.index.result.now, c.symbol-item.result, subst (λ (ss : List Strong). IsRepeat ss c.index.result.now c.symbol-item.result) (c.deref-symbol-items.ensures.value ∙ c.in_ok-strong.ensures ∙ ap (strong_of 0) c.as_slice.ensures) h, c.in_ok-duplicate.ensures) }
+    record { cause_is = λ not. (c.index.result.now, c.symbol-item.result, subst (λ (ss : List Strong). IsRepeat ss c.index.result.now c.symbol-item.result) (c.deref-symbol-items.ensures.value ∙ c.in_ok-strong.ensures ∙ ap (strong_of 0) c.as_slice.ensures.objects) h, c.in_ok-duplicate.ensures) }
 
 pub loop-later-preserved : goal.loop-later-preserved
 loop-later-preserved c =
@@ -30,8 +30,8 @@ loop-later-preserved c =
 
 pub returns-clause-distinct : goal.returns-clause-distinct
 returns-clause-distinct c =
-    subst AreDistinct (c.deref-symbol-items.ensures.value ∙ c.in_ok-strong.ensures ∙ ap (strong_of 0) c.as_slice.ensures) (distinct_all c.deref-symbol-items.result.now c.loop-later.later c.loop-later-test.false c.loop-later.invariant)
+    subst AreDistinct (c.deref-symbol-items.ensures.value ∙ c.in_ok-strong.ensures ∙ ap (strong_of 0) c.as_slice.ensures.objects) (distinct_all c.deref-symbol-items.result.now c.loop-later.later c.loop-later-test.false c.loop-later.invariant)
 
 pub returns-clause-ok : goal.returns-clause-ok
 returns-clause-ok c =
-    names_clear c.args.files.now (subst AreDistinct (c.deref-symbol-items.ensures.value ∙ c.in_ok-strong.ensures ∙ ap (strong_of 0) c.as_slice.ensures) (distinct_all c.deref-symbol-items.result.now c.loop-later.later c.loop-later-test.false c.loop-later.invariant))
+    names_clear c.args.files.now (subst AreDistinct (c.deref-symbol-items.ensures.value ∙ c.in_ok-strong.ensures ∙ ap (strong_of 0) c.as_slice.ensures.objects) (distinct_all c.deref-symbol-items.result.now c.loop-later.later c.loop-later-test.false c.loop-later.invariant))
