@@ -99,17 +99,16 @@ fn assert_infos(rt: &impl Abort, infos: &[WasmSegmentInfo<'_>]) {
 // The only feature.
 fn assert_features(rt: &impl Abort, features: &[WasmTargetFeature<'_>]) {
     assert_eq!(rt; features.len(), 1);
-    assert_eq!(rt; (features[0].prefix, features[0].name), (b'+', "atomics"));
+    let feature = &features[0];
+    assert_eq!(rt; (feature.prefix, feature.name), (b'+', "atomics"));
 }
 
 // The only debug section.
 fn assert_debug(rt: &impl Abort, sections: &[DebugSectionInput<'_>]) {
     assert_eq!(rt; sections.len(), 1);
-    assert_eq!(rt;
-        (sections[0].name, sections[0].object_index),
-        (".debug_x", 0)
-    );
-    assert_eq!(rt; sections[0].payload, [9].as_slice());
+    let section = &sections[0];
+    assert_eq!(rt; (section.name, section.object_index), (".debug_x", 0));
+    assert_eq!(rt; section.payload, [9].as_slice());
 }
 
 /// The function that runs at the start.
@@ -171,7 +170,8 @@ fn assert_functions(rt: &impl Abort, alloc: Global, file: &File<'_>) -> Result<(
     let (functions, bodies) = (file.module_functions(alloc)?, file.function_bodies(alloc)?);
     assert_eq!(rt; functions.as_slice(), [0].as_slice());
     assert_eq!(rt; bodies.len(), 1);
-    assert_eq!(rt; (bodies[0].code_offset, bodies[0].bytes.len()), (2, 8));
+    let body = &bodies[0];
+    assert_eq!(rt; (body.code_offset, body.bytes.len()), (2, 8));
     Ok(())
 }
 
@@ -187,11 +187,9 @@ fn assert_globals(rt: &impl Abort, alloc: Global, file: &File<'_>) -> Result<(),
 fn assert_segments(rt: &impl Abort, alloc: Global, file: &File<'_>) -> Result<(), AllocError> {
     let segments = file.data_segments(alloc)?;
     assert_eq!(rt; segments.len(), 1);
-    assert_eq!(rt;
-        (segments[0].section_offset, segments[0].encoded_size),
-        (1, 12)
-    );
-    assert_eq!(rt; segments[0].payload, b"\0\0\0\0abc".as_slice());
+    let segment = &segments[0];
+    assert_eq!(rt; (segment.section_offset, segment.encoded_size), (1, 12));
+    assert_eq!(rt; segment.payload, b"\0\0\0\0abc".as_slice());
     assert_debug(rt, &file.debug_sections(alloc)?);
     Ok(())
 }
