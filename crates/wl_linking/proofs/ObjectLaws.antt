@@ -32,6 +32,7 @@ use Rattle.wl_linking.proofs.OnceLaws.{object_code_ascends, object_data_ascends}
 use Rattle.wl_linking.proofs.ImportPlaces.{sections_named, sections_spanned}
 use Rattle.wl_linking.proofs.PlacedLaws.{placed_headers}
 use Rattle.wl_linking.proofs.ImportNameLaws.{parts_names_stand}
+use Rattle.wl_linking.proofs.FewLaws.{few_items}
 use Rattle.wl_linking.proofs.ExistLaws.{counts_pass, core_passes, linked_passes}
 
 -- ---- one object
@@ -193,14 +194,16 @@ fails e = Err e
 pub parses : (bytes : List ℕ) (r : Result Object ReadError) → MatchResult r (λ o. IsObject o bytes) (HasCause (λ e. ObjectFault e bytes)) → ParsesObject bytes r
 parses bytes (Ok o) h = record {
   sound = h;
+  few = few_items bytes o h;
   only = λ p k. ap right (object_one bytes p o k h);
   fault = tt;
   frame = λ e f. absurd (object_either bytes o e h (inl f));
   section = λ e hs framed f. absurd (object_either bytes o e h (inr (hs, framed, inl f)));
 }
-parses bytes (Err OutOfMemory) h = record { sound = tt; only = λ p k. tt; fault = tt; frame = λ e f. tt; section = λ e hs framed f. tt }
+parses bytes (Err OutOfMemory) h = record { sound = tt; few = tt; only = λ p k. tt; fault = tt; frame = λ e f. tt; section = λ e hs framed f. tt }
 parses bytes (Err (Malformed w)) h = record {
   sound = tt;
+  few = tt;
   only = λ p k. absurd (object_either bytes p (Malformed w) k h);
   fault = h;
   frame = λ e f. ap wrong (sym (frame_first bytes e (Malformed w) f h));
@@ -208,6 +211,7 @@ parses bytes (Err (Malformed w)) h = record {
 }
 parses bytes (Err (Unsupported w)) h = record {
   sound = tt;
+  few = tt;
   only = λ p k. absurd (object_either bytes p (Unsupported w) k h);
   fault = h;
   frame = λ e f. ap wrong (sym (frame_first bytes e (Unsupported w) f h));

@@ -149,9 +149,11 @@ ObjectFault e bytes = FrameFault e bytes
     ⊎ ((headers : List SectionHeader) × Framed headers bytes × (AreFaulty bytes headers nothing_seen headers e ⊎ IsUnfitting headers bytes e))
 
 -- What a call on an object's bytes has answered, memory apart: the object exactly where they are one, and else what is wrong;
--- the frame and the sections are judged before what must hold across them.
+-- the frame and the sections are judged before what must hold across them. No list of the object has more items than there are
+-- bytes.
 pub record ParsesObject (bytes : List ℕ) (result : Result Object ReadError) : Type 0 where
   pub sound : IfOk result (λ o. IsObject o bytes)
+  pub few : IfOk result (HasFewItems (length bytes))
   pub only : (o : Object) → IsObject o bytes → Gives (λ f. f) result (Ok o)
   pub fault : IfErr result (HasCause (λ e. ObjectFault e bytes))
   pub frame : (e : ReadError) → FrameFault e bytes → Gives (λ f. f) result (Err e)

@@ -19,3 +19,4 @@ pub mod Placing
 pub mod Fitting
 pub mod Stretches
 pub mod RawNames
+pub mod Steps

@@ -11,12 +11,18 @@ use std::marker::Model;
 use wl_bytes::Reader;
 use wl_module::{Item, ReadError, read_payload};
 
+/// The prefix of a feature that the object uses.
+pub const TARGET_FEATURE_PREFIX_USED: u8 = b'+';
+
+/// The prefix of a feature that nothing linked with the object may use.
+pub const TARGET_FEATURE_PREFIX_DISALLOWED: u8 = b'-';
+
 /// A feature of the machine that an object uses or refuses (tool conventions, "Target Features
 /// Section"). Clauses see it as a `Feature`, with its name as a list of bytes.
 #[derive(Drop)]
 pub struct WasmTargetFeature<'a> {
-    /// `+` where the object uses it, `-` where the object can't be linked with one that does; any
-    /// byte may stand there.
+    /// [`TARGET_FEATURE_PREFIX_USED`] where the object uses it, [`TARGET_FEATURE_PREFIX_DISALLOWED`]
+    /// where it can't be linked with one that does; any byte may stand there.
     pub prefix: u8,
     /// Its name.
     pub name: &'a str,

@@ -6,7 +6,25 @@ ghost use Rattle.wl_module.specs.Outcome.{Gives};
 ghost use Rattle.wl_linking.specs.Targets.{stretch, name_of, custom_kind, standard_kind, kind_of, target_verdict, numbered_verdict, is_debug};
 
 use crate::relocations::Target;
-use wl_module::{Form, ReadError, SectionHeader, Why};
+use wl_module::{Form, ReadError, SectionHeader, Why, section_id};
+
+/// The name of the section that tells of symbols and segments (object file linking, version 2,
+/// "Linking Metadata Section").
+pub const LINKING_SECTION_NAME: &str = "linking";
+
+/// What the name of a relocation section begins with (object file linking, version 2, "Relocation
+/// Sections").
+pub const RELOC_SECTION_PREFIX: &str = "reloc.";
+
+/// The name of the section that tells what an object uses of the machine that it is made for (tool
+/// conventions, "Target Features Section").
+pub const TARGET_FEATURES_SECTION_NAME: &str = "target_features";
+
+/// What the name of a debug section begins with.
+const DEBUG_SECTION_PREFIX: &str = ".debug_";
+
+/// The id of the tag section, the only one above those of the module's own sections.
+const TAG: u8 = 13;
 
 /// What a section is.
 #[derive(Clone, Copy, Debug, PartialEq, Eq)]
@@ -64,13 +82,13 @@ pub(crate) fn name_of<'a>(bytes: &'a [u8], header: &SectionHeader) -> &'a [u8]
 fn custom_kind(name: &[u8]) -> SectionKind
     ensures { result ≡ custom_kind name.now }
 {
-    if name == b"linking".as_slice() {
+    if name == LINKING_SECTION_NAME.as_bytes() {
         SectionKind::Linking
-    } else if name.starts_with(b"reloc.") {
+    } else if name.starts_with(RELOC_SECTION_PREFIX.as_bytes()) {
         SectionKind::Reloc
-    } else if name.starts_with(b".debug_") {
+    } else if name.starts_with(DEBUG_SECTION_PREFIX.as_bytes()) {
         SectionKind::Debug
-    } else if name == b"target_features".as_slice() {
+    } else if name == TARGET_FEATURES_SECTION_NAME.as_bytes() {
         SectionKind::Features
     } else {
         SectionKind::Skipped
@@ -82,18 +100,18 @@ fn standard_kind(id: u8) -> SectionKind
     ensures { result ≡ standard_kind id }
 {
     match id {
-        1 => SectionKind::Type,
-        2 => SectionKind::Import,
-        3 => SectionKind::Function,
-        4 => SectionKind::Table,
-        5 => SectionKind::Memory,
-        6 => SectionKind::Global,
-        7 => SectionKind::Export,
-        8 => SectionKind::Start,
-        10 => SectionKind::Code,
-        11 => SectionKind::Data,
-        12 => SectionKind::DataCount,
-        13 => SectionKind::Tag,
+        section_id::TYPE => SectionKind::Type,
+        section_id::IMPORT => SectionKind::Import,
+        section_id::FUNCTION => SectionKind::Function,
+        section_id::TABLE => SectionKind::Table,
+        section_id::MEMORY => SectionKind::Memory,
+        section_id::GLOBAL => SectionKind::Global,
+        section_id::EXPORT => SectionKind::Export,
+        section_id::START => SectionKind::Start,
+        section_id::CODE => SectionKind::Code,
+        section_id::DATA => SectionKind::Data,
+        section_id::DATA_COUNT => SectionKind::DataCount,
+        TAG => SectionKind::Tag,
         _ => SectionKind::Skipped,
     }
 }

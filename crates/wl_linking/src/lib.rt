@@ -32,12 +32,16 @@ mod text;
 
 pub use debug::DebugSectionInput;
 pub use error::{LinkError, MemoryBound, Quantity, SharedMemoryNeed, UndefinedSymbol};
-pub use features::{WasmTargetFeature, features_or_fault, parse_target_features_payload};
+pub use features::{
+    TARGET_FEATURE_PREFIX_DISALLOWED, TARGET_FEATURE_PREFIX_USED, WasmTargetFeature,
+    features_or_fault, parse_target_features_payload,
+};
 pub use file::File;
 pub use file_list::FileList;
 pub use flags::SymbolFlags;
 pub use infos::{WasmInitFunc, WasmSegmentInfo};
 pub use items::Items;
+pub use kinds::{LINKING_SECTION_NAME, RELOC_SECTION_PREFIX, TARGET_FEATURES_SECTION_NAME};
 pub use object::{
     lists_are_few, names_stand, object_or_fault, parse_wasm_module, parts_of_objects_stand,
     whole_objects,
@@ -50,26 +54,6 @@ pub use symbols::{WasmSymbol, WasmSymbolKind};
 pub use text::Text;
 
 #[cfg(test)]
-mod core_tests;
-#[cfg(test)]
-mod feature_tests;
-#[cfg(test)]
-mod field_tests;
-#[cfg(test)]
-mod linking_tests;
-#[cfg(test)]
 mod list_tests;
 #[cfg(test)]
-mod name_tests;
-#[cfg(test)]
-mod object_tests;
-#[cfg(test)]
-mod relocation_tests;
-#[cfg(test)]
-mod slot_tests;
-#[cfg(test)]
-mod symbol_tests;
-#[cfg(test)]
-mod target_tests;
-#[cfg(test)]
-mod test_bytes;
+mod tests;

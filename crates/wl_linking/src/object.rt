@@ -16,8 +16,8 @@ ghost use Rattle.wl_linking.specs.Fitting.{HasItems, named_symbols, NameStands, 
 ghost use Rattle.wl_linking.specs.Spaces.{count_imports};
 ghost use Rattle.wl_module.specs.declared.imports.ExternalKind.{ExternalKind as Kind};
 ghost use Rattle.wl_linking.specs.declared.sites.Site.{Site as PlacedSite};
-ghost use Rattle.wl_linking.specs.Placing.{IsSpanned, Ascend};
 ghost use Rattle.wl_linking.specs.Stretches.{PartsStandIn};
+ghost use Rattle.wl_linking.specs.Placing.{IsSpanned, Ascend};
 ghost use Rattle.wl_linking.specs.Verdict.{HasCause};
 
 use crate::contents::Contents;
