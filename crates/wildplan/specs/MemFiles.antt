@@ -52,7 +52,7 @@ files_state s = record {
 abbrev pub IsCalm : MemFiles → Type 0
 IsCalm s = s.fails.items ≡ []
 
--- no name holds anything, no call was made, none is to fail, and a read gives all that there is room for
+-- no name holds anything, no call was made, none is to fail, and reads are as long as can be
 pub record IsNewFiles (s : MemFiles) : Type 0 where
   pub names : (name : List ℕ) → held_by s name ≡ None
   pub begun : (files_state s).begun ≡ None

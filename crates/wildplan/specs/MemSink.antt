@@ -31,7 +31,8 @@ whole_room s = s.room
 
 -- how many bytes a call takes of a piece of this length
 abbrev pub write_count : MemSink → ℕ → ℕ
-write_count s piece_length = min (min piece_length (write_limit s)) (whole_room s - length (sink_bytes s))
+write_count s piece_length =
+    min (min piece_length (write_limit s)) (whole_room s - length (sink_bytes s))
 
 -- it tells the bytes that it took
 abbrev pub sink_state : MemSink → SinkState
@@ -39,7 +40,8 @@ sink_state s = record { taken = Some (sink_bytes s); faults = s.faults }
 
 -- no call is to fail, each takes something, and there is room
 abbrev pub TakesMore : MemSink → ℕ → Type 0
-TakesMore s n = (failing_writes s ≡ []) × (0 < write_limit s) × (length (sink_bytes s) + n ≤ whole_room s)
+TakesMore s n =
+    (failing_writes s ≡ []) × (0 < write_limit s) × (length (sink_bytes s) + n ≤ whole_room s)
 
 -- it took nothing, no call was made, and none is to fail
 pub record IsNewSink (room piece : ℕ) (s : MemSink) : Type 0 where
