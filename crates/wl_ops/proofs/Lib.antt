@@ -1,0 +1,9 @@
+pub mod OpLaws
+pub mod Pushing
+pub mod Passing
+pub mod RestLaws
+pub mod DecodeLaws
+pub mod CountLaws
+pub mod NumberLaws
+pub mod PrefixLaws
+pub mod ToldLaws
