@@ -7,3 +7,11 @@ pub mod CountLaws
 pub mod NumberLaws
 pub mod PrefixLaws
 pub mod ToldLaws
+pub mod PlaceLaws
+pub mod NumberIn
+pub mod LieLaws
+pub mod PieceLaws
+pub mod ShiftLaws
+pub mod FieldLaws
+pub mod KeepLaws
+pub mod RemapLaws

@@ -54,10 +54,10 @@ told_some body ms s = (inl (ms, s, refl), λ e f. absurd (let a = decoded_readin
 told_none : (body : List ℕ) → holds_prefix body ≡ false → AreTold [] body
 told_none body h = (none_in body h, λ e f. absurd (let no = h in let yes = f.0 in cc))
 
-no_fault : (body : List ℕ) (ns : List DataIndexImm) (e : ReadError) → AreTold ns body → ¬ NumbersFault e body
+pub no_fault : (body : List ℕ) (ns : List DataIndexImm) (e : ReadError) → AreTold ns body → ¬ NumbersFault e body
 no_fault body ns e s f = s.1 e f
 
-one_fault : (body : List ℕ) (e d : ReadError) → NumbersFault e body → NumbersFault d body → e ≡ d
+pub one_fault : (body : List ℕ) (e d : ReadError) → NumbersFault e body → NumbersFault d body → e ≡ d
 one_fault body e d f g = err_is {A = List Op} e d (sym (decoded_reading.fails body e f.1) ∙ decoded_reading.fails body d g.1)
 
 by_decoding : (body : List ℕ) (r : Result (List Op) ReadError) (b : Bool) → decoded body ≡ r → holds_prefix body ≡ b → ((ns : List DataIndexImm) × AreTold ns body) ⊎ ((e : ReadError) × NumbersFault e body)

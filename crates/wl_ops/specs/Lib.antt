@@ -4,3 +4,5 @@ pub mod Immediates
 pub mod Operators
 pub mod Decoding
 pub mod Numbers
+pub mod Rewriting
+pub mod Standing

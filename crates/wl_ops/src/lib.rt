@@ -12,12 +12,16 @@ mod laws;
 mod numbers;
 mod op;
 mod operators;
+mod rewriting;
 mod table;
 
 pub use decoding::decode_body;
-pub use laws::{numbers_or_fault, operators_are_few, operators_or_fault};
+pub use laws::{
+    numbers_or_fault, operators_are_few, operators_or_fault, rewriting_keeps_operators,
+};
 pub use numbers::data_index_immediates;
 pub use op::{DataIndexImm, Op, OpArgs};
+pub use rewriting::remap_body_data_indices;
 
 #[cfg(test)]
 mod tests;

@@ -4,7 +4,7 @@ ghost use Rattle.std.specs.Prelude.{◌≡◌};
 ghost use Rattle.wl_ops.specs.Table.{shape_in, is_prefix, is_untaken, is_element, shape_of, immediates};
 
 /// One value behind an operator's first byte and number.
-#[derive(Clone, Copy, Debug, PartialEq, Eq)]
+#[derive(Clone, Copy)]
 pub enum Single {
     /// An unsigned number of 32 bits: an index, a label, an offset.
     Number,
@@ -25,7 +25,7 @@ pub enum Single {
 }
 
 /// One thing that stands behind an operator's first byte and number.
-#[derive(Clone, Copy, Debug, PartialEq, Eq)]
+#[derive(Clone, Copy)]
 pub enum Immediate {
     /// One value.
     One(Single),
@@ -36,7 +36,7 @@ pub enum Immediate {
 }
 
 /// What stands behind an operator.
-#[derive(Clone, Copy, Debug, PartialEq, Eq)]
+#[derive(Clone, Copy)]
 pub enum Shape {
     /// Nothing.
     Nothing,
