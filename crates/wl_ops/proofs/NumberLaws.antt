@@ -1,5 +1,5 @@
 -- Operators are read with the numbers in them as they are read without.
-use Rattle.std.proofs.Common.{◌≡◌, ◌⊎◌, ℕ, ℤ, ◌+◌, Bool, true, false, cond, eqb, List, [], ◌∷◌, ◌++◌, length, map, Option, Some, None, Result, Ok, Err, refl, sym, ap, subst, ◌∙◌, arith, inl, inr}
+use Rattle.std.proofs.Common.{◌≡◌, ◌<◌, ◌⊎◌, ℕ, ℤ, ◌+◌, Bool, true, false, cond, eqb, List, [], ◌∷◌, ◌++◌, length, map, Option, Some, None, Result, Ok, Err, refl, sym, ap, subst, ◌∙◌, arith, inl, inr}
 use Rattle.std.specs.Prelude.{◌||◌, ◌&&◌}
 use Rattle.std.specs.List.{cons_option}
 use Rattle.std.specs.Option.{option_to_list}
@@ -32,7 +32,7 @@ use Rattle.wl_ops.specs.Decoding.{AreLocals, is_ended, AreTaken, ops_of, body_of
 use Rattle.wl_ops.specs.Numbers.{is_segment, IsPlacedNumber, placed_number, placed_number_at, IsSegment, SegmentFault, segment_at, with_number, without_number, IsMarkedBehind, MarkedBehindFault, marked_behind_at, IsMarked, MarkedFault, marked_of, marked_at, op_in, numbers, AreMarked, NumbersIn, NumbersOf}
 use Rattle.wl_ops.proofs.OpLaws.{see, head_reading, behind_reading, op_reading}
 use Rattle.wl_ops.proofs.Pushing.{fails_bind}
-use Rattle.wl_ops.proofs.RestLaws.{AreItems, taken_whole}
+use Rattle.wl_ops.proofs.RestLaws.{AreItems, taken_whole, shortens, one_more}
 use Rattle.wl_ops.proofs.DecodeLaws.{locals_reading, dry, stops_so, ends_so, byte_first, as_body, mid_of, ops_taken}
 
 -- ---- reading
@@ -228,6 +228,16 @@ numbers_more ms m = filter_map-append (λ m. m.number) ms (m ∷ []) ∙ ap (λ 
     single : (o : Option DataIndexImm) → cons_option o [] ≡ option_to_list o
     single None = refl
     single (Some n) = refl
+
+-- one more operator is read
+pub read_more : (ms : List Marked) (m : Marked) (ns ks : List DataIndexImm) (c a b : Cursor) → Takes (Items IsMarked) ms c a → marked_at a ≡ Ok (m, b) → ns ≡ numbers ms → ks ≡ ns ++ option_to_list m.number
+    → (os : List Marked) × Takes (Items IsMarked) os c b × (is_ended (map op_in os) ≡ eqb m.op.code 0x0b) × (ks ≡ numbers os)
+read_more ms m ns ks c a b t read old new =
+    (ms ++ m ∷ [], one_more IsMarked ms m c a b t (marked_reading.found a m b read), ended_more ms m, new ∙ ap (λ (l : List DataIndexImm). l ++ option_to_list m.number) old ∙ sym (numbers_more ms m))
+
+-- and fewer bytes are left
+pub read_less : (m : Marked) (a b : Cursor) → marked_at a ≡ Ok (m, b) → length b.rest < length a.rest
+read_less m a b read = shortens IsMarked MarkedFault marked_at are_marked m a b (marked_reading.found a m b read)
 
 -- behind the local declarations a body is read as its operators are
 body_is : (body : List ℕ) (mid : Cursor) → Takes (Any AreLocals) tt (start body) mid → body_of body ≡ ops_of mid

@@ -10,13 +10,10 @@ ghost use Rattle.wl_ops.specs.Decoding.{local_at, ops_of, body_of, in_body, deco
 
 use crate::immediates::{is_value_type, read_count};
 use crate::op::Op;
-use crate::operators::read_op;
+use crate::operators::{END, read_op};
 use std::alloc::Global;
 use wl_bytes::Reader;
 use wl_module::{ReadError, Why};
-
-/// The byte of the operator `end`.
-const END: u8 = 0x0b;
 
 /// The local declaration in front: how many locals, and the byte of their type.
 #[tactic(auto, unfolding(crate::specs::Decoding::local_at))]
@@ -35,7 +32,8 @@ fn read_local(reader: &mut Reader<'_>) -> Result<(u32, u8), ReadError>
 
 /// Passes so many local declarations.
 fn pass_locals(count: u32, reader: &mut Reader<'_>) -> Result<(), ReadError>
-    ensures value { Yields (λ u. u) result reader.new (any_at (times_at local_at count) reader.old) }
+    ensures value { Yields (λ u. u) result reader.new
+        (any_at (times_at local_at count) reader.old) }
     ensures end { end_of reader.new ≡ end_of reader.old }
 {
     for _ in 0..count {

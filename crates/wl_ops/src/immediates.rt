@@ -88,7 +88,8 @@ fn read_singles(
     reader: &mut Reader<'_>,
     args: &mut OpArgs,
 ) -> Result<(), ReadError>
-    ensures value { Yields (λ _. args.new) result reader.new (with_front args.old (times_at (single_at single) count reader.old)) }
+    ensures value { Yields (λ _. args.new) result reader.new
+        (with_front args.old (times_at (single_at single) count reader.old)) }
     ensures end { end_of reader.new ≡ end_of reader.old }
 {
     for _ in 0..count {
@@ -129,7 +130,8 @@ fn catch_numbers(kind: u8) -> u32
 
 /// The catch in front, whose values go behind those that are there.
 fn read_catch(reader: &mut Reader<'_>, args: &mut OpArgs) -> Result<(), ReadError>
-    ensures value { Yields (λ _. args.new) result reader.new (with_front args.old (catch_at reader.old)) }
+    ensures value { Yields (λ _. args.new) result reader.new
+        (with_front args.old (catch_at reader.old)) }
     ensures end { end_of reader.new ≡ end_of reader.old }
 {
     let kind = read_kind(reader)?;
@@ -139,7 +141,8 @@ fn read_catch(reader: &mut Reader<'_>, args: &mut OpArgs) -> Result<(), ReadErro
 
 /// So many catches in front, whose values go behind those that are there.
 fn read_catches(count: u32, reader: &mut Reader<'_>, args: &mut OpArgs) -> Result<(), ReadError>
-    ensures value { Yields (λ _. args.new) result reader.new (with_front args.old (flat_at catch_at count reader.old)) }
+    ensures value { Yields (λ _. args.new) result reader.new
+        (with_front args.old (flat_at catch_at count reader.old)) }
     ensures end { end_of reader.new ≡ end_of reader.old }
 {
     for _ in 0..count {
@@ -154,7 +157,8 @@ fn read_immediate(
     reader: &mut Reader<'_>,
     args: &mut OpArgs,
 ) -> Result<(), ReadError>
-    ensures value { Yields (λ _. args.new) result reader.new (with_front args.old (immediate_at immediate reader.old)) }
+    ensures value { Yields (λ _. args.new) result reader.new
+        (with_front args.old (immediate_at immediate reader.old)) }
     ensures end { end_of reader.new ≡ end_of reader.old }
 {
     match immediate {

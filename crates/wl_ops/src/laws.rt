@@ -24,13 +24,15 @@ pub fn numbers_or_fault()
 /// A body has at least as many bytes as operators and immediates together.
 pub fn operators_are_few()
     ensures operators { AreFew AreTaken }
-    ensures values { (ops : List OpRecord) (body : List ℕ) → AreTaken ops body → list_items ops ≤ length body }
+    ensures values { (ops : List OpRecord) (body : List ℕ)
+        → AreTaken ops body → list_items ops ≤ length body }
 {}
 
-/// A body whose numbers of data segments are rewritten keeps its operators but for these numbers, and
-/// the bytes of each field that overlaps none, each in the operator, or in the local declarations,
-/// in which it stood.
+/// A body whose numbers of data segments are rewritten keeps its operators but for these numbers,
+/// and the bytes of each field that overlaps none, each in the operator, or in the local
+/// declarations, in which it stood.
 pub fn rewriting_keeps_operators()
     ensures { (new : ℕ → Option ℕ) (numbers : List Number) (body other : List ℕ)
-        → HasNumbers numbers body → Rewrites new 0 numbers body other → Keeps new numbers body other }
+        → HasNumbers numbers body → Rewrites new 0 numbers body other
+        → Keeps new numbers body other }
 {}

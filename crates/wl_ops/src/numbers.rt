@@ -8,23 +8,26 @@ ghost use Rattle.wl_ops.specs.Numbers.{is_segment, placed_number_at, segment_at,
 
 use crate::decoding::{in_body, skip_locals};
 use crate::op::{DataIndexImm, Marked, Op, OpArgs};
-use crate::operators::{read_behind, read_head};
+use crate::operators::{END, read_behind, read_head};
 use memchr::memchr;
 use std::alloc::{AllocError, Global};
 use wl_bytes::Reader;
 use wl_module::{ReadError, Why};
 
-/// The byte of the operator `end`.
-const END: u8 = 0x0b;
-
 /// The first byte of `memory.init` and `data.drop`.
 const PREFIX: u8 = 0xfc;
 
-/// Whether the first immediate is the number of a data segment: `memory.init` and `data.drop`.
+/// The number of `memory.init` among the operators that begin so.
+const MEMORY_INIT: u32 = 8;
+
+/// The number of `data.drop` among them.
+const DATA_DROP: u32 = 9;
+
+/// Whether the first immediate is the number of a data segment.
 fn is_segment(code: u8, sub: u32) -> bool
     ensures { result ≡ is_segment code sub }
 {
-    code == 0xfc && (sub == 8 || sub == 9)
+    code == PREFIX && (sub == MEMORY_INIT || sub == DATA_DROP)
 }
 
 /// The number in front, with its place.
@@ -46,7 +49,7 @@ fn read_segment(sub: u32, reader: &mut Reader<'_>) -> Result<(DataIndexImm, Opti
     ensures end { end_of reader.new ≡ end_of reader.old }
 {
     let number = read_placed_number(reader)?;
-    if sub == 8 {
+    if sub == MEMORY_INIT {
         let memory = reader.read_u32()?;
         Ok((number, Some(memory)))
     } else {

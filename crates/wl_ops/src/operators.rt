@@ -12,6 +12,9 @@ use std::alloc::Global;
 use wl_bytes::Reader;
 use wl_module::{Form, ReadError, Why};
 
+/// The first byte of the operator `end`.
+pub(crate) const END: u8 = 0x0b;
+
 /// The number behind the first byte, where there is one.
 #[tactic(auto, unfolding(crate::specs::Operators::sub_at))]
 fn read_sub(code: u8, reader: &mut Reader<'_>) -> Result<u32, ReadError>
@@ -58,7 +61,8 @@ pub(crate) fn read_behind(
     sub: u32,
     reader: &mut Reader<'_>,
 ) -> Result<OpArgs, ReadError>
-    ensures value { Yields (λ a. a) result reader.new (behind_at (taken_shape (code, sub)) reader.old) }
+    ensures value { Yields (λ a. a) result reader.new
+        (behind_at (taken_shape (code, sub)) reader.old) }
     ensures end { end_of reader.new ≡ end_of reader.old }
 {
     let shape = taken_shape(code, sub)?;

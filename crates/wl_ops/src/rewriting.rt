@@ -46,7 +46,8 @@ fn new_index(indices: &[Option<u32>], index: u32) -> Option<u32>
 
 /// The bytes before a number, and the new one in its shortest form.
 fn append_number(out: &mut Vec<u8>, before: &[u8], index: u32) -> Result<(), AllocError>
-    ensures { IfOk result (λ _. (short : List ℕ) × IsShort index short × (length short ≤ 5) × (out.new.items ≡ (out.old.items ++ before.now) ++ short)) }
+    ensures { IfOk result (λ _. (short : List ℕ) × IsShort index short × (length short ≤ 5)
+        × (out.new.items ≡ (out.old.items ++ before.now) ++ short)) }
 {
     out.extend_from_slice(before)?;
     push_uleb(out, u64::from(index))
@@ -61,7 +62,8 @@ fn rewrite(
 ) -> Result<Rewritten, ReadError>
     requires { LieWithin 0 numbers.now (length body.now) }
     ensures { MatchResult result
-        (λ r. IsRewriting (new_index indices.now) numbers.now body.now r.bytes.items r.shifts.items)
+        (λ r. IsRewriting (new_index indices.now) numbers.now body.now
+        r.bytes.items r.shifts.items)
         (RewriteFault (new_index indices.now) numbers.now) }
 {
     let mut bytes = Vec::new(alloc);
@@ -89,7 +91,8 @@ fn rewrite(
 fn shifts_before(shifts: &[Shift], place: usize) -> usize
     requires { IsNonDecreasingBy (λ (s : ShiftRecord). s.old_end) shifts.now }
     ensures bound { result ≤ length shifts.now }
-    ensures point { IsPartitionPoint (λ (s : ShiftRecord). s.old_end ≤ place) (λ (s : ShiftRecord). place < s.old_end) shifts.now result }
+    ensures point { IsPartitionPoint (λ (s : ShiftRecord). s.old_end ≤ place)
+        (λ (s : ShiftRecord). place < s.old_end) shifts.now result }
 {
     shifts.partition_point(|shift| shift.old_end <= place)
 }
@@ -129,8 +132,8 @@ fn move_fields(shifts: &[Shift], fields: &mut [u32])
 /// The errors are those of `data_index_immediates`, and `Malformed(BadIndex)` where a number has no
 /// new one. Then body and fields are as they were.
 ///
-/// All operators stay but for their numbers, and so do the bytes of a field that overlaps no number,
-/// each in the operator in which it stood.
+/// All operators stay but for their numbers, and so do the bytes of a field that overlaps no
+/// number, each in the operator in which it stood.
 pub fn remap_body_data_indices(
     alloc: Global,
     body: &mut CowSlice<'_, u8>,
@@ -141,9 +144,12 @@ pub fn remap_body_data_indices(
     requires fields { All (λ p. p ≤ length (cow_slice_items body.old)) fields.old }
     ensures remaps { Remaps (new_index indices.now) (cow_slice_items body.old) fields.old
         (cow_slice_items body.new) fields.new result }
-    ensures keeps { OnOk result ((numbers : List Number) → HasNumbers numbers (cow_slice_items body.old)
-        → Keeps (new_index indices.now) numbers (cow_slice_items body.old) (cow_slice_items body.new)) }
-    ensures err { OnErr result ((cow_slice_items body.new ≡ cow_slice_items body.old) × (fields.new ≡ fields.old)) }
+    ensures keeps { OnOk result ((numbers : List Number)
+        → HasNumbers numbers (cow_slice_items body.old)
+        → Keeps (new_index indices.now) numbers
+        (cow_slice_items body.old) (cow_slice_items body.new)) }
+    ensures body { OnErr result (cow_slice_items body.new ≡ cow_slice_items body.old) }
+    ensures fields { OnErr result (fields.new ≡ fields.old) }
 {
     let numbers = data_index_immediates(alloc, body.as_slice())?;
     if numbers.is_empty() {

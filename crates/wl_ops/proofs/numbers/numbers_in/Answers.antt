@@ -1,12 +1,10 @@
-use Rattle.std.proofs.Common.{◌≡◌, eqb, length, true, false, sym, ◌∙◌, ◌++◌, ◌∷◌, [], refl}
+use Rattle.std.proofs.Common.{◌≡◌, eqb, length, true, false, sym, ◌∙◌, [], refl}
 use Rattle.std.proofs.lemmas.Bool.{eqb-true}
 use Rattle.std.proofs.lemmas.List.{nil_from_length}
 use Rattle.std.proofs.lemmas.Result.{err_from_is_err_and}
 use Rattle.wl_bytes.proofs.GrammarLaws.{take_nothing}
-use Rattle.wl_ops.specs.declared.op.Marked.{Marked}
-use Rattle.wl_ops.specs.Numbers.{IsMarked, MarkedFault, marked_at}
-use Rattle.wl_ops.proofs.RestLaws.{shortens, one_more}
-use Rattle.wl_ops.proofs.NumberLaws.{are_marked, marked_reading, numbers_stop, numbers_end, ended_more, numbers_more}
+use Rattle.wl_ops.specs.Numbers.{IsMarked}
+use Rattle.wl_ops.proofs.NumberLaws.{numbers_stop, numbers_end, read_more, read_less}
 use Rattle.wl_ops.proofs.numbers.numbers_in.Goals as goal
 
 pub loop-alloc-init : goal.loop-alloc-init
@@ -19,32 +17,16 @@ returns-in_err-marked c =
     rw (p.1, p.2) (numbers_stop c.loop-alloc.invariant.0 c.args.reader.now c.loop-alloc.reader c.in_err-marked.field-0.0 c.loop-alloc.invariant.1 some c.in_err-marked.ensures.value)
 
 pub loop-alloc-smaller : goal.loop-alloc-smaller
-loop-alloc-smaller c = shortens IsMarked MarkedFault marked_at are_marked c.in_ok-marked.marked c.loop-alloc.reader c.read_marked.new.reader (marked_reading.found c.loop-alloc.reader c.in_ok-marked.marked c.read_marked.new.reader c.in_ok-marked.ensures.value)
-
-pub loop-alloc-preserved : goal.loop-alloc-preserved
-loop-alloc-preserved c =
-    let ms = c.loop-alloc.invariant.0 in
-    let m : Marked = c.in_ok-marked.marked in
-    let t = marked_reading.found c.loop-alloc.reader m c.read_marked.new.reader c.in_ok-marked.ensures.value in (
-      ms ++ m ∷ [],
-      one_more IsMarked ms m c.args.reader.now c.loop-alloc.reader c.read_marked.new.reader c.loop-alloc.invariant.1 t,
-      ended_more ms m,
-      rw (c.in_ok-keep.ensures, c.loop-alloc.invariant.3) (sym (numbers_more ms m)),
-    )
+loop-alloc-smaller c = read_less c.in_ok-marked.marked c.loop-alloc.reader c.read_marked.new.reader c.in_ok-marked.ensures.value
 
 pub loop-alloc-smaller-in_ok-keep : goal.loop-alloc-smaller-in_ok-keep
-loop-alloc-smaller-in_ok-keep c = shortens IsMarked MarkedFault marked_at are_marked c.in_ok-marked.marked c.loop-alloc.reader c.read_marked.new.reader (marked_reading.found c.loop-alloc.reader c.in_ok-marked.marked c.read_marked.new.reader c.in_ok-marked.ensures.value)
+loop-alloc-smaller-in_ok-keep c = read_less c.in_ok-marked.marked c.loop-alloc.reader c.read_marked.new.reader c.in_ok-marked.ensures.value
+
+pub loop-alloc-preserved : goal.loop-alloc-preserved
+loop-alloc-preserved c = read_more c.loop-alloc.invariant.0 c.in_ok-marked.marked c.loop-alloc.numbers.items c.keep.new.numbers.items c.args.reader.now c.loop-alloc.reader c.read_marked.new.reader c.loop-alloc.invariant.1 c.in_ok-marked.ensures.value c.loop-alloc.invariant.3 c.in_ok-keep.ensures
 
 pub loop-alloc-preserved-in_ok-keep : goal.loop-alloc-preserved-in_ok-keep
-loop-alloc-preserved-in_ok-keep c =
-    let ms = c.loop-alloc.invariant.0 in
-    let m : Marked = c.in_ok-marked.marked in
-    let t = marked_reading.found c.loop-alloc.reader m c.read_marked.new.reader c.in_ok-marked.ensures.value in (
-      ms ++ m ∷ [],
-      one_more IsMarked ms m c.args.reader.now c.loop-alloc.reader c.read_marked.new.reader c.loop-alloc.invariant.1 t,
-      ended_more ms m,
-      rw (c.in_ok-keep.ensures, c.loop-alloc.invariant.3) (sym (numbers_more ms m)),
-    )
+loop-alloc-preserved-in_ok-keep c = read_more c.loop-alloc.invariant.0 c.in_ok-marked.marked c.loop-alloc.numbers.items c.keep.new.numbers.items c.args.reader.now c.loop-alloc.reader c.read_marked.new.reader c.loop-alloc.invariant.1 c.in_ok-marked.ensures.value c.loop-alloc.invariant.3 c.in_ok-keep.ensures
 
 pub returns-then-is_ended : goal.returns-then-is_ended
 returns-then-is_ended c =
