@@ -1,0 +1,17 @@
+pub mod OpLaws
+pub mod Pushing
+pub mod Passing
+pub mod RestLaws
+pub mod DecodeLaws
+pub mod CountLaws
+pub mod NumberLaws
+pub mod PrefixLaws
+pub mod ToldLaws
+pub mod PlaceLaws
+pub mod NumberIn
+pub mod LieLaws
+pub mod PieceLaws
+pub mod ShiftLaws
+pub mod FieldLaws
+pub mod KeepLaws
+pub mod RemapLaws

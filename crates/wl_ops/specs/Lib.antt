@@ -1,0 +1,8 @@
+pub mod Seen
+pub mod Table
+pub mod Immediates
+pub mod Operators
+pub mod Decoding
+pub mod Numbers
+pub mod Rewriting
+pub mod Standing

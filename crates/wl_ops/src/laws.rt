@@ -1,0 +1,38 @@
+//! What callers may count on: functions with an empty body, each of which states a law of what
+//! bodies spell.
+
+ghost use Rattle.std.specs.Prelude.{◌≤◌, ℕ, List, length, Option};
+ghost use Rattle.wl_module.specs.Lists.{AreFew};
+ghost use Rattle.wl_module.specs.Outcome.{AreAlternatives};
+ghost use Rattle.wl_ops.specs.declared.op.Op.{Op as OpRecord};
+ghost use Rattle.wl_ops.specs.Decoding.{AreTaken, DecodeFault, list_items};
+ghost use Rattle.wl_ops.specs.declared.op.DataIndexImm.{DataIndexImm as Number};
+ghost use Rattle.wl_ops.specs.Numbers.{HasNumbers, AreTold, NumbersFault};
+ghost use Rattle.wl_ops.specs.Rewriting.{Rewrites};
+ghost use Rattle.wl_ops.specs.Standing.{Keeps};
+
+/// Each body is decoded to one list of operators or has one fault, and never both.
+pub fn operators_or_fault()
+    ensures { AreAlternatives AreTaken DecodeFault }
+{}
+
+/// Each body has one list of numbers or one fault that is told, and never both.
+pub fn numbers_or_fault()
+    ensures { AreAlternatives AreTold NumbersFault }
+{}
+
+/// A body has at least as many bytes as operators and immediates together.
+pub fn operators_are_few()
+    ensures operators { AreFew AreTaken }
+    ensures values { (ops : List OpRecord) (body : List ℕ)
+        → AreTaken ops body → list_items ops ≤ length body }
+{}
+
+/// A body whose numbers of data segments are rewritten keeps its operators but for these numbers,
+/// and the bytes of each field that overlaps none, each in the operator, or in the local
+/// declarations, in which it stood.
+pub fn rewriting_keeps_operators()
+    ensures { (new : ℕ → Option ℕ) (numbers : List Number) (body other : List ℕ)
+        → HasNumbers numbers body → Rewrites new 0 numbers body other
+        → Keeps new numbers body other }
+{}

@@ -1,0 +1,162 @@
+//! Rewriting the numbers of data segments in the bodies of functions.
+
+ghost use Rattle.std.specs.Prelude.{◌≡◌, ◌≤◌, ◌<◌, ◌^◌, ◌++◌, ℕ, List, length, IfOk, OnOk, OnErr, MatchResult, map};
+ghost use Rattle.std.specs.List.{All, AllByRecursion};
+ghost use Rattle.std.specs.List.Sorted.{IsNonDecreasingBy, IsPartitionPoint};
+ghost use Rattle.std.specs.Cow.{cow_slice_items};
+ghost use Rattle.wl_ops.specs.declared.op.DataIndexImm.{DataIndexImm as Number};
+ghost use Rattle.wl_ops.specs.declared.rewriting.Shift.{Shift as ShiftRecord};
+ghost use Rattle.wl_ops.specs.Numbers.{HasNumbers};
+ghost use Rattle.wl_ops.specs.Rewriting.{new_index, IsShort, LieWithin, RewriteFault, IsRewriting, shifted, IsNear, Remaps};
+ghost use Rattle.wl_ops.specs.Standing.{Keeps};
+
+use crate::numbers::data_index_immediates;
+use crate::op::DataIndexImm;
+use std::alloc::{AllocError, Global};
+use std::borrow::CowSlice;
+use wl_bytes::push_uleb;
+use wl_module::{ReadError, Why};
+
+/// What lies behind a number moves on with its end.
+#[derive(Clone, Copy)]
+pub struct Shift {
+    /// How many bytes lie before the end of the number.
+    pub old_end: usize,
+    /// How many lie before the end of its new spelling.
+    pub new_end: usize,
+}
+
+/// A rewritten body.
+#[derive(Drop)]
+struct Rewritten {
+    bytes: Vec<u8>,
+    /// One for each number, in order.
+    shifts: Vec<Shift>,
+}
+
+/// The new number of a segment.
+fn new_index(indices: &[Option<u32>], index: u32) -> Option<u32>
+    ensures { result ≡ new_index indices.now index }
+{
+    match indices.get(index as usize) {
+        Some(new) => *new,
+        None => None,
+    }
+}
+
+/// The bytes before a number, and the new one in its shortest form.
+fn append_number(out: &mut Vec<u8>, before: &[u8], index: u32) -> Result<(), AllocError>
+    ensures { IfOk result (λ _. (short : List ℕ) × IsShort index short × (length short ≤ 5)
+        × (out.new.items ≡ (out.old.items ++ before.now) ++ short)) }
+{
+    out.extend_from_slice(before)?;
+    push_uleb(out, u64::from(index))
+}
+
+/// The body with the new numbers, and how what lies behind them moves.
+fn rewrite(
+    alloc: Global,
+    body: &[u8],
+    numbers: &[DataIndexImm],
+    indices: &[Option<u32>],
+) -> Result<Rewritten, ReadError>
+    requires { LieWithin 0 numbers.now (length body.now) }
+    ensures { MatchResult result
+        (λ r. IsRewriting (new_index indices.now) numbers.now body.now
+        r.bytes.items r.shifts.items)
+        (RewriteFault (new_index indices.now) numbers.now) }
+{
+    let mut bytes = Vec::new(alloc);
+    let mut shifts = Vec::new(alloc);
+    let mut rest = body;
+    let mut place = 0;
+    for number in numbers {
+        let (before, here) = rest.split_at(number.offset - place);
+        let Some(index) = new_index(indices, number.index) else {
+            return Err(ReadError::Malformed(Why::BadIndex));
+        };
+        append_number(&mut bytes, before, index)?;
+        rest = here.split_at(number.len).1;
+        place = number.offset + number.len;
+        shifts.push(Shift {
+            old_end: place,
+            new_end: bytes.len(),
+        })?;
+    }
+    bytes.extend_from_slice(rest)?;
+    Ok(Rewritten { bytes, shifts })
+}
+
+/// How many of the shifts end at the place or before.
+fn shifts_before(shifts: &[Shift], place: usize) -> usize
+    requires { IsNonDecreasingBy (λ (s : ShiftRecord). s.old_end) shifts.now }
+    ensures bound { result ≤ length shifts.now }
+    ensures point { IsPartitionPoint (λ (s : ShiftRecord). s.old_end ≤ place)
+        (λ (s : ShiftRecord). place < s.old_end) shifts.now result }
+{
+    shifts.partition_point(|shift| shift.old_end <= place)
+}
+
+/// Where a field stands in the rewritten body.
+fn moved(shifts: &[Shift], field: u32) -> u32
+    requires rising { IsNonDecreasingBy (λ (s : ShiftRecord). s.old_end) shifts.now }
+    requires near { AllByRecursion IsNear shifts.now }
+    requires field { field ≤ 2 ^ 30 }
+    ensures { result ≡ shifted shifts.now field field }
+{
+    let place = field as usize;
+    let count = shifts_before(shifts, place);
+    if count == 0 {
+        return field;
+    }
+    let shift = shifts[count - 1];
+    (shift.new_end + (place - shift.old_end)) as u32
+}
+
+/// Moves each field.
+fn move_fields(shifts: &[Shift], fields: &mut [u32])
+    requires rising { IsNonDecreasingBy (λ (s : ShiftRecord). s.old_end) shifts.now }
+    requires near { AllByRecursion IsNear shifts.now }
+    requires fields { All (λ p. p ≤ 2 ^ 30) fields.old }
+    ensures { fields.new ≡ map (λ p. shifted shifts.now p p) fields.old }
+{
+    for i in 0..fields.len() {
+        fields[i] = moved(shifts, fields[i]);
+    }
+}
+
+/// Gives the numbers of data segments in a body the values that `indices` has at them, each in its
+/// shortest form, and moves each field of the body on by what the numbers before it have grown.
+/// Fields are places in the body, in bytes. The answer says whether there was any number.
+///
+/// The errors are those of `data_index_immediates`, and `Malformed(BadIndex)` where a number has no
+/// new one. Then body and fields are as they were.
+///
+/// All operators stay but for their numbers, and so do the bytes of a field that overlaps no
+/// number, each in the operator in which it stood.
+pub fn remap_body_data_indices(
+    alloc: Global,
+    body: &mut CowSlice<'_, u8>,
+    indices: &[Option<u32>],
+    fields: &mut [u32],
+) -> Result<bool, ReadError>
+    requires bytes { length (cow_slice_items body.old) ≤ 2 ^ 30 }
+    requires fields { All (λ p. p ≤ length (cow_slice_items body.old)) fields.old }
+    ensures remaps { Remaps (new_index indices.now) (cow_slice_items body.old) fields.old
+        (cow_slice_items body.new) fields.new result }
+    ensures keeps { OnOk result ((numbers : List Number)
+        → HasNumbers numbers (cow_slice_items body.old)
+        → Keeps (new_index indices.now) numbers
+        (cow_slice_items body.old) (cow_slice_items body.new)) }
+    ensures body { OnErr result (cow_slice_items body.new ≡ cow_slice_items body.old) }
+    ensures fields { OnErr result (fields.new ≡ fields.old) }
+{
+    let numbers = data_index_immediates(alloc, body.as_slice())?;
+    if numbers.is_empty() {
+        return Ok(false);
+    }
+    let rewritten = rewrite(alloc, body.as_slice(), &numbers, indices)?;
+    move_fields(&rewritten.shifts, fields);
+    *body = CowSlice::Owned(rewritten.bytes);
+    Ok(true)
+}
