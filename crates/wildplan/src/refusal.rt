@@ -1,11 +1,19 @@
 //! The line of a refusal.
 
-ghost use Rattle.std.specs.Prelude.{◌≡◌, [], ◌∷◌, ◌++◌, IfOk, OnOk, codes, decimal, string_bytes};
-ghost use Rattle.std.specs.Fmt.{signed_decimal};
+ghost use Rattle.std.specs.Prelude.{◌≡◌, ◌++◌, IfOk, OnOk, codes, string_bytes};
 ghost use Rattle.std.specs.List.{flat_map};
 ghost use Rattle.wl_text.specs.Pieces.{quoted, numbers_text};
 ghost use Rattle.wl_text.specs.Names.{need_text};
-ghost use Rattle.wildplan.specs.Refusals.{undefined_text, refusal_line, named_text, error_line};
+ghost use Rattle.wildplan.specs.Refusals.{
+  IsLine,
+  named_text,
+  pair_text,
+  object_text,
+  word_text,
+  range_text,
+  undefined_text,
+  error_line,
+};
 
 use std::alloc::{AllocError, Global};
 use wl_linking::{LinkError, SharedMemoryNeed, UndefinedSymbol};
@@ -25,7 +33,7 @@ fn begin_line(alloc: Global, name: &str) -> Result<Vec<u8>, AllocError>
 
 /// The line of a refusal that tells numbers.
 fn numbers_line(alloc: Global, refusal: &str, numbers: &[u64]) -> Result<Vec<u8>, AllocError>
-    ensures { IfOk result (λ text. text.items ≡ refusal_line refusal.now (numbers_text numbers.now)) }
+    ensures { IfOk result (λ text. IsLine refusal.now (numbers_text numbers.now) text.items) }
 {
     let mut text = begin_line(alloc, refusal)?;
     push_numbers(&mut text, numbers)?;
@@ -40,7 +48,8 @@ fn named_line(
     name: &str,
     numbers: &[u64],
 ) -> Result<Vec<u8>, AllocError>
-    ensures { IfOk result (λ text. text.items ≡ refusal_line refusal.now (named_text name.now numbers.now)) }
+    ensures { IfOk result (λ text.
+        IsLine refusal.now (named_text name.now numbers.now) text.items) }
 {
     let mut text = begin_line(alloc, refusal)?;
     text.push(b' ')?;
@@ -58,7 +67,8 @@ fn pair_line(
     first: (usize, u32),
     second: (usize, u32),
 ) -> Result<Vec<u8>, AllocError>
-    ensures { IfOk result (λ text. text.items ≡ refusal_line refusal.now (named_text name.now (first.0 ∷ first.1 ∷ second.0 ∷ second.1 ∷ []))) }
+    ensures { IfOk result (λ text.
+        IsLine refusal.now (pair_text name.now first second) text.items) }
 {
     let numbers = [
         first.0 as u64,
@@ -76,7 +86,8 @@ fn object_line(
     object: usize,
     word: &str,
 ) -> Result<Vec<u8>, AllocError>
-    ensures { IfOk result (λ text. text.items ≡ refusal_line refusal.now (codes " " ++ decimal object ++ codes " " ++ word.now)) }
+    ensures { IfOk result (λ text.
+        IsLine refusal.now (object_text object word.now) text.items) }
 {
     Ok(format!(in alloc; "error: {refusal} {object} {word}\n")?.into_bytes())
 }
@@ -88,7 +99,8 @@ fn word_line(
     word: &str,
     numbers: &[u64],
 ) -> Result<Vec<u8>, AllocError>
-    ensures { IfOk result (λ text. text.items ≡ refusal_line refusal.now (codes " " ++ word.now ++ numbers_text numbers.now)) }
+    ensures { IfOk result (λ text.
+        IsLine refusal.now (word_text word.now numbers.now) text.items) }
 {
     let mut text = begin_line(alloc, refusal)?;
     text.push(b' ')?;
@@ -100,7 +112,8 @@ fn word_line(
 
 /// The line of a feature that an object disallows.
 fn conflict_line(alloc: Global, object: usize, feature: &str) -> Result<Vec<u8>, AllocError>
-    ensures { IfOk result (λ text. text.items ≡ refusal_line (codes "FeatureConflict") (codes " " ++ decimal object ++ codes " " ++ quoted feature.now)) }
+    ensures { IfOk result (λ text.
+        IsLine (codes "FeatureConflict") (object_text object (quoted feature.now)) text.items) }
 {
     let mut text = begin_line(alloc, "FeatureConflict")?;
     push_decimal(&mut text, b" ", object as u64)?;
@@ -112,7 +125,8 @@ fn conflict_line(alloc: Global, object: usize, feature: &str) -> Result<Vec<u8>,
 
 /// The line of what shared memory lacks.
 fn need_line(alloc: Global, need: SharedMemoryNeed) -> Result<Vec<u8>, AllocError>
-    ensures { IfOk result (λ text. text.items ≡ refusal_line (codes "SharedMemoryFeature") (codes " " ++ need_text need)) }
+    ensures { IfOk result (λ text.
+        IsLine (codes "SharedMemoryFeature") (codes " " ++ need_text need) text.items) }
 {
     let mut text = begin_line(alloc, "SharedMemoryFeature")?;
     text.push(b' ')?;
@@ -132,7 +146,8 @@ fn push_undefined(text: &mut Vec<u8>, symbol: &UndefinedSymbol) -> Result<(), Al
 
 /// The line of names that nothing defines.
 fn undefined_line(alloc: Global, symbols: &[UndefinedSymbol]) -> Result<Vec<u8>, AllocError>
-    ensures { IfOk result (λ text. text.items ≡ refusal_line (codes "UndefinedSymbols") (flat_map undefined_text symbols.now)) }
+    ensures { IfOk result (λ text.
+        IsLine (codes "UndefinedSymbols") (flat_map undefined_text symbols.now) text.items) }
 {
     let mut text = begin_line(alloc, "UndefinedSymbols")?;
     for symbol in symbols {
@@ -144,7 +159,8 @@ fn undefined_line(alloc: Global, symbols: &[UndefinedSymbol]) -> Result<Vec<u8>,
 
 /// The line of a value that doesn't fit its field.
 fn range_line(alloc: Global, object: usize, offset: u32, value: i64) -> Result<Vec<u8>, AllocError>
-    ensures { IfOk result (λ text. text.items ≡ refusal_line (codes "RelocationRange") (numbers_text (object ∷ offset ∷ []) ++ codes " " ++ signed_decimal value)) }
+    ensures { IfOk result (λ text.
+        IsLine (codes "RelocationRange") (range_text object offset value) text.items) }
 {
     let mut text = begin_line(alloc, "RelocationRange")?;
     push_numbers(&mut text, &[object as u64, u64::from(offset)])?;
