@@ -14,6 +14,7 @@ PROGRAM = ROOT / "crates" / "wildplan" / "out" / "wildplan"
 EXAMPLES = ROOT / "examples"
 OBJECTS = ROOT / "tests" / "objects"
 ROWS = ROOT / "tests" / "rows.txt"
+FORMAT = ROOT / "docs" / "FORMAT.md"
 FLAGS = ["--no-gc-sections", "--no-entry"]
 LARGEST = 1 << 30
 
@@ -168,6 +169,55 @@ def rows(folder):
                 check(f"{rule}: {row}", run([*words, *files]), int(status), out.encode(), err.encode())
 
 
+def table_of(title):
+    """The rows below the first one of a table in docs/FORMAT.md, each a list of its cells."""
+    lines = FORMAT.read_text().splitlines()
+    rows = []
+    for line in lines[lines.index(title) + 2 :]:
+        if not line.startswith("|"):
+            return rows
+        rows.append([cell.strip() for cell in line.strip("|").split("|")])
+
+
+def note(title, sound):
+    """Counts a comparison of the documents with the program."""
+    global passed, failed
+    passed, failed = (passed + 1, failed) if sound else (passed, failed + 1)
+    if not sound:
+        print(f"docs/FORMAT.md: {title}")
+
+
+def documented_names():
+    """The names of faults that docs/FORMAT.md explains are those that rows show, but for those not told yet."""
+    answers = re.findall(r"^.* = 1 (Malformed|Unsupported) \d+ (\w+)$", ROWS.read_text(), re.M)
+    for fault, cause in [("Malformed", "likely cause"), ("Unsupported", "what it is")]:
+        told = {name for kind, name in answers if kind == fault}
+        rows = table_of(f"| `{fault}` | {cause} |")
+        explained = {name for names, text in rows if not text.startswith("not told yet") for name in names.split(", ")}
+        note(f"the names of `{fault}`: {explained ^ told}", explained == told)
+
+
+def documented_relocations(folder):
+    """A type of relocation that docs/FORMAT.md has is read, with an addend where it says so; others are refused."""
+    rows = table_of("| number | type | field | addend | index | stands in |")
+    addends = {int(number): addend == "yes" for number, _, _, addend, _, _ in rows}
+    sound = (EXAMPLES / "two_functions.o").read_bytes()
+    made = folder / "relocation.o"
+    for number in range(256):
+        # The object ends with its one relocation: type, offset and index.
+        made.write_bytes(sound[:-3] + bytes([number]) + sound[-2:])
+        line = run([*FLAGS, made]).stderr.decode()
+        if number not in addends:
+            wanted = "Malformed 0 RelocType" if number > max(addends) else "Unsupported 0 RelocType"
+            note(f"relocation type {number}: {line}", line == f"error: {wanted}\n")
+        else:
+            cut = line == "error: Malformed 0 Truncated\n"
+            note(f"relocation type {number}: {line}", cut == addends[number] and "RelocType" not in line)
+    listing = (EXAMPLES / "two_functions.plan").read_text()
+    for name in re.findall(r"R_WASM_\w+", listing):
+        note(f"the name {name}", any(row[1] == f"`{name}`" for row in rows))
+
+
 def compiled(folder):
     """Objects that clang made are read whole: they are refused for what has no plan yet, and for nothing else."""
     bare = EXAMPLES / "bare_module.o"
@@ -229,6 +279,7 @@ def main():
     if not PROGRAM.exists():
         sys.exit("the program isn't built yet, .ci/run does: 0 passed, 1 failed")
     objects_as_written()
+    documented_names()
     listings()
     words()
     options()
@@ -236,6 +287,7 @@ def main():
         folder = pathlib.Path(name)
         reads(folder)
         rows(folder)
+        documented_relocations(folder)
         compiled(folder)
         sizes(folder)
         launched(folder)

@@ -5,6 +5,7 @@ pub mod Features
 pub mod Symbols
 pub mod SymbolsReading
 pub mod Linking
+pub mod RelocationRows
 pub mod RelocationTypes
 pub mod Relocations
 pub mod Targets

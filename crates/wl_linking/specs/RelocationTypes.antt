@@ -1,93 +1,80 @@
--- The types of relocations (object file linking, version 2, "Relocation Sections").
-use Rattle.std.specs.Prelude.{ℕ, ◌==◌, Bool, true, false, if◌then◌else◌, List, Option, Some, None, codes}
+-- The types of relocations (object file linking, version 2, "Relocation Sections"), as one table.
+use Rattle.std.specs.Prelude.{ℕ, ◌==◌, Bool, true, false, List, [], ◌∷◌, map, Option, codes, find, option_map}
+use Rattle.wl_linking.specs.RelocationRows.{Row, is_type, is_anywhere}
 use Rattle.wl_linking.specs.declared.relocation_type.RelocationType.{RelocationType}
-use Rattle.wl_linking.specs.declared.relocation_type.RelocationType.TheVariants.{FunctionIndexLeb, TableIndexSleb, TableIndexI32, MemoryAddrLeb, MemoryAddrSleb, MemoryAddrI32, TypeIndexLeb, GlobalIndexLeb, MemoryAddrRelSleb, TableIndexRelSleb, GlobalIndexI32, TableNumberLeb, MemoryAddrTlsSleb, FunctionIndexI32}
+use Rattle.wl_linking.specs.declared.relocation_type.RelocationType.TheVariants as type
 use Rattle.wl_linking.specs.declared.relocation_type.FieldForm.{FieldForm}
 use Rattle.wl_linking.specs.declared.relocation_type.FieldForm.TheVariants.{PaddedUnsigned, PaddedSigned, Word}
+use Rattle.wl_linking.specs.declared.relocation_type.Indexed.{Indexed}
+use Rattle.wl_linking.specs.declared.relocation_type.Indexed.TheVariants as indexed
+use Rattle.wl_linking.specs.declared.relocation_type.Allowed.{Allowed}
+use Rattle.wl_linking.specs.declared.relocation_type.Allowed.TheVariants.{Anywhere, InCode}
+
+-- a row: the type, its number and name, how its field holds the value, whether there is an addend, what its index is of, and where it may stand
+abbrev row : RelocationType → ℕ → List ℕ → FieldForm → Bool → Indexed → Allowed → Row
+row ty number name form addend index allowed =
+    record { ty = ty; number = number; name = name; form = form; has_addend = addend; index = index; allowed = allowed }
+
+-- what the conventions say of each type
+abbrev pub row_of : RelocationType → Row
+row_of type.FunctionIndexLeb = row type.FunctionIndexLeb 0 (codes "R_WASM_FUNCTION_INDEX_LEB") PaddedUnsigned false indexed.Symbol Anywhere
+row_of type.TableIndexSleb = row type.TableIndexSleb 1 (codes "R_WASM_TABLE_INDEX_SLEB") PaddedSigned false indexed.Symbol Anywhere
+row_of type.TableIndexI32 = row type.TableIndexI32 2 (codes "R_WASM_TABLE_INDEX_I32") Word false indexed.Symbol Anywhere
+row_of type.MemoryAddrLeb = row type.MemoryAddrLeb 3 (codes "R_WASM_MEMORY_ADDR_LEB") PaddedUnsigned true indexed.Symbol Anywhere
+row_of type.MemoryAddrSleb = row type.MemoryAddrSleb 4 (codes "R_WASM_MEMORY_ADDR_SLEB") PaddedSigned true indexed.Symbol Anywhere
+row_of type.MemoryAddrI32 = row type.MemoryAddrI32 5 (codes "R_WASM_MEMORY_ADDR_I32") Word true indexed.Symbol Anywhere
+row_of type.TypeIndexLeb = row type.TypeIndexLeb 6 (codes "R_WASM_TYPE_INDEX_LEB") PaddedUnsigned false indexed.Type Anywhere
+row_of type.GlobalIndexLeb = row type.GlobalIndexLeb 7 (codes "R_WASM_GLOBAL_INDEX_LEB") PaddedUnsigned false indexed.Symbol Anywhere
+row_of type.MemoryAddrRelSleb = row type.MemoryAddrRelSleb 11 (codes "R_WASM_MEMORY_ADDR_REL_SLEB") PaddedSigned true indexed.Symbol Anywhere
+row_of type.TableIndexRelSleb = row type.TableIndexRelSleb 12 (codes "R_WASM_TABLE_INDEX_REL_SLEB") PaddedSigned false indexed.Symbol InCode
+row_of type.GlobalIndexI32 = row type.GlobalIndexI32 13 (codes "R_WASM_GLOBAL_INDEX_I32") Word false indexed.Symbol Anywhere
+row_of type.TableNumberLeb = row type.TableNumberLeb 20 (codes "R_WASM_TABLE_NUMBER_LEB") PaddedUnsigned false indexed.Symbol Anywhere
+row_of type.MemoryAddrTlsSleb = row type.MemoryAddrTlsSleb 21 (codes "R_WASM_MEMORY_ADDR_TLS_SLEB") PaddedSigned true indexed.Symbol Anywhere
+row_of type.FunctionIndexI32 = row type.FunctionIndexI32 26 (codes "R_WASM_FUNCTION_INDEX_I32") Word false indexed.Symbol Anywhere
+
+-- the types there are a rule for
+abbrev pub relocation_types : List RelocationType
+relocation_types =
+    type.FunctionIndexLeb
+    ∷ type.TableIndexSleb
+    ∷ type.TableIndexI32
+    ∷ type.MemoryAddrLeb
+    ∷ type.MemoryAddrSleb
+    ∷ type.MemoryAddrI32
+    ∷ type.TypeIndexLeb
+    ∷ type.GlobalIndexLeb
+    ∷ type.MemoryAddrRelSleb
+    ∷ type.TableIndexRelSleb
+    ∷ type.GlobalIndexI32
+    ∷ type.TableNumberLeb
+    ∷ type.MemoryAddrTlsSleb
+    ∷ type.FunctionIndexI32
+    ∷ []
+
+-- the type of that number among these rows
+abbrev pub numbered_in : List Row → ℕ → Option RelocationType
+numbered_in rows n = option_map (λ r. r.ty) (find (λ r. r.number == n) rows)
 
 -- the type of that number; the others are offsets of functions and sections, tags, forms of 64 bits, and addresses relative to their field
 abbrev pub relocation_type_of : ℕ → Option RelocationType
-relocation_type_of n =
-    if n == 0 then Some FunctionIndexLeb
-    else if n == 1 then Some TableIndexSleb
-    else if n == 2 then Some TableIndexI32
-    else if n == 3 then Some MemoryAddrLeb
-    else if n == 4 then Some MemoryAddrSleb
-    else if n == 5 then Some MemoryAddrI32
-    else if n == 6 then Some TypeIndexLeb
-    else if n == 7 then Some GlobalIndexLeb
-    else if n == 11 then Some MemoryAddrRelSleb
-    else if n == 12 then Some TableIndexRelSleb
-    else if n == 13 then Some GlobalIndexI32
-    else if n == 20 then Some TableNumberLeb
-    else if n == 21 then Some MemoryAddrTlsSleb
-    else if n == 26 then Some FunctionIndexI32
-    else None
+relocation_type_of n = numbered_in (map row_of relocation_types) n
 
 -- its name
 abbrev pub type_name : RelocationType → List ℕ
-type_name FunctionIndexLeb = codes "R_WASM_FUNCTION_INDEX_LEB"
-type_name TableIndexSleb = codes "R_WASM_TABLE_INDEX_SLEB"
-type_name TableIndexI32 = codes "R_WASM_TABLE_INDEX_I32"
-type_name MemoryAddrLeb = codes "R_WASM_MEMORY_ADDR_LEB"
-type_name MemoryAddrSleb = codes "R_WASM_MEMORY_ADDR_SLEB"
-type_name MemoryAddrI32 = codes "R_WASM_MEMORY_ADDR_I32"
-type_name TypeIndexLeb = codes "R_WASM_TYPE_INDEX_LEB"
-type_name GlobalIndexLeb = codes "R_WASM_GLOBAL_INDEX_LEB"
-type_name MemoryAddrRelSleb = codes "R_WASM_MEMORY_ADDR_REL_SLEB"
-type_name TableIndexRelSleb = codes "R_WASM_TABLE_INDEX_REL_SLEB"
-type_name GlobalIndexI32 = codes "R_WASM_GLOBAL_INDEX_I32"
-type_name TableNumberLeb = codes "R_WASM_TABLE_NUMBER_LEB"
-type_name MemoryAddrTlsSleb = codes "R_WASM_MEMORY_ADDR_TLS_SLEB"
-type_name FunctionIndexI32 = codes "R_WASM_FUNCTION_INDEX_I32"
+type_name ty = (row_of ty).name
 
 -- how its field holds the value: five bytes of LEB128, five of signed LEB128, or four bytes
 abbrev pub form_of : RelocationType → FieldForm
-form_of FunctionIndexLeb = PaddedUnsigned
-form_of TableIndexSleb = PaddedSigned
-form_of TableIndexI32 = Word
-form_of MemoryAddrLeb = PaddedUnsigned
-form_of MemoryAddrSleb = PaddedSigned
-form_of MemoryAddrI32 = Word
-form_of TypeIndexLeb = PaddedUnsigned
-form_of GlobalIndexLeb = PaddedUnsigned
-form_of MemoryAddrRelSleb = PaddedSigned
-form_of TableIndexRelSleb = PaddedSigned
-form_of GlobalIndexI32 = Word
-form_of TableNumberLeb = PaddedUnsigned
-form_of MemoryAddrTlsSleb = PaddedSigned
-form_of FunctionIndexI32 = Word
+form_of ty = (row_of ty).form
 
 -- entries of addresses have an addend
 abbrev pub has_addend : RelocationType → Bool
-has_addend FunctionIndexLeb = false
-has_addend TableIndexSleb = false
-has_addend TableIndexI32 = false
-has_addend MemoryAddrLeb = true
-has_addend MemoryAddrSleb = true
-has_addend MemoryAddrI32 = true
-has_addend TypeIndexLeb = false
-has_addend GlobalIndexLeb = false
-has_addend MemoryAddrRelSleb = true
-has_addend TableIndexRelSleb = false
-has_addend GlobalIndexI32 = false
-has_addend TableNumberLeb = false
-has_addend MemoryAddrTlsSleb = true
-has_addend FunctionIndexI32 = false
+has_addend ty = (row_of ty).has_addend
 
 -- its index is that of a type, and not of a symbol
 abbrev pub names_a_type : RelocationType → Bool
-names_a_type FunctionIndexLeb = false
-names_a_type TableIndexSleb = false
-names_a_type TableIndexI32 = false
-names_a_type MemoryAddrLeb = false
-names_a_type MemoryAddrSleb = false
-names_a_type MemoryAddrI32 = false
-names_a_type TypeIndexLeb = true
-names_a_type GlobalIndexLeb = false
-names_a_type MemoryAddrRelSleb = false
-names_a_type TableIndexRelSleb = false
-names_a_type GlobalIndexI32 = false
-names_a_type TableNumberLeb = false
-names_a_type MemoryAddrTlsSleb = false
-names_a_type FunctionIndexI32 = false
+names_a_type ty = is_type (row_of ty).index
+
+-- it may stand in the data section too
+abbrev pub may_stand_in_data : RelocationType → Bool
+may_stand_in_data ty = is_anywhere (row_of ty).allowed

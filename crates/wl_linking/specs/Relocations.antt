@@ -1,5 +1,5 @@
 -- Relocation sections (object file linking, version 2, "Relocation Sections").
-use Rattle.std.specs.Prelude.{◌≡◌, ◌≢◌, ◌⊎◌, ℕ, ℤ, pos, ◌==◌, Bool, false, nat_lt, if◌then◌else◌, List, [], length, Option, Some, None, Result, Ok, Err}
+use Rattle.std.specs.Prelude.{◌≡◌, ◌≢◌, ◌⊎◌, ℕ, ℤ, pos, ◌==◌, Bool, true, nat_lt, if◌then◌else◌, List, [], length, Option, Some, None, Result, Ok, Err}
 use Rattle.wl_bytes.specs.Cursor.{Cursor}
 use Rattle.wl_bytes.specs.Parse.{Takes, ◌>>=◌}
 use Rattle.wl_bytes.specs.Leb.{IsU32, s32_form, IsSigned}
@@ -13,7 +13,8 @@ use Rattle.wl_module.specs.declared.error.ReadError.TheVariants.{Malformed, Unsu
 use Rattle.wl_module.specs.declared.error.Why.TheVariants.{Trailing, RelocType as UnknownType}
 use Rattle.wl_module.specs.declared.error.Form.TheVariants.{RelocType}
 use Rattle.wl_linking.specs.Verdict.{Judged, JudgedFault, judged_at, Seen}
-use Rattle.wl_linking.specs.RelocationTypes.{relocation_type_of, has_addend}
+use Rattle.wl_linking.specs.RelocationTypes.{relocation_type_of, has_addend, may_stand_in_data}
+use Rattle.wl_linking.specs.declared.relocation_type.TheConstants.{LAST_TYPE}
 use Rattle.wl_linking.specs.declared.relocation_type.RelocationType.{RelocationType}
 use Rattle.wl_linking.specs.declared.relocations.WasmRelocation.{WasmRelocation}
 use Rattle.wl_linking.specs.declared.relocations.RelocHeld.{RelocHeld}
@@ -22,23 +23,20 @@ use Rattle.wl_linking.specs.declared.relocations.Target.TheVariants as target
 
 -- ---- an entry
 
--- in the data section no slot is counted from the base of the table: type 12
-abbrev pub is_misplaced : Target → ℕ → Bool
-is_misplaced target.Code n = false
-is_misplaced target.Data n = n == 12
-is_misplaced target.Debug n = false
+-- relocations of that type may be for that target
+abbrev pub may_stand : Target → RelocationType → Bool
+may_stand target.Code ty = true
+may_stand target.Data ty = may_stand_in_data ty
+may_stand target.Debug ty = true
 
--- there is a rule for the type, or none
-abbrev pub ruled : Option RelocationType → Result RelocationType ReadError
-ruled None = Err (Unsupported RelocType)
-ruled (Some ty) = Ok ty
+-- there is a rule for the type in that target, or none
+abbrev pub ruled : Target → Option RelocationType → Result RelocationType ReadError
+ruled at None = Err (Unsupported RelocType)
+ruled at (Some ty) = if may_stand at ty then Ok ty else Err (Unsupported RelocType)
 
--- the type of a relocation in that target: 26 is the last number
+-- the type of a relocation in that target
 abbrev pub type_verdict : Target → ℕ → Result RelocationType ReadError
-type_verdict at n =
-    if nat_lt 26 n then Err (Malformed UnknownType)
-    else if is_misplaced at n then Err (Unsupported RelocType)
-    else ruled (relocation_type_of n)
+type_verdict at n = if nat_lt LAST_TYPE n then Err (Malformed UnknownType) else ruled at (relocation_type_of n)
 
 -- the addend that was found, or 0
 abbrev pub addend_or_zero : Option ℤ → ℤ

@@ -1,7 +1,9 @@
-//! The types of relocations (object file linking, version 2, "Relocation Sections").
+//! The types of relocations (object file linking, version 2, "Relocation Sections"), as one table.
 
 ghost use Rattle.std.specs.Prelude.{◌≡◌};
-ghost use Rattle.wl_linking.specs.RelocationTypes.{type_name, form_of, has_addend, names_a_type, relocation_type_of};
+ghost use Rattle.wl_linking.specs.RelocationTypes.{form_of, has_addend, names_a_type, may_stand_in_data, relocation_type_of, numbered_in, type_name};
+
+use std::marker::Model;
 
 /// What a relocation puts into its field (object file linking, version 2, "Relocation Sections").
 #[derive(Clone, Copy, Debug, PartialEq, Eq)]
@@ -47,80 +49,252 @@ pub enum FieldForm {
     Word,
 }
 
+/// What the index of a relocation is the number of.
+#[derive(Clone, Copy, Debug, PartialEq, Eq)]
+pub(crate) enum Indexed {
+    /// A symbol.
+    Symbol,
+    /// A type.
+    Type,
+}
+
+/// In which sections a type of relocation may stand.
+#[derive(Clone, Copy, Debug, PartialEq, Eq)]
+pub(crate) enum Allowed {
+    /// In code and in data.
+    Anywhere,
+    /// In code alone: data has no base to count a slot from.
+    InCode,
+}
+
+/// A row of the table of types. Clauses see it as a `Row`, with the name as a list.
+struct RelocationRow {
+    ty: RelocationType,
+    number: u8,
+    name: &'static str,
+    form: FieldForm,
+    has_addend: bool,
+    index: Indexed,
+    allowed: Allowed,
+}
+
+impl Model for RelocationRow {
+    ghost use Rattle.wl_linking.specs.RelocationRows.{Row};
+
+    ghost Value = { Row };
+
+    ghost view = { λ r. record {
+      ty = r.ty;
+      number = r.number;
+      name = r.name.now;
+      form = r.form;
+      has_addend = r.has_addend;
+      index = r.index;
+      allowed = r.allowed;
+    } };
+}
+
+/// A row: the type, its number and name, how its field holds the value, whether there is an addend,
+/// what its index is of, and where it may stand.
+macro_rules! row {
+    ($ty:ident, $number:literal, $name:literal, $form:ident, $addend:literal, $index:ident, $allowed:ident) => {
+        RelocationRow {
+            ty: RelocationType::$ty,
+            number: $number,
+            name: $name,
+            form: FieldForm::$form,
+            has_addend: $addend,
+            index: Indexed::$index,
+            allowed: Allowed::$allowed,
+        }
+    };
+}
+
+/// The table of types, in the order of the enum. The numbers between them are those of offsets in
+/// functions and sections, of tags, of forms of 64 bits, and of addresses relative to their field.
+const ROWS: [RelocationRow; 14] = [
+    row!(
+        FunctionIndexLeb,
+        0,
+        "R_WASM_FUNCTION_INDEX_LEB",
+        PaddedUnsigned,
+        false,
+        Symbol,
+        Anywhere
+    ),
+    row!(
+        TableIndexSleb,
+        1,
+        "R_WASM_TABLE_INDEX_SLEB",
+        PaddedSigned,
+        false,
+        Symbol,
+        Anywhere
+    ),
+    row!(
+        TableIndexI32,
+        2,
+        "R_WASM_TABLE_INDEX_I32",
+        Word,
+        false,
+        Symbol,
+        Anywhere
+    ),
+    row!(
+        MemoryAddrLeb,
+        3,
+        "R_WASM_MEMORY_ADDR_LEB",
+        PaddedUnsigned,
+        true,
+        Symbol,
+        Anywhere
+    ),
+    row!(
+        MemoryAddrSleb,
+        4,
+        "R_WASM_MEMORY_ADDR_SLEB",
+        PaddedSigned,
+        true,
+        Symbol,
+        Anywhere
+    ),
+    row!(
+        MemoryAddrI32,
+        5,
+        "R_WASM_MEMORY_ADDR_I32",
+        Word,
+        true,
+        Symbol,
+        Anywhere
+    ),
+    row!(
+        TypeIndexLeb,
+        6,
+        "R_WASM_TYPE_INDEX_LEB",
+        PaddedUnsigned,
+        false,
+        Type,
+        Anywhere
+    ),
+    row!(
+        GlobalIndexLeb,
+        7,
+        "R_WASM_GLOBAL_INDEX_LEB",
+        PaddedUnsigned,
+        false,
+        Symbol,
+        Anywhere
+    ),
+    row!(
+        MemoryAddrRelSleb,
+        11,
+        "R_WASM_MEMORY_ADDR_REL_SLEB",
+        PaddedSigned,
+        true,
+        Symbol,
+        Anywhere
+    ),
+    row!(
+        TableIndexRelSleb,
+        12,
+        "R_WASM_TABLE_INDEX_REL_SLEB",
+        PaddedSigned,
+        false,
+        Symbol,
+        InCode
+    ),
+    row!(
+        GlobalIndexI32,
+        13,
+        "R_WASM_GLOBAL_INDEX_I32",
+        Word,
+        false,
+        Symbol,
+        Anywhere
+    ),
+    row!(
+        TableNumberLeb,
+        20,
+        "R_WASM_TABLE_NUMBER_LEB",
+        PaddedUnsigned,
+        false,
+        Symbol,
+        Anywhere
+    ),
+    row!(
+        MemoryAddrTlsSleb,
+        21,
+        "R_WASM_MEMORY_ADDR_TLS_SLEB",
+        PaddedSigned,
+        true,
+        Symbol,
+        Anywhere
+    ),
+    row!(
+        FunctionIndexI32,
+        26,
+        "R_WASM_FUNCTION_INDEX_I32",
+        Word,
+        false,
+        Symbol,
+        Anywhere
+    ),
+];
+
+/// The greatest number of a type of relocation.
+pub(crate) const LAST_TYPE: u8 = 26;
+
 impl RelocationType {
     /// How its field holds the value.
     pub fn field_form(self) -> FieldForm
         ensures { result ≡ form_of self }
     {
-        match self {
-            RelocationType::FunctionIndexLeb
-            | RelocationType::MemoryAddrLeb
-            | RelocationType::TypeIndexLeb
-            | RelocationType::GlobalIndexLeb
-            | RelocationType::TableNumberLeb => FieldForm::PaddedUnsigned,
-            RelocationType::TableIndexSleb
-            | RelocationType::MemoryAddrSleb
-            | RelocationType::MemoryAddrRelSleb
-            | RelocationType::TableIndexRelSleb
-            | RelocationType::MemoryAddrTlsSleb => FieldForm::PaddedSigned,
-            RelocationType::TableIndexI32
-            | RelocationType::MemoryAddrI32
-            | RelocationType::GlobalIndexI32
-            | RelocationType::FunctionIndexI32 => FieldForm::Word,
-        }
+        let row = &ROWS[self as usize];
+        row.form
     }
 
     /// Whether an entry of that type has an addend: those of addresses do.
     pub fn has_addend(self) -> bool
         ensures { result ≡ has_addend self }
     {
-        match self {
-            RelocationType::MemoryAddrLeb
-            | RelocationType::MemoryAddrSleb
-            | RelocationType::MemoryAddrI32
-            | RelocationType::MemoryAddrRelSleb
-            | RelocationType::MemoryAddrTlsSleb => true,
-            RelocationType::FunctionIndexLeb
-            | RelocationType::TableIndexSleb
-            | RelocationType::TableIndexI32
-            | RelocationType::TypeIndexLeb
-            | RelocationType::GlobalIndexLeb
-            | RelocationType::TableIndexRelSleb
-            | RelocationType::GlobalIndexI32
-            | RelocationType::TableNumberLeb
-            | RelocationType::FunctionIndexI32 => false,
-        }
+        let row = &ROWS[self as usize];
+        row.has_addend
     }
 
     /// Whether its index is that of a type: all others are those of symbols.
     pub fn names_a_type(self) -> bool
         ensures { result ≡ names_a_type self }
     {
-        self == RelocationType::TypeIndexLeb
+        let row = &ROWS[self as usize];
+        row.index == Indexed::Type
+    }
+
+    /// Whether it may stand in the data section too.
+    pub(crate) fn may_stand_in_data(self) -> bool
+        ensures { result ≡ may_stand_in_data self }
+    {
+        let row = &ROWS[self as usize];
+        row.allowed == Allowed::Anywhere
     }
 
     /// The type of that number, where there is a rule for it.
     pub(crate) fn from_number(number: u8) -> Option<Self>
         ensures { result ≡ relocation_type_of number }
     {
-        match number {
-            0 => Some(RelocationType::FunctionIndexLeb),
-            1 => Some(RelocationType::TableIndexSleb),
-            2 => Some(RelocationType::TableIndexI32),
-            3 => Some(RelocationType::MemoryAddrLeb),
-            4 => Some(RelocationType::MemoryAddrSleb),
-            5 => Some(RelocationType::MemoryAddrI32),
-            6 => Some(RelocationType::TypeIndexLeb),
-            7 => Some(RelocationType::GlobalIndexLeb),
-            11 => Some(RelocationType::MemoryAddrRelSleb),
-            12 => Some(RelocationType::TableIndexRelSleb),
-            13 => Some(RelocationType::GlobalIndexI32),
-            20 => Some(RelocationType::TableNumberLeb),
-            21 => Some(RelocationType::MemoryAddrTlsSleb),
-            26 => Some(RelocationType::FunctionIndexI32),
-            _ => None,
+        numbered_in(&ROWS, number)
+    }
+}
+
+/// The type of that number among these rows.
+fn numbered_in(rows: &[RelocationRow], number: u8) -> Option<RelocationType>
+    ensures { result ≡ numbered_in rows.now number }
+{
+    for row in rows {
+        if row.number == number {
+            return Some(row.ty);
         }
     }
+    None
 }
 
 /// The name of a type of relocation (object file linking, version 2, "Relocation Sections"), as
@@ -128,20 +302,6 @@ impl RelocationType {
 pub fn relocation_type_to_string(ty: RelocationType) -> &'static str
     ensures { result.now ≡ type_name ty }
 {
-    match ty {
-        RelocationType::FunctionIndexLeb => "R_WASM_FUNCTION_INDEX_LEB",
-        RelocationType::TableIndexSleb => "R_WASM_TABLE_INDEX_SLEB",
-        RelocationType::TableIndexI32 => "R_WASM_TABLE_INDEX_I32",
-        RelocationType::MemoryAddrLeb => "R_WASM_MEMORY_ADDR_LEB",
-        RelocationType::MemoryAddrSleb => "R_WASM_MEMORY_ADDR_SLEB",
-        RelocationType::MemoryAddrI32 => "R_WASM_MEMORY_ADDR_I32",
-        RelocationType::TypeIndexLeb => "R_WASM_TYPE_INDEX_LEB",
-        RelocationType::GlobalIndexLeb => "R_WASM_GLOBAL_INDEX_LEB",
-        RelocationType::MemoryAddrRelSleb => "R_WASM_MEMORY_ADDR_REL_SLEB",
-        RelocationType::TableIndexRelSleb => "R_WASM_TABLE_INDEX_REL_SLEB",
-        RelocationType::GlobalIndexI32 => "R_WASM_GLOBAL_INDEX_I32",
-        RelocationType::TableNumberLeb => "R_WASM_TABLE_NUMBER_LEB",
-        RelocationType::MemoryAddrTlsSleb => "R_WASM_MEMORY_ADDR_TLS_SLEB",
-        RelocationType::FunctionIndexI32 => "R_WASM_FUNCTION_INDEX_I32",
-    }
+    let row = &ROWS[ty as usize];
+    row.name
 }

@@ -3,10 +3,10 @@
 ghost use Rattle.std.specs.Prelude.{◌≡◌, length};
 ghost use Rattle.wl_bytes.specs.Grammar.{times_at};
 ghost use Rattle.wl_module.specs.Outcome.{Yields, Gives};
-ghost use Rattle.wl_linking.specs.Relocations.{type_verdict, addend_where_at, entry_at, entries_of, held_at};
+ghost use Rattle.wl_linking.specs.Relocations.{may_stand, type_verdict, addend_where_at, entry_at, entries_of, held_at};
 
 use crate::items::Items;
-use crate::relocation_type::RelocationType;
+use crate::relocation_type::{LAST_TYPE, RelocationType};
 use std::alloc::Global;
 use std::marker::Model;
 use wl_bytes::Reader;
@@ -84,8 +84,15 @@ pub(crate) struct RelocHeld {
     pub section: WasmRelocSection,
 }
 
-/// The greatest number of a type of relocation.
-const LAST_TYPE: u8 = 26;
+/// Whether relocations of that type may be for that target.
+fn may_stand(target: Target, ty: RelocationType) -> bool
+    ensures { result ≡ may_stand target ty }
+{
+    match target {
+        Target::Data => ty.may_stand_in_data(),
+        Target::Code | Target::Debug => true,
+    }
+}
 
 /// The type of that number, in that target.
 fn read_type(target: Target, number: u8) -> Result<RelocationType, ReadError>
@@ -94,13 +101,9 @@ fn read_type(target: Target, number: u8) -> Result<RelocationType, ReadError>
     if number > LAST_TYPE {
         return Err(ReadError::Malformed(Why::RelocType));
     }
-    // Only code adds the base of its table to a slot behind it.
     match RelocationType::from_number(number) {
-        Some(RelocationType::TableIndexRelSleb) if target == Target::Data => {
-            Err(ReadError::Unsupported(Form::RelocType))
-        }
-        Some(ty) => Ok(ty),
-        None => Err(ReadError::Unsupported(Form::RelocType)),
+        Some(ty) if may_stand(target, ty) => Ok(ty),
+        Some(_) | None => Err(ReadError::Unsupported(Form::RelocType)),
     }
 }
 
