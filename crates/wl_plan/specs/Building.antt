@@ -1,5 +1,5 @@
 -- What each object adds to the plan.
-use Rattle.std.specs.Prelude.{◌≡◌, ℕ, ◌+◌, ◌≤◌, List, [], ◌∷◌, length, true, pos, map, Option, Some, None, slice_get, slice_index, Vec}
+use Rattle.std.specs.Prelude.{◌≡◌, ℕ, ◌+◌, ◌≤◌, List, [], ◌∷◌, length, true, pos, map, Option, Some, None, slice_get, slice_index, Vec, slice_index_or}
 use Rattle.wl_module.specs.Bodies.{Body}
 use Rattle.wl_linking.specs.Symbols.{Symbol}
 use Rattle.wl_linking.specs.Debug.{DebugInput}
@@ -49,9 +49,19 @@ fixup_of indices object o r s = record {
   to = Value (slice_index indices (index_of (slice_get o.symbols r.index))) (pos 0);
 }
 
+-- the fixups of these relocations of an object, which lie at these sites
 abbrev pub fixups_from : List ℕ → ℕ → Object → List WasmRelocation → List Site → List Fixup
 fixups_from indices object o (r ∷ rs) (s ∷ ss) = fixup_of indices object o r s ∷ fixups_from indices object o rs ss
 fixups_from indices object o _ _ = []
+
+-- the fixups of all relocations of an object
+abbrev pub object_fixups : List ℕ → ℕ → Object → List Fixup
+object_fixups indices object o = fixups_from indices object o o.code_relocations o.code_sites
+
+-- the fixup of the relocation of that number, whose site has the same number
+abbrev pub IsFixupAt : List ℕ → ℕ → Object → ℕ → Fixup → Type 0
+IsFixupAt indices object o i f = (r : WasmRelocation) (s : Site)
+    → f ≡ fixup_of indices object o (slice_index_or o.code_relocations i r) (slice_index_or o.code_sites i s)
 
 -- the map has an index for each function of a whole object that is planned
 pub record HasMap (indices : List ℕ) (o : Object) : Type 0 where

@@ -1,5 +1,6 @@
 -- What the globals of the output start with.
 use Rattle.std.specs.Prelude.{◌≡◌, ℕ, ℤ, pos, List, [], ◌∷◌, true, Option, Some, slice_get}
+use Rattle.std.specs.List.{AllByRecursion}
 use Rattle.std.specs.Option.{option_and_then}
 use Rattle.wl_bytes.specs.Leb.{AppendsSleb}
 use Rattle.wl_module.specs.Globals.{DefinedGlobal}
@@ -38,3 +39,7 @@ StartsAs objects (global_origin.Made made) g = IsMade made g
 -- the global is what it is to be
 abbrev pub IsRightGlobal : List Object → PlannedGlobal → Type 0
 IsRightGlobal objects g = StartsAs objects g.origin g.global
+
+-- each of them is what it is to be, whatever the objects are
+abbrev pub AreRightGlobals : List PlannedGlobal → Type 0
+AreRightGlobals globals = (objects : List Object) → AllByRecursion (IsRightGlobal objects) globals

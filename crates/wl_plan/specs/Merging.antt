@@ -1,5 +1,5 @@
 -- What a merger of types has found.
-use Rattle.std.specs.Prelude.{◌≡◌, ◌<◌, ℕ, List, [], ◌∷◌, length, Option, Some, None, true, false, slice_get, slice_index, slice_index_or, ◌==◌, ⊤}
+use Rattle.std.specs.Prelude.{◌≡◌, ◌<◌, ℕ, Bool, List, [], ◌∷◌, length, Option, Some, None, true, false, slice_get, slice_index, slice_index_or, ◌==◌, ⊤}
 use Rattle.std.specs.List.{list_any}
 use Rattle.wl_module.specs.Types.{FunctionType}
 use Rattle.wl_linking.specs.Object.{Object}
@@ -21,6 +21,11 @@ abbrev pub IsFull : {X : Type 0} → List X → LinkError → Type 0
 IsFull types OutOfMemory = ⊤
 IsFull types (TooLarge what) = (what ≡ Space) × (max_entries < length types)
 IsFull types _ = ⊥
+
+-- of so many types those are marked that a function has
+abbrev pub AreUsed : ℕ → List ℕ → List Bool → Type 0
+AreUsed count functions used =
+    (k : ℕ) (d : Bool) → k < count → slice_index_or used k d ≡ list_any (λ f. f == k) functions
 
 -- each local type that a function has is led to itself, and every other to nothing
 pub record LeadsToTypes (types : List FunctionType) (o : Object) (indices : List ℕ) : Type 0 where

@@ -49,7 +49,8 @@ fn push_debug_sections<'a>(
     object: usize,
     more: &[DebugSectionInput<'a>],
 ) -> Result<(), AllocError>
-    ensures { OnOk result (sections.new.items ≡ sections.old.items ++ map (debug_in object) more.now) }
+    ensures { OnOk result
+        (sections.new.items ≡ sections.old.items ++ map (debug_in object) more.now) }
 {
     for section in more {
         sections.push(DebugSectionInput {

@@ -1,16 +1,14 @@
 //! What the relocations of the objects become.
 
-ghost use Rattle.std.specs.Prelude.{◌≡◌, ◌≤◌, ◌<◌, ◌++◌, length, OnOk, IfOk, slice_index_or};
+ghost use Rattle.std.specs.Prelude.{◌≡◌, ◌≤◌, ◌<◌, ◌++◌, length, OnOk, IfOk};
 ghost use Rattle.std.specs.List.{AllByRecursion};
 ghost use Rattle.wl_linking.specs.Fitting.{IsWhole};
-ghost use Rattle.wl_linking.specs.declared.relocations.WasmRelocation.{WasmRelocation as SpecRelocation};
-ghost use Rattle.wl_linking.specs.declared.sites.Site.{Site as SpecSite};
 ghost use Rattle.wl_plan.specs.Planned.{AllPlanned};
 ghost use Rattle.wl_plan.specs.Space.{function_space, max_entries};
 ghost use Rattle.wl_plan.specs.Fixups.{AreFixups};
 ghost use Rattle.wl_plan.specs.Plan.{function_maps};
 ghost use Rattle.wl_plan.specs.Maps.{AreMaps};
-ghost use Rattle.wl_plan.specs.Building.{fixup_of, fixups_from, HasMap};
+ghost use Rattle.wl_plan.specs.Building.{IsFixupAt, object_fixups, HasMap};
 
 use crate::layout::{Fixup, FixupPlace, FixupTo, WasmObjectIndexMap};
 use std::alloc::{AllocError, Global};
@@ -20,7 +18,7 @@ use wl_linking::File;
 fn fixup_at(object: usize, map: &[u32], file: &File<'_>, i: usize) -> Fixup
     requires room { HasMap map.now file.now }
     requires within { i < length file.now.code_relocations }
-    ensures { (r : SpecRelocation) (s : SpecSite) → result ≡ fixup_of map.now object file.now (slice_index_or file.now.code_relocations i r) (slice_index_or file.now.code_sites i s) }
+    ensures { IsFixupAt map.now object file.now i result }
 {
     let relocation = file.code_relocations()[i];
     let site = file.code_sites()[i];
@@ -46,7 +44,8 @@ fn push_fixups(
     file: &File<'_>,
 ) -> Result<(), AllocError>
     requires { HasMap map.now file.now }
-    ensures { OnOk result (fixups.new.items ≡ fixups.old.items ++ fixups_from map.now object file.now file.now.code_relocations file.now.code_sites) }
+    ensures { OnOk result
+        (fixups.new.items ≡ fixups.old.items ++ object_fixups map.now object file.now) }
 {
     for i in 0..file.code_relocations().len() {
         fixups.push(fixup_at(object, map, file, i))?;
@@ -64,7 +63,8 @@ pub(crate) fn all_fixups(
     requires planned { AllPlanned files.now }
     requires room { length (function_space files.now) ≤ max_entries }
     requires maps { AreMaps (function_space files.now) 0 files.now (function_maps maps.now) }
-    ensures { IfOk result (λ fixups. AreFixups (function_space files.now) 0 files.now fixups.items) }
+    ensures { IfOk result
+        (λ fixups. AreFixups (function_space files.now) 0 files.now fixups.items) }
 {
     let mut fixups = Vec::new(alloc);
     for (object, file) in files.iter().enumerate() {

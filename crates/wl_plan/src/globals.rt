@@ -1,12 +1,10 @@
 //! The globals that the linker makes.
 
-ghost use Rattle.std.specs.Prelude.{◌≡◌, List, IfOk, pos, true};
-ghost use Rattle.std.specs.List.{AllByRecursion};
+ghost use Rattle.std.specs.Prelude.{◌≡◌, IfOk, pos, true};
 ghost use Rattle.std.specs.Cow.{cow_slice_items};
 ghost use Rattle.wl_module.specs.Slices.{is_owned};
-ghost use Rattle.wl_linking.specs.Object.{Object};
 ghost use Rattle.wl_plan.specs.Space.{made_globals};
-ghost use Rattle.wl_plan.specs.Globals.{IsConstant, IsMade, IsRightGlobal};
+ghost use Rattle.wl_plan.specs.Globals.{IsConstant, IsMade, AreRightGlobals};
 ghost use Rattle.wl_plan.specs.Plan.{global_origins};
 ghost use Rattle.wl_plan.specs.declared.layout.MadeGlobal.TheVariants.{StackPointer as StackPointerCase};
 
@@ -48,7 +46,7 @@ fn stack_pointer<'a>(alloc: Global) -> Result<OutputGlobal<'a>, AllocError>
 /// The globals of the output: those that the linker makes.
 pub(crate) fn made_globals<'a>(alloc: Global) -> Result<Items<PlannedGlobal<'a>>, AllocError>
     ensures origins { IfOk result (λ globals. global_origins globals ≡ made_globals) }
-    ensures started { IfOk result (λ globals. (objects : List Object) → AllByRecursion (IsRightGlobal objects) globals) }
+    ensures started { IfOk result AreRightGlobals }
 {
     let mut globals = Vec::new(alloc);
     globals.push(PlannedGlobal {

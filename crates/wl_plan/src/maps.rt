@@ -34,7 +34,8 @@ pub(crate) fn index_maps(
     requires room { length (function_space files.now) ≤ max_entries }
     requires as_many { length type_indices.items ≡ length files.now }
     ensures types { IfOk result (λ maps. type_maps maps ≡ type_indices.items) }
-    ensures functions { IfOk result (λ maps. AreMaps (function_space files.now) 0 files.now (function_maps maps)) }
+    ensures functions { IfOk result
+        (λ maps. AreMaps (function_space files.now) 0 files.now (function_maps maps)) }
 {
     let mut maps = Vec::new(alloc);
     let mut base: usize = 0;

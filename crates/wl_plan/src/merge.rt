@@ -1,13 +1,12 @@
 //! The types of an object's functions among the output types.
 
-ghost use Rattle.std.specs.Prelude.{◌≡◌, ◌≤◌, ◌<◌, ◌==◌, ℕ, length, true, false, IfOk, IfErr, Some, slice_get, slice_index_or, if◌then◌else◌, Bool};
-ghost use Rattle.std.specs.List.{list_any};
+ghost use Rattle.std.specs.Prelude.{◌≡◌, ◌≤◌, length, true, false, IfOk, IfErr, Some, slice_get, if◌then◌else◌};
 ghost use Rattle.wl_plan.specs.Types.{types_exist};
 ghost use Rattle.wl_plan.specs.Types.{add_new, firsts_onto, live_types};
 ghost use Rattle.std.specs.List.{AllByRecursion};
 ghost use Rattle.wl_linking.specs.Fitting.{IsWhole};
 ghost use Rattle.wl_plan.specs.Types.{output_types};
-ghost use Rattle.wl_plan.specs.Merging.{IsFull, LeadsToTypes, AreMerged};
+ghost use Rattle.wl_plan.specs.Merging.{IsFull, AreUsed, LeadsToTypes, AreMerged};
 ghost use Rattle.wl_plan.specs.declared.types.TheConstants.{WASM_DEAD_INDEX};
 
 use crate::types::{TypeMerger, WASM_DEAD_INDEX};
@@ -19,7 +18,7 @@ use wl_module::FuncType;
 fn used_types(alloc: Global, count: usize, functions: &[u32]) -> Result<Vec<bool>, AllocError>
     requires { types_exist count functions.now ≡ true }
     ensures len { IfOk result (λ used. length used.items ≡ count) }
-    ensures marks { IfOk result (λ used. (k : ℕ) (d : Bool) → k < count → slice_index_or used.items k d ≡ list_any (λ f. f == k) functions.now) }
+    ensures marks { IfOk result (λ used. AreUsed count functions.now used.items) }
 {
     let mut used = vec![in alloc; false; count]?;
     for ty in functions {
@@ -30,7 +29,8 @@ fn used_types(alloc: Global, count: usize, functions: &[u32]) -> Result<Vec<bool
 
 /// The place of a type among the output types, where a function has it.
 fn merge_type(merger: &mut TypeMerger, ty: &FuncType, used: bool) -> Result<u32, LinkError>
-    ensures merged { IfOk result (λ index. merger.new ≡ (if used then add_new merger.old ty.now else merger.old)) }
+    ensures merged { IfOk result
+        (λ index. merger.new ≡ (if used then add_new merger.old ty.now else merger.old)) }
     ensures place { IfOk result (λ index. used ≡ true → slice_get merger.new index ≡ Some ty.now) }
     ensures removed { IfOk result (λ index. used ≡ false → index ≡ WASM_DEAD_INDEX) }
     ensures err { IfErr result (λ e. (used ≡ true) × IsFull (add_new merger.old ty.now) e) }
@@ -49,7 +49,8 @@ fn merge_types(
     file: &File<'_>,
 ) -> Result<Vec<u32>, LinkError>
     requires { types_exist (length file.now.types) file.now.functions ≡ true }
-    ensures merged { IfOk result (λ indices. merger.new ≡ firsts_onto merger.old (live_types file.now)) }
+    ensures merged { IfOk result
+        (λ indices. merger.new ≡ firsts_onto merger.old (live_types file.now)) }
     ensures places { IfOk result (λ indices. LeadsToTypes merger.new file.now indices.items) }
     ensures err { IfErr result (IsFull (firsts_onto merger.old (live_types file.now))) }
 {

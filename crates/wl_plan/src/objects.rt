@@ -75,7 +75,9 @@ impl ObjectList {
 
     /// The bytes of an object.
     pub fn get(&self, object: usize) -> Option<&[u8]>
-        ensures bytes { MatchOption result (slice_get self.now object ≡ None) (λ bytes. slice_get self.now object ≡ Some bytes.now) }
+        ensures bytes { MatchOption result
+            (slice_get self.now object ≡ None)
+            (λ bytes. slice_get self.now object ≡ Some bytes.now) }
         ensures within { IfSome result (λ bytes. length bytes.now ≤ MAX_OBJECT) }
     {
         if object < self.objects.len() {

@@ -23,7 +23,8 @@ fn push_functions(
 ) -> Result<(), AllocError>
     requires room { length local.now ≤ 4294967294 }
     requires types { types_exist (length indices.now) local.now ≡ true }
-    ensures { OnOk result (functions.new.items ≡ functions.old.items ++ outputs_from object 0 local.now indices.now) }
+    ensures { OnOk result
+        (functions.new.items ≡ functions.old.items ++ outputs_from object 0 local.now indices.now) }
 {
     for (unit, ty) in local.iter().enumerate() {
         functions.push(OutputFunction {

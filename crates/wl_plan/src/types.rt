@@ -81,7 +81,8 @@ impl TypeMerger {
     /// `TooLarge` where the space would get more than 4294967294 types. A refusal leaves the types
     /// as they were.
     pub fn add(&mut self, ty: &FuncType) -> Result<u32, LinkError>
-        ensures ok { IfOk result (λ place. (self.new ≡ add_new self.old ty.now) × (slice_get self.new place ≡ Some ty.now)) }
+        ensures types { OnOk result (self.new ≡ add_new self.old ty.now) }
+        ensures place { IfOk result (λ place. slice_get self.new place ≡ Some ty.now) }
         ensures err { IfErr result (IsFull (add_new self.old ty.now)) }
         ensures same { OnErr result (self.new ≡ self.old) }
     {
