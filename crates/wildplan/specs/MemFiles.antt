@@ -25,8 +25,8 @@ abbrev pub calls_made : MemFiles → ℕ
 calls_made s = s.calls
 
 -- the next call is one of those that are to fail
-abbrev pub is_to_fail : MemFiles → Bool
-is_to_fail s = list_any (λ call. call == one_more (calls_made s)) (failing_calls s)
+abbrev pub call_is_to_fail : MemFiles → Bool
+call_is_to_fail s = list_any (λ call. call == one_more (calls_made s)) (failing_calls s)
 
 -- what is left of the current file
 abbrev pub bytes_left : MemFiles → List ℕ

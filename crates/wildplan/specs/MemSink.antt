@@ -18,8 +18,8 @@ abbrev pub writes_made : MemSink → ℕ
 writes_made s = s.calls
 
 -- the next call is one of those that are to fail
-abbrev pub is_to_fail : MemSink → Bool
-is_to_fail s = list_any (λ call. call == one_more (writes_made s)) (failing_writes s)
+abbrev pub write_is_to_fail : MemSink → Bool
+write_is_to_fail s = list_any (λ call. call == one_more (writes_made s)) (failing_writes s)
 
 -- how many bytes a call takes at most
 abbrev pub write_limit : MemSink → ℕ

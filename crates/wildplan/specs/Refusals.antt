@@ -17,12 +17,12 @@ abbrev pub IsLine : List ℕ → List ℕ → List ℕ → Type 0
 IsLine name told text = text ≡ refusal_line name told
 
 -- a name in quotes behind a blank, and numbers
-abbrev pub named_text : List ℕ → List ℕ → List ℕ
-named_text name numbers = codes " " ++ quoted name ++ numbers_text numbers
+abbrev pub name_text : List ℕ → List ℕ → List ℕ
+name_text name numbers = codes " " ++ quoted name ++ numbers_text numbers
 
 -- a name in quotes, and two things, each an object's number and its own there
 abbrev pub pair_text : List ℕ → ℕ × ℕ → ℕ × ℕ → List ℕ
-pair_text name first second = named_text name (first.0 ∷ first.1 ∷ second.0 ∷ second.1 ∷ [])
+pair_text name first second = name_text name (first.0 ∷ first.1 ∷ second.0 ∷ second.1 ∷ [])
 
 -- an object's number and a word, each behind a blank
 abbrev pub object_text : ℕ → List ℕ → List ℕ
@@ -49,7 +49,7 @@ error_line (error.DuplicateSymbol name first_object first_symbol second_object s
 error_line (error.BadFeature object prefix) = refusal_line (codes "BadFeature") (numbers_text (object ∷ prefix ∷ []))
 error_line (error.SharedMemoryFeature need) = refusal_line (codes "SharedMemoryFeature") (codes " " ++ need_text need)
 error_line (error.FeatureConflict object feature) = refusal_line (codes "FeatureConflict") (object_text object (quoted feature))
-error_line (error.EntryNotDefined name) = refusal_line (codes "EntryNotDefined") (named_text name [])
+error_line (error.EntryNotDefined name) = refusal_line (codes "EntryNotDefined") (name_text name [])
 error_line (error.WrongKind object symbol) = refusal_line (codes "WrongKind") (numbers_text (object ∷ symbol ∷ []))
 error_line (error.UndefinedSymbols symbols) = refusal_line (codes "UndefinedSymbols") (flat_map undefined_text symbols)
 error_line (error.ConflictingTypes name first_object first_slot second_object second_slot) = refusal_line (codes "ConflictingTypes") (pair_text name (first_object, first_slot) (second_object, second_slot))
@@ -58,5 +58,5 @@ error_line (error.TooLarge what) = refusal_line (codes "TooLarge") (codes " " ++
 error_line (error.BadMemorySize which requested needed) = refusal_line (codes "BadMemorySize") (word_text (bound_name which) (requested ∷ needed ∷ []))
 error_line (error.RelocationRange object offset value) = refusal_line (codes "RelocationRange") (range_text object offset value)
 error_line (error.ConstantRange value) = refusal_line (codes "ConstantRange") (numbers_text (value ∷ []))
-error_line (error.ExportNotFound name) = refusal_line (codes "ExportNotFound") (named_text name [])
-error_line (error.DuplicateExport name) = refusal_line (codes "DuplicateExport") (named_text name [])
+error_line (error.ExportNotFound name) = refusal_line (codes "ExportNotFound") (name_text name [])
+error_line (error.DuplicateExport name) = refusal_line (codes "DuplicateExport") (name_text name [])

@@ -4,10 +4,10 @@ use Rattle.wildplan.specs.declared.run.Status.{Status}
 use Rattle.wildplan.specs.declared.run.Status.TheVariants.{Done, Refused, BadWords, ReadFault, WriteFault, OutOfMemory}
 
 -- the number that the program ends with
-abbrev pub code_of : Status → ℕ
-code_of Done = 0
-code_of Refused = 1
-code_of BadWords = 2
-code_of ReadFault = 3
-code_of WriteFault = 4
-code_of OutOfMemory = 5
+abbrev pub status_code : Status → ℕ
+status_code Done = 0
+status_code Refused = 1
+status_code BadWords = 2
+status_code ReadFault = 3
+status_code WriteFault = 4
+status_code OutOfMemory = 5

@@ -6,7 +6,7 @@ ghost use Rattle.wl_text.specs.Pieces.{quoted, numbers_text};
 ghost use Rattle.wl_text.specs.Names.{need_text};
 ghost use Rattle.wildplan.specs.Refusals.{
   IsLine,
-  named_text,
+  name_text,
   pair_text,
   object_text,
   word_text,
@@ -49,7 +49,7 @@ fn named_line(
     numbers: &[u64],
 ) -> Result<Vec<u8>, AllocError>
     ensures { IfOk result (λ text.
-        IsLine refusal.now (named_text name.now numbers.now) text.items) }
+        IsLine refusal.now (name_text name.now numbers.now) text.items) }
 {
     let mut text = begin_line(alloc, refusal)?;
     text.push(b' ')?;
