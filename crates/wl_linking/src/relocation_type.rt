@@ -97,7 +97,10 @@ impl Model for RelocationRow {
 /// A row: the type, its number and name, how its field holds the value, whether there is an addend,
 /// what its index is of, and where it may stand.
 macro_rules! row {
-    ($ty:ident, $number:literal, $name:literal, $form:ident, $addend:literal, $index:ident, $allowed:ident) => {
+    (
+        $ty:ident, $number:literal, $name:literal, $form:ident, $addend:literal,
+        $index:ident, $allowed:ident
+    ) => {
         RelocationRow {
             ty: RelocationType::$ty,
             number: $number,
