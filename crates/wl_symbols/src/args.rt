@@ -1,6 +1,6 @@
 //! What the words of the command line ask for.
 
-ghost use Rattle.std.specs.Prelude.{◌⊎◌, ℕ, List, ◌≡◌, ◌↔◌, ◌<◌, ◌≤◌, [], All, length, Some, None, option_map, slice_get, IfOk, OnOk, IfErr, IfSome, IfNone, IsErr, MatchOption};
+ghost use Rattle.std.specs.Prelude.{◌⊎◌, ℕ, List, ◌≡◌, ◌↔◌, ◌<◌, ◌≤◌, [], All, length, Some, None, option_map, slice_get, IfOk, OnOk, OnErr, IfErr, IfSome, IfNone, IsErr, MatchOption};
 ghost use Rattle.wl_symbols.specs.Texts.{texts};
 ghost use Rattle.wl_symbols.specs.Items.{Given, Set, Memory, IsSound, NamesOption, HasValue};
 ghost use Rattle.wl_symbols.specs.Faults.{WordsFault, RefusesWords, RefusesValue, StopsAt, LacksValue};
@@ -34,6 +34,8 @@ pub struct WasmArgs {
     pub export_dynamic: bool,
     /// Names that nothing defines are left to the host.
     pub allow_undefined: bool,
+    /// Threads share the memory. No word asks for that so far.
+    pub shared_memory: bool,
     /// The stack lies in front of the data.
     pub stack_first: bool,
     /// What nothing refers to is left out.
@@ -86,7 +88,8 @@ fn value_at<'a>(
     behind: Option<&'a str>,
 ) -> Option<(&'a str, usize)>
     requires within { at < length words.now }
-    requires option { NamesOption (texts words.now) at (Value setting) (option_map (λ v. v.now) behind) }
+    requires option { NamesOption (texts words.now) at (Value setting)
+        (option_map (λ v. v.now) behind) }
     ensures value { IfSome result (λ v. HasValue (texts words.now) at setting v.0.now v.1) }
     ensures place { IfSome result (λ v. v.1 < length words.now) }
     ensures none { IfNone result (LacksValue (texts words.now) at) }
@@ -100,7 +103,8 @@ fn value_at<'a>(
 /// A size of the memory, by the option's value in the word of this place.
 fn memory_size(value: &str, place: usize) -> Result<u64, ArgError>
     ensures ok { IfOk result (λ n. number_of 64 value.now ≡ Some n) }
-    ensures err { IfErr result (λ e. (number_of 64 value.now ≡ None) × (e ≡ ArgError.BadNumber place)) }
+    ensures none { OnErr result (number_of 64 value.now ≡ None) }
+    ensures err { IfErr result (λ e. e ≡ ArgError.BadNumber place) }
 {
     number_of(value).ok_or(ArgError::BadNumber(place))
 }
@@ -116,6 +120,7 @@ impl WasmArgs {
             required_export_symbols: Texts::new(alloc),
             export_dynamic: false,
             allow_undefined: false,
+            shared_memory: false,
             stack_first: false,
             gc_sections: true,
             check_features: true,
@@ -185,7 +190,8 @@ impl WasmArgs {
         option: MemoryOption,
         value: Option<&str>,
     ) -> Result<(), AllocError>
-        ensures { OnOk result (Adds (Memory option (option_map (λ v. v.now) value.entry)) self.old self.new) }
+        ensures { OnOk result
+            (Adds (Memory option (option_map (λ v. v.now) value.entry)) self.old self.new) }
     {
         match option {
             MemoryOption::Import => self.import_memory = Some(memory_name(alloc, value)?),

@@ -204,7 +204,8 @@ pub(crate) fn is_option(word: &str) -> bool
 /// The word in two parts.
 pub(crate) fn parts_of(word: &str) -> WordParts<'_>
     ensures front { result.front.now ≡ front_of word.now }
-    ensures value { MatchOption result.value (value_of word.now ≡ None) (λ v. value_of word.now ≡ Some v.now) }
+    ensures value { MatchOption result.value (value_of word.now ≡ None)
+        (λ v. value_of word.now ≡ Some v.now) }
 {
     match word.split_once('=') {
         Some((front, value)) => WordParts {

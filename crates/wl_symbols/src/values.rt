@@ -55,7 +55,8 @@ fn small_number_of(text: &str) -> Option<u32>
 
 /// The text of the stack's size, by the value of `-z`.
 fn stack_size_text(value: &str) -> Option<&str>
-    ensures { MatchOption result (stack_size_text value.now ≡ None) (λ text. stack_size_text value.now ≡ Some text.now) }
+    ensures { MatchOption result (stack_size_text value.now ≡ None)
+        (λ text. stack_size_text value.now ≡ Some text.now) }
 {
     let parts = parts_of(value);
     if parts.front == "stack-size" {
