@@ -65,7 +65,9 @@ fn names_stand_for_the_first_that_counts(rt: HostRuntime) -> Result<(), Fail> {
     let alloc = rt.alloc();
     let files = four_objects(&rt, alloc)?;
     let args = WasmArgs::parse(alloc, &Vec::new(alloc))?;
-    let table = SymbolTable::build(alloc, &files, &args)?;
+    let table = SymbolTable::build(alloc, &files, &args)
+        .ok()
+        .expect(&rt, "a table");
     for (name, want) in [
         ("a", symbol(3, 0)),
         ("b", symbol(1, 2)),
@@ -136,7 +138,9 @@ fn the_table_finds_what_a_scan_finds(rt: HostRuntime) -> Result<(), Fail> {
     let files = four_objects(&rt, alloc)?;
     let mut args = WasmArgs::parse(alloc, &Vec::new(alloc))?;
     args.shared_memory = true;
-    let table = SymbolTable::build(alloc, &files, &args)?;
+    let table = SymbolTable::build(alloc, &files, &args)
+        .ok()
+        .expect(&rt, "a table");
     for file in files.as_slice() {
         for symbol in file.symbols() {
             let name = symbol.name;
