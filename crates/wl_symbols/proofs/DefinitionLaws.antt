@@ -1,10 +1,11 @@
 -- A name stands for one definition at most.
-use Rattle.std.proofs.Common.{◌≡◌, ◌<◌, ◌⊎◌, ℕ, zero, suc, List, refl, sym, ap, subst, ◌∙◌, inl, inr, Option, Some, None, MatchOption, arith}
+use Rattle.std.proofs.Common.{◌≡◌, ℕ, List, refl, sym, ap, subst, ◌∙◌, inl, inr, Option, Some, None, MatchOption}
 use Rattle.wl_linking.specs.Object.{Object}
 use Rattle.wl_symbols.specs.Link.{Link}
 use Rattle.wl_symbols.specs.LinkerNames.{name_of}
 use Rattle.wl_symbols.specs.Names.{named, def, StandsFor, IsUnknown, HasSymbol, IsFirst, IsMade}
 use Rattle.wl_symbols.proofs.MadeLaws.{parse_name}
+use Rattle.wl_symbols.proofs.PlaceLaws.{places_in_order}
 use Rattle.wl_symbols.proofs.NamedLaws.{named_cases, def_shared}
 use Rattle.std.proofs.lemmas.Bool.{cases_Bool}
 use Rattle.wl_linking.specs.Symbols.{Symbol as LinkedSymbol}
@@ -16,25 +17,11 @@ use Rattle.wl_symbols.specs.declared.entry.Definition.TheVariants.{Symbol, Made}
 use Rattle.wl_symbols.specs.declared.args.WasmArgs.{WasmArgs}
 use Rattle.wl_symbols.specs.declared.linker_symbol.WasmLinkerSymbol.{WasmLinkerSymbol}
 
-pub in_order : (a b : ℕ) → (a < b) ⊎ ((a ≡ b) ⊎ (b < a))
-in_order zero zero = inr (inl refl)
-in_order zero (suc b) = inl (omega arith)
-in_order (suc a) zero = inr (inr (omega arith))
-in_order (suc a) (suc b) = elim (in_order a b) [
-  | inl h ↦ inl (omega (arith, h))
-  | inr h ↦ elim h [ inl e ↦ inr (inl (ap suc e)) | inr g ↦ inr (inr (omega (arith, g))) ]
-]
-
+-- the first of these symbols stands at one place
 one_first : (objects : List Object) (name : List ℕ) (strength : Strength) (o k p l : ℕ) → IsFirst objects name strength o k → IsFirst objects name strength p l → Symbol o k ≡ Symbol p l
-one_first objects name strength o k p l a b = elim (in_order o p) [
-  | inl h ↦ absurd (b.none_before o k a.here (inl h))
-  | inr h ↦ elim h [
-    | inl e ↦ elim (in_order k l) [
-      | inl g ↦ absurd (b.none_before o k a.here (inr (e, g)))
-      | inr g ↦ elim g [ inl f ↦ cc | inr f ↦ absurd (a.none_before p l b.here (inr (sym e, f))) ]
-    ]
-    | inr g ↦ absurd (a.none_before p l b.here (inl g))
-  ]
+one_first objects name strength o k p l a b = elim (places_in_order (record { object = o; symbol = k }) (record { object = p; symbol = l })) [
+  | inl lt ↦ absurd (b.none_before o k a.here lt)
+  | inr h ↦ elim h [ inl same ↦ (λ i. Symbol (same i).object (same i).symbol) | inr gt ↦ absurd (a.none_before p l b.here gt) ]
 ]
 
 one_made : (args : WasmArgs) (name : List ℕ) (m n : WasmLinkerSymbol) → IsMade args name m → IsMade args name n → Made m ≡ Made n

@@ -7,10 +7,10 @@ pub mod WordLaws
 pub mod SomeLaws
 pub mod FirstLaws
 pub mod AdditionLaws
+pub mod PlaceLaws
 pub mod CaseLaws
 pub mod MadeLaws
 pub mod NamedLaws
 pub mod DefinitionLaws
-pub mod StrongLaws
 pub mod RepeatLaws
 pub mod RefusalLaws

@@ -4,13 +4,12 @@ use Rattle.wl_linking.specs.Symbols.{Symbol as LinkedSymbol}
 use Rattle.wl_linking.specs.Object.{Object}
 use Rattle.wl_linking.specs.declared.error.LinkError.{LinkError}
 use Rattle.wl_symbols.specs.Entries.{Entry, entries_of}
-use Rattle.wl_symbols.specs.Names.{HasSymbol, IsBefore}
+use Rattle.wl_symbols.specs.Names.{HasSymbol}
 use Rattle.wl_symbols.specs.Repeats.{HasOneStrong, Pair, IsFirstRepeat, refusal_of, IsDuplicate}
 use Rattle.wl_symbols.specs.Adding.{repeat_of, NoneRepeats, AreTwo}
 use Rattle.wl_symbols.proofs.AdditionLaws.{none_none, none_more}
-use Rattle.wl_symbols.proofs.DefinitionLaws.{in_order}
-use Rattle.wl_symbols.proofs.StrongLaws.{one_strong, none_twice}
-use Rattle.wl_symbols.proofs.RepeatLaws.{first_repeat}
+use Rattle.wl_symbols.proofs.PlaceLaws.{Before, places_in_order}
+use Rattle.wl_symbols.proofs.RepeatLaws.{one_strong, none_twice, first_repeat}
 use Rattle.wl_symbols.specs.declared.entry.Place.{Place}
 use Rattle.wl_symbols.specs.declared.entry.Strength.TheVariants.{Strong}
 
@@ -51,22 +50,6 @@ pub never_both : (objects : List Object) (e : LinkError) → HasOneStrong object
 never_both objects e one told = (none_twice objects one).none e told
 
 -- ---- one
-
--- the first place comes before the second
-abbrev Before : Place → Place → Type 0
-Before p q = IsBefore p.object p.symbol q.object q.symbol
-
-places_in_order : (p q : Place) → Before p q ⊎ ((p ≡ q) ⊎ Before q p)
-places_in_order p q = elim (in_order p.object q.object) [
-  | inl lt ↦ inl (inl lt)
-  | inr h ↦ elim h [
-    | inl same ↦ elim (in_order p.symbol q.symbol) [
-      | inl lt ↦ inl (inr (same, lt))
-      | inr g ↦ elim g [ inl is ↦ inr (inl (λ i. record { object = same i; symbol = is i })) | inr gt ↦ inr (inr (inr (sym same, gt))) ]
-    ]
-    | inr gt ↦ inr (inr (inl gt))
-  ]
-]
 
 -- a place has one symbol, and that one name
 one_name : (objects : List Object) (name other : List ℕ) (p : Place) → HasSymbol objects name Strong p.object p.symbol → HasSymbol objects other Strong p.object p.symbol → name ≡ other

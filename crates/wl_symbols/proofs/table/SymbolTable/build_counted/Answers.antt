@@ -2,8 +2,7 @@ use Rattle.std.proofs.Common.{[]}
 use Rattle.wl_symbols.specs.Entries.{entries_of}
 use Rattle.wl_symbols.specs.Adding.{firsts_in, Adds, Meets}
 use Rattle.wl_symbols.proofs.AdditionLaws.{none_none}
-use Rattle.wl_symbols.proofs.StrongLaws.{one_strong, none_twice}
-use Rattle.wl_symbols.proofs.RepeatLaws.{first_repeat}
+use Rattle.wl_symbols.proofs.RepeatLaws.{one_strong, none_twice, first_repeat}
 use Rattle.wl_symbols.proofs.table.SymbolTable.build_counted.Goals as goal
 
 pub returns-in-Some-clause-err : goal.returns-in-Some-clause-err
