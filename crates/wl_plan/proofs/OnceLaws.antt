@@ -1,16 +1,14 @@
 -- Nothing stands at two places of a space, and each output type is that of a function.
-use Rattle.std.proofs.Common.{◌≡◌, ◌⊎◌, ◌<◌, ◌≤◌, ◌+◌, ◌-◌, ◌++◌, ℕ, zero, suc, Bool, true, false, cond, eqb, List, [], ◌∷◌, length, get_or, Some, refl, sym, ap, subst, ◌∙◌, ◌&&◌, arith, slice_get, inl, inr, eq-eqb}
+use Rattle.std.proofs.Common.{◌≡◌, ◌⊎◌, ◌<◌, ◌≤◌, ◌+◌, ◌++◌, ℕ, zero, suc, Bool, true, false, cond, eqb, List, [], ◌∷◌, length, Some, refl, sym, ap, ◌∙◌, arith, slice_get, inl, inr, eq-eqb}
 use Rattle.std.specs.Cmp.Lexicographic.{pointwise}
 use Rattle.std.specs.List.{list_any, flat_map}
-use Rattle.std.proofs.lemmas.Bool.{cases_Bool, cases_lt, eqb-true}
-use Rattle.std.proofs.lemmas.Option.{slice_get_within, get_or_from_slice_get}
+use Rattle.std.proofs.lemmas.Bool.{cases_Bool, eqb-true}
 use Rattle.wl_module.specs.Types.{FunctionType, value_type_code}
 use Rattle.wl_module.specs.declared.types.ValType.{ValType}
 use Rattle.wl_linking.specs.Object.{Object}
 use Rattle.wl_plan.specs.Types.{same_value, same_type, add_new, firsts_onto, used_from, live_types, output_types}
 use Rattle.wl_plan.specs.Space.{functions_from, functions_of, function_space, StandOnce}
-use Rattle.wl_plan.specs.Plan.{type_of, IsFunctionsType}
-use Rattle.wl_plan.specs.declared.layout.FunctionOrigin.{FunctionOrigin}
+use Rattle.wl_plan.specs.Plan.{IsFunctionsType}
 use Rattle.wl_plan.specs.declared.layout.FunctionOrigin.TheVariants as origin
 use Rattle.wl_plan.proofs.Folds.{none_at}
 

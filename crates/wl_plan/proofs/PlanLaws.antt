@@ -1,6 +1,6 @@
 -- The passes over the objects: types, functions, maps, fixups.
 use Rattle.std.proofs.Common.{◌≡◌, ◌<◌, ◌≤◌, ◌+◌, ◌-◌, ◌++◌, ℕ, zero, suc, true, false, eqb, List, [], ◌∷◌, length, get_or, drop, take, map, Some, refl, sym, ap, subst, ◌∙◌, arith, slice_get, add-one, drop-cons, append_assoc, length-append, inl, inr, eq-eqb, append-nil}
-use Rattle.std.specs.List.{AllByRecursion, list_all, list_any, flat_map, range_with_len}
+use Rattle.std.specs.List.{AllByRecursion, list_any, flat_map, range_with_len}
 use Rattle.std.proofs.Math.Seq.{take-suc}
 use Rattle.std.proofs.lemmas.List.{length-map, length-take, map-append, take_all, drop_all}
 use Rattle.std.proofs.lemmas.List.Folds.{list_any_at}

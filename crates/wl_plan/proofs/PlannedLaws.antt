@@ -4,8 +4,6 @@ use Rattle.std.specs.List.{list_all, list_any}
 use Rattle.std.proofs.lemmas.Bool.{eqb-true, ltb-true, cases_Bool}
 use Rattle.std.proofs.lemmas.List.{length-map}
 use Rattle.std.proofs.lemmas.Option.{slice_get-get_or, slice_get_within, get_or_from_slice_get}
-use Rattle.wl_module.specs.Imports.{Imported}
-use Rattle.wl_module.specs.Globals.{DefinedGlobal}
 use Rattle.wl_linking.specs.Symbols.{Symbol, is_undefined, is_weak, is_data, has_flag}
 use Rattle.wl_linking.specs.Object.{Object}
 use Rattle.wl_linking.specs.Spaces.{spaces_of, symbol_exists, thing_exists, number_exists}

@@ -1,8 +1,7 @@
 -- A link has one plan at most: each part is fixed by the link and the parts before it.
-use Rattle.std.proofs.Common.{◌≡◌, ◌<◌, ◌≤◌, ◌+◌, ◌-◌, ◌++◌, ℕ, ℤ, zero, suc, Bool, true, false, eqb, List, [], ◌∷◌, length, get_or, map, Option, Some, None, refl, sym, ap, subst, ◌∙◌, arith, slice_get, inl, inr, pos}
+use Rattle.std.proofs.Common.{◌≡◌, ◌<◌, ◌+◌, ◌-◌, ◌++◌, ℕ, ℤ, suc, Bool, true, false, eqb, List, [], ◌∷◌, length, get_or, Option, Some, refl, sym, ap, ◌∙◌, arith, slice_get, inl, inr}
 use Rattle.std.specs.List.{list_any, AllByRecursion}
 use Rattle.std.proofs.lemmas.Bool.{cases_Bool}
-use Rattle.std.proofs.lemmas.Option.{slice_get-get_or}
 use Rattle.wl_bytes.specs.Leb.{IsShortestSleb}
 use Rattle.wl_module.specs.Types.{FunctionType}
 use Rattle.wl_module.specs.Bodies.{Body}
@@ -17,9 +16,8 @@ use Rattle.wl_linking.specs.Fitting.{IsFitting}
 use Rattle.wl_linking.specs.declared.relocations.WasmRelocation.{WasmRelocation}
 use Rattle.wl_linking.specs.declared.relocation_type.RelocationType.{RelocationType}
 use Rattle.wl_linking.specs.declared.sites.Site.{Site}
-use Rattle.wl_plan.specs.Link.{Link}
+use Rattle.wl_symbols.specs.Link.{Link}
 use Rattle.wl_plan.specs.Imports.{PlannedImport}
-use Rattle.wl_plan.specs.Types.{output_types}
 use Rattle.wl_plan.specs.Space.{function_space, StandOnce}
 use Rattle.wl_plan.specs.Globals.{StartsAs, IsRightGlobal}
 use Rattle.wl_plan.specs.Merging.{LeadsToTypes, AreLed}

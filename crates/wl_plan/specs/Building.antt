@@ -1,5 +1,5 @@
 -- What each object adds to the plan.
-use Rattle.std.specs.Prelude.{◌≡◌, ℕ, ◌+◌, ◌≤◌, List, [], ◌∷◌, length, true, pos, map, Option, Some, None, slice_get, slice_index, Vec, slice_index_or}
+use Rattle.std.specs.Prelude.{◌≡◌, ℕ, ◌+◌, ◌≤◌, List, [], ◌∷◌, length, true, pos, Option, Some, None, slice_get, slice_index, slice_index_or, Vec}
 use Rattle.wl_module.specs.Bodies.{Body}
 use Rattle.wl_linking.specs.Symbols.{Symbol}
 use Rattle.wl_linking.specs.Debug.{DebugInput}

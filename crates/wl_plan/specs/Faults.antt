@@ -5,8 +5,8 @@ use Rattle.wl_linking.specs.declared.error.LinkError.{LinkError}
 use Rattle.wl_linking.specs.declared.error.LinkError.TheVariants.{TooLarge}
 use Rattle.wl_linking.specs.declared.error.Quantity.TheVariants.{Space}
 use Rattle.wl_linking.specs.Steps.{Step, NoStep}
-use Rattle.wl_plan.specs.Link.{Link}
-use Rattle.wl_symbols.specs.StrongNames.{IsDuplicate}
+use Rattle.wl_symbols.specs.Link.{Link}
+use Rattle.wl_symbols.specs.Repeats.{IsDuplicate}
 use Rattle.wl_plan.specs.Planned.{IsNotYet, IsUnplannedOption}
 use Rattle.wl_plan.specs.Types.{output_types}
 use Rattle.wl_plan.specs.Space.{function_space, max_entries}

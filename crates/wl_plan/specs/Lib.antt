@@ -1,4 +1,3 @@
-pub mod Link
 pub mod Types
 pub mod Space
 pub mod Globals

@@ -1,5 +1,5 @@
 -- Where the things of each object stand in the spaces of the output.
-use Rattle.std.specs.Prelude.{◌≡◌, ◌<◌, ℕ, ◌+◌, ⊤, List, [], ◌∷◌, length, Option, Some, None, if◌then◌else◌, nat_lt, slice_get, slice_index}
+use Rattle.std.specs.Prelude.{◌≡◌, ◌<◌, ℕ, ◌+◌, ⊤, List, [], ◌∷◌, length, Some, slice_get, slice_index}
 use Rattle.wl_linking.specs.Object.{Object}
 use Rattle.wl_linking.specs.Spaces.{count_imports}
 use Rattle.wl_module.specs.declared.imports.ExternalKind.TheVariants.{Func}

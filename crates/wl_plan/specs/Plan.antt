@@ -9,7 +9,7 @@ use Rattle.wl_module.specs.declared.imports.ExternalKind.TheVariants.{Memory}
 use Rattle.wl_module.specs.declared.limits.MemoryType.{MemoryType}
 use Rattle.wl_linking.specs.Debug.{DebugInput}
 use Rattle.wl_linking.specs.Object.{Object}
-use Rattle.wl_plan.specs.Link.{Link}
+use Rattle.wl_symbols.specs.Link.{Link}
 use Rattle.wl_plan.specs.Types.{output_types}
 use Rattle.wl_plan.specs.Space.{function_space, global_space}
 use Rattle.wl_plan.specs.Globals.{IsRightGlobal}

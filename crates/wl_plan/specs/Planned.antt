@@ -86,6 +86,7 @@ unplanned_options args =
     ∷ are_some args.export_symbols
     ∷ args.export_dynamic
     ∷ args.allow_undefined
+    ∷ args.shared_memory
     ∷ args.stack_first
     ∷ not args.check_features
     ∷ not (args.z_stack_size == DEFAULT_STACK_SIZE)

@@ -2,7 +2,6 @@
 use Rattle.std.specs.Prelude.{◌≡◌, ℕ, ◌+◌, List, [], ◌∷◌, ◌++◌, Some, slice_get}
 use Rattle.wl_module.specs.Globals.{DefinedGlobal}
 use Rattle.wl_linking.specs.Object.{Object}
-use Rattle.wl_plan.specs.Link.{Link}
 use Rattle.wl_plan.specs.declared.layout.FunctionOrigin.{FunctionOrigin}
 use Rattle.wl_plan.specs.declared.layout.FunctionOrigin.TheVariants as origin
 use Rattle.wl_plan.specs.declared.layout.GlobalOrigin.{GlobalOrigin}

@@ -10,7 +10,7 @@ ghost use Rattle.std.specs.List.{AllByRecursion};
 ghost use Rattle.wl_linking.specs.Fitting.{IsFitting};
 ghost use Rattle.wl_linking.specs.declared.error.LinkError.{LinkError as SpecError};
 ghost use Rattle.wl_symbols.specs.declared.args.WasmArgs.{WasmArgs as SpecArgs};
-ghost use Rattle.wl_plan.specs.Link.{Link};
+ghost use Rattle.wl_symbols.specs.Link.{Link};
 ghost use Rattle.wl_plan.specs.Faults.{link_fault};
 ghost use Rattle.wl_plan.specs.LinkPlan.{IsPlanOf, IsLinkPlan, HasLinkFault};
 ghost use Rattle.wl_plan.specs.declared.layout.LinkPlan.{LinkPlan as SpecPlan};

@@ -2,7 +2,7 @@
 
 ghost use Rattle.std.specs.Prelude.{◌≡◌, IfOk, IfErr};
 ghost use Rattle.wl_linking.specs.Steps.{Clear, Refuses};
-ghost use Rattle.wl_plan.specs.Link.{link_of};
+ghost use Rattle.wl_symbols.specs.Link.{link_of};
 ghost use Rattle.wl_plan.specs.Objects.{AreObjects, IsBadObject};
 ghost use Rattle.wl_plan.specs.Parsing.{link_error_of};
 ghost use Rattle.wl_plan.specs.Faults.{link_fault};
@@ -15,7 +15,7 @@ use crate::planned::{check_options, check_planned};
 use std::alloc::Global;
 use wl_linking::{FileList, LinkError, parse_wasm_module};
 use wl_module::ReadError;
-use wl_symbols::{WasmArgs, check_strong_names};
+use wl_symbols::{SymbolTable, WasmArgs};
 
 /// What is wrong with an object, as a refusal of the plan.
 fn link_error(object: usize, error: ReadError) -> LinkError
@@ -61,10 +61,10 @@ pub fn plan_files<'a>(
     ensures ok { IfOk result (IsPlanOf (link_of files.now args.now)) }
     ensures err { IfErr result (Refuses (link_fault (link_of files.now args.now))) }
 {
-    check_strong_names(alloc, files)?;
+    let symbols = SymbolTable::build(alloc, files, args)?;
     check_planned(files)?;
     check_options(args)?;
-    let plan = plan_objects(alloc, files)?;
+    let plan = plan_objects(alloc, &symbols)?;
     Ok(plan)
 }
 

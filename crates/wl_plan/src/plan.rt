@@ -1,8 +1,6 @@
 //! The plan of objects that can be planned, part by part.
 
 ghost use Rattle.std.specs.Prelude.{◌≡◌, [], ◌∷◌, OnOk, IfOk, IfErr};
-ghost use Rattle.wl_symbols.specs.declared.args.WasmArgs.{WasmArgs as SpecArgs};
-ghost use Rattle.wl_plan.specs.Link.{link_of};
 ghost use Rattle.wl_plan.specs.Planned.{AllPlanned};
 ghost use Rattle.wl_plan.specs.Plan.{IsPlan, memory_export};
 ghost use Rattle.wl_plan.specs.Faults.{IsTooLarge};
@@ -16,8 +14,9 @@ use crate::maps::index_maps;
 use crate::merge::merge_all;
 use crate::spaces::function_space;
 use std::alloc::{AllocError, Global};
-use wl_linking::{FileList, Items, LinkError};
+use wl_linking::{Items, LinkError};
 use wl_module::{ExternalKind, MemoryType, OutputExport};
+use wl_symbols::SymbolTable;
 
 /// The exports: the memory.
 fn exports<'a>(alloc: Global) -> Result<Items<OutputExport<'a>>, AllocError>
@@ -39,20 +38,20 @@ const MEMORY: MemoryType = MemoryType {
     shared: false,
 };
 
-/// The plan of these objects, where every unit is kept.
+/// The plan of the objects of this table, where every unit is kept.
 ///
 /// # Errors
 /// `TooLarge` where a space would get more than 4294967294 entries.
 pub(crate) fn plan_objects<'a>(
     alloc: Global,
-    files: &FileList<'a>,
+    symbols: &SymbolTable<'_, 'a>,
 ) -> Result<LinkPlan<'a>, LinkError>
-    requires { AllPlanned files.now }
-    ensures ok { (args : SpecArgs) → IfOk result (IsPlan (link_of files.now args)) }
-    ensures clear { OnOk result (Clear (IsTooLarge files.now)) }
-    ensures err { IfErr result (Refuses (IsTooLarge files.now)) }
+    requires { AllPlanned symbols.now.objects }
+    ensures ok { IfOk result (IsPlan symbols.now) }
+    ensures clear { OnOk result (Clear (IsTooLarge symbols.now.objects)) }
+    ensures err { IfErr result (Refuses (IsTooLarge symbols.now.objects)) }
 {
-    let files = files.as_slice();
+    let files = symbols.files().as_slice();
     let merged = merge_all(alloc, files)?;
     let functions = function_space(alloc, files, &merged)?;
     let maps = index_maps(alloc, files, merged.indices)?;

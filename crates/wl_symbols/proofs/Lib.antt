@@ -1,8 +1,16 @@
 pub mod ItemLaws
 pub mod AskLaws
 pub mod Parsing
-pub mod NameLaws
 pub mod NumberLaws
 pub mod NamesInLaws
 pub mod WordLaws
 pub mod SomeLaws
+pub mod FirstLaws
+pub mod AdditionLaws
+pub mod PlaceLaws
+pub mod CaseLaws
+pub mod MadeLaws
+pub mod NamedLaws
+pub mod DefinitionLaws
+pub mod RepeatLaws
+pub mod RefusalLaws

@@ -125,13 +125,14 @@ said_of says items = last_or None (filter_map says items)
 abbrev pub last_of : {X : Type 0} → (Item → Option X) → X → List Item → X
 last_of says default items = unwrap_or (said_of says items) default
 
--- what the items ask for
+-- what the items ask for; none asks for shared memory so far
 pub record AsksFor (items : List Item) (args : WasmArgs) : Type 0 where
   pub inputs : args.inputs ≡ all_of input_of items
   pub export_symbols : args.export_symbols ≡ all_of export_symbol_of items
   pub required_export_symbols : args.required_export_symbols ≡ all_of required_export_symbol_of items
   pub export_dynamic : args.export_dynamic ≡ last_of export_dynamic_of false items
   pub allow_undefined : args.allow_undefined ≡ last_of allow_undefined_of false items
+  pub shared_memory : args.shared_memory ≡ false
   pub stack_first : args.stack_first ≡ last_of stack_first_of false items
   pub gc_sections : args.gc_sections ≡ last_of gc_sections_of true items
   pub check_features : args.check_features ≡ last_of check_features_of true items

@@ -6,4 +6,11 @@ pub mod Items
 pub mod Faults
 pub mod Args
 pub mod Taking
-pub mod StrongNames
+pub mod Link
+pub mod LinkerRows
+pub mod LinkerNames
+pub mod LinkerAddresses
+pub mod Entries
+pub mod Names
+pub mod Repeats
+pub mod Adding

@@ -34,6 +34,8 @@ pub struct WasmArgs {
     pub export_dynamic: bool,
     /// Names that nothing defines are left to the host.
     pub allow_undefined: bool,
+    /// Threads share the memory. No word asks for that so far.
+    pub shared_memory: bool,
     /// The stack lies in front of the data.
     pub stack_first: bool,
     /// What nothing refers to is left out.
@@ -118,6 +120,7 @@ impl WasmArgs {
             required_export_symbols: Texts::new(alloc),
             export_dynamic: false,
             allow_undefined: false,
+            shared_memory: false,
             stack_first: false,
             gc_sections: true,
             check_features: true,

@@ -1,16 +1,8 @@
-//! Words and what they ask for, and a name that two objects define.
+//! Words and what they ask for.
 
 use super::*;
 use std::alloc::{AllocError, Global};
 use std::test::Fail;
-use wl_linking::{FileList, LinkError, parse_wasm_module};
-
-/// A function `()->()`: `a`.
-const DEFINES_A: &[u8; 43] = b"\0asm\x01\0\0\0\
-    \x01\x04\x01\x60\0\0\
-    \x03\x02\x01\0\
-    \x0a\x04\x01\x02\0\x0b\
-    \0\x11\x07linking\x02\x08\x06\x01\0\0\0\x01a";
 
 // The words of this line, between blanks.
 fn words_of(alloc: Global, texts: &[&str]) -> Result<Vec<String>, AllocError> {
@@ -64,30 +56,5 @@ fn words_ask_for_their_fields(rt: HostRuntime) -> Result<(), Fail> {
     assert_eq!(rt; args.z_stack_size, 64);
     assert_eq!(rt; args.entry.as_ref().map(|name| name.as_str()), Some("main"));
     assert!(rt; !args.gc_sections && args.require_inputs().is_ok());
-    Ok(())
-}
-
-#[test]
-fn a_second_definition_is_told(rt: HostRuntime) -> Result<(), Fail> {
-    let alloc = rt.alloc();
-    let mut files = FileList::new(alloc);
-    for _ in 0..2 {
-        let file = parse_wasm_module(alloc, DEFINES_A)?;
-        assert!(&rt; check_strong_names(alloc, &files).is_ok());
-        assert!(&rt; files.push(file).is_ok());
-    }
-    let Some(
-        LinkError::DuplicateSymbol {
-            name,
-            first_object,
-            second_object,
-            ..
-        },
-    ) = check_strong_names(alloc, &files).err()
-    else {
-        panic!(&rt; "no refusal");
-    };
-    assert_eq!(rt; name.as_str(), "a");
-    assert_eq!(rt; (first_object, second_object), (0, 1));
     Ok(())
 }

@@ -1,6 +1,6 @@
-use Rattle.std.proofs.Common.{List, subst, inl, inr, sym}
+use Rattle.std.proofs.Common.{List, subst, inl, inr}
 use Rattle.wl_linking.specs.Object.{Object}
-use Rattle.wl_plan.specs.Link.{link_of}
+use Rattle.wl_symbols.specs.Link.{link_of}
 use Rattle.wl_plan.specs.LinkPlan.{IsPlanOf}
 use Rattle.wl_plan.proofs.ContentLaws.{all_fit}
 use Rattle.wl_plan.proofs.FilesLaws.{files_one, not_bad}

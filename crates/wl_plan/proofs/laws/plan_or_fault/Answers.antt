@@ -1,5 +1,5 @@
 use Rattle.wl_plan.specs.Planned.{IsNotYet}
-use Rattle.wl_symbols.specs.StrongNames.{IsDuplicate}
+use Rattle.wl_symbols.specs.Repeats.{IsDuplicate}
 use Rattle.wl_plan.proofs.StepLaws.{first_clear, rest_clear}
 use Rattle.wl_plan.proofs.PlannedLaws.{planned_from}
 use Rattle.wl_plan.proofs.UniqueLaws.{plans_one}

@@ -6,7 +6,14 @@ use Rattle.wl_plan.specs.Types.{output_types}
 use Rattle.wl_plan.specs.Space.{function_space, max_entries}
 use Rattle.wl_plan.proofs.PlannedLaws.{no_globals}
 use Rattle.wl_plan.proofs.PlanLaws.{room_clear, origin_of, led_length}
+use Rattle.wl_symbols.specs.Link.{Link, link_of}
+use Rattle.wl_plan.specs.Plan.{IsPlan}
+use Rattle.wl_plan.specs.declared.layout.LinkPlan.{LinkPlan}
 use Rattle.wl_plan.proofs.plan.plan_objects.Goals as goal
+
+-- the plan of these objects is that of a link of them
+plan_of_link : (link : Link) (objects : List Object) (plan : LinkPlan) → objects ≡ link.objects → IsPlan (link_of objects link.args) plan → IsPlan link plan
+plan_of_link link objects plan is h = subst (λ (os : List Object). IsPlan (link_of os link.args) plan) is h
 
 pub index_maps-requires-clause-as_many : goal.index_maps-requires-clause-as_many
 index_maps-requires-clause-as_many c =
@@ -17,17 +24,18 @@ pub returns-clause-clear : goal.returns-clause-clear
 returns-clause-clear c =
     let merged = c.in_ok-merged.ensures.ok in
     let functions = c.in_ok-functions.ensures.ok in
-    let files : c.as_slice-files.result.now ≡ c.args.files.now = c.as_slice-files.ensures.objects in
+    let files : c.as_slice-files.result.now ≡ c.args.symbols.now.objects = c.as_slice-files.ensures.objects ∙ c.files.ensures in
     let types : length (output_types c.as_slice-files.result.now) ≤ max_entries = rw (← merged.types, ← c.into_types.ensures.types) c.into_types.ensures.room in
     let space : length (function_space c.as_slice-files.result.now) ≤ max_entries = omega (arith, functions.room, ap length functions.origins, length-map c.in_ok-functions.functions.items origin_of) in
-    room_clear c.args.files.now (subst (λ (os : List Object). length (output_types os) ≤ max_entries) files types) (subst (λ (os : List Object). length (function_space os) ≤ max_entries) files space)
+    room_clear c.args.symbols.now.objects (subst (λ (os : List Object). length (output_types os) ≤ max_entries) files types) (subst (λ (os : List Object). length (function_space os) ≤ max_entries) files space)
 
 pub returns-clause-ok : goal.returns-clause-ok
-returns-clause-ok c = λ args.
+returns-clause-ok c =
+    let objects : c.as_slice-files.result.now ≡ c.args.symbols.now.objects = c.as_slice-files.ensures.objects ∙ c.files.ensures in
     let merged = c.in_ok-merged.ensures.ok in
     let functions = c.in_ok-functions.ensures.ok in
-    let planned : AllPlanned c.as_slice-files.result.now = subst AllPlanned (sym c.as_slice-files.ensures.objects) c.requires in
-    rw (← c.as_slice-files.ensures.objects) (record {
+    let planned : AllPlanned c.as_slice-files.result.now = subst AllPlanned (sym objects) c.requires in
+    plan_of_link c.args.symbols.now c.as_slice-files.result.now _ objects (record {
       entities = record { imports = c.empty.ensures; table = refl; start_function = refl };
       places = record { memory = refl };
       spaces = record {

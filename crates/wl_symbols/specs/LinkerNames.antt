@@ -1,0 +1,94 @@
+-- The names that the linker makes.
+use Rattle.std.specs.Prelude.{ℕ, Bool, true, false, if◌then◌else◌, List, [], ◌∷◌, codes, Option, Some, None, find}
+use Rattle.std.specs.Option.{option_and_then}
+use Rattle.std.specs.Str.{bytes_eq}
+use Rattle.wl_linking.specs.declared.symbols.WasmSymbolKind.{WasmSymbolKind}
+use Rattle.wl_linking.specs.declared.symbols.WasmSymbolKind.TheVariants.{Func, Data, Global}
+use Rattle.wl_linking.specs.Symbols.{is_data}
+use Rattle.wl_symbols.specs.LinkerRows.{LinkerRow}
+use Rattle.wl_symbols.specs.declared.args.WasmArgs.{WasmArgs}
+use Rattle.wl_symbols.specs.declared.linker_symbol.MadeUnder.{MadeUnder}
+use Rattle.wl_symbols.specs.declared.linker_symbol.MadeUnder.TheVariants.{AnyOptions, SharedMemory}
+use Rattle.wl_symbols.specs.declared.linker_symbol.WasmLinkerSymbol.{WasmLinkerSymbol}
+use Rattle.wl_symbols.specs.declared.linker_symbol.WasmLinkerSymbol.TheVariants.{DataEnd, GlobalBase, HeapBase, HeapEnd, WasmFirstPageEnd, DsoHandle, MemoryBase, TableBase, StackPointer, TlsBase, TlsSize, TlsAlign, CallCtors, InitTls}
+
+-- ---- the table
+
+-- a row of the table
+abbrev row : List ℕ → WasmSymbolKind → MadeUnder → LinkerRow
+row name kind under = record { name = name; kind = kind; under = under }
+
+-- the table of names: what each stands for, and under which options it exists
+abbrev pub row_of : WasmLinkerSymbol → LinkerRow
+row_of DataEnd = row (codes "__data_end") Data AnyOptions
+row_of GlobalBase = row (codes "__global_base") Data AnyOptions
+row_of HeapBase = row (codes "__heap_base") Data AnyOptions
+row_of HeapEnd = row (codes "__heap_end") Data AnyOptions
+row_of WasmFirstPageEnd = row (codes "__wasm_first_page_end") Data AnyOptions
+row_of DsoHandle = row (codes "__dso_handle") Data AnyOptions
+row_of MemoryBase = row (codes "__memory_base") Global AnyOptions
+row_of TableBase = row (codes "__table_base") Global AnyOptions
+row_of StackPointer = row (codes "__stack_pointer") Global AnyOptions
+row_of TlsBase = row (codes "__tls_base") Global AnyOptions
+row_of TlsSize = row (codes "__tls_size") Global SharedMemory
+row_of TlsAlign = row (codes "__tls_align") Global SharedMemory
+row_of CallCtors = row (codes "__wasm_call_ctors") Func AnyOptions
+row_of InitTls = row (codes "__wasm_init_tls") Func SharedMemory
+
+-- each one's name
+abbrev pub name_of : WasmLinkerSymbol → List ℕ
+name_of made = (row_of made).name
+
+-- all of them
+abbrev pub all_made : List WasmLinkerSymbol
+all_made =
+    DataEnd ∷ GlobalBase ∷ HeapBase ∷ HeapEnd ∷ WasmFirstPageEnd ∷ DsoHandle ∷ MemoryBase ∷ TableBase
+    ∷ StackPointer ∷ TlsBase ∷ TlsSize ∷ TlsAlign ∷ CallCtors ∷ InitTls ∷ []
+
+-- ---- by name
+
+-- the one of that name
+abbrev pub symbol_named : List ℕ → Option WasmLinkerSymbol
+symbol_named name = find (λ made. bytes_eq (name_of made) name) all_made
+
+-- the options are such ones
+abbrev pub is_asked : WasmArgs → MadeUnder → Bool
+is_asked args AnyOptions = true
+is_asked args SharedMemory = args.shared_memory
+
+-- the name exists under these options
+abbrev pub exists_under : WasmArgs → WasmLinkerSymbol → Bool
+exists_under args made = is_asked args (row_of made).under
+
+-- the one itself, where its name exists
+abbrev pub if_exists : WasmArgs → WasmLinkerSymbol → Option WasmLinkerSymbol
+if_exists args made = if exists_under args made then Some made else None
+
+-- the one whose name this is, and exists
+abbrev pub made_of : WasmArgs → List ℕ → Option WasmLinkerSymbol
+made_of args name = option_and_then (if_exists args) (symbol_named name)
+
+-- ---- what it stands for
+
+-- it is made where nothing but an export asks for it; what belongs to memory of each thread isn't
+abbrev pub materializes_on_export : WasmLinkerSymbol → Bool
+materializes_on_export TlsBase = false
+materializes_on_export TlsSize = false
+materializes_on_export TlsAlign = false
+materializes_on_export InitTls = false
+materializes_on_export _ = true
+
+-- data, but the heap's end only where there is a memory
+abbrev pub is_exported_as_data : Bool → WasmLinkerSymbol → Bool
+is_exported_as_data has_memory HeapEnd = has_memory
+is_exported_as_data has_memory made = is_data (row_of made).kind
+
+-- functions and globals are imported, and only as what they are
+abbrev pub is_imported_as : WasmSymbolKind → WasmSymbolKind → Bool
+is_imported_as Func Func = true
+is_imported_as Global Global = true
+is_imported_as _ _ = false
+
+-- an import of that kind can be bound to it
+abbrev pub matches_kind : WasmSymbolKind → WasmLinkerSymbol → Bool
+matches_kind kind made = is_imported_as kind (row_of made).kind

@@ -1,0 +1,267 @@
+//! The names that the linker makes.
+
+ghost use Rattle.std.specs.Prelude.{◌≡◌, ◌≤◌, ◌^◌, find, bytes_eq, IfOk, IfErr, OnErr, IfSome, IfNone};
+ghost use Rattle.wl_symbols.specs.LinkerNames.{row_of, name_of, symbol_named, exists_under, made_of, materializes_on_export, is_exported_as_data, matches_kind};
+ghost use Rattle.wl_symbols.specs.LinkerAddresses.{heap_base, address_of, IsTooHigh};
+ghost use Rattle.wl_linking.specs.declared.error.Quantity.TheVariants.{Address};
+
+use crate::args::WasmArgs;
+use std::marker::Model;
+use wl_linking::{LinkError, Quantity, WasmSymbolKind};
+
+/// The bytes of a page of memory (core specification, "Memory Instances").
+pub const WASM_PAGE_SIZE: u32 = 65_536;
+
+/// The stack begins and ends at multiples of this many bytes.
+pub const STACK_ALIGNMENT: u32 = 16;
+
+/// The value of `__memory_base`: so many bytes at the front of memory stay free, so that no data
+/// stands where a null pointer leads.
+pub const LINKER_MEMORY_BASE: u32 = 1024;
+
+/// The value of `__table_base`: the first place of the table stays free, so that no function stands
+/// where a null pointer leads.
+pub const LINKER_TABLE_BASE: u32 = 1;
+
+/// The options under which a name exists.
+#[derive(Clone, Copy, Debug, PartialEq, Eq)]
+pub(crate) enum MadeUnder {
+    /// Under all.
+    AnyOptions,
+    /// Where threads share memory.
+    SharedMemory,
+}
+
+/// A row of the table of names: what it stands for, and the options under which it exists.
+#[derive(Drop)]
+pub(crate) struct LinkerRow {
+    name: &'static str,
+    kind: WasmSymbolKind,
+    under: MadeUnder,
+}
+
+impl Model for LinkerRow {
+    ghost use Rattle.wl_symbols.specs.LinkerRows.{LinkerRow as Row};
+
+    ghost Value = { Row };
+
+    ghost view = { λ r. record { name = r.name.now; kind = r.kind; under = r.under } };
+}
+
+/// A row of the table.
+fn row(name: &'static str, kind: WasmSymbolKind, under: MadeUnder) -> LinkerRow
+    ensures { result ≡ record { name = name.now; kind = kind; under = under } }
+{
+    LinkerRow { name, kind, under }
+}
+
+/// A name that the linker makes, where no object defines it.
+#[derive(Clone, Copy, Debug, PartialEq, Eq)]
+pub enum WasmLinkerSymbol {
+    /// The end of the data.
+    DataEnd,
+    /// The start of the data.
+    GlobalBase,
+    /// The start of the heap.
+    HeapBase,
+    /// The end of the memory that there is at the start.
+    HeapEnd,
+    /// The end of the first page.
+    WasmFirstPageEnd,
+    /// What tells this module from others that are loaded: the start of its data.
+    DsoHandle,
+    /// Where the module's memory begins.
+    MemoryBase,
+    /// Where the module's functions begin in the table.
+    TableBase,
+    /// The stack pointer.
+    StackPointer,
+    /// Where the data of a thread begins.
+    TlsBase,
+    /// How many bytes the data of a thread has.
+    TlsSize,
+    /// The alignment of the data of a thread.
+    TlsAlign,
+    /// The function that calls the constructors.
+    CallCtors,
+    /// The function that fills the data of a thread.
+    InitTls,
+}
+
+/// The first of these that has the name.
+fn find_named(symbols: &[WasmLinkerSymbol], name: &str) -> Option<WasmLinkerSymbol>
+    ensures { result ≡ find (λ made. bytes_eq (name_of made) name.now) symbols.now }
+{
+    for symbol in symbols {
+        if symbol.name() == name.as_bytes() {
+            return Some(*symbol);
+        }
+    }
+    None
+}
+
+/// Where the heap begins, if that is an address.
+fn heap_base(data_end: u32, stack_size: u32, stack_first: bool) -> Option<u32>
+    ensures value { IfSome result (λ base. base ≡ heap_base data_end stack_size stack_first) }
+    ensures none { IfNone result (2 ^ 32 ≤ heap_base data_end stack_size stack_first) }
+{
+    let behind_data = data_end.checked_next_multiple_of(STACK_ALIGNMENT)?;
+    if stack_first {
+        return Some(behind_data);
+    }
+    behind_data.checked_add(stack_size)
+}
+
+impl WasmLinkerSymbol {
+    /// All of them.
+    const ALL: [WasmLinkerSymbol; 14] = [
+        WasmLinkerSymbol::DataEnd,
+        WasmLinkerSymbol::GlobalBase,
+        WasmLinkerSymbol::HeapBase,
+        WasmLinkerSymbol::HeapEnd,
+        WasmLinkerSymbol::WasmFirstPageEnd,
+        WasmLinkerSymbol::DsoHandle,
+        WasmLinkerSymbol::MemoryBase,
+        WasmLinkerSymbol::TableBase,
+        WasmLinkerSymbol::StackPointer,
+        WasmLinkerSymbol::TlsBase,
+        WasmLinkerSymbol::TlsSize,
+        WasmLinkerSymbol::TlsAlign,
+        WasmLinkerSymbol::CallCtors,
+        WasmLinkerSymbol::InitTls,
+    ];
+
+    /// Its row in the table of names.
+    fn row(self) -> LinkerRow
+        ensures { result ≡ row_of self }
+    {
+        use MadeUnder::{AnyOptions, SharedMemory};
+        use WasmSymbolKind::{Data, Func, Global};
+        match self {
+            Self::DataEnd => row("__data_end", Data, AnyOptions),
+            Self::GlobalBase => row("__global_base", Data, AnyOptions),
+            Self::HeapBase => row("__heap_base", Data, AnyOptions),
+            Self::HeapEnd => row("__heap_end", Data, AnyOptions),
+            Self::WasmFirstPageEnd => row("__wasm_first_page_end", Data, AnyOptions),
+            Self::DsoHandle => row("__dso_handle", Data, AnyOptions),
+            Self::MemoryBase => row("__memory_base", Global, AnyOptions),
+            Self::TableBase => row("__table_base", Global, AnyOptions),
+            Self::StackPointer => row("__stack_pointer", Global, AnyOptions),
+            Self::TlsBase => row("__tls_base", Global, AnyOptions),
+            Self::TlsSize => row("__tls_size", Global, SharedMemory),
+            Self::TlsAlign => row("__tls_align", Global, SharedMemory),
+            Self::CallCtors => row("__wasm_call_ctors", Func, AnyOptions),
+            Self::InitTls => row("__wasm_init_tls", Func, SharedMemory),
+        }
+    }
+
+    /// Its name.
+    pub fn name(self) -> &'static [u8]
+        ensures { result.now ≡ name_of self }
+    {
+        self.row().name.as_bytes()
+    }
+
+    /// The one of that name, whether it exists or not.
+    pub fn parse(name: &str) -> Option<Self>
+        ensures { result ≡ symbol_named name.now }
+    {
+        find_named(&Self::ALL, name)
+    }
+
+    /// Whether the linker makes it under these options, where something asks for it.
+    pub fn exists(self, args: &WasmArgs) -> bool
+        ensures { result ≡ exists_under args.now self }
+    {
+        match self.row().under {
+            MadeUnder::AnyOptions => true,
+            MadeUnder::SharedMemory => args.shared_memory,
+        }
+    }
+
+    /// The one of that name, where it exists under these options.
+    pub(crate) fn parse_existing(name: &str, args: &WasmArgs) -> Option<Self>
+        ensures { result ≡ made_of args.now name.now }
+    {
+        match Self::parse(name) {
+            Some(made) if made.exists(args) => Some(made),
+            _ => None,
+        }
+    }
+
+    /// Whether it is made where nothing but an export asks for it.
+    pub fn materialize_on_export(self) -> bool
+        ensures { result ≡ materializes_on_export self }
+    {
+        !matches!(
+            self,
+            Self::TlsBase | Self::TlsSize | Self::TlsAlign | Self::InitTls
+        )
+    }
+
+    /// Whether an export of the name is a global with an address; that of the heap's end needs a
+    /// memory.
+    pub fn exported_as_data_global(self, has_memory: bool) -> bool
+        ensures { result ≡ is_exported_as_data has_memory self }
+    {
+        match self {
+            Self::HeapEnd => has_memory,
+            _ => self.row().kind == WasmSymbolKind::Data,
+        }
+    }
+
+    /// Whether an import of that kind can be bound to it.
+    pub fn matches_import_kind(self, kind: WasmSymbolKind) -> bool
+        ensures { result ≡ matches_kind kind self }
+    {
+        match kind {
+            WasmSymbolKind::Func | WasmSymbolKind::Global => self.row().kind == kind,
+            WasmSymbolKind::Data
+            | WasmSymbolKind::Section
+            | WasmSymbolKind::Event
+            | WasmSymbolKind::Table => false,
+        }
+    }
+
+    /// The address of a data name, by where the data begins and ends, the bytes of the stack, the
+    /// heap's end if it is known, and whether the stack stands in front of the data. Other names
+    /// have none, and so has the heap's end where it isn't known.
+    ///
+    /// # Errors
+    /// `TooLarge` where the address is above 4294967295.
+    pub fn data_address(
+        self,
+        data_start: u32,
+        data_end: u32,
+        stack_size: u32,
+        heap_end: Option<u32>,
+        stack_first: bool,
+    ) -> Result<Option<u32>, LinkError>
+        ensures ok { IfOk result (λ address. address
+            ≡ address_of self data_start data_end stack_size heap_end stack_first) }
+        ensures err { IfErr result (λ e. e ≡ LinkError.TooLarge Address) }
+        ensures high { OnErr result (IsTooHigh
+            (address_of self data_start data_end stack_size heap_end stack_first)) }
+    {
+        match self {
+            Self::DataEnd => Ok(Some(data_end)),
+            Self::GlobalBase | Self::DsoHandle => Ok(Some(data_start)),
+            Self::HeapBase => match heap_base(data_end, stack_size, stack_first) {
+                Some(base) => Ok(Some(base)),
+                None => Err(LinkError::TooLarge {
+                    what: Quantity::Address,
+                }),
+            },
+            Self::HeapEnd => Ok(heap_end),
+            Self::WasmFirstPageEnd => Ok(Some(WASM_PAGE_SIZE)),
+            Self::MemoryBase
+            | Self::TableBase
+            | Self::StackPointer
+            | Self::TlsBase
+            | Self::TlsSize
+            | Self::TlsAlign
+            | Self::CallCtors
+            | Self::InitTls => Ok(None),
+        }
+    }
+}
