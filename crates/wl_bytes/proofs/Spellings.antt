@@ -1,0 +1,178 @@
+-- What a text spells, unsigned or signed: one equation on natural numbers. A text of `p` more than its last byte counts
+-- from `- c * p`, where c is 0 for unsigned and 64 for signed numbers.
+use Rattle.std.proofs.Common.{◌≡◌, ℕ, zero, suc, ◌+◌, ◌-◌, ◌*◌, ◌%◌, ◌^◌, ◌<◌, ◌≤◌, cond, ltb, List, [], ◌∷◌, ◌++◌, length, refl, sym, ap, ◌∙◌, arith, inl, inr, length-append}
+use Rattle.std.specs.Prelude.{ℤ, pos, negsuc, ◌-ℤ◌}
+use Rattle.std.specs.Int.{int_rem_euclid, int_div_euclid}
+use Rattle.std.specs.List.{AllByRecursion}
+use Rattle.std.proofs.lemmas.Int.{ints}
+use Rattle.std.proofs.lemmas.Bool.{cases_lt, lt-ltb, le-ltb}
+use Rattle.std.proofs.Math.Nat.{pow-suc, mul-le-mul_left}
+use Rattle.wl_bytes.specs.Leb.{low_bits, IsHigh, Form, IsLeb, u64_form, IsUleb, IsSleb}
+use Rattle.wl_bytes.proofs.LebLemmas.{low_bits-bound, low_bits-last}
+
+-- z, counted from - bias, is whole
+abbrev pub Makes : ℕ → ℤ → ℕ → Type 0
+Makes bias (pos n) whole = n + bias ≡ whole
+Makes bias (negsuc n) whole = whole + n + 1 ≡ bias
+
+-- z is one of the numbers that p and a last byte can make
+abbrev pub Fits : ℕ → ℕ → ℤ → Type 0
+Fits c p (pos n) = n + c * p < 128 * p
+Fits c p (negsuc n) = n < c * p
+
+pub record Spells (c : ℕ) (z : ℤ) (x : List ℕ) : Type 0 where
+  pub leb : IsLeb u64_form x
+  pub value : Makes (c * 128 ^ length leb.front) z (low_bits leb.front + 128 ^ length leb.front * ((leb.end + c) % 128))
+  pub bytes : AllByRecursion (λ b. b < 256) x
+
+-- the low bits by those of the front, where p is what a last byte counts
+pub record Digits (low p end whole all : ℕ) : Type 0 where
+  pub below : low < p
+  pub last : end < 128
+  pub sum : whole ≡ low + p * end
+  pub power : all ≡ p * 128
+
+pub size_of : (form : Form) (x : List ℕ) (leb : IsLeb form x) → length x ≡ length leb.front + 1
+size_of form x leb = ap length leb.parts ∙ length-append leb.front (leb.end ∷ [])
+
+pub digits_of : (form : Form) (x : List ℕ) (leb : IsLeb form x) → Digits (low_bits leb.front) (128 ^ length leb.front) leb.end (low_bits x) (128 ^ length x)
+digits_of form x leb =
+    let last : leb.end % 128 ≡ leb.end = omega (arith, leb.low) in
+    let sum : low_bits x ≡ low_bits leb.front + 128 ^ length leb.front * (leb.end % 128) = ap low_bits leb.parts ∙ low_bits-last leb.front leb.end in
+    let size : length x ≡ suc (length leb.front) = omega (arith, size_of form x leb) in
+    record { below = low_bits-bound leb.front; last = leb.low; sum = rw last at sum; power = ap (λ (n : ℕ). 128 ^ n) size ∙ pow-suc 128 (length leb.front) }
+
+-- ---- one byte, and a byte more
+
+pub low_byte : (z : ℤ) (b : ℕ) → pos b ≡ int_rem_euclid z (pos 128) → b < 128
+low_byte (pos n) b is = omega (arith, ints, is)
+low_byte (negsuc n) b is = omega (arith, ints, is)
+
+pub spells_one : (c : ℕ) (z : ℤ) (b : ℕ) → c ≤ 64 → pos b ≡ int_rem_euclid z (pos 128) → Fits c 1 z → Spells c z (b ∷ [])
+spells_one c z b small is fits = record {
+  leb = record { front = []; end = b; parts = refl; high = tt; low = low_byte z b is; short = omega arith; fits = λ _. lt-ltb b 128 (low_byte z b is) };
+  value = value z is fits;
+  bytes = (omega (arith, low_byte z b is), tt);
+}
+  where
+    value : (z : ℤ) → pos b ≡ int_rem_euclid z (pos 128) → Fits c 1 z → Makes (c * 1) z (0 + 1 * ((b + c) % 128))
+    value (pos n) is fits = omega (arith, ints, is, fits)
+    value (negsuc n) is fits = omega (arith, ints, is, fits)
+
+-- behind the low byte stands what is left of the number
+pub spells_more : (c : ℕ) (z : ℤ) (b : ℕ) (y : List ℕ) → pos b ≡ int_rem_euclid z (pos 128) → length y < 10 → Spells c (int_div_euclid z (pos 128)) y → Spells c z ((b + 128) ∷ y)
+spells_more c z b y is short s = record {
+  leb = record { front = (b + 128) ∷ s.leb.front; end = s.leb.end; parts = ap (λ (t : List ℕ). (b + 128) ∷ t) s.leb.parts; high = (omega arith, s.leb.high); low = s.leb.low; short = omega arith; fits = λ _. lt-ltb s.leb.end 128 s.leb.low };
+  value = value z (low_bits s.leb.front) (128 ^ length s.leb.front) (128 ^ suc (length s.leb.front)) ((s.leb.end + c) % 128) (pow-suc 128 (length s.leb.front)) is s.value;
+  bytes = (omega (arith, low_byte z b is), s.bytes);
+}
+  where
+    value : (z : ℤ) (low p q t : ℕ) → q ≡ p * 128 → pos b ≡ int_rem_euclid z (pos 128) → Makes (c * p) (int_div_euclid z (pos 128)) (low + p * t) → Makes (c * q) z (((b + 128) % 128 + 128 * low) + q * t)
+    value (pos n) low p q t e is m = rw e (omega (arith, ints, is, m))
+    value (negsuc n) low p q t e is m = rw e (omega (arith, ints, is, m))
+
+pub fits_next : (c : ℕ) (z : ℤ) (p q : ℕ) → q ≡ p * 128 → Fits c q z → Fits c p (int_div_euclid z (pos 128))
+fits_next c (pos n) p q e h = let f = rw e at h in omega (arith, f)
+fits_next c (negsuc n) p q e h = let f = rw e at h in omega (arith, f)
+
+-- ---- what is spelled fits, and is spelled in one way
+
+pub spelled_fits : (c : ℕ) (z : ℤ) (x : List ℕ) (s : Spells c z x) → Fits c (128 ^ length s.leb.front) z
+spelled_fits c z x s = fits z (low_bits s.leb.front) (128 ^ length s.leb.front) ((s.leb.end + c) % 128) (low_bits-bound s.leb.front) (omega arith) s.value
+  where
+    fits : (z : ℤ) (low p t : ℕ) → low < p → t < 128 → Makes (c * p) z (low + p * t) → Fits c p z
+    fits (pos n) low p t below last m = let most : p * t ≤ p * 127 = mul-le-mul_left p (omega arith) in omega (arith, m, most)
+    fits (negsuc n) low p t below last m = omega (arith, m)
+
+same_whole : (z : ℤ) (bias v w : ℕ) → Makes bias z v → Makes bias z w → v ≡ w
+same_whole (pos n) bias v w m k = sym m ∙ k
+same_whole (negsuc n) bias v w m k = omega (arith, m, k)
+
+-- high bytes of one number and one length are the same, and so is what they leave
+same_front : (xs ys : List ℕ) (s t : ℕ) → AllByRecursion IsHigh xs → AllByRecursion IsHigh ys → AllByRecursion (λ b. b < 256) (xs ++ s ∷ []) → AllByRecursion (λ b. b < 256) (ys ++ t ∷ [])
+    → length xs ≡ length ys → (u v : ℕ) → low_bits xs + 128 ^ length xs * u ≡ low_bits ys + 128 ^ length ys * v → (xs ≡ ys) × (u ≡ v)
+same_front [] [] s t h k b d n u v e = (refl, omega (arith, e))
+same_front [] (y ∷ ys) s t h k b d n u v e = absurd (omega (arith, n))
+same_front (x ∷ xs) [] s t h k b d n u v e = absurd (omega (arith, n))
+same_front (x ∷ xs) (y ∷ ys) s t h k b d n u v e =
+    let p = rw (pow-suc 128 (length xs), pow-suc 128 (length ys)) at e in
+    let one : x ≡ y = omega (arith, p, h.0, k.0, b.0, d.0) in
+    let more = same_front xs ys s t h.1 k.1 b.1 d.1 (omega (arith, n)) u v (omega (arith, p, one)) in
+    (rw (one, more.0) refl, more.1)
+
+pub spelled_once : (c : ℕ) (z : ℤ) (x y : List ℕ) → Spells c z x → Spells c z y → length x ≡ length y → x ≡ y
+spelled_once c z x y s t n =
+    let size : length s.leb.front ≡ length t.leb.front = omega (arith, size_of u64_form x s.leb, size_of u64_form y t.leb) in
+    let value = rw (← size) at t.value in
+    let whole = same_whole z (c * 128 ^ length s.leb.front) (low_bits s.leb.front + 128 ^ length s.leb.front * ((s.leb.end + c) % 128)) (low_bits t.leb.front + 128 ^ length s.leb.front * ((t.leb.end + c) % 128)) s.value value in
+    let same = same_front s.leb.front t.leb.front s.leb.end t.leb.end s.leb.high t.leb.high (rw s.leb.parts at s.bytes) (rw t.leb.parts at t.bytes) size ((s.leb.end + c) % 128) ((t.leb.end + c) % 128) (whole ∙ ap (λ (k : ℕ). low_bits t.leb.front + 128 ^ k * ((t.leb.end + c) % 128)) size) in
+    let last : s.leb.end ≡ t.leb.end = omega (arith, same.1, s.leb.low, t.leb.low) in
+    s.leb.parts ∙ rw (same.0, last) (sym t.leb.parts)
+
+-- ---- unsigned and signed numbers
+
+abbrev pub unsigned_spells : (n : ℕ) (x : List ℕ) → IsUleb n x → Spells 0 (pos n) x
+unsigned_spells n x u =
+    let d = digits_of u64_form x u.leb in
+    let last : (u.leb.end + 0) % 128 ≡ u.leb.end = omega (arith, u.leb.low) in
+    record { leb = u.leb; value = rw last (omega (arith, u.value, d.sum)); bytes = u.bytes }
+
+pub spells_unsigned : (n : ℕ) (x : List ℕ) → Spells 0 (pos n) x → IsUleb n x
+spells_unsigned n x s =
+    let d = digits_of u64_form x s.leb in
+    let last : (s.leb.end + 0) % 128 ≡ s.leb.end = omega (arith, s.leb.low) in
+    let value = rw last at s.value in
+    record { leb = s.leb; value = omega (arith, value, d.sum); bytes = s.bytes }
+
+-- the upper half of the last bytes makes negative numbers
+pub signed_makes : (z : ℤ) (low p end whole all : ℕ) → Digits low p end whole all → z ≡ cond (ltb end 64) (pos whole) (pos whole -ℤ pos all) → Makes (64 * p) z (low + p * ((end + 64) % 128))
+signed_makes z low p end whole all d e =
+    elim (cases_lt end 64) [
+      | inl small ↦ let t : (end + 64) % 128 ≡ end + 64 = omega arith in rw t (positive z (rw (lt-ltb end 64 small) at e))
+      | inr large ↦ let t : end ≡ (end + 64) % 128 + 64 = omega (arith, d.last) in negative z ((end + 64) % 128) t (rw (le-ltb end 64 large) at e)
+    ]
+  where
+    positive : (z : ℤ) → z ≡ pos whole → Makes (64 * p) z (low + p * (end + 64))
+    positive (pos n) e = omega (arith, ints, e, d.sum)
+    positive (negsuc n) e = absurd (omega (arith, ints, e))
+
+    negative : (z : ℤ) (t : ℕ) → end ≡ t + 64 → z ≡ pos whole -ℤ pos all → Makes (64 * p) z (low + p * t)
+    negative (pos n) t is e = let s = rw is at d.sum in omega (arith, ints, e, s, d.power, d.last)
+    negative (negsuc n) t is e = let s = rw is at d.sum in omega (arith, ints, e, s, d.power)
+
+makes_signed : (z : ℤ) (low p end whole all : ℕ) → Digits low p end whole all → Makes (64 * p) z (low + p * ((end + 64) % 128)) → z ≡ cond (ltb end 64) (pos whole) (pos whole -ℤ pos all)
+makes_signed z low p end whole all d m =
+    elim (cases_lt end 64) [
+      | inl small ↦ let t : (end + 64) % 128 ≡ end + 64 = omega arith in rw (lt-ltb end 64 small) (positive z (rw t at m))
+      | inr large ↦ let t : end ≡ (end + 64) % 128 + 64 = omega (arith, d.last) in rw (le-ltb end 64 large) (negative z ((end + 64) % 128) t m)
+    ]
+  where
+    positive : (z : ℤ) → Makes (64 * p) z (low + p * (end + 64)) → z ≡ pos whole
+    positive (pos n) m = omega (arith, ints, m, d.sum)
+    positive (negsuc n) m = absurd (omega (arith, m))
+
+    negative : (z : ℤ) (t : ℕ) → end ≡ t + 64 → Makes (64 * p) z (low + p * t) → z ≡ pos whole -ℤ pos all
+    negative (pos n) t is m = let s = rw is at d.sum in absurd (high t is m s)
+      where
+        high : (t : ℕ) → end ≡ t + 64 → n + 64 * p ≡ low + p * t → whole ≡ low + p * (t + 64) → ⊥
+        high t is m s = let most : p * t ≤ p * 63 = mul-le-mul_left p (omega (arith, d.last)) in omega (arith, m, most, d.below)
+    negative (negsuc n) t is m = let s = rw is at d.sum in omega (arith, ints, m, s, d.power)
+
+abbrev pub signed_spells : (z : ℤ) (x : List ℕ) → IsSleb z x → Spells 64 z x
+signed_spells z x u = record { leb = u.leb; value = signed_makes z (low_bits u.leb.front) (128 ^ length u.leb.front) u.leb.end (low_bits x) (128 ^ length x) (digits_of u64_form x u.leb) u.value; bytes = u.bytes }
+
+pub spells_signed : (z : ℤ) (x : List ℕ) → Spells 64 z x → IsSleb z x
+spells_signed z x s = record { leb = s.leb; value = makes_signed z (low_bits s.leb.front) (128 ^ length s.leb.front) s.leb.end (low_bits x) (128 ^ length x) (digits_of u64_form x s.leb) s.value; bytes = s.bytes }
+
+-- ---- a spelling of a length that is given
+
+low_seven_of : (z : ℤ) → (b : ℕ) × (pos b ≡ int_rem_euclid z (pos 128))
+low_seven_of (pos n) = (n % 128, refl)
+low_seven_of (negsuc n) = (128 - 1 - n % 128, refl)
+
+pub padded : (k c : ℕ) (z : ℤ) → c ≤ 64 → k ≤ 9 → Fits c (128 ^ k) z → (x : List ℕ) × Spells c z x × (length x ≡ k + 1)
+padded zero c z small short fits = let b = low_seven_of z in (b.0 ∷ [], spells_one c z b.0 small b.1 fits, refl)
+padded (suc k) c z small short fits =
+    let b = low_seven_of z in
+    let rest = padded k c (int_div_euclid z (pos 128)) small (omega arith) (fits_next c z (128 ^ k) (128 ^ suc k) (pow-suc 128 k) fits) in
+    ((b.0 + 128) ∷ rest.0, spells_more c z b.0 rest.0 b.1 (omega (arith, rest.2)) rest.1, omega (arith, rest.2))
