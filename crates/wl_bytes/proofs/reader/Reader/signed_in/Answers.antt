@@ -11,9 +11,9 @@ overflow_cast-result c =
     let small : FitsSigned w64 c.signed_value_of.result = rw c.signed_value_of.ensures (signed_small c.args.form c.in_ok-number.number.now c.in_ok-number.ensures.spelled) in
     omega (arith, ints, small)
 
-pub returns : goal.returns
+pub returns-clause-exact : goal.returns-clause-exact
 unfolding signed_at
-returns c =
+returns-clause-exact c =
     let small : FitsSigned w64 c.signed_value_of.result = rw c.signed_value_of.ensures (signed_small c.args.form c.in_ok-number.number.now c.in_ok-number.ensures.spelled) in
     let same : to_z w64 (of_z w64 (to_z w128 (of_z w128 c.signed_value_of.result))) ≡ c.signed_value_of.result = omega (arith, ints, small) in
     rw (same, c.in_ok-number.ensures.exact, c.signed_value_of.ensures) refl
