@@ -16,8 +16,6 @@ shortest_is_one n x y p q = spelled_once 0 (pos n) x y (unsigned_spells n x p.sp
 pub shortest_sleb_is_one : (z : ℤ) (x y : List ℕ) → IsShortestSleb z x → IsShortestSleb z y → x ≡ y
 shortest_sleb_is_one z x y p q = spelled_once 64 z x y (signed_spells z x p.spelled) (signed_spells z y q.spelled) (omega (arith, p.least y q.spelled, q.least x p.spelled))
 
-pub ruleset one_shortest = (shortest_is_one, shortest_sleb_is_one)
-
 -- ---- what is written is read
 
 pub read_again : {X : Type 0} (spells : ℕ → X → List ℕ → Type 0) (x : X) (text : List ℕ) → ((place : ℕ) → spells place x text) → IsReadAgain spells x text
@@ -50,5 +48,3 @@ written_s64 z text within s =
     let small = within_is 63 z within in
     let form = written_has_form S64 z text small (near z (128 ^ 9) (omega (arith, small))) (signed_spells z text s.spelled) (λ y u. s.least y (spells_signed z y u)) in
     read_again (IsSigned s64_form) z text (λ place. record { leb = in_form s64_form text s.spelled.leb form; value = s.spelled.value })
-
-pub ruleset written_signed = (written_s32, written_s33, written_s64)
