@@ -1,13 +1,13 @@
 -- The shortest form of a number is one, and it is read as that number.
-use Rattle.std.proofs.Common.{◌≡◌, ℕ, ◌^◌, ◌<◌, List, refl, arith}
+use Rattle.std.proofs.Common.{◌≡◌, ℕ, ◌*◌, ◌^◌, ◌<◌, ◌≤◌, List, refl, arith}
 use Rattle.std.specs.Prelude.{ℤ, pos, negsuc}
 use Rattle.std.specs.Int.Signed.{mag}
 use Rattle.std.proofs.lemmas.Int.{ints}
-use Rattle.wl_bytes.specs.declared.leb.LebForm.TheVariants.{U32, S32, S33, S64}
+use Rattle.std.proofs.Math.Nat.{mul-le-mul_left}
 use Rattle.wl_bytes.specs.Parse.{IsReadAgain}
-use Rattle.wl_bytes.specs.Leb.{u32_form, s32_form, s33_form, s64_form, IsU32, IsShortest, IsSigned, IsWithin, IsShortestSleb}
+use Rattle.wl_bytes.specs.Leb.{Form, u32_form, s32_form, s33_form, s64_form, IsU32, IsShortest, IsSigned, IsWithin, IsShortestSleb}
 use Rattle.wl_bytes.proofs.Spellings.{spelled_once, unsigned_spells, spells_unsigned, signed_spells, spells_signed}
-use Rattle.wl_bytes.proofs.Sizes.{in_form, written_has_form}
+use Rattle.wl_bytes.proofs.Sizes.{Size, u32_size, s32_size, s33_size, s64_size, in_form, written_has_form}
 use Rattle.wl_bytes.proofs.WriteLaws.{near}
 
 pub shortest_is_one : (n : ℕ) (x y : List ℕ) → IsShortest n x → IsShortest n y → x ≡ y
@@ -23,7 +23,7 @@ read_again spells x text is place rest = record { text = text; spelled = is plac
 
 pub written_u32 : (n : ℕ) (text : List ℕ) → n < 2 ^ 32 → IsShortest n text → IsReadAgain IsU32 n text
 written_u32 n text small s =
-    let form = written_has_form U32 (pos n) text small (omega arith) (unsigned_spells n text s.spelled) (λ y u. s.least y (spells_unsigned n y u)) in
+    let form = written_has_form u32_size (pos n) text small (omega arith) (unsigned_spells n text s.spelled) (λ y u. s.least y (spells_unsigned n y u)) in
     read_again IsU32 n text (λ place. record { leb = in_form u32_form text s.spelled.leb form; value = s.spelled.value })
 
 -- a number of so many bits, by its size
@@ -31,20 +31,19 @@ within_is : (bits : ℕ) (z : ℤ) → IsWithin bits z → mag z < 2 ^ bits
 within_is bits (pos n) h = omega (arith, ints, h.1)
 within_is bits (negsuc n) h = omega (arith, ints, h.0)
 
+written_signed : (form : Form) (size : Size 64 form) (z : ℤ) (text : List ℕ) → IsWithin size.bits z → IsShortestSleb z text → IsReadAgain (IsSigned form) z text
+written_signed form size z text within s =
+    let small = within_is size.bits z within in
+    let most : 128 ^ size.before * size.span ≤ 128 ^ size.before * 64 = mul-le-mul_left (128 ^ size.before) size.room.1 in
+    let fits = near z (128 ^ size.before) (omega (arith, small, most, size.all)) in
+    let has = written_has_form size z text small fits (signed_spells z text s.spelled) (λ y u. s.least y (spells_signed z y u)) in
+    read_again (IsSigned form) z text (λ place. record { leb = in_form form text s.spelled.leb has; value = s.spelled.value })
+
 pub written_s32 : (z : ℤ) (text : List ℕ) → IsWithin 31 z → IsShortestSleb z text → IsReadAgain (IsSigned s32_form) z text
-written_s32 z text within s =
-    let small = within_is 31 z within in
-    let form = written_has_form S32 z text small (near z (128 ^ 4) (omega (arith, small))) (signed_spells z text s.spelled) (λ y u. s.least y (spells_signed z y u)) in
-    read_again (IsSigned s32_form) z text (λ place. record { leb = in_form s32_form text s.spelled.leb form; value = s.spelled.value })
+written_s32 = written_signed s32_form s32_size
 
 pub written_s33 : (z : ℤ) (text : List ℕ) → IsWithin 32 z → IsShortestSleb z text → IsReadAgain (IsSigned s33_form) z text
-written_s33 z text within s =
-    let small = within_is 32 z within in
-    let form = written_has_form S33 z text small (near z (128 ^ 4) (omega (arith, small))) (signed_spells z text s.spelled) (λ y u. s.least y (spells_signed z y u)) in
-    read_again (IsSigned s33_form) z text (λ place. record { leb = in_form s33_form text s.spelled.leb form; value = s.spelled.value })
+written_s33 = written_signed s33_form s33_size
 
 pub written_s64 : (z : ℤ) (text : List ℕ) → IsWithin 63 z → IsShortestSleb z text → IsReadAgain (IsSigned s64_form) z text
-written_s64 z text within s =
-    let small = within_is 63 z within in
-    let form = written_has_form S64 z text small (near z (128 ^ 9) (omega (arith, small))) (signed_spells z text s.spelled) (λ y u. s.least y (spells_signed z y u)) in
-    read_again (IsSigned s64_form) z text (λ place. record { leb = in_form s64_form text s.spelled.leb form; value = s.spelled.value })
+written_s64 = written_signed s64_form s64_size

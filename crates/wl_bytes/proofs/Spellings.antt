@@ -7,7 +7,7 @@ use Rattle.std.specs.List.{AllByRecursion}
 use Rattle.std.proofs.lemmas.Int.{ints}
 use Rattle.std.proofs.lemmas.Bool.{cases_lt, lt-ltb, le-ltb}
 use Rattle.std.proofs.Math.Nat.{pow-suc, mul-le-mul_left}
-use Rattle.wl_bytes.specs.Leb.{low_bits, IsHigh, Form, IsLeb, u64_form, IsUleb, IsSleb}
+use Rattle.wl_bytes.specs.Leb.{low_bits, IsHigh, Form, IsLeb, u64_form, signed_of, IsUleb, IsSleb}
 use Rattle.wl_bytes.proofs.LebLemmas.{low_bits-bound, low_bits-last}
 
 -- z, counted from - bias, is whole
@@ -140,29 +140,20 @@ signed_makes z low p end whole all d e =
     negative (pos n) t is e = let s = rw is at d.sum in omega (arith, ints, e, s, d.power, d.last)
     negative (negsuc n) t is e = let s = rw is at d.sum in omega (arith, ints, e, s, d.power)
 
-makes_signed : (z : ℤ) (low p end whole all : ℕ) → Digits low p end whole all → Makes (64 * p) z (low + p * ((end + 64) % 128)) → z ≡ cond (ltb end 64) (pos whole) (pos whole -ℤ pos all)
-makes_signed z low p end whole all d m =
-    elim (cases_lt end 64) [
-      | inl small ↦ let t : (end + 64) % 128 ≡ end + 64 = omega arith in rw (lt-ltb end 64 small) (positive z (rw t at m))
-      | inr large ↦ let t : end ≡ (end + 64) % 128 + 64 = omega (arith, d.last) in rw (le-ltb end 64 large) (negative z ((end + 64) % 128) t m)
-    ]
-  where
-    positive : (z : ℤ) → Makes (64 * p) z (low + p * (end + 64)) → z ≡ pos whole
-    positive (pos n) m = omega (arith, ints, m, d.sum)
-    positive (negsuc n) m = absurd (omega (arith, m))
-
-    negative : (z : ℤ) (t : ℕ) → end ≡ t + 64 → Makes (64 * p) z (low + p * t) → z ≡ pos whole -ℤ pos all
-    negative (pos n) t is m = let s = rw is at d.sum in absurd (high t is m s)
-      where
-        high : (t : ℕ) → end ≡ t + 64 → n + 64 * p ≡ low + p * t → whole ≡ low + p * (t + 64) → ⊥
-        high t is m s = let most : p * t ≤ p * 63 = mul-le-mul_left p (omega (arith, d.last)) in omega (arith, m, most, d.below)
-    negative (negsuc n) t is m = let s = rw is at d.sum in omega (arith, ints, m, s, d.power)
+same_number : (bias whole : ℕ) (y z : ℤ) → Makes bias y whole → Makes bias z whole → y ≡ z
+same_number bias whole (pos m) (pos n) a b = omega (arith, ints, a, b)
+same_number bias whole (pos m) (negsuc n) a b = absurd (omega (arith, a, b))
+same_number bias whole (negsuc m) (pos n) a b = absurd (omega (arith, a, b))
+same_number bias whole (negsuc m) (negsuc n) a b = omega (arith, ints, a, b)
 
 abbrev pub signed_spells : (z : ℤ) (x : List ℕ) → IsSleb z x → Spells 64 z x
 signed_spells z x u = record { leb = u.leb; value = signed_makes z (low_bits u.leb.front) (128 ^ length u.leb.front) u.leb.end (low_bits x) (128 ^ length x) (digits_of u64_form x u.leb) u.value; bytes = u.bytes }
 
 pub spells_signed : (z : ℤ) (x : List ℕ) → Spells 64 z x → IsSleb z x
-spells_signed z x s = record { leb = s.leb; value = makes_signed z (low_bits s.leb.front) (128 ^ length s.leb.front) s.leb.end (low_bits x) (128 ^ length x) (digits_of u64_form x s.leb) s.value; bytes = s.bytes }
+spells_signed z x s =
+    let signed = signed_of s.leb.end x in
+    let makes = signed_makes signed (low_bits s.leb.front) (128 ^ length s.leb.front) s.leb.end (low_bits x) (128 ^ length x) (digits_of u64_form x s.leb) refl in
+    record { leb = s.leb; value = same_number (64 * 128 ^ length s.leb.front) (low_bits s.leb.front + 128 ^ length s.leb.front * ((s.leb.end + 64) % 128)) z signed s.value makes; bytes = s.bytes }
 
 -- ---- a spelling of a length that is given
 
