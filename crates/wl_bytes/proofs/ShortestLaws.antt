@@ -31,11 +31,11 @@ within_is : (bits : ℕ) (z : ℤ) → IsWithin bits z → mag z < 2 ^ bits
 within_is bits (pos n) h = omega (arith, ints, h.1)
 within_is bits (negsuc n) h = omega (arith, ints, h.0)
 
-written_signed : (form : Form) (size : Size 64 form) (z : ℤ) (text : List ℕ) → IsWithin size.bits z → IsShortestSleb z text → IsReadAgain (IsSigned form) z text
-written_signed form size z text within s =
-    let small = within_is size.bits z within in
-    let most : 128 ^ size.before * size.span ≤ 128 ^ size.before * 64 = mul-le-mul_left (128 ^ size.before) size.room.1 in
-    let fits = near z (128 ^ size.before) (omega (arith, small, most, size.all)) in
+written_signed : {before bits : ℕ} (form : Form) (size : Size 64 before bits form) (z : ℤ) (text : List ℕ) → IsWithin bits z → IsShortestSleb z text → IsReadAgain (IsSigned form) z text
+written_signed {before} {bits} form size z text within s =
+    let small = within_is bits z within in
+    let most : 128 ^ before * size.span ≤ 128 ^ before * 64 = mul-le-mul_left (128 ^ before) size.room.1 in
+    let fits = near z (128 ^ before) (omega (arith, small, most, size.all)) in
     let has = written_has_form size z text small fits (signed_spells z text s.spelled) (λ y u. s.least y (spells_signed z y u)) in
     read_again (IsSigned form) z text (λ place. record { leb = in_form form text s.spelled.leb has; value = s.spelled.value })
 
