@@ -1,13 +1,10 @@
-use Rattle.std.proofs.Common.{◌∙◌, to_z, of_z, arith}
+use Rattle.std.proofs.Common.{◌∙◌, to_z, of_z}
 use Rattle.std.specs.Int.{w64}
 use Rattle.std.proofs.lemmas.Int.{to_z-of_z}
 use Rattle.wl_bytes.proofs.Spellings.{Fits}
-use Rattle.wl_bytes.proofs.WriteLaws.{starts_signed, far_below, far_above, near_both, written_more, shortest_signed}
+use Rattle.wl_bytes.proofs.WriteLaws.{far_below, far_above, near_both, written_more, shortest_signed}
 use Rattle.wl_bytes.proofs.write.fill_signed.Goals as goal
 use Rattle.wl_bytes.proofs.write.fill_signed.Goals.{then-rest, else-rest+then-rest-ge-SIGN}
-
-pub loop-rest-init : goal.loop-rest-init
-loop-rest-init c = rw (to_z-of_z w64 c.args.number c.ranges.number) (starts_signed c.args.number c.args.buffer.now (omega arith) c.ranges.number.sfits)
 
 pub loop-rest-preserved : goal.loop-rest-preserved
 loop-rest-preserved c =
