@@ -1,6 +1,6 @@
 -- The shortest form of a number is one, and it is read as that number.
 use Rattle.std.proofs.Common.{◌≡◌, ℕ, ◌*◌, ◌^◌, ◌<◌, ◌≤◌, List, refl, arith}
-use Rattle.std.specs.Prelude.{ℤ, pos, negsuc}
+use Rattle.std.specs.Prelude.{ℤ, pos}
 use Rattle.std.specs.Int.Signed.{mag}
 use Rattle.std.proofs.lemmas.Int.{ints}
 use Rattle.std.proofs.Math.Nat.{mul-le-mul_left}
@@ -28,8 +28,7 @@ written_u32 n text small s =
 
 -- a number of so many bits, by its size
 within_is : (bits : ℕ) (z : ℤ) → IsWithin bits z → mag z < 2 ^ bits
-within_is bits (pos n) h = omega (arith, ints, h.1)
-within_is bits (negsuc n) h = omega (arith, ints, h.0)
+within_is bits z h = grind (arith, ints)
 
 written_signed : {before bits : ℕ} (form : Form) (size : Size 64 before bits form) (z : ℤ) (text : List ℕ) → IsWithin bits z → IsShortestSleb z text → IsReadAgain (IsSigned form) z text
 written_signed {before} {bits} form size z text within s =

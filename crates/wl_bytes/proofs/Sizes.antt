@@ -1,6 +1,6 @@
 -- How large the numbers of each form are: those that are read are in the form's type, and those in the type have the form.
 use Rattle.std.proofs.Common.{◌≡◌, ℕ, ◌+◌, ◌*◌, ◌%◌, ◌^◌, ◌<◌, ◌≤◌, true, List, length, refl, arith, add-one, inl, inr, lit<}
-use Rattle.std.specs.Prelude.{ℤ, pos, negsuc}
+use Rattle.std.specs.Prelude.{ℤ}
 use Rattle.std.specs.Int.Signed.{mag}
 use Rattle.std.proofs.lemmas.Bool.{cases_lt, ltb-true, lt-ltb}
 use Rattle.std.proofs.lemmas.Bool.Decides.{nat_tests}
@@ -34,12 +34,13 @@ s64_size = record { span = 1; most = refl; all = omega arith; room = omega arith
 -- ---- by the place of the last byte
 
 small_near : (z : ℤ) (c s p low t : ℕ) → low < p → t < c + s → c ≤ t + s → Makes (c * p) z (low + p * t) → mag z < s * p
-small_near (pos n) c s p low t below a b m = let h : p * (t + 1) ≤ p * (c + s) = mul-le-mul_left p (omega arith) in omega (arith, h, m)
-small_near (negsuc n) c s p low t below a b m = let h : p * c ≤ p * (t + s) = mul-le-mul_left p b in omega (arith, h, m)
+small_near z c s p low t below a b m =
+    let above : p * (t + 1) ≤ p * (c + s) = mul-le-mul_left p (omega arith) in
+    let least : p * c ≤ p * (t + s) = mul-le-mul_left p b in
+    grind arith
 
 too_far : (z : ℤ) (c s p low t : ℕ) → low < p → mag z < s * p → Makes (c * p) z (low + p * t) → ((p * (c + s) ≤ p * t) → ⊥) × ((p * (t + s + 1) ≤ p * c) → ⊥)
-too_far (pos n) c s p low t below small m = (λ h. omega (arith, h, small, m), λ h. omega (arith, h, small, m))
-too_far (negsuc n) c s p low t below small m = (λ h. omega (arith, h, small, m), λ h. omega (arith, h, small, m))
+too_far z c s p low t below small m = (λ h. grind arith, λ h. grind arith)
 
 near_small : (z : ℤ) (c s p low t : ℕ) → low < p → mag z < s * p → Makes (c * p) z (low + p * t) → (t < c + s) × (c ≤ t + s)
 near_small z c s p low t below small m =

@@ -45,19 +45,14 @@ digits_of form x leb =
 -- ---- one byte, and a byte more
 
 pub low_byte : (z : ℤ) (b : ℕ) → pos b ≡ int_rem_euclid z (pos 128) → b < 128
-low_byte (pos n) b is = omega (arith, ints, is)
-low_byte (negsuc n) b is = omega (arith, ints, is)
+low_byte z b is = grind (arith, ints)
 
 pub spells_one : (c : ℕ) (z : ℤ) (b : ℕ) → c ≤ 64 → pos b ≡ int_rem_euclid z (pos 128) → Fits c 1 z → Spells c z (b ∷ [])
 spells_one c z b small is fits = record {
   leb = record { front = []; end = b; parts = refl; high = tt; low = low_byte z b is; short = omega arith; fits = λ _. lt-ltb b 128 (low_byte z b is) };
-  value = value z is fits;
+  value = grind (arith, ints);
   bytes = (omega (arith, low_byte z b is), tt);
 }
-  where
-    value : (z : ℤ) → pos b ≡ int_rem_euclid z (pos 128) → Fits c 1 z → Makes (c * 1) z (0 + 1 * ((b + c) % 128))
-    value (pos n) is fits = omega (arith, ints, is, fits)
-    value (negsuc n) is fits = omega (arith, ints, is, fits)
 
 -- behind the low byte stands what is left of the number
 pub spells_more : (c : ℕ) (z : ℤ) (b : ℕ) (y : List ℕ) → pos b ≡ int_rem_euclid z (pos 128) → length y < 10 → Spells c (int_div_euclid z (pos 128)) y → Spells c z ((b + 128) ∷ y)
@@ -68,25 +63,23 @@ spells_more c z b y is short s = record {
 }
   where
     value : (z : ℤ) (low p q t : ℕ) → q ≡ p * 128 → pos b ≡ int_rem_euclid z (pos 128) → Makes (c * p) (int_div_euclid z (pos 128)) (low + p * t) → Makes (c * q) z (((b + 128) % 128 + 128 * low) + q * t)
-    value (pos n) low p q t e is m = rw e (omega (arith, ints, is, m))
-    value (negsuc n) low p q t e is m = rw e (omega (arith, ints, is, m))
+    value z low p q t e is m = rw e (grind (arith, ints))
 
 pub fits_next : (c : ℕ) (z : ℤ) (p q : ℕ) → q ≡ p * 128 → Fits c q z → Fits c p (int_div_euclid z (pos 128))
-fits_next c (pos n) p q e h = let f = rw e at h in omega (arith, f)
-fits_next c (negsuc n) p q e h = let f = rw e at h in omega (arith, f)
+fits_next c z p q e h = let f = rw e at h in grind arith
 
 -- ---- what is spelled fits, and is spelled in one way
 
 pub spelled_fits : (c : ℕ) (z : ℤ) (x : List ℕ) (s : Spells c z x) → Fits c (128 ^ length s.leb.front) z
-spelled_fits c z x s = fits z (low_bits s.leb.front) (128 ^ length s.leb.front) ((s.leb.end + c) % 128) (low_bits-bound s.leb.front) (omega arith) s.value
+spelled_fits c z x s =
+    let most : 128 ^ length s.leb.front * ((s.leb.end + c) % 128) ≤ 128 ^ length s.leb.front * 127 = mul-le-mul_left (128 ^ length s.leb.front) (omega arith) in
+    fits z (low_bits s.leb.front) (128 ^ length s.leb.front) ((s.leb.end + c) % 128) (low_bits-bound s.leb.front) most s.value
   where
-    fits : (z : ℤ) (low p t : ℕ) → low < p → t < 128 → Makes (c * p) z (low + p * t) → Fits c p z
-    fits (pos n) low p t below last m = let most : p * t ≤ p * 127 = mul-le-mul_left p (omega arith) in omega (arith, m, most)
-    fits (negsuc n) low p t below last m = omega (arith, m)
+    fits : (z : ℤ) (low p t : ℕ) → low < p → p * t ≤ p * 127 → Makes (c * p) z (low + p * t) → Fits c p z
+    fits z low p t below most m = grind arith
 
 same_whole : (z : ℤ) (bias v w : ℕ) → Makes bias z v → Makes bias z w → v ≡ w
-same_whole (pos n) bias v w m k = sym m ∙ k
-same_whole (negsuc n) bias v w m k = omega (arith, m, k)
+same_whole z bias v w m k = grind arith
 
 -- high bytes of one number and one length are the same, and so is what they leave
 same_front : (xs ys : List ℕ) (s t : ℕ) → AllByRecursion IsHigh xs → AllByRecursion IsHigh ys → AllByRecursion (λ b. b < 256) (xs ++ s ∷ []) → AllByRecursion (λ b. b < 256) (ys ++ t ∷ [])
@@ -133,18 +126,13 @@ signed_makes z low p end whole all d e =
     ]
   where
     positive : (z : ℤ) → z ≡ pos whole → Makes (64 * p) z (low + p * (end + 64))
-    positive (pos n) e = omega (arith, ints, e, d.sum)
-    positive (negsuc n) e = absurd (omega (arith, ints, e))
+    positive z e = grind (arith, ints, d)
 
     negative : (z : ℤ) (t : ℕ) → end ≡ t + 64 → z ≡ pos whole -ℤ pos all → Makes (64 * p) z (low + p * t)
-    negative (pos n) t is e = let s = rw is at d.sum in omega (arith, ints, e, s, d.power, d.last)
-    negative (negsuc n) t is e = let s = rw is at d.sum in omega (arith, ints, e, s, d.power)
+    negative z t is e = let s = rw is at d.sum in grind (arith, ints, d)
 
 same_number : (bias whole : ℕ) (y z : ℤ) → Makes bias y whole → Makes bias z whole → y ≡ z
-same_number bias whole (pos m) (pos n) a b = omega (arith, ints, a, b)
-same_number bias whole (pos m) (negsuc n) a b = absurd (omega (arith, a, b))
-same_number bias whole (negsuc m) (pos n) a b = absurd (omega (arith, a, b))
-same_number bias whole (negsuc m) (negsuc n) a b = omega (arith, ints, a, b)
+same_number bias whole y z a b = grind (arith, ints)
 
 abbrev pub signed_spells : (z : ℤ) (x : List ℕ) → IsSleb z x → Spells 64 z x
 signed_spells z x u = record { leb = u.leb; value = signed_makes z (low_bits u.leb.front) (128 ^ length u.leb.front) u.leb.end (low_bits x) (128 ^ length x) (digits_of u64_form x u.leb) u.value; bytes = u.bytes }
