@@ -6,8 +6,7 @@ use Rattle.std.proofs.lemmas.Bool.{cases_lt, ltb-true, lt-ltb}
 use Rattle.std.proofs.lemmas.Bool.Decides.{nat_tests}
 use Rattle.std.proofs.Math.Nat.{pow-le-pow_right, mul-le-mul_left, pow-suc}
 use Rattle.wl_bytes.specs.Leb.{low_bits, Form, IsLeb, u32_form, s32_form, s33_form, s64_form, u64_form}
-use Rattle.wl_bytes.proofs.LebLemmas.{low_bits-bound}
-use Rattle.wl_bytes.proofs.Spellings.{Makes, Fits, Spells, size_of, padded}
+use Rattle.wl_bytes.proofs.Spellings.{low_bits-bound, Makes, Fits, Spells, size_of, padded}
 
 -- A number of the form has so many bits beside its sign. Behind as many bytes as may stand before it, the last byte lies
 -- within `span` of what it is counted from.

@@ -1,14 +1,31 @@
 -- What a text spells, unsigned or signed: one equation on natural numbers. A text of `p` more than its last byte counts
 -- from `- c * p`, where c is 0 for unsigned and 64 for signed numbers.
-use Rattle.std.proofs.Common.{◌≡◌, ℕ, zero, suc, ◌+◌, ◌-◌, ◌*◌, ◌%◌, ◌^◌, ◌<◌, ◌≤◌, cond, ltb, List, [], ◌∷◌, ◌++◌, length, refl, sym, ap, ◌∙◌, arith, inl, inr, length-append}
+use Rattle.std.proofs.Common.{◌≡◌, ℕ, zero, suc, ◌+◌, ◌-◌, ◌*◌, ◌%◌, ◌^◌, ◌<◌, ◌≤◌, cond, ltb, List, [], ◌∷◌, ◌++◌, length, refl, sym, ap, ◌∙◌, arith, inl, inr, length-append, lit<}
 use Rattle.std.specs.Prelude.{ℤ, pos, negsuc, ◌-ℤ◌}
 use Rattle.std.specs.Int.{int_rem_euclid, int_div_euclid}
 use Rattle.std.specs.List.{AllByRecursion}
 use Rattle.std.proofs.lemmas.Int.{ints}
 use Rattle.std.proofs.lemmas.Bool.{cases_lt, lt-ltb, le-ltb}
-use Rattle.std.proofs.Math.Nat.{pow-suc, mul-le-mul_left}
+use Rattle.std.proofs.Math.Nat.{pow-suc, mul-le-mul_left, pow-le-pow_right}
 use Rattle.wl_bytes.specs.Leb.{low_bits, IsHigh, Form, IsLeb, u64_form, signed_of, IsUleb, IsSleb}
-use Rattle.wl_bytes.proofs.LebLemmas.{low_bits-bound, low_bits-last}
+
+-- ---- the low bits
+
+-- a number of so many bytes
+pub low_bits-bound : (bytes : List ℕ) → low_bits bytes < 128 ^ length bytes
+low_bits-bound [] = omega arith
+low_bits-bound (b ∷ bs) = grind (arith, low_bits-bound bs)
+
+-- ten bytes hold no more
+pub low_bits_in_ten : (bytes : List ℕ) → length bytes ≤ 10 → (low_bits bytes < 128 ^ length bytes) × (128 ^ length bytes ≤ 128 ^ 10)
+low_bits_in_ten bytes le = (low_bits-bound bytes, pow-le-pow_right {n = 128} (lit< tt) le)
+
+-- the last byte counts 128 to the number of those before it
+pub low_bits-last : (front : List ℕ) (end : ℕ) → low_bits (front ++ end ∷ []) ≡ low_bits front + 128 ^ length front * (end % 128)
+low_bits-last [] end = omega arith
+low_bits-last (b ∷ front) end = rw (low_bits-last front end, pow-suc 128 (length front)) (omega arith)
+
+-- ---- what a text spells
 
 -- z, counted from - bias, is whole
 abbrev pub Makes : ℕ → ℤ → ℕ → Type 0
