@@ -6,9 +6,7 @@ use Rattle.std.proofs.lemmas.Int.{ints}
 use Rattle.std.proofs.Math.Nat.{mul-le-mul_left}
 use Rattle.wl_bytes.specs.Parse.{IsReadAgain}
 use Rattle.wl_bytes.specs.Leb.{Form, u32_form, s32_form, s33_form, s64_form, IsU32, IsShortest, IsSigned, IsWithin, IsShortestSleb}
-use Rattle.wl_bytes.proofs.Spellings.{spelled_once, unsigned_spells, spells_unsigned, signed_spells, spells_signed}
-use Rattle.wl_bytes.proofs.Sizes.{Size, u32_size, s32_size, s33_size, s64_size, in_form, written_has_form}
-use Rattle.wl_bytes.proofs.WriteLaws.{near}
+use Rattle.wl_bytes.proofs.Spellings.{Fits, spelled_once, unsigned_spells, spells_unsigned, signed_spells, spells_signed, Size, u32_size, s32_size, s33_size, s64_size, in_form, written_has_form}
 
 pub shortest_is_one : (n : ℕ) (x y : List ℕ) → IsShortest n x → IsShortest n y → x ≡ y
 shortest_is_one n x y p q = spelled_once 0 (pos n) x y (unsigned_spells n x p.spelled) (unsigned_spells n y q.spelled) (omega (arith, p.least y q.spelled, q.least x p.spelled))
@@ -18,25 +16,18 @@ shortest_sleb_is_one z x y p q = spelled_once 64 z x y (signed_spells z x p.spel
 
 -- ---- what is written is read
 
-pub read_again : {X : Type 0} (spells : ℕ → X → List ℕ → Type 0) (x : X) (text : List ℕ) → ((place : ℕ) → spells place x text) → IsReadAgain spells x text
-read_again spells x text is place rest = record { text = text; spelled = is place; parts = refl; moved = refl }
-
 pub written_u32 : (n : ℕ) (text : List ℕ) → n < 2 ^ 32 → IsShortest n text → IsReadAgain IsU32 n text
 written_u32 n text small s =
     let form = written_has_form u32_size (pos n) text small (omega arith) (unsigned_spells n text s.spelled) (λ y u. s.least y (spells_unsigned n y u)) in
-    read_again IsU32 n text (λ place. record { leb = in_form u32_form text s.spelled.leb form; value = s.spelled.value })
-
--- a number of so many bits, by its size
-within_is : (bits : ℕ) (z : ℤ) → IsWithin bits z → mag z < 2 ^ bits
-within_is bits z h = grind (arith, ints)
+    λ place rest. record { text = text; spelled = record { leb = in_form u32_form text s.spelled.leb form; value = s.spelled.value }; parts = refl; moved = refl }
 
 written_signed : {before bits : ℕ} (form : Form) (size : Size 64 before bits form) (z : ℤ) (text : List ℕ) → IsWithin bits z → IsShortestSleb z text → IsReadAgain (IsSigned form) z text
 written_signed {before} {bits} form size z text within s =
-    let small = within_is bits z within in
+    let small : mag z < 2 ^ bits = grind (arith, ints) in
     let most : 128 ^ before * size.span ≤ 128 ^ before * 64 = mul-le-mul_left (128 ^ before) size.room.1 in
-    let fits = near z (128 ^ before) (omega (arith, small, most, size.all)) in
+    let fits : Fits 64 (128 ^ before) z = grind (arith, size.all) in
     let has = written_has_form size z text small fits (signed_spells z text s.spelled) (λ y u. s.least y (spells_signed z y u)) in
-    read_again (IsSigned form) z text (λ place. record { leb = in_form form text s.spelled.leb has; value = s.spelled.value })
+    λ place rest. record { text = text; spelled = record { leb = in_form form text s.spelled.leb has; value = s.spelled.value }; parts = refl; moved = refl }
 
 pub written_s32 : (z : ℤ) (text : List ℕ) → IsWithin 31 z → IsShortestSleb z text → IsReadAgain (IsSigned s32_form) z text
 written_s32 = written_signed s32_form s32_size
