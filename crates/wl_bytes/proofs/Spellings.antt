@@ -213,7 +213,7 @@ too_far z c s p low t below small m = (λ h. grind arith, λ h. grind arith)
 near_small : (z : ℤ) (c s p low t : ℕ) → low < p → mag z < s * p → Makes (c * p) z (low + p * t) → (t < c + s) × (c ≤ t + s)
 near_small z c s p low t below small m =
     let far = too_far z c s p low t below small m in
-    (elim (cases_lt t (c + s)) [ | inl lt ↦ lt | inr le ↦ absurd (far.0 (mul-le-mul_left p le)) ], elim (cases_lt (t + s) c) [ | inl lt ↦ absurd (far.1 (mul-le-mul_left p (omega arith))) | inr le ↦ le ])
+    (elim (cases_lt t (c + s)) [ inl lt ↦ lt | inr le ↦ absurd (far.0 (mul-le-mul_left p le)) ], elim (cases_lt (t + s) c) [ inl lt ↦ absurd (far.1 (mul-le-mul_left p (omega arith))) | inr le ↦ le ])
 
 pub small_front : (z : ℤ) (c p low t : ℕ) → c ≤ 64 → low < p → t < 128 → Makes (c * p) z (low + p * t) → mag z < 128 * p
 small_front z c p low t small below last m = small_near z c 128 p low t below (omega arith) (omega arith) m
