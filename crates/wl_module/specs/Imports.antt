@@ -1,6 +1,5 @@
 -- The import section (core specification, "Import Section").
-use Rattle.std.specs.Prelude.{◌≡◌, ℕ, ◌==◌, ◌||◌, ◌&&◌, not, Bool, true, false, if◌then◌else◌, List, [], ◌∷◌, map, Option, Some, None, Result}
-use Rattle.std.specs.List.{find}
+use Rattle.std.specs.Prelude.{ℕ, ◌==◌, ◌||◌, ◌&&◌, not, Bool, true, false, if◌then◌else◌, List, [], ◌∷◌, map, Option, Some, None, Result}
 use Rattle.wl_bytes.specs.Cursor.{Cursor}
 use Rattle.wl_bytes.specs.Leb.{IsU32}
 use Rattle.wl_bytes.specs.Items.{IsName}
@@ -17,7 +16,7 @@ use Rattle.wl_module.specs.declared.error.ReadError.TheVariants.{Malformed, Unsu
 use Rattle.wl_module.specs.Lists.{NumberFault, number_at, WordFault, word_at, IsCoded, CodedFault, coded_at, Whole, WholeFault, whole_of, SeenAs, seen_of}
 use Rattle.wl_module.specs.Words.{IsPlacedName, placed_name_at}
 use Rattle.wl_module.specs.Chains.{ListedAfter, ListedAfterFault, list_after_at}
-use Rattle.wl_module.specs.Checks.{Where, WhereFault, where_at}
+use Rattle.wl_module.specs.Checks.{Where, WhereFault, where_at, Seen}
 use Rattle.wl_module.specs.Limits.{IsTableType, TableTypeFault, table_type_at, IsMemoryType, MemoryTypeFault, memory_type_at}
 use Rattle.wl_module.specs.Globals.{IsGlobalType, GlobalTypeFault, global_type_at}
 
@@ -29,10 +28,6 @@ kind_code Func = 0
 kind_code Table = 1
 kind_code Memory = 2
 kind_code Global = 3
-
--- the kind with that byte
-abbrev pub kind_of_byte : ℕ → Option ExternalKind
-kind_of_byte b = find (λ k. kind_code k == b) (Func ∷ Table ∷ Memory ∷ Global ∷ [])
 
 -- another byte: tags are known and not taken
 abbrev pub kind_error : ℕ → ReadError
@@ -48,27 +43,16 @@ KindFault = CodedFault kind_code kind_error
 
 -- the kind in front
 unfoldable pub kind_at : Cursor → Result (ExternalKind × Cursor) ReadError
-kind_at c = coded_at kind_of_byte kind_error c
+kind_at c = coded_at kind_code (Func ∷ Table ∷ Memory ∷ Global ∷ []) kind_error c
 
 -- ---- what is imported
 
--- the kind of what is imported
-abbrev pub entity_kind : ImportEntity → ExternalKind
-entity_kind (AFunction n) = Func
-entity_kind (ATable t) = Table
-entity_kind (AMemory m) = Memory
-entity_kind (AGlobal g) = Global
-
--- its type: of a function the number, of the others the type itself
-abbrev pub IsEntityType : ImportEntity → ℕ → List ℕ → Type 0
-IsEntityType (AFunction n) place text = IsU32 place n text
-IsEntityType (ATable t) place text = IsTableType place t text
-IsEntityType (AMemory m) place text = IsMemoryType place m text
-IsEntityType (AGlobal g) place text = IsGlobalType place g text
-
--- the type of something of that kind
+-- the type of something of that kind: of a function the number, of the others the type itself
 abbrev pub IsEntity : ExternalKind → ℕ → ImportEntity → List ℕ → Type 0
-IsEntity kind place e text = (entity_kind e ≡ kind) × IsEntityType e place text
+IsEntity Func = Seen IsU32 (λ n. AFunction n)
+IsEntity Table = Seen IsTableType (λ t. ATable t)
+IsEntity Memory = Seen IsMemoryType (λ m. AMemory m)
+IsEntity Global = Seen IsGlobalType (λ g. AGlobal g)
 
 -- what is wrong with the type
 abbrev pub EntityFault : ExternalKind → ReadError → Cursor → Type 0
@@ -97,25 +81,20 @@ pub record PlacedImported : Type 0 where
   pub import : Imported
   pub name_offset : ℕ
 
--- its two names with the place of the second, its kind, and its type
-abbrev pub import_parts : PlacedImported → List ℕ × ((List ℕ × ℕ) × (ExternalKind × ImportEntity))
-import_parts i = (i.import.origin, ((i.import.name, i.name_offset), (entity_kind i.import.entity, i.import.entity)))
-
--- two names, the kind, and the type
-abbrev pub IsImport : ℕ → PlacedImported → List ℕ → Type 0
-IsImport place i text =
-    Then IsName (λ _. Then IsPlacedName (λ _. Then IsKind IsEntity)) place (import_parts i) text
-
--- the first of the four that is at fault
-abbrev pub ImportFault : ReadError → Cursor → Type 0
-ImportFault = ThenFault IsName WordFault (λ _. ThenFault IsPlacedName WordFault (λ _. ThenFault IsKind KindFault EntityFault))
-
 -- what was read as an import
 abbrev pub import_from : List ℕ × ((List ℕ × ℕ) × (ExternalKind × ImportEntity)) → PlacedImported
 import_from p = record {
   import = record { origin = p.0; name = p.1.0.0; entity = p.1.1.1 };
   name_offset = p.1.0.1;
 }
+
+-- two names, the kind, and the type
+abbrev pub IsImport : ℕ → PlacedImported → List ℕ → Type 0
+IsImport = Seen (Then IsName (λ _. Then IsPlacedName (λ _. Then IsKind IsEntity))) import_from
+
+-- the first of the four that is at fault
+abbrev pub ImportFault : ReadError → Cursor → Type 0
+ImportFault = ThenFault IsName WordFault (λ _. ThenFault IsPlacedName WordFault (λ _. ThenFault IsKind KindFault EntityFault))
 
 -- the import in front
 unfoldable pub import_at : Cursor → Result (PlacedImported × Cursor) ReadError
