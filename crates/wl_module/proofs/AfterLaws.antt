@@ -1,14 +1,16 @@
 -- So many items, each under what came before it, are read as the items are.
-use Rattle.std.proofs.Common.{◌≡◌, ◌⊎◌, ℕ, zero, suc, ◌<◌, List, [], ◌∷◌, length, Result, Ok, Err, refl, sym, ap, subst, arith, inl, inr}
+use Rattle.std.proofs.Common.{◌≡◌, ◌⊎◌, ℕ, zero, suc, ◌<◌, Bool, List, [], ◌∷◌, length, Result, Ok, Err, refl, sym, ap, subst, arith, inl, inr}
 use Rattle.wl_bytes.specs.Cursor.{Cursor}
 use Rattle.wl_bytes.specs.Parse.{Takes}
 use Rattle.wl_bytes.specs.Leb.{IsU32}
 use Rattle.wl_bytes.proofs.Readings.{IsReading}
 use Rattle.wl_bytes.proofs.GrammarLaws.{map_reading}
 use Rattle.wl_module.specs.declared.error.ReadError.{ReadError}
-use Rattle.wl_module.specs.Chains.{Chain, after, TimesAfter, TimesAfterFault, times_after_at, ListedAfter, ListedAfterFault, list_after_at}
+use Rattle.wl_module.specs.Chains.{Chain, after, TimesAfter, TimesAfterFault, times_after_at, ListedAfter, ListedAfterFault, list_after_at, may_come, seen_then, ListedOnce, ListedOnceFault, once_at, list_once_at}
+use Rattle.wl_module.specs.Checks.{Where, WhereFault}
 use Rattle.wl_module.proofs.ReadingLaws.{respelled, either, reading_by, both}
 use Rattle.wl_module.proofs.ListLaws.{number_reading}
+use Rattle.wl_module.proofs.CheckLaws.{where_reading}
 use Rattle.wl_module.proofs.ChainLaws.{first_of, cons_chain, no_items, chain_begins}
 
 -- each item under its state is read
@@ -58,3 +60,8 @@ list_after_reading item next wrong read law s = map_reading _ (ListedAfter item 
     (λ place p text t. (t.0, t.1, t.2, subst (λ (n : ℕ). IsU32 place n t.0) (sym t.4.0) t.3, t.4.1))
     (λ place xs text t. ((t.0, t.1, t.2, t.3, (refl, t.4)), refl))
     (both number_reading (times_after_reading item next wrong read law s))
+
+pub list_once_reading : {X : Type 0} {item : ℕ → X → List ℕ → Type 0} {wrong : ReadError → Cursor → Type 0} {read : Cursor → Result (X × Cursor) ReadError} (sort : X → Bool) (many : ReadError) → IsReading item wrong read
+    → (seen : Bool) → IsReading (ListedOnce item sort seen) (ListedOnceFault item wrong sort many seen) (list_once_at read sort many seen)
+list_once_reading {X} {item} {wrong} {read} sort many law seen = list_after_reading (λ seen. Where item (may_come sort seen)) (seen_then sort) (λ seen. WhereFault item wrong (may_come sort seen) many) (once_at read sort many)
+    (λ seen. where_reading item wrong read (may_come sort seen) many law) seen

@@ -1,5 +1,5 @@
 -- The laws of constant expressions.
-use Rattle.std.proofs.Common.{◌≡◌, ◌≢◌, ℕ, ◌+◌, ◌-◌, ◌<◌, ◌≤◌, true, false, List, [], ◌∷◌, ◌++◌, length, take, Option, Some, None, Ok, Err, refl, sym, ap, subst, ◌∙◌, arith, inl, inr, append_assoc, length-append}
+use Rattle.std.proofs.Common.{◌≡◌, ◌≢◌, ℕ, ◌+◌, ◌-◌, ◌<◌, true, false, List, [], ◌∷◌, ◌++◌, length, take, Option, Some, None, Ok, Err, refl, sym, ap, subst, ◌∙◌, arith, inl, inr, append_assoc, length-append}
 use Rattle.std.proofs.lemmas.List.{take_at}
 use Rattle.std.specs.Prelude.{is_some}
 use Rattle.wl_bytes.specs.Cursor.{Cursor}
@@ -86,7 +86,6 @@ immediate_reading I64Mul = nothing_reading
 immediate_reading Vector = vector_reading
 
 step_immediate_reading : (o : Option ConstOperator) → IsReading (IsStepImmediate o) (StepImmediateFault o) (step_immediate_at o)
-unfolding step_immediate_at
 step_immediate_reading None = nothing_reading
 step_immediate_reading (Some o) = immediate_reading o
 
@@ -151,9 +150,6 @@ expression_reading = reading_by IsExpression ExpressionFault expression_at
 pub record AreSkipped (os : List ConstOperator) (a b : Cursor) : Type 0 where
   pub stand : Takes (Items IsOperator) os a b
 
-pub skips_none : (a : Cursor) → AreSkipped [] a a
-skips_none a = record { stand = take_nothing IsOperator a }
-
 one_more : (os : List ConstOperator) (o : ConstOperator) (a b c : Cursor) → Takes (Items IsOperator) os a b → Takes IsOperator o b c → Takes (Items IsOperator) (os ++ o ∷ []) a c
 one_more [] o a b c t u = cons_text IsOperator o [] a c c (subst (λ (d : Cursor). Takes IsOperator o d c) (sym (nothing_taken IsOperator a b t)) u) (take_nothing IsOperator c)
 one_more (p ∷ os) o a b c t u =
@@ -170,9 +166,6 @@ skips_more os (Some o) a b c some h e = (os ++ o ∷ [], record { stand = one_mo
 pub skips_less : (o : Option ConstOperator) (b c : Cursor) → is_some o ≡ true → step_at b ≡ Ok (o, c) → length c.rest < length b.rest
 skips_less None b c some e = absurd cc
 skips_less (Some o) b c some e = step_shortens IsStep StepFault step_at are_steps o b c (step_taken o b c e)
-
-pub skips_within : (os : List ConstOperator) (a b : Cursor) → AreSkipped os a b → (a.position ≤ b.position) × (b.position - a.position ≤ length a.rest)
-skips_within os a b h = (omega (arith, h.stand.moved), omega (arith, h.stand.moved, ap length h.stand.parts, length-append h.stand.text b.rest))
 
 pub expression_ends : (os : List ConstOperator) (o : Option ConstOperator) (a b c : Cursor) → is_some o ≡ false → AreSkipped os a b → step_at b ≡ Ok (o, c) → expression_at a ≡ Ok (take (b.position - a.position) a.rest, c)
 expression_ends os (Some o) a b c none h e = absurd cc

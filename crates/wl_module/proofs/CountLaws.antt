@@ -1,5 +1,5 @@
 -- Items take at least a byte each, so a list has at most as many as there are bytes.
-use Rattle.std.proofs.Common.{ℕ, ◌+◌, ◌≤◌, ◌<◌, ◌≡◌, Bool, false, List, [], ◌∷◌, ◌++◌, length, map, Result, Ok, Err, ap, arith, length-append}
+use Rattle.std.proofs.Common.{ℕ, ◌+◌, ◌≤◌, ◌<◌, ◌≡◌, Bool, true, false, List, [], ◌∷◌, ◌++◌, length, map, Result, Ok, Err, ap, arith, length-append}
 use Rattle.std.specs.Prelude.{IfOk}
 use Rattle.std.proofs.lemmas.List.{length-map}
 use Rattle.wl_bytes.specs.Leb.{IsU32}
@@ -8,12 +8,14 @@ use Rattle.wl_bytes.specs.Grammar.{Items}
 use Rattle.wl_module.specs.declared.error.ReadError.{ReadError}
 use Rattle.wl_module.specs.Outcome.{ReadsWhole}
 use Rattle.wl_module.specs.Lists.{Listed, Whole, SeenAs, AreFew}
-use Rattle.wl_module.specs.Chains.{Chain, ListedAfter}
+use Rattle.wl_module.specs.Chains.{Chain, ListedAfter, may_come, seen_then}
+use Rattle.wl_module.specs.Checks.{Where}
+use Rattle.wl_module.specs.Limits.{IsMemoryType}
 use Rattle.wl_module.specs.Types.{IsFuncType, AreTypes}
 use Rattle.wl_module.specs.Bodies.{AreIndices, IsBody, AreBodies}
-use Rattle.wl_module.specs.Memories.{IsMemoryAfter, memory_seen, AreMemories}
+use Rattle.wl_module.specs.Memories.{AreMemories}
 use Rattle.wl_module.specs.Globals.{IsGlobal, AreGlobals}
-use Rattle.wl_module.specs.Imports.{IsImportAfter, import_seen, ArePlacedImports, AreImports}
+use Rattle.wl_module.specs.Imports.{IsImport, imports_memory, ArePlacedImports, AreImports}
 use Rattle.wl_module.specs.Exports.{IsExport, AreExports}
 use Rattle.wl_module.specs.Segments.{IsSegment, AreTargeted, AreSegments}
 use Rattle.wl_module.specs.Sections.{IsSection, next, magic, Framed}
@@ -77,13 +79,13 @@ pub indices_few : AreFew AreIndices
 indices_few = listed_few IsU32 number_bytes
 
 pub memories_few : (imported : Bool) → AreFew (AreMemories imported)
-memories_few imported = listed_after_few IsMemoryAfter memory_seen (λ seen place m text s. front_bytes _ _ _ s.0.1.0.1.2 (one_byte _ _ s.0.1.0.1.3)) imported
+memories_few imported = listed_after_few (λ seen. Where IsMemoryType (may_come (λ _. true) seen)) (seen_then (λ _. true)) (λ seen place m text s. front_bytes _ _ _ s.0.1.0.1.2 (one_byte _ _ s.0.1.0.1.3)) imported
 
 pub globals_few : AreFew AreGlobals
 globals_few = listed_few IsGlobal (λ place g text s. front_bytes _ _ _ s.1.2 (front_bytes _ _ _ s.1.3.1.2 (one_byte _ _ s.1.3.1.3)))
 
 pub placed_imports_few : AreFew ArePlacedImports
-placed_imports_few = listed_after_few IsImportAfter import_seen (λ seen place i text s. front_bytes _ _ _ s.0.1.2 (name_bytes place s.0.0.0 s.0.1.0 s.0.1.3)) false
+placed_imports_few = listed_after_few (λ seen. Where IsImport (may_come imports_memory seen)) (seen_then imports_memory) (λ seen place i text s. front_bytes _ _ _ s.0.1.2 (name_bytes place s.0.0.0 s.0.1.0 s.0.1.3)) false
 
 pub imports_few : AreFew AreImports
 imports_few = seen_few (λ i. i.import) ArePlacedImports placed_imports_few

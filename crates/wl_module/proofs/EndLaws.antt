@@ -1,39 +1,20 @@
 -- Items up to what ends them are read as the steps are.
-use Rattle.std.proofs.Common.{◌≡◌, ◌≢◌, ℕ, zero, suc, ◌+◌, ◌<◌, List, [], ◌∷◌, ◌++◌, length, Option, Some, None, Result, Ok, Err, refl, sym, ap, subst, ◌∙◌, arith, inl, inr, append_assoc, length-append}
+use Rattle.std.proofs.Common.{◌≡◌, ◌≢◌, ℕ, zero, suc, ◌<◌, List, [], ◌∷◌, length, Option, Some, None, Result, Ok, Err, refl, sym, ap, subst, arith, inl, inr, length-append}
 use Rattle.wl_bytes.specs.Cursor.{Cursor}
 use Rattle.wl_bytes.specs.Parse.{Takes}
 use Rattle.wl_bytes.specs.Grammar.{Items}
 use Rattle.wl_bytes.proofs.Readings.{IsReading}
 use Rattle.wl_bytes.proofs.GrammarLaws.{cons_text, first_of_items, nothing_taken, take_nothing}
 use Rattle.wl_module.specs.Ends.{ItemOf, Ended, EndedFault, steps_at, ended_at}
-use Rattle.wl_module.proofs.ReadingLaws.{respelled, Stands, either, reading_by}
+use Rattle.wl_module.proofs.ReadingLaws.{respelled, parted, joined, Stands, either, reading_by}
 use Rattle.wl_module.proofs.ChainLaws.{some_text}
 
 -- a step that ends them, behind the items that stand there
 abbrev pub end_of_items : {X : Type 0} (step : ℕ → Option X → List ℕ → Type 0) (xs : List X) (a b c : Cursor) → Takes (Items (ItemOf step)) xs a b → Takes step None b c → Takes (Ended step) xs a c
-end_of_items step xs a b c t u = record {
-  text = t.text ++ u.text;
-  spelled = (t.text, u.text, refl, t.spelled, subst (λ (place : ℕ). step place None u.text) t.moved u.spelled);
-  parts = t.parts ∙ ap (λ (r : List ℕ). t.text ++ r) u.parts ∙ sym (append_assoc t.text u.text c.rest);
-  moved = omega (arith, t.moved, u.moved, length-append t.text u.text);
-}
+end_of_items step xs a b c t u = let v = joined (Items (ItemOf step)) step xs None a b c t u in respelled v v.spelled
 
 abbrev pub parts_of_end : {X : Type 0} (step : ℕ → Option X → List ℕ → Type 0) (xs : List X) (a c : Cursor) → Takes (Ended step) xs a c → (b : Cursor) × Takes (Items (ItemOf step)) xs a b × Takes step None b c
-parts_of_end step xs a c t = (
-  record { position = a.position + length t.spelled.0; rest = t.spelled.1 ++ c.rest },
-  record {
-    text = t.spelled.0;
-    spelled = t.spelled.3;
-    parts = t.parts ∙ ap (λ (r : List ℕ). r ++ c.rest) t.spelled.2 ∙ append_assoc t.spelled.0 t.spelled.1 c.rest;
-    moved = refl;
-  },
-  record {
-    text = t.spelled.1;
-    spelled = t.spelled.4;
-    parts = refl;
-    moved = omega (arith, t.moved, ap length t.spelled.2, length-append t.spelled.0 t.spelled.1);
-  },
-)
+parts_of_end step xs a c t = parted (Items (ItemOf step)) step xs None xs a c t t.spelled
 
 -- steps are read, and an item is no empty text
 pub record AreSteps {X E : Type 0} (step : ℕ → Option X → List ℕ → Type 0) (wrong : E → Cursor → Type 0) (read : Cursor → Result (Option X × Cursor) E) : Type 0 where

@@ -8,13 +8,11 @@ use Rattle.wl_module.specs.declared.error.ReadError.{ReadError}
 use Rattle.wl_module.specs.declared.error.ReadError.TheVariants.{Malformed, Unsupported}
 use Rattle.wl_module.specs.Outcome.{Gives, ReadsWhole}
 use Rattle.wl_module.specs.Lists.{NumberFault, number_at, Listed, ListedFault, list_at}
-use Rattle.wl_module.specs.Chains.{ListedAfter, ListedAfterFault, list_after_at}
 use Rattle.wl_module.specs.Globals.{mutability_code, IsMutability, MutabilityFault, mutability_at, global_type_from, IsGlobalType, GlobalTypeFault, global_type_at, global_from, IsGlobal, GlobalFault, global_at, AreGlobals, GlobalsFault, globals_of}
-use Rattle.wl_module.specs.Memories.{may_be, IsMemoryAfter, MemoryAfterFault, memory_after_at, memory_seen, AreMemories, MemoriesFault, memories_of, IsDataCount, DataCountFault, data_count_of}
+use Rattle.wl_module.specs.Memories.{AreMemories, MemoriesFault, memories_of, IsDataCount, DataCountFault, data_count_of}
 use Rattle.wl_module.proofs.ReadingLaws.{both, seen}
 use Rattle.wl_module.proofs.ListLaws.{AreAll, coded_reading, number_reading, list_reading, whole_reading, IsWholeReading, reads_whole}
-use Rattle.wl_module.proofs.CheckLaws.{where_reading}
-use Rattle.wl_module.proofs.AfterLaws.{list_after_reading}
+use Rattle.wl_module.proofs.AfterLaws.{list_once_reading}
 use Rattle.wl_module.proofs.TypeLaws.{value_type_reading}
 use Rattle.wl_module.proofs.ConstantLaws.{expression_reading}
 use Rattle.wl_module.proofs.LimitLaws.{memory_type_reading}
@@ -42,14 +40,8 @@ globals_reading = whole_reading (Listed IsGlobal) (ListedFault IsGlobal GlobalFa
 
 -- ---- memories
 
-memory_after_reading : (seen : Bool) → IsReading (IsMemoryAfter seen) (MemoryAfterFault seen) (memory_after_at seen)
-unfolding memory_after_at
-memory_after_reading seen = where_reading _ _ _ (may_be seen) (Unsupported ManyMemories) memory_type_reading
-
 pub memories_reading : (imported : Bool) → IsWholeReading (AreMemories imported) (MemoriesFault imported) (memories_of imported)
-memories_reading imported =
-    whole_reading (ListedAfter IsMemoryAfter memory_seen imported) (ListedAfterFault IsMemoryAfter memory_seen MemoryAfterFault imported) (list_after_at memory_after_at memory_seen imported)
-    (list_after_reading IsMemoryAfter memory_seen MemoryAfterFault memory_after_at memory_after_reading imported)
+memories_reading imported = whole_reading _ _ _ (list_once_reading (λ _. true) (Unsupported ManyMemories) memory_type_reading imported)
 
 -- ---- the data count
 

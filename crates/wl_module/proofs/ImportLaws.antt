@@ -1,5 +1,5 @@
 -- The laws of imports and exports.
-use Rattle.std.proofs.Common.{Bool, false, [], ◌∷◌, refl}
+use Rattle.std.proofs.Common.{false, [], ◌∷◌, refl}
 use Rattle.wl_bytes.proofs.Readings.{IsReading}
 use Rattle.wl_module.specs.declared.imports.ExternalKind.{ExternalKind}
 use Rattle.wl_module.specs.declared.imports.ExternalKind.TheVariants.{Func, Table, Memory, Global}
@@ -7,13 +7,12 @@ use Rattle.wl_module.specs.declared.imports.ImportEntity.TheVariants.{Func as AF
 use Rattle.wl_module.specs.declared.error.Form.TheVariants.{ManyMemories}
 use Rattle.wl_module.specs.declared.error.ReadError.TheVariants.{Unsupported}
 use Rattle.wl_module.specs.Lists.{Listed, ListedFault, list_at}
-use Rattle.wl_module.specs.Chains.{ListedAfter, ListedAfterFault, list_after_at}
-use Rattle.wl_module.specs.Imports.{kind_code, kind_error, IsKind, KindFault, kind_at, IsEntity, EntityFault, entity_at, import_from, IsImport, ImportFault, import_at, import_may_be, IsImportAfter, ImportAfterFault, import_after_at, import_seen, plain_imports, ArePlacedImports, placed_imports_of, AreImports, ImportsFault, imports_of}
+use Rattle.wl_module.specs.Imports.{kind_code, kind_error, IsKind, KindFault, kind_at, IsEntity, EntityFault, entity_at, import_from, IsImport, ImportFault, import_at, imports_memory, plain_imports, ArePlacedImports, placed_imports_of, AreImports, ImportsFault, imports_of}
 use Rattle.wl_module.specs.Exports.{export_from, IsExport, ExportFault, export_at, AreExports, ExportsFault, exports_of}
 use Rattle.wl_module.proofs.ReadingLaws.{both, seen}
 use Rattle.wl_module.proofs.ListLaws.{AreAll, coded_reading, number_reading, word_reading, list_reading, whole_reading, IsWholeReading, seen_reading}
-use Rattle.wl_module.proofs.CheckLaws.{where_reading, placed_name_reading}
-use Rattle.wl_module.proofs.AfterLaws.{list_after_reading}
+use Rattle.wl_module.proofs.CheckLaws.{placed_name_reading}
+use Rattle.wl_module.proofs.AfterLaws.{list_once_reading}
 use Rattle.wl_module.proofs.LimitLaws.{memory_type_reading, table_type_reading}
 use Rattle.wl_module.proofs.GlobalLaws.{global_type_reading}
 
@@ -42,14 +41,8 @@ import_reading : IsReading IsImport ImportFault import_at
 unfolding import_at
 import_reading = seen import_from (both word_reading (λ _. both placed_name_reading (λ _. both kind_reading entity_reading)))
 
-import_after_reading : (seen : Bool) → IsReading (IsImportAfter seen) (ImportAfterFault seen) (import_after_at seen)
-unfolding import_after_at
-import_after_reading seen = where_reading _ _ _ (import_may_be seen) (Unsupported ManyMemories) import_reading
-
 pub placed_imports_reading : IsWholeReading ArePlacedImports ImportsFault placed_imports_of
-placed_imports_reading =
-    whole_reading (ListedAfter IsImportAfter import_seen false) (ListedAfterFault IsImportAfter import_seen ImportAfterFault false) (list_after_at import_after_at import_seen false)
-    (list_after_reading IsImportAfter import_seen ImportAfterFault import_after_at import_after_reading false)
+placed_imports_reading = whole_reading _ _ _ (list_once_reading imports_memory (Unsupported ManyMemories) import_reading false)
 
 pub imports_reading : IsWholeReading AreImports ImportsFault imports_of
 imports_reading = seen_reading plain_imports ArePlacedImports ImportsFault placed_imports_of placed_imports_reading

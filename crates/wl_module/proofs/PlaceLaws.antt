@@ -6,15 +6,15 @@ use Rattle.wl_bytes.specs.Items.{IsName}
 use Rattle.wl_bytes.specs.Leb.{IsU32}
 use Rattle.wl_bytes.specs.Grammar.{Then, Items}
 use Rattle.wl_module.specs.Lists.{Listed, Whole, SeenAs}
-use Rattle.wl_module.specs.Chains.{Chain, ListedAfter}
-use Rattle.wl_module.specs.Checks.{Seen}
+use Rattle.wl_module.specs.Chains.{Chain, ListedAfter, may_come, seen_then}
+use Rattle.wl_module.specs.Checks.{Where, Seen}
 use Rattle.wl_module.specs.Words.{IsPlacedName}
 use Rattle.wl_module.specs.Constants.{IsExpression}
 use Rattle.wl_module.specs.Bodies.{Body, IsBody, AreBodies}
 use Rattle.wl_module.specs.Globals.{IsGlobalType, global_from, IsGlobal, AreGlobals}
 use Rattle.wl_module.specs.declared.imports.ExternalKind.{ExternalKind}
 use Rattle.wl_module.specs.declared.imports.ImportEntity.{ImportEntity}
-use Rattle.wl_module.specs.Imports.{IsKind, IsEntity, import_from, IsImport, IsImportAfter, import_seen, ArePlacedImports, AreImports}
+use Rattle.wl_module.specs.Imports.{IsKind, IsEntity, import_from, IsImport, imports_memory, ArePlacedImports, AreImports}
 use Rattle.wl_module.specs.Exports.{export_from, IsExport, AreExports}
 use Rattle.wl_module.specs.Segments.{Targeted, IsSegment, AreTargeted, AreSegments}
 use Rattle.wl_module.specs.Places.{StandsAt, PartsStand, ImportStands, PlacedImportStands, ExportStands, GlobalStands, BodyStands, SegmentStands, TargetedStands}
@@ -130,7 +130,7 @@ segment_stands bytes place t text (flag, (first, behind, parts, code, (target, c
 -- ---- the sections
 
 pub placed_imports_stand : PartsStand PlacedImportStands ArePlacedImports
-placed_imports_stand = listed_after_stand PlacedImportStands IsImportAfter import_seen (λ seen bytes place i text s there. import_stands bytes place i text s.0 there) false
+placed_imports_stand = listed_after_stand PlacedImportStands (λ seen. Where IsImport (may_come imports_memory seen)) (seen_then imports_memory) (λ seen bytes place i text s there. import_stands bytes place i text s.0 there) false
 
 pub imports_stand : PartsStand ImportStands AreImports
 imports_stand = seen_stand (λ i. i.import) PlacedImportStands ImportStands ArePlacedImports (λ bytes i h. record { origin = h.origin; name = (i.name_offset, h.name) }) placed_imports_stand

@@ -1,5 +1,5 @@
 -- What a reading says, and readings put together.
-use Rattle.std.proofs.Common.{◌≡◌, ◌⊎◌, ℕ, List, Result, Ok, Err, refl, sym, subst, ◌∙◌, inl, inr}
+use Rattle.std.proofs.Common.{◌≡◌, ◌⊎◌, ℕ, ◌+◌, List, ◌++◌, length, Result, Ok, Err, refl, sym, ap, subst, ◌∙◌, arith, inl, inr, append_assoc, length-append}
 use Rattle.wl_bytes.specs.Cursor.{Cursor}
 use Rattle.wl_bytes.specs.Parse.{Takes}
 use Rattle.wl_bytes.specs.Grammar.{Then, ThenFault, then_at, map_at}
@@ -12,6 +12,24 @@ use Rattle.wl_module.specs.Checks.{Seen}
 abbrev pub respelled : {X Y : Type 0} {spells : ℕ → X → List ℕ → Type 0} {spells' : ℕ → Y → List ℕ → Type 0} {x : X} {y : Y} {a b : Cursor}
     → (t : Takes spells x a b) → spells' a.position y t.text → Takes spells' y a b
 respelled t s = record { text = t.text; spelled = s; parts = t.parts; moved = t.moved }
+
+-- a text of two parts is taken one after the other
+abbrev pub parted : {X Y Z : Type 0} {spells : ℕ → Z → List ℕ → Type 0} (first : ℕ → X → List ℕ → Type 0) (second : ℕ → Y → List ℕ → Type 0) (x : X) (y : Y) (z : Z) (a c : Cursor)
+    → (t : Takes spells z a c) → (s : Then first (λ _. second) a.position (x, y) t.text) → (b : Cursor) × Takes first x a b × Takes second y b c
+parted first second x y z a c t s = (
+  record { position = a.position + length s.0; rest = s.1 ++ c.rest },
+  record { text = s.0; spelled = s.3; parts = t.parts ∙ ap (λ (r : List ℕ). r ++ c.rest) s.2 ∙ append_assoc s.0 s.1 c.rest; moved = refl },
+  record { text = s.1; spelled = s.4; parts = refl; moved = omega (arith, t.moved, ap length s.2, length-append s.0 s.1) },
+)
+
+-- and two texts make one
+abbrev pub joined : {X Y : Type 0} (first : ℕ → X → List ℕ → Type 0) (second : ℕ → Y → List ℕ → Type 0) (x : X) (y : Y) (a b c : Cursor) → Takes first x a b → Takes second y b c → Takes (Then first (λ _. second)) (x, y) a c
+joined first second x y a b c t u = record {
+  text = t.text ++ u.text;
+  spelled = (t.text, u.text, refl, t.spelled, subst (λ (place : ℕ). second place y u.text) t.moved u.spelled);
+  parts = t.parts ∙ ap (λ (r : List ℕ). t.text ++ r) u.parts ∙ sym (append_assoc t.text u.text c.rest);
+  moved = omega (arith, t.moved, u.moved, length-append t.text u.text);
+}
 
 -- an item stands there, or a fault
 abbrev pub Stands : {X E : Type 0} → (ℕ → X → List ℕ → Type 0) → (E → Cursor → Type 0) → Cursor → Type 0

@@ -11,8 +11,8 @@ use Rattle.wl_module.specs.declared.error.Why.TheVariants.{BadByte}
 use Rattle.wl_module.specs.declared.error.ReadError.{ReadError}
 use Rattle.wl_module.specs.declared.error.ReadError.TheVariants.{Malformed}
 use Rattle.wl_module.specs.Lists.{number_at, IsCoded, Listed, ListedFault, list_at}
-use Rattle.wl_module.specs.Bodies.{stretch_at}
-use Rattle.wl_module.specs.Segments.{segment_code, SegmentFlagFault, segment_flag_at, IsTarget, TargetFault, target_at, AreCounted, CountedFault, counted_at, segment_kind, IsSegmentText, IsSegment, SegmentFault, segment_from, segment_at, Targeted, plain_segments, AreTargeted, targeted_of, AreSegments, SegmentsFault, segments_of}
+use Rattle.wl_module.specs.Bodies.{BodyFault, stretch_at}
+use Rattle.wl_module.specs.Segments.{segment_code, SegmentFlagFault, segment_flag_at, IsTarget, TargetFault, target_at, AreCounted, counted_at, segment_kind, IsSegmentText, IsSegment, SegmentFault, segment_from, segment_at, Targeted, plain_segments, AreTargeted, targeted_of, AreSegments, SegmentsFault, segments_of}
 use Rattle.wl_module.proofs.ReadingLaws.{both, seen}
 use Rattle.wl_module.proofs.ListLaws.{AreAll, coded_reading, number_reading, list_reading, whole_reading, IsWholeReading, seen_reading}
 use Rattle.wl_module.proofs.CheckLaws.{nothing_reading, measured_reading}
@@ -34,9 +34,9 @@ target_reading InMemory = seen (λ _. Some 0) expression_reading
 target_reading InNoMemory = seen (λ _. None) nothing_reading
 target_reading InMemoryOf = seen (λ p. Some p.0) (both number_reading (λ _. expression_reading))
 
-counted_reading : IsReading AreCounted CountedFault counted_at
+counted_reading : IsReading AreCounted BodyFault counted_at
 unfolding counted_at
-counted_reading = map_reading _ AreCounted CountedFault _ (λ p. p.1) (λ bytes. (length bytes, bytes))
+counted_reading = map_reading _ AreCounted BodyFault _ (λ p. p.1) (λ bytes. (length bytes, bytes))
     (λ place p text s. (s.0, s.2 ∙ ap (λ (x : List ℕ). s.0 ++ x) s.4.0, subst (λ (n : ℕ). IsU32 place n s.0) (sym s.4.1) s.3))
     (λ place bytes text s. ((s.0, bytes, s.1, s.2, (refl, refl)), refl))
     (both number_reading stretch_reading)

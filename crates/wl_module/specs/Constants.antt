@@ -100,13 +100,8 @@ IsImmediate F64Const = Any (IsStretch 8)
 IsImmediate GlobalGet = Any IsU32
 IsImmediate RefNull = Any IsReference
 IsImmediate RefFunc = Any IsU32
-IsImmediate I32Add = IsNothing
-IsImmediate I32Sub = IsNothing
-IsImmediate I32Mul = IsNothing
-IsImmediate I64Add = IsNothing
-IsImmediate I64Sub = IsNothing
-IsImmediate I64Mul = IsNothing
 IsImmediate Vector = Any IsVector
+IsImmediate _ = IsNothing
 
 -- what is wrong with it
 abbrev pub ImmediateFault : ConstOperator → ReadError → Cursor → Type 0
@@ -117,13 +112,8 @@ ImmediateFault F64Const = StretchFault 8
 ImmediateFault GlobalGet = NumberFault
 ImmediateFault RefNull = ReferenceFault
 ImmediateFault RefFunc = NumberFault
-ImmediateFault I32Add = NoFault
-ImmediateFault I32Sub = NoFault
-ImmediateFault I32Mul = NoFault
-ImmediateFault I64Add = NoFault
-ImmediateFault I64Sub = NoFault
-ImmediateFault I64Mul = NoFault
 ImmediateFault Vector = VectorFault
+ImmediateFault _ = NoFault
 
 -- what stands in front
 unfoldable pub immediate_at : ConstOperator → Cursor → Result (Unit {0} × Cursor) ReadError
@@ -134,13 +124,8 @@ immediate_at F64Const c = any_at (stretch_at 8) c
 immediate_at GlobalGet c = any_at number_at c
 immediate_at RefNull c = reference_at c
 immediate_at RefFunc c = any_at number_at c
-immediate_at I32Add c = nothing_at c
-immediate_at I32Sub c = nothing_at c
-immediate_at I32Mul c = nothing_at c
-immediate_at I64Add c = nothing_at c
-immediate_at I64Sub c = nothing_at c
-immediate_at I64Mul c = nothing_at c
 immediate_at Vector c = vector_at c
+immediate_at _ c = nothing_at c
 
 -- ---- operators
 
@@ -167,7 +152,7 @@ abbrev pub StepFault : ReadError → Cursor → Type 0
 StepFault = ThenFault (IsCoded step_code) (CodedFault step_code (λ _. Unsupported OtherOperator)) StepImmediateFault
 
 -- what stands behind the first byte in front
-unfoldable pub step_immediate_at : Option ConstOperator → Cursor → Result (Unit {0} × Cursor) ReadError
+abbrev pub step_immediate_at : Option ConstOperator → Cursor → Result (Unit {0} × Cursor) ReadError
 step_immediate_at None c = nothing_at c
 step_immediate_at (Some o) c = immediate_at o c
 

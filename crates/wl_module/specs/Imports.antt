@@ -1,5 +1,5 @@
 -- The import section (core specification, "Import Section").
-use Rattle.std.specs.Prelude.{ℕ, ◌==◌, ◌||◌, ◌&&◌, not, Bool, true, false, if◌then◌else◌, List, [], ◌∷◌, map, Option, Some, None, Result}
+use Rattle.std.specs.Prelude.{ℕ, ◌==◌, Bool, true, false, if◌then◌else◌, List, [], ◌∷◌, map, Option, Some, None, Result}
 use Rattle.wl_bytes.specs.Cursor.{Cursor}
 use Rattle.wl_bytes.specs.Leb.{IsU32}
 use Rattle.wl_bytes.specs.Items.{IsName}
@@ -15,8 +15,8 @@ use Rattle.wl_module.specs.declared.error.ReadError.{ReadError}
 use Rattle.wl_module.specs.declared.error.ReadError.TheVariants.{Malformed, Unsupported}
 use Rattle.wl_module.specs.Lists.{NumberFault, number_at, WordFault, word_at, IsCoded, CodedFault, coded_at, Whole, WholeFault, whole_of, SeenAs, seen_of}
 use Rattle.wl_module.specs.Words.{IsPlacedName, placed_name_at}
-use Rattle.wl_module.specs.Chains.{ListedAfter, ListedAfterFault, list_after_at}
-use Rattle.wl_module.specs.Checks.{Where, WhereFault, where_at, Seen}
+use Rattle.wl_module.specs.Chains.{ListedOnce, ListedOnceFault, list_once_at}
+use Rattle.wl_module.specs.Checks.{Seen}
 use Rattle.wl_module.specs.Limits.{IsTableType, TableTypeFault, table_type_at, IsMemoryType, MemoryTypeFault, memory_type_at}
 use Rattle.wl_module.specs.Globals.{IsGlobalType, GlobalTypeFault, global_type_at}
 
@@ -100,36 +100,18 @@ ImportFault = ThenFault IsName WordFault (λ _. ThenFault IsPlacedName WordFault
 unfoldable pub import_at : Cursor → Result (PlacedImported × Cursor) ReadError
 import_at c = map_at import_from (then_at word_at (λ _. then_at placed_name_at (λ _. then_at kind_at entity_at))) c
 
--- a memory is imported
+-- a memory
 abbrev pub is_memory : ImportEntity → Bool
-is_memory (AFunction n) = false
-is_memory (ATable t) = false
 is_memory (AMemory m) = true
-is_memory (AGlobal g) = false
+is_memory _ = false
 
--- no second memory
-abbrev pub import_may_be : Bool → PlacedImported → Bool
-import_may_be seen i = not (seen && is_memory i.import.entity)
-
--- an import that is no second memory
-abbrev pub IsImportAfter : Bool → ℕ → PlacedImported → List ℕ → Type 0
-IsImportAfter seen = Where IsImport (import_may_be seen)
-
--- the import is at fault, or it is a second memory
-abbrev pub ImportAfterFault : Bool → ReadError → Cursor → Type 0
-ImportAfterFault seen = WhereFault IsImport ImportFault (import_may_be seen) (Unsupported ManyMemories)
-
--- the import in front
-unfoldable pub import_after_at : Bool → Cursor → Result (PlacedImported × Cursor) ReadError
-import_after_at seen c = where_at import_at (import_may_be seen) (Unsupported ManyMemories) c
-
--- whether there is a memory behind an import
-abbrev pub import_seen : Bool → PlacedImported → Bool
-import_seen seen i = seen || is_memory i.import.entity
+-- a memory is imported
+abbrev pub imports_memory : PlacedImported → Bool
+imports_memory i = is_memory i.import.entity
 
 -- the payload is a list of these imports, at most one of them a memory
 abbrev pub ArePlacedImports : List PlacedImported → List ℕ → Type 0
-ArePlacedImports = Whole (ListedAfter IsImportAfter import_seen false)
+ArePlacedImports = Whole (ListedOnce IsImport imports_memory false)
 
 -- the same without the places of the names
 abbrev pub plain_imports : List PlacedImported → List Imported
@@ -141,11 +123,11 @@ AreImports = SeenAs plain_imports ArePlacedImports
 
 -- what is wrong with a payload that is no such list
 abbrev pub ImportsFault : ReadError → List ℕ → Type 0
-ImportsFault = WholeFault (ListedAfter IsImportAfter import_seen false) (ListedAfterFault IsImportAfter import_seen ImportAfterFault false)
+ImportsFault = WholeFault (ListedOnce IsImport imports_memory false) (ListedOnceFault IsImport ImportFault imports_memory (Unsupported ManyMemories) false)
 
 -- the imports of a whole payload, with the places of their names
 abbrev pub placed_imports_of : List ℕ → Result (List PlacedImported) ReadError
-placed_imports_of payload = whole_of (list_after_at import_after_at import_seen false) payload
+placed_imports_of payload = whole_of (list_once_at import_at imports_memory (Unsupported ManyMemories) false) payload
 
 -- the imports of a whole payload
 abbrev pub imports_of : List ℕ → Result (List Imported) ReadError
@@ -169,16 +151,12 @@ pub record ImportedGlobal : Type 0 where
 abbrev pub function_import : Imported → Option ImportedFunction
 function_import i = elim i.entity [
   | AFunction n ↦ Some (record { origin = i.origin; name = i.name; type_index = n })
-  | ATable t ↦ None
-  | AMemory m ↦ None
-  | AGlobal g ↦ None
+  | _ ↦ None
 ]
 
 -- the import as one of a global
 abbrev pub global_import : Imported → Option ImportedGlobal
 global_import i = elim i.entity [
-  | AFunction n ↦ None
-  | ATable t ↦ None
-  | AMemory m ↦ None
   | AGlobal g ↦ Some (record { origin = i.origin; name = i.name; ty = g })
+  | _ ↦ None
 ]

@@ -11,7 +11,7 @@ use Rattle.wl_module.specs.declared.error.Why.TheVariants.{BadByte}
 use Rattle.wl_module.specs.declared.error.ReadError.{ReadError}
 use Rattle.wl_module.specs.declared.error.ReadError.TheVariants.{Malformed}
 use Rattle.wl_module.specs.Lists.{NumberFault, number_at, IsCoded, CodedFault, coded_at, Listed, ListedFault, list_at, Whole, WholeFault, whole_of, SeenAs, seen_of}
-use Rattle.wl_module.specs.Bodies.{StretchFault, stretch_at}
+use Rattle.wl_module.specs.Bodies.{BodyFault, stretch_at}
 use Rattle.wl_module.specs.Checks.{Seen, IsNothing, NoFault, nothing_at, measured_at}
 use Rattle.wl_module.specs.Constants.{IsExpression, ExpressionFault, expression_at}
 
@@ -57,10 +57,6 @@ target_at InMemoryOf c = map_at (λ p. Some p.0) (then_at number_at (λ _. expre
 abbrev pub AreCounted : ℕ → List ℕ → List ℕ → Type 0
 AreCounted place bytes text = (head : List ℕ) × (text ≡ head ++ bytes) × IsU32 place (length bytes) head
 
--- the number is at fault, or fewer are left
-abbrev pub CountedFault : ReadError → Cursor → Type 0
-CountedFault = ThenFault IsU32 NumberFault StretchFault
-
 -- the bytes in front
 unfoldable pub counted_at : Cursor → Result (List ℕ × Cursor) ReadError
 counted_at c = map_at (λ p. p.1) (then_at number_at stretch_at) c
@@ -97,7 +93,7 @@ IsSegment place t text = (f : SegmentFlag) × IsSegmentText place (f, (t.memory_
 
 -- the first of the three that is at fault
 abbrev pub SegmentFault : ReadError → Cursor → Type 0
-SegmentFault = ThenFault (IsCoded segment_code) SegmentFlagFault (λ f. ThenFault (IsTarget f) (TargetFault f) (λ _. CountedFault))
+SegmentFault = ThenFault (IsCoded segment_code) SegmentFlagFault (λ f. ThenFault (IsTarget f) (TargetFault f) (λ _. BodyFault))
 
 -- what was read as a segment of so many bytes, which stands at a place
 abbrev pub segment_from : ℕ → ℕ → SegmentFlag × (Option ℕ × List ℕ) → Targeted

@@ -115,7 +115,7 @@ fn skip_immediate(operator: ConstOperator, reader: &mut Reader<'_>) -> Result<()
 }
 
 /// The operator in front, or `None` at the end.
-#[tactic(auto, unfolding(crate::specs::Constants::step_at, crate::specs::Constants::step_immediate_at))]
+#[tactic(auto, unfolding(crate::specs::Constants::step_at))]
 fn read_step(reader: &mut Reader<'_>) -> Result<Option<ConstOperator>, ReadError>
     ensures { Yields (λ o. o) result reader.new (step_at reader.old) }
 {

@@ -93,7 +93,11 @@ impl<'a> Model for WasmFunctionImport<'a> {
 
     ghost Value = { ImportedFunction };
 
-    ghost view = { λ i. record { origin = i.module.now; name = i.name.now; type_index = i.type_index } };
+    ghost view = { λ i. record {
+      origin = i.module.now;
+      name = i.name.now;
+      type_index = i.type_index;
+    } };
 }
 
 /// An imported global. Clauses see it as an `ImportedGlobal`.
@@ -204,16 +208,18 @@ fn read_import<'a>(reader: &mut Reader<'a>) -> Result<PlacedImport<'a>, ReadErro
 }
 
 impl<'a> Item<'a> for PlacedImport<'a> {
-    ghost use Rattle.wl_module.specs.Imports.{import_after_at, import_seen};
+    ghost use Rattle.wl_module.specs.declared.error.Form.TheVariants.{ManyMemories};
+    ghost use Rattle.wl_module.specs.declared.error.ReadError.TheVariants.{Unsupported};
+    ghost use Rattle.wl_module.specs.Chains.{once_at, seen_then};
+    ghost use Rattle.wl_module.specs.Imports.{import_at, imports_memory};
 
     /// Whether a memory is imported already.
     type Under = bool;
 
-    ghost item_at = { import_after_at };
+    ghost item_at = { once_at import_at imports_memory (Unsupported ManyMemories) };
 
-    ghost after = { import_seen };
+    ghost after = { seen_then imports_memory };
 
-    #[tactic(auto, unfolding(crate::specs::Imports::import_after_at))]
     fn read(_alloc: Global, seen: &mut bool, reader: &mut Reader<'a>) -> Result<Self, ReadError> {
         let placed = read_import(reader)?;
         if *seen && placed.import.is_memory() {

@@ -139,7 +139,8 @@ fn read_maximum(has_maximum: bool, reader: &mut Reader<'_>) -> Result<Option<u64
 /// What stands behind the flags.
 #[tactic(auto, unfolding(crate::specs::Limits::sizes_at))]
 fn read_sizes(flags: LimitsFlags, reader: &mut Reader<'_>) -> Result<Limits, ReadError>
-    ensures { Yields (λ l. l) result reader.new (map_at (λ p. limits_from (flags, p)) (sizes_at flags) reader.old) }
+    ensures { Yields (λ l. l) result reader.new
+        (map_at (λ p. limits_from (flags, p)) (sizes_at flags) reader.old) }
 {
     let minimum = reader.read_u32()?;
     let maximum = read_maximum(flags.has_maximum, reader)?;

@@ -13,16 +13,19 @@ use std::alloc::Global;
 use wl_bytes::Reader;
 
 impl<'a> Item<'a> for MemoryType {
-    ghost use Rattle.wl_module.specs.Memories.{memory_after_at, memory_seen};
+    ghost use Rattle.std.specs.Prelude.{true};
+    ghost use Rattle.wl_module.specs.declared.error.Form.TheVariants.{ManyMemories};
+    ghost use Rattle.wl_module.specs.declared.error.ReadError.TheVariants.{Unsupported};
+    ghost use Rattle.wl_module.specs.Chains.{once_at, seen_then};
+    ghost use Rattle.wl_module.specs.Limits.{memory_type_at};
 
     /// Whether the module has a memory already.
     type Under = bool;
 
-    ghost item_at = { memory_after_at };
+    ghost item_at = { once_at memory_type_at (λ _. true) (Unsupported ManyMemories) };
 
-    ghost after = { memory_seen };
+    ghost after = { seen_then (λ _. true) };
 
-    #[tactic(auto, unfolding(crate::specs::Memories::memory_after_at))]
     fn read(_alloc: Global, seen: &mut bool, reader: &mut Reader<'a>) -> Result<Self, ReadError> {
         let memory = read_memory_type(reader)?;
         if *seen {
