@@ -1,6 +1,5 @@
 //! Constant expressions: what a global starts with, and where a segment is put.
 
-ghost use Rattle.std.specs.Prelude.{◌≡◌};
 ghost use Rattle.wl_module.specs.Constants.{first_at, reference_at, vector_at, immediate_at, step_at, expression_at};
 ghost use Rattle.wl_module.specs.Outcome.{Yields};
 

@@ -2,8 +2,8 @@
 
 ghost use Rattle.std.specs.Prelude.{◌≡◌, IfOk, ◌≤◌, length};
 ghost use Rattle.wl_bytes.specs.declared.reader.TheConstants.{MAX_LEN};
-ghost use Rattle.wl_module.specs.Imports.{kind_at, entity_at, import_at, is_memory, plain_imports, ArePlacedImports, imports_of, AreImports, ImportsFault, function_import, global_import};
-ghost use Rattle.wl_module.specs.Outcome.{Yields, Gives, ReadsWhole, AreAlternatives};
+ghost use Rattle.wl_module.specs.Imports.{kind_at, entity_at, import_at, is_memory, plain_imports, ArePlacedImports, AreImports, ImportsFault, function_import, global_import};
+ghost use Rattle.wl_module.specs.Outcome.{Yields, ReadsWhole, AreAlternatives};
 
 use crate::error::{Form, ReadError, Why};
 use crate::globals::{GlobalType, read_global_type};
@@ -243,15 +243,6 @@ fn without_places<'a>(
         .collect(alloc)
 }
 
-/// The imports of a whole payload.
-fn payload_plain(alloc: Global, payload: &[u8]) -> Result<Vec<Import<'_>>, ReadError>
-    requires { length payload.now ≤ MAX_LEN }
-    ensures { Gives (λ v. v.items) result (imports_of payload.now) }
-{
-    let placed = read_payload(alloc, false, payload)?;
-    Ok(without_places(alloc, placed)?)
-}
-
 /// Reads the payload of an import section (core specification, "Import Section"): the imports in
 /// order, their names slices of the payload. The indices of types aren't looked at.
 ///
@@ -266,7 +257,8 @@ pub fn read_imports(alloc: Global, payload: &[u8]) -> Result<Vec<Import<'_>>, Re
     ensures reads { ReadsWhole (λ v. v.items) AreImports ImportsFault payload.now result }
     ensures count { IfOk result (λ v. length v.items ≤ length payload.now) }
 {
-    payload_plain(alloc, payload)
+    let placed = read_payload(alloc, false, payload)?;
+    Ok(without_places(alloc, placed)?)
 }
 
 /// Reads the same as [`read_imports`], and tells for each import where its name stands in the

@@ -1,6 +1,6 @@
 //! The memory section, and the data count section.
 
-ghost use Rattle.std.specs.Prelude.{◌≡◌, ◌≢◌, Bool, IfErr, ◌≤◌, length, IfOk};
+ghost use Rattle.std.specs.Prelude.{◌≢◌, Bool, IfErr, ◌≤◌, length, IfOk};
 ghost use Rattle.wl_bytes.specs.declared.reader.TheConstants.{MAX_LEN};
 ghost use Rattle.wl_module.specs.declared.error.ReadError.TheVariants.{OutOfMemory};
 ghost use Rattle.wl_module.specs.Memories.{AreMemories, MemoriesFault, IsDataCount, DataCountFault};

@@ -2,8 +2,8 @@
 
 ghost use Rattle.std.specs.Prelude.{◌≡◌, ◌≤◌, length, IfOk};
 ghost use Rattle.wl_bytes.specs.declared.reader.TheConstants.{MAX_LEN};
-ghost use Rattle.wl_module.specs.Outcome.{Yields, Gives, ReadsWhole, AreAlternatives};
-ghost use Rattle.wl_module.specs.Segments.{segment_flag_at, segment_kind, target_at, segment_at, plain_segments, AreTargeted, segments_of, AreSegments, SegmentsFault};
+ghost use Rattle.wl_module.specs.Outcome.{Yields, ReadsWhole, AreAlternatives};
+ghost use Rattle.wl_module.specs.Segments.{segment_flag_at, segment_kind, target_at, segment_at, plain_segments, AreTargeted, AreSegments, SegmentsFault};
 
 use crate::constants::read_expression;
 use crate::error::{ReadError, Why};
@@ -176,16 +176,6 @@ fn without_memories<'a>(
         .collect(alloc)
 }
 
-/// The segments of a whole payload.
-#[tactic(auto, using(crate::proofs::Loops::list_kept))]
-fn payload_segments(alloc: Global, payload: &[u8]) -> Result<Vec<WasmDataSegment<'_>>, ReadError>
-    requires { length payload.now ≤ MAX_LEN }
-    ensures { Gives (λ v. v.items) result (segments_of payload.now) }
-{
-    let targeted = read_payload(alloc, (), payload)?;
-    Ok(without_memories(alloc, targeted)?)
-}
-
 /// Reads the payload of a data section (core specification, "Data Section"): the segments in
 /// order, each with its place in the payload. Their bytes are slices of the payload. The number of
 /// a memory isn't looked at, nor what the expression of a place computes.
@@ -198,7 +188,8 @@ pub fn read_segments(alloc: Global, payload: &[u8]) -> Result<Vec<WasmDataSegmen
     ensures reads { ReadsWhole (λ v. v.items) AreSegments SegmentsFault payload.now result }
     ensures count { IfOk result (λ v. length v.items ≤ length payload.now) }
 {
-    payload_segments(alloc, payload)
+    let targeted = read_payload(alloc, (), payload)?;
+    Ok(without_memories(alloc, targeted)?)
 }
 
 /// Reads the same as [`read_segments`], and tells for each segment which memory it is written to.

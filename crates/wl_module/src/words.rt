@@ -1,6 +1,5 @@
 //! Names that tell where they stand.
 
-ghost use Rattle.std.specs.Prelude.{◌≡◌, length};
 ghost use Rattle.wl_module.specs.Outcome.{Yields};
 ghost use Rattle.wl_module.specs.Words.{placed_name_at};
 
