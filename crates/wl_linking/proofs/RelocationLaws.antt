@@ -71,7 +71,7 @@ reloc_section_reading verdict = reading_from (IsRelocSection verdict) (RelocSect
         | inr v ↦ rw (number_reading.again (start payload) w.0 w.1 w.2, v.1, (held_reading v.0).fails w.1 e v.2) refl
       ]
     ])
-    (λ payload. elim (either number_reading (start payload)) [ | inl t ↦ by_target payload t.0 t.1 t.2 (verdict t.0) refl | inr f ↦ inr (f.0, inl f.1) ])
+    (λ payload. elim (either number_reading (start payload)) [ inl t ↦ by_target payload t.0 t.1 t.2 (verdict t.0) refl | inr f ↦ inr (f.0, inl f.1) ])
   where
     by_target : (payload : List ℕ) (n : ℕ) (mid : Cursor) → Takes IsU32 n (start payload) mid → (r : Result Target ReadError) → verdict n ≡ r → ((held : RelocHeld) × IsRelocSection verdict held payload) ⊎ ((e : ReadError) × RelocSectionFault verdict e payload)
     by_target payload n mid t (Err e) is = inr (e, inr (n, mid, t, inl is))
