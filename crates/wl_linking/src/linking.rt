@@ -105,6 +105,7 @@ fn check_kind(seen: SeenSubsections, kind: SubsectionKind) -> Result<(), ReadErr
 
 /// What the payload of a subsection of that kind holds, where so many bytes of the object lie
 /// before it.
+#[tactic(auto, using(wl_module::proofs::Loops::list_kept))]
 fn read_held(
     alloc: Global,
     base: u32,
@@ -117,10 +118,14 @@ fn read_held(
 {
     match kind {
         SubsectionKind::SegmentInfo => Ok(Subsection::SegmentInfo(Items::new(read_payload(
-            alloc, payload,
+            alloc,
+            (),
+            payload,
         )?))),
         SubsectionKind::InitFuncs => Ok(Subsection::InitFuncs(Items::new(read_payload(
-            alloc, payload,
+            alloc,
+            (),
+            payload,
         )?))),
         SubsectionKind::SymbolTable => {
             Ok(Subsection::SymbolTable(read_symbols(alloc, base, payload)?))

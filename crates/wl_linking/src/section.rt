@@ -2,6 +2,7 @@
 
 ghost use Rattle.std.specs.Prelude.{◌≡◌, ◌≤◌, ◌^◌, length, Ok, MatchResult};
 ghost use Rattle.std.specs.Str.{IsUtf8};
+ghost use Rattle.wl_bytes.specs.declared.reader.TheConstants.{MAX_LEN};
 ghost use Rattle.wl_module.specs.Outcome.{Gives, IsFault, ReadsWhole};
 ghost use Rattle.wl_linking.specs.Relocations.{IsRelocSection, RelocSectionFault, reloc_section_of};
 ghost use Rattle.wl_linking.specs.Sections.{HoldsItems, ItemsFault, IsSound, IsFaulty, LinkingItems, LinkingItemsFault, IsPlaced, has_memory, seen_then, seen_then_reloc};
@@ -68,6 +69,7 @@ fn reloc_section(
     seen: Seen,
     payload: &[u8],
 ) -> Result<RelocHeld, ReadError>
+    requires { length payload.now ≤ MAX_LEN }
     ensures { Gives (λ s. s) result (reloc_section_of (numbered_verdict bytes.now headers.now seen) payload.now) }
 {
     let mut reader = Reader::new(payload);
@@ -91,6 +93,7 @@ fn read_reloc_section(
     seen: Seen,
     payload: &[u8],
 ) -> Result<RelocHeld, ReadError>
+    requires { length payload.now ≤ MAX_LEN }
     ensures { let verdict = numbered_verdict bytes.now headers.now seen in ReadsWhole (λ s. s) (IsRelocSection verdict) (RelocSectionFault verdict) payload.now result }
 {
     reloc_section(alloc, bytes, headers, seen, payload)

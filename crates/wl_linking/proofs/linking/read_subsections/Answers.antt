@@ -6,7 +6,7 @@ use Rattle.wl_linking.proofs.linking.read_subsections.Goals as goal
 pub returns-in_err-subsection : goal.returns-in_err-subsection
 returns-in_err-subsection c =
     let p = err_from_is_err_and c.from_residual.result c.from_residual.ensures.1 in
-    let some : eqb (length c.loop-alloc.reader.rest) 0 ≡ false = rw (← c.rest.ensures) (sym c.is_empty.ensures ∙ c.loop-alloc-test.true) in
+    let some : eqb (length c.loop-alloc.reader.rest) 0 ≡ false = rw (← c.rest.ensures.value) (sym c.is_empty.ensures ∙ c.loop-alloc-test.true) in
     rw (p.1, p.2) (reads_fault c.args.base c.args.reader.now c.loop-alloc.reader c.loop-alloc.seen c.loop-alloc.linking c.in_err-subsection.field-0.0 c.loop-alloc.invariant.so_far some c.in_err-subsection.ensures.value)
 
 pub loop-alloc-smaller : goal.loop-alloc-smaller
