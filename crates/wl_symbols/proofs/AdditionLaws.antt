@@ -1,5 +1,5 @@
 -- What is added to the names, one entry and one object after another.
-use Rattle.std.proofs.Common.{◌≡◌, ◌<◌, ℕ, zero, suc, ◌+◌, List, [], ◌∷◌, ◌++◌, length, take, drop, get_or, refl, sym, ap, ◌∙◌, inl, inr, ◌⊎◌, Some, None, slice_get, arith, true, false, add-one}
+use Rattle.std.proofs.Common.{◌≡◌, ◌<◌, ℕ, zero, suc, ◌+◌, List, [], ◌∷◌, ◌++◌, length, take, drop, get_or, refl, sym, ap, ◌∙◌, inl, inr, ◌⊎◌, Some, None, slice_get, arith, false, add-one}
 use Rattle.std.proofs.lemmas.List.{append_assoc, append-nil, take_more, take-append-drop, length-take-le}
 use Rattle.std.proofs.Math.Seq.{drop-cons, take-append_seam}
 use Rattle.wl_linking.specs.Symbols.{Symbol as LinkedSymbol}
@@ -39,7 +39,7 @@ adds_none a = record {
   clear = λ before holds none. rw (append-nil before) none;
 }
 
-pub adds_more : (a b c : List ℕ → Firsts) (xs : List Entry) (e : Entry) → Adds a b xs → AddsOne b c e None → Adds a c (xs ++ e ∷ [])
+adds_more : (a b c : List ℕ → Firsts) (xs : List Entry) (e : Entry) → Adds a b xs → AddsOne b c e None → Adds a c (xs ++ e ∷ [])
 adds_more a b c xs e adds one = record {
   found = λ before holds. rw (← append_assoc before xs (e ∷ [])) ((one (before ++ xs) (adds.found before holds)).1);
   clear = λ before holds none. rw (← append_assoc before xs (e ∷ [])) (none_more (before ++ xs) e (adds.clear before holds none) ((one (before ++ xs) (adds.found before holds)).0));
@@ -52,7 +52,7 @@ adds_all a b c xs ys adds more = record {
 }
 
 -- what is told at an entry is the first repeat among all
-pub meets_one : (a b c : List ℕ → Firsts) (xs back all : List Entry) (e : Entry) (pair : Pair) → Adds a b xs → AddsOne b c e (Some pair.first) → e.name ≡ pair.name → e.place ≡ pair.second → xs ++ e ∷ back ≡ all → Meets a all pair
+meets_one : (a b c : List ℕ → Firsts) (xs back all : List Entry) (e : Entry) (pair : Pair) → Adds a b xs → AddsOne b c e (Some pair.first) → e.name ≡ pair.name → e.place ≡ pair.second → xs ++ e ∷ back ≡ all → Meets a all pair
 meets_one a b c xs back all e pair adds one name place split = λ before holds none. record {
   front = before ++ xs;
   entry = e;
@@ -84,9 +84,6 @@ meets_all a b xs ys back all pair adds meets split = λ before holds none.
 
 -- ---- one symbol
 
-pub adds_private : (a : List ℕ → Firsts) (object i : ℕ) (s : LinkedSymbol) → is_private s ≡ true → Adds a a (entries_at object i s)
-adds_private a object i s p = rw p (adds_none a)
-
 pub adds_symbol : (a c : List ℕ → Firsts) (object i : ℕ) (s : LinkedSymbol) (e : Entry) → is_private s ≡ false → e ≡ entry_of object i s → AddsOne a c e None → Adds a c (entries_at object i s)
 adds_symbol a c object i s e p is one = rw (p, ← is) (adds_more a a c [] e (adds_none a) one)
 
@@ -95,7 +92,7 @@ meets_symbol a c object i s e pair p is one name place = rw (p, ← is) (meets_o
 
 -- ---- where none repeats
 
-pub at_seam : (front : List Entry) (e : Entry) (back : List Entry) → slice_get (front ++ e ∷ back) (length front) ≡ Some e
+at_seam : (front : List Entry) (e : Entry) (back : List Entry) → slice_get (front ++ e ∷ back) (length front) ≡ Some e
 at_seam [] e back = refl
 at_seam (x ∷ front) e back = at_seam front e back
 

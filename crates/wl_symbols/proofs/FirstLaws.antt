@@ -48,8 +48,5 @@ holds_more old new name strength p firsts before is put holds = λ q. elim (case
 pub repeat_is : (old : List ℕ → Firsts) (name : List ℕ) (strength : Strength) (p : Place) (firsts : Firsts) (told : Option Place) (before : List Entry) → firsts ≡ old name → told ≡ repeat_in firsts strength → Holds old before → repeat_of before (record { name = name; strength = strength; place = p }) ≡ told
 repeat_is old name strength p firsts told before is told-is holds = sym (told-is ∙ ap (λ b. repeat_in b strength) (is ∙ holds name))
 
-pub adds_repeat : (old new : List ℕ → Firsts) (name : List ℕ) (strength : Strength) (p : Place) (firsts : Firsts) (first : Place) → firsts ≡ old name → Some first ≡ repeat_in firsts strength → AddsOne old new (record { name = name; strength = strength; place = p }) (Some first)
-adds_repeat old new name strength p firsts first is told = λ before holds. repeat_is old name strength p firsts (Some first) before is told holds
-
 pub adds_one : (old new : List ℕ → Firsts) (name : List ℕ) (strength : Strength) (p : Place) (firsts : Firsts) → firsts ≡ old name → None ≡ repeat_in firsts strength → ((q : List ℕ) → new q ≡ cond (bytes_eq name q) (with_place firsts strength p) (old q)) → AddsOne old new (record { name = name; strength = strength; place = p }) None
 adds_one old new name strength p firsts is told put = λ before holds. (repeat_is old name strength p firsts None before is told holds, holds_more old new name strength p firsts before is put holds)

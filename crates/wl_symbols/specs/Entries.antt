@@ -56,6 +56,7 @@ entries_of i (object ∷ objects) = entries_from i 0 object.symbols ++ entries_o
 
 -- ---- the first of a name
 
+-- both are the same
 abbrev pub is_strength : Strength → Strength → Bool
 is_strength Strong Strong = true
 is_strength Weak Weak = true

@@ -183,10 +183,7 @@ impl WasmLinkerSymbol {
     pub(crate) fn parse_existing(name: &str, args: &WasmArgs) -> Option<Self>
         ensures { result ≡ made_of args.now name.now }
     {
-        match Self::parse(name) {
-            Some(made) if made.exists(args) => Some(made),
-            _ => None,
-        }
+        Self::parse(name).filter(|made| made.exists(args))
     }
 
     /// Whether it is made where nothing but an export asks for it.
@@ -204,10 +201,7 @@ impl WasmLinkerSymbol {
     pub fn exported_as_data_global(self, has_memory: bool) -> bool
         ensures { result ≡ is_exported_as_data has_memory self }
     {
-        match self {
-            Self::HeapEnd => has_memory,
-            _ => self.row().kind == WasmSymbolKind::Data,
-        }
+        self.row().kind == WasmSymbolKind::Data && (has_memory || self != Self::HeapEnd)
     }
 
     /// Whether an import of that kind can be bound to it.
