@@ -8,7 +8,7 @@ use wl_module::{Form, Why};
 /// What is larger than it may be.
 #[derive(Clone, Copy, Debug, PartialEq, Eq)]
 pub enum Quantity {
-    /// An object: at most 1 GiB.
+    /// An object: at most [`MAX_LEN`](wl_bytes::MAX_LEN) bytes.
     Object,
     /// A space of the output: at most 4294967294 entries.
     Space,

@@ -6,20 +6,21 @@ ghost use Rattle.wl_plan.specs.declared.objects.TheConstants.{MAX_OBJECT};
 
 use std::alloc::Global;
 use std::marker::Model;
+use wl_bytes::MAX_LEN;
 
 /// The longest object, in bytes.
-pub const MAX_OBJECT: usize = 1_073_741_824;
+pub const MAX_OBJECT: usize = MAX_LEN;
 
 /// Why an object wasn't taken. It is handed back.
 #[derive(Drop)]
 pub enum PushError {
     /// Memory ran out.
     OutOfMemory(Vec<u8>),
-    /// It has more than 1 GiB.
+    /// It has more than `MAX_OBJECT` bytes.
     TooLong(Vec<u8>),
 }
 
-/// The bytes of each object, in the order given, none longer than 1 GiB.
+/// The bytes of each object, in the order given, none longer than `MAX_OBJECT`.
 #[derive(Drop)]
 pub struct ObjectList {
     objects: Vec<Vec<u8>>,
@@ -49,7 +50,7 @@ impl ObjectList {
     /// Takes an object at the end.
     ///
     /// # Errors
-    /// `TooLong` exactly where it has more than 1 GiB, and want of memory. The object is then handed
+    /// `TooLong` exactly where it has more than `MAX_OBJECT` bytes, and want of memory. The object is then handed
     /// back, and the list is as it was.
     pub fn push(&mut self, bytes: Vec<u8>) -> Result<(), PushError>
         ensures ok { OnOk result (self.new ≡ self.old ++ bytes.items ∷ []) }

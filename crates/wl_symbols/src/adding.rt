@@ -1,6 +1,6 @@
 //! The names of the objects, gathered symbol by symbol.
 
-ghost use Rattle.std.specs.Prelude.{◌≡◌, ◌+◌, ◌*◌, ◌≤◌, ◌^◌, length, IfOk};
+ghost use Rattle.std.specs.Prelude.{◌≡◌, ◌+◌, ◌*◌, ◌<◌, ◌≤◌, ◌^◌, length, IfOk};
 ghost use Rattle.wl_symbols.specs.Entries.{entries_at, entries_from, entries_of, symbol_count};
 ghost use Rattle.wl_symbols.specs.Adding.{firsts_in, repeat_in, AddsOne, AddsAll};
 
@@ -94,7 +94,7 @@ fn add_symbols<'a, L: Ledger>(
     symbols: &[WasmSymbol<'a>],
     steps: &mut Steps<L>,
 ) -> Result<Option<Repeat<'a>>, AllocError>
-    requires { length symbols.now ≤ 2 ^ 30 }
+    requires { length symbols.now < 2 ^ 32 }
     ensures adds { IfOk result (AddsAll
         (firsts_in names.old.names.firsts) (firsts_in names.new.names.firsts)
         (entries_from object 0 symbols.now)) }
