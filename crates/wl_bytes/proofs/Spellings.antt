@@ -1,5 +1,5 @@
--- What a text spells, unsigned or signed: one equation on natural numbers. A text of `p` more than its last byte counts
--- from `- c * p`, where c is 0 for unsigned and 64 for signed numbers.
+-- What a text spells, unsigned or signed: one equation on natural numbers. Where the last byte counts p, the numbers begin
+-- at - c * p, where c is 0 for unsigned and 64 for signed ones: the upper half of its values is negative.
 use Rattle.std.proofs.Common.{◌≡◌, ℕ, zero, suc, ◌+◌, ◌-◌, ◌*◌, ◌%◌, ◌^◌, ◌<◌, ◌≤◌, true, cond, ltb, List, [], ◌∷◌, ◌++◌, length, refl, sym, ap, ◌∙◌, arith, inl, inr, length-append, lit<, add-one}
 use Rattle.std.specs.Prelude.{ℤ, pos, negsuc, ◌-ℤ◌}
 use Rattle.std.specs.Int.Signed.{mag}
