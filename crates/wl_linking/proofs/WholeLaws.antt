@@ -14,7 +14,9 @@ use Rattle.wl_linking.proofs.SlotLaws.{all_at}
 
 -- an object of bytes that are short enough is whole
 pub whole_from : (bytes : List ℕ) (o : Object) → IsObject o bytes → length bytes ≤ 2 ^ 30 → IsWhole o
-whole_from bytes o h le = record { object = subst (λ (b : List ℕ). IsObject o b) (sym h.items.bytes_are) h; within = rw h.items.bytes_are le }
+whole_from bytes o h le =
+    let same : o.bytes ≡ bytes = ap (λ (x : Object). x.bytes) h.items.items in
+    record { object = subst (λ (b : List ℕ). IsObject o b) (sym same) h; within = rw same le }
 
 -- a whole object fits together
 pub whole_fits : (o : Object) → IsWhole o → IsFitting o

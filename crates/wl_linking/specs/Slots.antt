@@ -1,8 +1,7 @@
 -- The names of imports, which symbols refer to by slots: numbers among the imports of a kind (object file linking, version 2, "Symbol Table Subsection").
-use Rattle.std.specs.Prelude.{◌≡◌, ◌≢◌, ◌<◌, ℕ, ◌==◌, ◌&&◌, Bool, true, false, not, if◌then◌else◌, List, length, map, Option, Some, None, slice_get}
-use Rattle.std.specs.List.{filter, find}
+use Rattle.std.specs.Prelude.{◌≡◌, ◌≢◌, ◌<◌, ℕ, ◌&&◌, Bool, true, false, not, if◌then◌else◌, List, length, map, Option, Some, None, slice_get}
+use Rattle.std.specs.List.{filter}
 use Rattle.wl_module.specs.declared.imports.ExternalKind.{ExternalKind}
-use Rattle.wl_module.specs.declared.sections.SectionHeader.{SectionHeader}
 use Rattle.wl_module.specs.declared.error.ReadError.{ReadError}
 use Rattle.wl_module.specs.declared.error.ReadError.TheVariants.{Malformed}
 use Rattle.wl_module.specs.declared.error.Why.TheVariants.{SlotNames}
@@ -19,15 +18,6 @@ use Rattle.wl_linking.specs.declared.symbols.WasmSymbolKind.TheVariants.{Func, D
 pub record Slot : Type 0 where
   pub name : List ℕ
   pub range : ℕ × ℕ
-
--- where the payload of a section begins, if there is one
-abbrev pub begin_of : Option SectionHeader → ℕ
-begin_of None = 0
-begin_of (Some header) = header.payload_range.0
-
--- how many bytes of the object lie before the payload of its import section, whose id is 2
-abbrev pub import_base : List SectionHeader → ℕ
-import_base headers = begin_of (find (λ (h : SectionHeader). h.id == 2) headers)
 
 -- the field name of an import, where so many bytes of the object lie before its section's payload
 abbrev pub slot_of : ℕ → PlacedImported → Slot

@@ -2,8 +2,9 @@
 
 ghost use Rattle.std.specs.Prelude.{◌≡◌, ◌≤◌, ◌^◌, OnOk, [], length, MatchResult};
 ghost use Rattle.wl_bytes.specs.Cursor.{end_of};
-ghost use Rattle.wl_module.specs.Outcome.{Yields, Gives, IsFault};
-ghost use Rattle.wl_linking.specs.Linking.{subsection_kind, subsection_verdict, held_of, subsection_at, version_at, nothing_seen, seen_after, linking_of, with_subsection, HaveSubsections, IsSubsectionsFault, IsLinking, LinkingFault};
+ghost use Rattle.wl_module.specs.Outcome.{Yields, Gives};
+ghost use Rattle.wl_linking.specs.Verdict.{HasCause};
+ghost use Rattle.wl_linking.specs.Linking.{subsection_kind, subsection_verdict, held_of, subsection_at, version_at, nothing_seen, seen_after, linking_of, with_subsection, HaveSubsections, SubsectionsFault, IsLinking, LinkingFault};
 
 use crate::infos::{WasmInitFunc, WasmSegmentInfo};
 use crate::items::Items;
@@ -179,7 +180,8 @@ fn read_subsections<'a>(
 ) -> Result<Linking<'a>, ReadError>
     requires base { base ≤ 2 ^ 30 }
     requires end { end_of reader.old ≤ 2 ^ 30 }
-    ensures { MatchResult result (HaveSubsections base reader.old) (IsSubsectionsFault base reader.old) }
+    ensures { MatchResult result (HaveSubsections base reader.old)
+        (HasCause (λ e. SubsectionsFault base e reader.old)) }
 {
     let mut linking = Linking::empty(alloc);
     let mut seen = SeenSubsections::default();
@@ -216,7 +218,8 @@ pub(crate) fn read_linking(
 ) -> Result<Linking<'_>, ReadError>
     requires base { base ≤ 2 ^ 30 }
     requires len { length payload.now ≤ 2 ^ 30 }
-    ensures { MatchResult result (λ linking. IsLinking base linking payload.now) (IsFault (LinkingFault base) payload.now) }
+    ensures { MatchResult result (λ linking. IsLinking base linking payload.now)
+        (HasCause (λ e. LinkingFault base e payload.now)) }
 {
     let mut reader = Reader::new(payload);
     read_version(&mut reader)?;

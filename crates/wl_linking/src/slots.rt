@@ -3,7 +3,7 @@
 
 ghost use Rattle.std.specs.Prelude.{◌≡◌, ◌≤◌, ◌+◌, ◌^◌, [], ◌∷◌, ◌++◌, length, map, Option, Some, None, slice_get, OnOk, IfOk, MatchBool, MatchResult};
 ghost use Rattle.std.specs.List.{repeat, AllByRecursion};
-ghost use Rattle.wl_linking.specs.Slots.{Slot, slot_of, slots_of, with_slot, with_import_name, claims, HasOneName, HasTwoNames, AgreeOnNames, SlotFault, import_base};
+ghost use Rattle.wl_linking.specs.Slots.{Slot, slot_of, slots_of, with_slot, with_import_name, claims, HasOneName, HasTwoNames, AgreeOnNames, SlotFault};
 ghost use Rattle.wl_linking.specs.SlotsReading.{IsNamedWithin, slots_from, AreNamedByRange, IsNamedByRange, is_name_of, Agrees};
 ghost use Rattle.wl_linking.specs.Verdict.{HasCause};
 
@@ -12,7 +12,7 @@ use crate::spaces::{Spaces, is_of};
 use crate::symbols::{WasmSymbol, WasmSymbolKind, range_of};
 use std::alloc::{AllocError, Global};
 use std::marker::Model;
-use wl_module::{ExternalKind, PlacedImport, ReadError, SectionHeader, Why, section_id};
+use wl_module::{ExternalKind, PlacedImport, ReadError, Why};
 
 /// The field name of an import. Clauses see it as a `Slot`, with the name as a list.
 #[derive(Drop)]
@@ -28,20 +28,6 @@ impl<'a> Model for SlotName<'a> {
     ghost Value = { Slot };
 
     ghost view = { λ s. record { name = s.name.now; range = s.range } };
-}
-
-/// How many bytes of the object lie before the payload of its import section; 0 where there is
-/// none.
-pub(crate) fn import_base(headers: &[SectionHeader]) -> u32
-    ensures { result ≡ import_base headers.now }
-{
-    match headers
-        .iter()
-        .find(|header| header.id == section_id::IMPORT)
-    {
-        None => 0,
-        Some(header) => header.payload_range.0,
-    }
 }
 
 /// The field name of an import, where so many bytes of the object lie before its section's
@@ -82,16 +68,16 @@ pub(crate) fn slots_of<'a>(
     kind: ExternalKind,
     base: u32,
     imports: &[PlacedImport<'a>],
-) -> Result<Vec<SlotName<'a>>, AllocError>
+) -> Result<Items<SlotName<'a>>, AllocError>
     requires base { base ≤ 2 ^ 30 }
     requires places { AllByRecursion IsNamedWithin imports.now }
-    ensures { IfOk result (λ slots. slots.items ≡ slots_of kind base imports.now) }
+    ensures { IfOk result (λ slots. slots ≡ slots_of kind base imports.now) }
 {
     let mut slots = Vec::new(alloc);
     for placed in imports {
         push_slot(&mut slots, kind, base, placed)?;
     }
-    Ok(slots)
+    Ok(Items::new(slots))
 }
 
 /// The same symbol with the name of its slot.
@@ -132,7 +118,8 @@ pub(crate) fn name_symbols<'a>(
     globals: &[SlotName<'a>],
     symbols: Items<WasmSymbol<'a>>,
 ) -> Result<Items<WasmSymbol<'a>>, AllocError>
-    ensures { IfOk result (λ list. list ≡ map (with_import_name functions.now globals.now) symbols.entry) }
+    ensures { let named = with_import_name functions.now globals.now in
+        IfOk result (λ list. list ≡ map named symbols.entry) }
 {
     let mut list = Vec::new(alloc);
     for symbol in symbols.into_vec() {

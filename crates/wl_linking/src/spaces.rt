@@ -54,18 +54,18 @@ pub(crate) fn count_imports(kind: ExternalKind, imports: &[Import<'_>]) -> usize
 pub(crate) fn spaces_of(contents: &Contents<'_>) -> Spaces
     ensures { result ≡ spaces_of contents.now }
 {
-    let imports = contents.imports.as_slice();
+    let imports = contents.parts.imports.as_slice();
     Spaces {
-        types: contents.types.as_slice().len(),
+        types: contents.parts.types.as_slice().len(),
         imported_functions: count_imports(ExternalKind::Func, imports),
-        functions: contents.functions.as_slice().len(),
+        functions: contents.parts.functions.as_slice().len(),
         imported_tables: count_imports(ExternalKind::Table, imports),
         imported_memories: count_imports(ExternalKind::Memory, imports),
-        memories: contents.memories.as_slice().len(),
+        memories: contents.parts.memories.as_slice().len(),
         imported_globals: count_imports(ExternalKind::Global, imports),
-        globals: contents.globals.as_slice().len(),
-        segments: contents.segments.as_slice().len(),
-        symbols: contents.symbols.as_slice().len(),
+        globals: contents.parts.globals.as_slice().len(),
+        segments: contents.parts.segments.as_slice().len(),
+        symbols: contents.parts.symbols.as_slice().len(),
     }
 }
 
@@ -233,20 +233,20 @@ fn relocations_exist(spaces: Spaces, relocations: &[WasmRelocation]) -> bool
 fn core_names_exist(spaces: Spaces, contents: &Contents<'_>) -> bool
     ensures { result ≡ core_names_exist spaces contents.now }
 {
-    imports_exist(spaces, contents.imports.as_slice())
-        && types_exist(spaces, contents.functions.as_slice())
-        && exports_exist(spaces, contents.exports.as_slice())
-        && memories_exist(spaces, contents.segment_memories.as_slice())
+    imports_exist(spaces, contents.parts.imports.as_slice())
+        && types_exist(spaces, contents.parts.functions.as_slice())
+        && exports_exist(spaces, contents.parts.exports.as_slice())
+        && memories_exist(spaces, contents.parts.segment_memories.as_slice())
 }
 
 /// Whether all that the linking section and the relocations name is there.
 fn linked_names_exist(spaces: Spaces, contents: &Contents<'_>) -> bool
     ensures { result ≡ linked_names_exist spaces contents.now }
 {
-    symbols_exist(spaces, contents.symbols.as_slice())
-        && inits_exist(spaces, contents.init_funcs.as_slice())
-        && relocations_exist(spaces, contents.code_relocations.as_slice())
-        && relocations_exist(spaces, contents.data_relocations.as_slice())
+    symbols_exist(spaces, contents.parts.symbols.as_slice())
+        && inits_exist(spaces, contents.parts.init_funcs.as_slice())
+        && relocations_exist(spaces, contents.parts.code_relocations.as_slice())
+        && relocations_exist(spaces, contents.parts.data_relocations.as_slice())
 }
 
 /// Whether each count is how many segments there are.
@@ -263,14 +263,14 @@ fn are_segments(spaces: Spaces, counts: &[u32]) -> bool
 fn counts_hold(spaces: Spaces, contents: &Contents<'_>) -> bool
     ensures { result ≡ counts_hold spaces contents.now }
 {
-    contents.bodies.as_slice().len() == spaces.functions
-        && are_segments(spaces, contents.data_counts.as_slice())
+    contents.parts.bodies.as_slice().len() == spaces.functions
+        && are_segments(spaces, contents.parts.data_counts.as_slice())
 }
 
 /// Sees that each function has its body, that the data count is right, and that what is named
 /// exists.
 #[tactic(auto, using(crate::proofs::ExistLaws::names_exist))]
-pub(crate) fn check_names(contents: &Contents<'_>) -> Result<(), ReadError>
+pub(crate) fn check_indices(contents: &Contents<'_>) -> Result<(), ReadError>
     ensures { MatchResult result (λ _. NamesExist contents.now) (HasCause (NamesFault contents.now)) }
 {
     let spaces = spaces_of(contents);

@@ -14,4 +14,3 @@ pub mod SegmentLaws
 pub mod SectionLaws
 pub mod CountLaws
 pub mod PlaceLaws
-pub mod Ranks
