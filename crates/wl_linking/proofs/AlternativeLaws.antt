@@ -24,7 +24,7 @@ use Rattle.wl_linking.specs.Fitting.{named_symbols, HasItems, IsFitting, PartsFa
 use Rattle.wl_linking.specs.declared.parts.Parts.{Parts}
 use Rattle.wl_linking.specs.declared.relocations.WasmRelocation.{WasmRelocation}
 use Rattle.wl_linking.specs.declared.sites.Site.{Site}
-use Rattle.wl_linking.specs.declared.spaces.Spaces.{Spaces}
+use Rattle.wl_linking.specs.declared.spaces.Counts.{Counts}
 use Rattle.wl_linking.specs.declared.symbols.WasmSymbolKind.{WasmSymbolKind}
 use Rattle.wl_linking.specs.declared.symbols.WasmSymbolKind.TheVariants.{Func, Global, Table}
 use Rattle.wl_linking.proofs.ExistLaws.{names_exist}
@@ -99,7 +99,7 @@ one_name_or_two kind count symbols = by_pairs (each_or_one Agrees Differs agree_
     by_pairs (inl all) = inl (λ i j s t here there. all i s here j t there)
     by_pairs (inr (i, s, here, (j, t, there, differ))) = inr (record { first = i; second = j; one = s; other = t; one_is = here; other_is = there; shared = differ.0; differ = differ.1 })
 
-slots_or_fault : (spaces : Spaces) (symbols : List Symbol) → AgreeOnNames spaces symbols ⊎ ((e : ReadError) × SlotFault spaces symbols e)
+slots_or_fault : (spaces : Counts) (symbols : List Symbol) → AgreeOnNames spaces symbols ⊎ ((e : ReadError) × SlotFault spaces symbols e)
 slots_or_fault spaces symbols = by_kind (one_name_or_two Func spaces.imported_functions symbols) (one_name_or_two Global spaces.imported_globals symbols) (one_name_or_two Table spaces.imported_tables symbols)
   where
     by_kind : HasOneName Func spaces.imported_functions symbols ⊎ HasTwoNames Func spaces.imported_functions symbols

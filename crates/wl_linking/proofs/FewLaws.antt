@@ -1,5 +1,6 @@
 -- Each list of an object has at most as many items as the object has bytes.
-use Rattle.std.proofs.Common.{◌≡◌, ℕ, suc, ◌+◌, ◌^◌, ◌≤◌, cond, leb, true, false, Bool, List, [], ◌∷◌, ◌++◌, length, refl, sym, subst, ap, ◌∙◌, arith, length-append}
+use Rattle.std.proofs.Common.{◌≡◌, ℕ, suc, ◌+◌, ◌≤◌, cond, leb, true, false, Bool, List, [], ◌∷◌, ◌++◌, length, refl, sym, subst, ap, ◌∙◌, arith, length-append}
+use Rattle.wl_bytes.specs.declared.reader.TheConstants.{MAX_LEN}
 use Rattle.std.specs.List.{flat_map}
 use Rattle.std.proofs.lemmas.List.{length-map}
 use Rattle.std.proofs.lemmas.List.Sums.{count_by-le-length}
@@ -247,10 +248,10 @@ few_items n bytes o h le =
       data_sites = rw (as_many _ o.data_relocations o.data_sites h.fitting.data_.sited) data';
     })
 
--- each list of a whole object has 2^30 items at most
-pub whole_few : (o : Object) → IsWhole o → HasFewItems (2 ^ 30) o
-whole_few o w = few_items (2 ^ 30) o.bytes o w.object w.within
+-- each list of a whole object has MAX_LEN items at most
+pub whole_few : (o : Object) → IsWhole o → HasFewItems MAX_LEN o
+whole_few o w = few_items MAX_LEN o.bytes o w.object w.within
 
 -- and so has what it imports of a kind
-pub few_imports : (o : Object) (k : ExternalKind) → IsWhole o → count_imports k o.imports ≤ 2 ^ 30
+pub few_imports : (o : Object) (k : ExternalKind) → IsWhole o → count_imports k o.imports ≤ MAX_LEN
 few_imports o k w = omega (arith, (whole_few o w).imports, count_by-le-length (λ (i : Imported). is_of k i.entity) o.imports)

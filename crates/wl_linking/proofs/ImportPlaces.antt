@@ -1,5 +1,6 @@
 -- The names of imports stand within the bytes of their object, and so do segments.
-use Rattle.std.proofs.Common.{ℕ, ◌≤◌, ◌^◌, List, ◌++◌, length, refl, arith, length-append}
+use Rattle.std.proofs.Common.{ℕ, ◌≤◌, List, ◌++◌, length, refl, arith, length-append}
+use Rattle.wl_bytes.specs.declared.reader.TheConstants.{MAX_LEN}
 use Rattle.std.specs.List.{AllByRecursion}
 use Rattle.wl_module.specs.Segments.{Targeted}
 use Rattle.wl_module.specs.Places.{PlacedImportStands, TargetedStands}
@@ -25,18 +26,18 @@ named_within k s (Imports imports base) le (kind_is, base_is, h) = (
 )
 named_within k s _ le h = tt
 
-target_spanned : (payload : List ℕ) (t : Targeted) → length payload ≤ 2 ^ 30 → TargetedStands payload t → IsSpanned t.segment
+target_spanned : (payload : List ℕ) (t : Targeted) → length payload ≤ MAX_LEN → TargetedStands payload t → IsSpanned t.segment
 target_spanned payload t le h = record {
   payload = omega (arith, h.size);
   end = omega (arith, h.size, ends_within payload (h.head ++ t.segment.payload) t.segment.section_offset h.there, length-append h.head t.segment.payload, le);
 }
 
-spanned_in_each : (bytes : List ℕ) → length bytes ≤ 2 ^ 30 → HaveInEach (λ p. p.segments) IsSpanned bytes
+spanned_in_each : (bytes : List ℕ) → length bytes ≤ MAX_LEN → HaveInEach (λ p. p.segments) IsSpanned bytes
 spanned_in_each bytes le k s (Data segments) there h =
-    let within : length s.payload ≤ 2 ^ 30 = omega (arith, ends_within bytes s.payload s.header.payload_range.0 there.payload.0, le) in
+    let within : length s.payload ≤ MAX_LEN = omega (arith, ends_within bytes s.payload s.header.payload_range.0 there.payload.0, le) in
     all_mapped (λ (t : Targeted). t.segment) (TargetedStands s.payload) IsSpanned segments (λ t stands. target_spanned s.payload t within stands) (targeted_stand segments s.payload h.1)
 spanned_in_each bytes le k s _ there h = tt
 
 -- the segments of all sections lie within the limit
-pub parts_spanned : (bytes : List ℕ) (sections : List Section) (parts : Parts) → length bytes ≤ 2 ^ 30 → IsModule sections bytes → AreSound sections no_parts sections parts → AllByRecursion IsSpanned parts.segments
+pub parts_spanned : (bytes : List ℕ) (sections : List Section) (parts : Parts) → length bytes ≤ MAX_LEN → IsModule sections bytes → AreSound sections no_parts sections parts → AllByRecursion IsSpanned parts.segments
 parts_spanned bytes sections parts le framed sound = all_held (λ p. p.segments) IsSpanned bytes (λ a b. refl) (spanned_in_each bytes le) sections no_parts sections parts (module_stands bytes sections framed) sound tt

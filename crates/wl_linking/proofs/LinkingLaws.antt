@@ -16,7 +16,7 @@ use Rattle.wl_bytes.proofs.GrammarLaws.{then_reading, error_reading}
 use Rattle.wl_module.specs.Error.{read_error}
 use Rattle.wl_module.specs.Lists.{NumberFault, ByteFault, number_at, one_byte_at, start}
 use Rattle.wl_module.specs.Bodies.{StretchFault}
-use Rattle.wl_module.specs.BodiesReading.{stretch_at}
+use Rattle.wl_module.specs.Bodies.{stretch_at}
 use Rattle.wl_module.specs.Chains.{Chain, after}
 use Rattle.wl_module.specs.Checks.{NoFault}
 use Rattle.wl_module.specs.Outcome.{Fails, AreAlternatives}

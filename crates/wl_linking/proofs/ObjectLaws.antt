@@ -19,7 +19,7 @@ use Rattle.wl_linking.specs.Sites.{LieApart}
 use Rattle.wl_linking.specs.Fitting.{HasItems, IsFitting, CrossFault, PartsFault, IsPlacedObject, IsNamed, NamingFault, IsObject, IsUnfitting, SectionFault, ObjectFault, ParsesObject, code_pieces, data_pieces}
 use Rattle.wl_linking.specs.declared.parts.Parts.{Parts}
 use Rattle.wl_linking.specs.declared.sites.Site.{Site}
-use Rattle.wl_linking.specs.declared.spaces.Spaces.{Spaces}
+use Rattle.wl_linking.specs.declared.spaces.Counts.{Counts}
 use Rattle.wl_linking.specs.declared.symbols.WasmSymbolKind.{WasmSymbolKind}
 use Rattle.wl_linking.specs.declared.symbols.WasmSymbolKind.TheVariants.{Func, Data, Global, Section as SectionSymbol, Event, Table}
 use Rattle.wl_linking.proofs.SectionLaws.{sections_one, sections_either, sections_one_fault}
@@ -93,7 +93,7 @@ one_or_two kind count symbols one two = two.differ (one two.first two.second two
 never_two : (kind : WasmSymbolKind) (symbols : List Symbol) → HasTwoNames kind 0 symbols → ⊥
 never_two kind symbols two = absurd (let exists = two.shared.exists in omega arith)
 
-slots_or_not : (spaces : Spaces) (symbols : List Symbol) (e : ReadError) → AgreeOnNames spaces symbols → SlotFault spaces symbols e → ⊥
+slots_or_not : (spaces : Counts) (symbols : List Symbol) (e : ReadError) → AgreeOnNames spaces symbols → SlotFault spaces symbols e → ⊥
 slots_or_not spaces symbols e h (is, (Func, two)) = one_or_two Func spaces.imported_functions symbols h.functions two
 slots_or_not spaces symbols e h (is, (Global, two)) = one_or_two Global spaces.imported_globals symbols h.globals two
 slots_or_not spaces symbols e h (is, (Table, two)) = one_or_two Table spaces.imported_tables symbols h.tables two

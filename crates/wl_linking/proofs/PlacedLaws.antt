@@ -1,5 +1,6 @@
 -- The laws of where sections stand.
-use Rattle.std.proofs.Common.{◌≡◌, ℕ, ◌+◌, ◌-◌, ◌^◌, ◌≤◌, List, ◌++◌, length, ap, refl, arith, length-append}
+use Rattle.std.proofs.Common.{◌≡◌, ℕ, ◌+◌, ◌-◌, ◌≤◌, List, ◌++◌, length, ap, refl, arith, length-append}
+use Rattle.wl_bytes.specs.declared.reader.TheConstants.{MAX_LEN}
 use Rattle.std.specs.List.{AllByRecursion}
 use Rattle.std.proofs.lemmas.List.{drop_at, take_at}
 use Rattle.wl_module.specs.Places.{StandsAt}
@@ -20,6 +21,6 @@ pub ends_within : (bytes text : List ℕ) (place : ℕ) → StandsAt bytes text 
 ends_within bytes text place h = omega (arith, h.len, ap length h.whole, length-append h.front (text ++ h.back), length-append text h.back)
 
 -- where the bytes are not too many, each section lies within the limit
-pub sections_within : (bytes : List ℕ) (sections : List Section) → length bytes ≤ 2 ^ 30 → IsModule sections bytes → AllByRecursion EndsWithin sections
+pub sections_within : (bytes : List ℕ) (sections : List Section) → length bytes ≤ MAX_LEN → IsModule sections bytes → AllByRecursion EndsWithin sections
 sections_within bytes sections le framed =
     all_follow (SectionStands bytes) EndsWithin sections (λ s h. omega (arith, le, ends_within bytes s.payload s.header.payload_range.0 h.payload.0)) (module_stands bytes sections framed)

@@ -8,10 +8,10 @@ use Rattle.wl_module.specs.declared.error.ReadError.{ReadError}
 use Rattle.wl_module.specs.declared.error.ReadError.TheVariants.{Malformed, Unsupported}
 use Rattle.wl_module.specs.declared.error.Why.TheVariants.{Repeated}
 use Rattle.wl_module.specs.Types.{AreTypes, TypesFault}
-use Rattle.wl_module.specs.Reading.{types_of}
+use Rattle.wl_module.specs.Types.{types_of}
 use Rattle.wl_module.specs.Imports.{ArePlacedImports, ImportsFault, placed_imports_of}
 use Rattle.wl_module.specs.Bodies.{AreIndices, IndicesFault, AreBodies, BodiesFault}
-use Rattle.wl_module.specs.BodiesReading.{indices_of, bodies_of}
+use Rattle.wl_module.specs.Bodies.{indices_of, bodies_of}
 use Rattle.wl_module.specs.Memories.{AreMemories, MemoriesFault, memories_of, IsDataCount, DataCountFault, data_count_of}
 use Rattle.wl_module.specs.Globals.{AreGlobals, GlobalsFault, globals_of}
 use Rattle.wl_module.specs.Exports.{AreExports, ExportsFault, exports_of}

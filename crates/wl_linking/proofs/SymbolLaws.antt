@@ -1,55 +1,45 @@
 -- The laws of symbol tables.
 use Rattle.std.specs.Prelude.{ℕ, Bool}
-use Rattle.std.proofs.Common.{refl}
-use Rattle.wl_bytes.specs.Leb.{IsU32}
-use Rattle.wl_bytes.specs.Items.{IsByte}
-use Rattle.wl_bytes.specs.Grammar.{Then}
 use Rattle.wl_bytes.proofs.Readings.{IsReading}
-use Rattle.wl_bytes.proofs.GrammarLaws.{then_reading, seen_reading}
-use Rattle.wl_module.specs.Lists.{NumberFault, ByteFault, WordFault, Listed, ListedFault, number_at, one_byte_at, list_at}
-use Rattle.wl_module.specs.Checks.{When, WhenFault, when_at}
-use Rattle.wl_module.specs.Words.{IsPlacedName, placed_name_at}
+use Rattle.wl_module.specs.Lists.{NumberFault, WordFault, Listed, ListedFault, list_at}
+use Rattle.wl_module.specs.Checks.{WhenFault}
+use Rattle.wl_module.proofs.ReadingLaws.{both, seen}
 use Rattle.wl_module.proofs.ListLaws.{number_reading, one_byte_reading, list_reading, whole_reading, IsWholeReading}
 use Rattle.wl_module.proofs.CheckLaws.{when_reading, placed_name_reading}
-use Rattle.wl_linking.specs.Verdict.{Judged, JudgedFault, judged_at}
 use Rattle.wl_linking.specs.Symbols.{symbol_of, kind_verdict, based_name, IsBasedName, name_or_none, extent_or_none, is_named, is_defined, numbered, located, sectioned, IsNameWhere, IsExtent, ExtentFault, IsExtentWhere, IsNumbered, IsLocated, IsDetails, NumberedFault, LocatedFault, DetailsFault, AreParts, IsSymbol, SymbolFault, AreSymbols, SymbolsFault}
 use Rattle.wl_linking.specs.SymbolsReading.{based_name_at, name_where_at, extent_at, extent_where_at, numbered_at, located_at, section_at, details_at, parts_at, symbol_at, symbols_of}
 use Rattle.wl_linking.specs.declared.symbols.WasmSymbolKind.{WasmSymbolKind}
 use Rattle.wl_linking.specs.declared.symbols.WasmSymbolKind.TheVariants.{Func, Data, Global, Section, Event, Table}
-use Rattle.wl_linking.proofs.Exact.{judged_reading, seen_as}
+use Rattle.wl_linking.proofs.Exact.{judged_reading}
 
 -- ---- the parts of what stands behind the flags
 
 based_name_reading : (base : ℕ) → IsReading (IsBasedName base) WordFault (based_name_at base)
 unfolding based_name_at
-based_name_reading base = seen_reading IsPlacedName (IsBasedName base) WordFault placed_name_at (based_name base) (λ place w text s. (w, s, refl)) (λ place n text s. s) placed_name_reading
+based_name_reading base = seen (based_name base) placed_name_reading
 
 name_where_reading : (base : ℕ) (named : Bool) → IsReading (IsNameWhere base named) (WhenFault WordFault named) (name_where_at base named)
 unfolding name_where_at
-name_where_reading base named = seen_as (When (IsBasedName base) named) (WhenFault WordFault named) (when_at (based_name_at base) named) name_or_none (when_reading (IsBasedName base) WordFault (based_name_at base) (based_name_reading base) named)
+name_where_reading base named = seen name_or_none (when_reading _ _ _ (based_name_reading base) named)
 
 extent_reading : IsReading IsExtent ExtentFault extent_at
-extent_reading =
-    then_reading IsU32 (λ _. Then IsU32 (λ _. IsU32)) NumberFault _ number_at _ number_reading
-    (λ _. then_reading IsU32 (λ _. IsU32) NumberFault (λ _. NumberFault) number_at (λ _. number_at) number_reading (λ _. number_reading))
+extent_reading = both number_reading (λ _. both number_reading (λ _. number_reading))
 
 extent_where_reading : (defined : Bool) → IsReading (IsExtentWhere defined) (WhenFault ExtentFault defined) (extent_where_at defined)
 unfolding extent_where_at
-extent_where_reading defined = seen_as (When IsExtent defined) (WhenFault ExtentFault defined) (when_at extent_at defined) extent_or_none (when_reading IsExtent ExtentFault extent_at extent_reading defined)
+extent_where_reading defined = seen extent_or_none (when_reading _ _ _ extent_reading defined)
 
 numbered_reading : (base flags : ℕ) → IsReading (IsNumbered base flags) (NumberedFault flags) (numbered_at base flags)
 unfolding numbered_at
-numbered_reading base flags = seen_as (Then IsU32 (λ _. IsNameWhere base (is_named flags))) (NumberedFault flags) _ numbered
-    (then_reading IsU32 (λ _. IsNameWhere base (is_named flags)) NumberFault (λ _. WhenFault WordFault (is_named flags)) number_at (λ _. name_where_at base (is_named flags)) number_reading (λ _. name_where_reading base (is_named flags)))
+numbered_reading base flags = seen numbered (both number_reading (λ _. name_where_reading base (is_named flags)))
 
 located_reading : (base flags : ℕ) → IsReading (IsLocated base flags) (LocatedFault base flags) (located_at base flags)
 unfolding located_at
-located_reading base flags = seen_as (Then (IsBasedName base) (λ _. IsExtentWhere (is_defined flags))) (LocatedFault base flags) _ located
-    (then_reading (IsBasedName base) (λ _. IsExtentWhere (is_defined flags)) WordFault (λ _. WhenFault ExtentFault (is_defined flags)) (based_name_at base) (λ _. extent_where_at (is_defined flags)) (based_name_reading base) (λ _. extent_where_reading (is_defined flags)))
+located_reading base flags = seen located (both (based_name_reading base) (λ _. extent_where_reading (is_defined flags)))
 
 section_reading : (base : ℕ) (flags : ℕ) → IsReading (IsDetails base Section flags) NumberFault section_at
 unfolding section_at
-section_reading base flags = seen_as IsU32 NumberFault number_at sectioned number_reading
+section_reading base flags = seen sectioned number_reading
 
 pub details_reading : (base : ℕ) (kind : WasmSymbolKind) (flags : ℕ) → IsReading (IsDetails base kind flags) (DetailsFault base kind flags) (details_at base kind flags)
 details_reading base Func flags = numbered_reading base flags
@@ -62,15 +52,11 @@ details_reading base Table flags = numbered_reading base flags
 -- ---- symbols
 
 parts_reading : (base : ℕ) → IsReading (AreParts base) (SymbolFault base) (parts_at base)
-parts_reading base =
-    then_reading IsByte _ ByteFault _ one_byte_at _ one_byte_reading
-    (λ byte. then_reading (Judged (kind_verdict byte)) _ (JudgedFault (kind_verdict byte)) _ (judged_at (kind_verdict byte)) _ (judged_reading (kind_verdict byte))
-    (λ kind. then_reading IsU32 (λ flags. IsDetails base kind flags) NumberFault (λ flags. DetailsFault base kind flags) number_at (λ flags. details_at base kind flags) number_reading
-    (λ flags. details_reading base kind flags)))
+parts_reading base = both one_byte_reading (λ byte. both (judged_reading (kind_verdict byte)) (λ kind. both number_reading (λ flags. details_reading base kind flags)))
 
 pub symbol_reading : (base : ℕ) → IsReading (IsSymbol base) (SymbolFault base) (symbol_at base)
 unfolding symbol_at
-symbol_reading base = seen_as (AreParts base) (SymbolFault base) (parts_at base) symbol_of (parts_reading base)
+symbol_reading base = seen symbol_of (parts_reading base)
 
 pub symbols_reading : (base : ℕ) → IsWholeReading (AreSymbols base) (SymbolsFault base) (symbols_of base)
 symbols_reading base = whole_reading (Listed (IsSymbol base)) (ListedFault (IsSymbol base) (SymbolFault base)) (list_at (symbol_at base)) (list_reading (IsSymbol base) (SymbolFault base) (symbol_at base) (symbol_reading base))

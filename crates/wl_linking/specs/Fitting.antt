@@ -1,6 +1,7 @@
 -- The relocatable object that some bytes are: what its sections hold, and what must hold across them
 -- (core specification, "Modules"; object file linking, version 2).
-use Rattle.std.specs.Prelude.{◌≡◌, ◌⊎◌, ◌≤◌, ◌^◌, ℕ, List, length, map, Result, Ok, Err, IfOk, IfErr}
+use Rattle.std.specs.Prelude.{◌≡◌, ◌⊎◌, ◌≤◌, ℕ, List, length, map, Result, Ok, Err, IfOk, IfErr}
+use Rattle.wl_bytes.specs.declared.reader.TheConstants.{MAX_LEN}
 use Rattle.wl_module.specs.declared.sections.SectionHeader.{SectionHeader}
 use Rattle.wl_module.specs.declared.error.ReadError.{ReadError}
 use Rattle.wl_module.specs.Sections.{Section, headers_of, IsModule, FrameFault}
@@ -15,7 +16,7 @@ use Rattle.wl_linking.specs.Spaces.{NamesExist, NamesFault, spaces_of}
 use Rattle.wl_linking.specs.Slots.{with_import_name, AgreeOnNames, SlotFault}
 use Rattle.wl_linking.specs.Sites.{PieceOf, body_piece, segment_piece, AreInOrder, LieApart, FieldsFault}
 use Rattle.wl_linking.specs.declared.parts.Parts.{Parts}
-use Rattle.wl_linking.specs.declared.spaces.Spaces.{Spaces}
+use Rattle.wl_linking.specs.declared.spaces.Counts.{Counts}
 
 -- ---- the object of what sections hold
 
@@ -113,10 +114,10 @@ pub record IsObject (o : Object) (bytes : List ℕ) : Type 0 where
   pub items : HasItems bytes (headers_of sections) parts o
   pub fitting : IsFitting o
 
--- an object as it is kept: its bytes are this object, and 2^30 at most
+-- an object as it is kept: its bytes are this object, and MAX_LEN at most
 pub record IsWhole (o : Object) : Type 0 where
   pub object : IsObject o o.bytes
-  pub within : length o.bytes ≤ 2 ^ 30
+  pub within : length o.bytes ≤ MAX_LEN
 
 -- each list of an object has at most n items
 pub record HasFewItems (n : ℕ) (o : Object) : Type 0 where
@@ -143,7 +144,7 @@ pub record HasFewItems (n : ℕ) (o : Object) : Type 0 where
   pub data_sites : length o.data_sites ≤ n
 
 -- a whole object, with how many things of each kind it has
-pub record IsFile (o : Object) (spaces : Spaces) : Type 0 where
+pub record IsFile (o : Object) (spaces : Counts) : Type 0 where
   pub whole : IsWhole o
   pub counted : spaces ≡ spaces_of o
 

@@ -8,7 +8,7 @@ use Rattle.wl_bytes.specs.Items.{IsByte, IsStretch}
 use Rattle.wl_bytes.specs.Grammar.{Then, ThenFault, then_at, map_at}
 use Rattle.wl_module.specs.Lists.{NumberFault, ByteFault, number_at, one_byte_at, start}
 use Rattle.wl_module.specs.Bodies.{StretchFault}
-use Rattle.wl_module.specs.BodiesReading.{stretch_at}
+use Rattle.wl_module.specs.Bodies.{stretch_at}
 use Rattle.wl_module.specs.Chains.{Chain, ChainFault}
 use Rattle.wl_module.specs.Checks.{NoFault}
 use Rattle.wl_module.specs.declared.error.ReadError.{ReadError}

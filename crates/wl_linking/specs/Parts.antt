@@ -1,5 +1,6 @@
 -- What the sections of an object hold, put together.
-use Rattle.std.specs.Prelude.{◌≤◌, ◌^◌, ℕ, ◌||◌, Bool, true, false, List, [], ◌∷◌, ◌++◌, map, Option}
+use Rattle.std.specs.Prelude.{◌≤◌, ℕ, ◌||◌, Bool, true, false, List, [], ◌∷◌, ◌++◌, map, Option}
+use Rattle.wl_bytes.specs.declared.reader.TheConstants.{MAX_LEN}
 use Rattle.std.specs.List.{AllByRecursion}
 use Rattle.wl_module.specs.declared.imports.ExternalKind.TheVariants.{Func, Global}
 use Rattle.wl_module.specs.Imports.{PlacedImported, plain_imports}
@@ -132,7 +133,7 @@ part_of (Features features) = record no_parts { features = features }
 part_of (Debug section) = record no_parts { debug_sections = section ∷ [] }
 part_of Nothing = no_parts
 
--- the names of imports stand within 2^30 bytes
+-- the names of imports stand within the limit
 abbrev pub AreNamedWithin : SectionItems → Type 0
-AreNamedWithin (Imports imports base) = (base ≤ 2 ^ 30) × AllByRecursion IsNamedWithin imports
+AreNamedWithin (Imports imports base) = (base ≤ MAX_LEN) × AllByRecursion IsNamedWithin imports
 AreNamedWithin _ = Unit {0}

@@ -1,16 +1,16 @@
 -- Relocation sections (object file linking, version 2, "Relocation Sections").
-use Rattle.std.specs.Prelude.{◌≡◌, ◌≢◌, ◌⊎◌, ℕ, ℤ, pos, ◌==◌, Bool, false, nat_lt, if◌then◌else◌, List, [], length, Option, Some, None, Result, Ok, Err}
+use Rattle.std.specs.Prelude.{◌≡◌, ◌⊎◌, ℕ, ℤ, pos, ◌==◌, Bool, false, nat_lt, if◌then◌else◌, List, [], Option, Some, None, Result, Ok, Err}
 use Rattle.wl_bytes.specs.Cursor.{Cursor}
 use Rattle.wl_bytes.specs.Parse.{Takes, ◌>>=◌}
 use Rattle.wl_bytes.specs.Leb.{IsU32, s32_form, IsSigned}
 use Rattle.wl_bytes.specs.Items.{IsByte}
 use Rattle.wl_bytes.specs.Grammar.{Then, ThenFault, then_at, map_at}
-use Rattle.wl_module.specs.Lists.{NumberFault, ByteFault, Listed, ListedFault, number_at, one_byte_at, list_at, start}
+use Rattle.wl_module.specs.Lists.{NumberFault, ByteFault, Listed, ListedFault, number_at, one_byte_at, list_at, ToEnd, ToEndFault, to_end_at, start}
 use Rattle.wl_module.specs.Constants.{SignedNumberFault, signed_number_at}
 use Rattle.wl_module.specs.Checks.{When, WhenFault, when_at}
 use Rattle.wl_module.specs.declared.error.ReadError.{ReadError}
 use Rattle.wl_module.specs.declared.error.ReadError.TheVariants.{Malformed, Unsupported}
-use Rattle.wl_module.specs.declared.error.Why.TheVariants.{Trailing, RelocType as UnknownType}
+use Rattle.wl_module.specs.declared.error.Why.TheVariants.{RelocType as UnknownType}
 use Rattle.wl_module.specs.declared.error.Form.TheVariants.{RelocType}
 use Rattle.wl_linking.specs.Verdict.{Judged, JudgedFault, judged_at, Seen}
 use Rattle.wl_linking.specs.RelocationTypes.{relocation_type_of, has_addend}
@@ -86,16 +86,15 @@ entry_at at c = map_at relocation_of (entry_parts_at at) c
 
 -- a list of entries, and nothing behind it
 abbrev pub AreEntries : Target → List WasmRelocation → Cursor → Type 0
-AreEntries at entries from = (to : Cursor) × Takes (Listed (IsEntry at)) entries from to × (to.rest ≡ [])
+AreEntries at = ToEnd (Listed (IsEntry at))
 
 -- the list is at fault, or bytes are left behind it
 abbrev pub EntriesFault : Target → ReadError → Cursor → Type 0
-EntriesFault at e from = ListedFault (IsEntry at) (EntryFault at) e from
-    ⊎ ((entries : List WasmRelocation) × (to : Cursor) × Takes (Listed (IsEntry at)) entries from to × (to.rest ≢ []) × (e ≡ Malformed Trailing))
+EntriesFault at = ToEndFault (Listed (IsEntry at)) (ListedFault (IsEntry at) (EntryFault at))
 
 -- the entries to the end, read from a place
 abbrev pub entries_of : Target → Cursor → Result (List WasmRelocation) ReadError
-entries_of at c = list_at (entry_at at) c >>= λ p. if length p.1.rest == 0 then Ok p.0 else Err (Malformed Trailing)
+entries_of at c = to_end_at (list_at (entry_at at)) c
 
 -- ---- the section
 

@@ -1,5 +1,6 @@
 -- What each section holds, or what is wrong with it (core specification, "Sections"; object file linking, version 2).
-use Rattle.std.specs.Prelude.{◌≡◌, ◌⊎◌, ◌≤◌, ◌+◌, ◌^◌, ℕ, Bool, true, false, List, [], ◌∷◌, length}
+use Rattle.std.specs.Prelude.{◌≡◌, ◌⊎◌, ◌≤◌, ◌+◌, ℕ, Bool, true, false, List, [], ◌∷◌, length}
+use Rattle.wl_bytes.specs.declared.reader.TheConstants.{MAX_LEN}
 use Rattle.std.specs.List.{list_any}
 use Rattle.wl_module.specs.declared.section_kind.SectionKind.{SectionKind}
 use Rattle.wl_module.specs.declared.section_kind.SectionKind.TheVariants as kind
@@ -122,9 +123,9 @@ IsSound sections before s items = HoldsItems s.kind sections before s items s.pa
 abbrev pub IsFaulty : List Section → Parts → Section → ReadError → Type 0
 IsFaulty sections before s e = ItemsFault s.kind sections before s e s.payload
 
--- the payload lies in the first 2^30 bytes
+-- the payload lies within the limit
 abbrev pub EndsWithin : Section → Type 0
-EndsWithin s = base_of s + length s.payload ≤ 2 ^ 30
+EndsWithin s = base_of s + length s.payload ≤ MAX_LEN
 
 -- ---- all sections
 

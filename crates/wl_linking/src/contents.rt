@@ -6,9 +6,9 @@ use crate::sites::Site;
 use std::marker::Model;
 use wl_module::SectionHeader;
 
-/// What an object holds, whether or not it fits together: its bytes, what its sections hold, with the
-/// names that symbols take and the relocations in order, and where their fields lie. Clauses see it
-/// as an `Object`.
+/// What an object holds, whether or not it fits together: its bytes, what its sections hold, with
+/// the names that symbols take and the relocations in order, and where their fields lie. Clauses
+/// see it as an `Object`.
 #[derive(Drop)]
 pub(crate) struct Contents<'a> {
     pub bytes: &'a [u8],

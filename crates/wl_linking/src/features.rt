@@ -1,10 +1,10 @@
 //! The target features section: what an object uses of the machine that it is made for (tool
 //! conventions, "Target Features Section").
 
-ghost use Rattle.std.specs.Prelude.{◌≡◌};
-ghost use Rattle.wl_bytes.specs.Cursor.{end_of};
-ghost use Rattle.wl_module.specs.Outcome.{Yields, ReadsWhole, AreAlternatives, Gives};
-ghost use Rattle.wl_linking.specs.Features.{feature_at, features_of, AreFeatures, FeaturesFault};
+ghost use Rattle.std.specs.Prelude.{◌≤◌, length};
+ghost use Rattle.wl_bytes.specs.declared.reader.TheConstants.{MAX_LEN};
+ghost use Rattle.wl_module.specs.Outcome.{ReadsWhole, AreAlternatives};
+ghost use Rattle.wl_linking.specs.Features.{AreFeatures, FeaturesFault};
 
 use std::alloc::Global;
 use std::marker::Model;
@@ -36,35 +36,19 @@ impl<'a> Model for WasmTargetFeature<'a> {
     ghost view = { λ f. record { prefix = f.prefix; name = f.name.now } };
 }
 
-/// The feature in front.
-#[tactic(auto, unfolding(crate::specs::Features::feature_at))]
-fn read_feature<'a>(reader: &mut Reader<'a>) -> Result<WasmTargetFeature<'a>, ReadError>
-    ensures value { Yields (λ f. f) result reader.new (feature_at reader.old) }
-    ensures end { end_of reader.new ≡ end_of reader.old }
-{
-    let prefix = reader.read_u8()?;
-    let name = reader.read_name()?;
-    Ok(WasmTargetFeature { prefix, name })
-}
-
 impl<'a> Item<'a> for WasmTargetFeature<'a> {
     ghost use Rattle.wl_linking.specs.Features.{feature_at};
 
-    ghost item_at = { feature_at };
+    type Under = ();
 
-    ghost may_end = { λ _. Unit {0} };
+    ghost item_at = { λ _. feature_at };
 
-    fn read(_alloc: Global, mut reader: Reader<'a>) -> Result<(Self, Reader<'a>), ReadError> {
-        let feature = read_feature(&mut reader)?;
-        Ok((feature, reader))
+    #[tactic(auto, unfolding(crate::specs::Features::feature_at))]
+    fn read(_alloc: Global, _under: &mut (), reader: &mut Reader<'a>) -> Result<Self, ReadError> {
+        let prefix = reader.read_u8()?;
+        let name = reader.read_name()?;
+        Ok(WasmTargetFeature { prefix, name })
     }
-}
-
-/// The features of a whole payload.
-fn payload_features(alloc: Global, payload: &[u8]) -> Result<Vec<WasmTargetFeature<'_>>, ReadError>
-    ensures { Gives (λ v. v.items) result (features_of payload.now) }
-{
-    read_payload(alloc, payload)
 }
 
 /// Reads the payload of a target features section (tool conventions, "Target Features Section"):
@@ -77,9 +61,10 @@ pub fn parse_target_features_payload(
     alloc: Global,
     payload: &[u8],
 ) -> Result<Vec<WasmTargetFeature<'_>>, ReadError>
+    requires { length payload.now ≤ MAX_LEN }
     ensures { ReadsWhole (λ v. v.items) AreFeatures FeaturesFault payload.now result }
 {
-    payload_features(alloc, payload)
+    read_payload(alloc, (), payload)
 }
 
 /// Each payload spells one list of features or has one fault, and never both.

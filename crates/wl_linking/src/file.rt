@@ -1,6 +1,7 @@
 //! What a relocatable object holds.
 
-ghost use Rattle.std.specs.Prelude.{◌≡◌, ◌^◌, length};
+ghost use Rattle.std.specs.Prelude.{◌≡◌, length};
+ghost use Rattle.wl_bytes.specs.declared.reader.TheConstants.{MAX_LEN};
 ghost use Rattle.wl_module.specs.declared.imports.ExternalKind.TheVariants.{Func as FuncKind, Global as GlobalKind};
 ghost use Rattle.wl_linking.specs.Spaces.{count_imports};
 ghost use Rattle.wl_linking.specs.Targets.{is_debug_at};
@@ -13,7 +14,7 @@ use crate::infos::{WasmInitFunc, WasmSegmentInfo};
 use crate::kinds::is_debug;
 use crate::relocations::{WasmRelocSection, WasmRelocation};
 use crate::sites::Site;
-use crate::spaces::Spaces;
+use crate::spaces::Counts;
 use crate::symbols::WasmSymbol;
 use std::marker::Model;
 use wl_module::{
@@ -28,7 +29,7 @@ use wl_module::{
 #[derive(Drop)]
 pub struct File<'a> {
     pub(crate) contents: Contents<'a>,
-    pub(crate) spaces: Spaces,
+    pub(crate) spaces: Counts,
 }
 
 impl<'a> Model for File<'a> {
@@ -44,11 +45,11 @@ impl<'a> Model for File<'a> {
 }
 
 impl<'a> File<'a> {
-    /// A file stands for one object: the one that its bytes are. Each of its lists has 2^30 items at
-    /// most.
+    /// A file stands for one object: the one that its bytes are. Each of its lists has at most
+    /// `MAX_LEN` items.
     pub fn stands_for_an_object(&self)
         ensures whole { IsWhole self.now }
-        ensures few { HasFewItems (2 ^ 30) self.now }
+        ensures few { HasFewItems MAX_LEN self.now }
     {
         let _ = &self.contents;
     }

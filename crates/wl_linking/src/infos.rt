@@ -2,9 +2,8 @@
 //! (object file linking, version 2, "Segment Info Subsection" and "Init Funcs Subsection").
 
 ghost use Rattle.std.specs.Prelude.{◌≡◌};
-ghost use Rattle.wl_bytes.specs.Cursor.{end_of};
 ghost use Rattle.wl_module.specs.Outcome.{Yields};
-ghost use Rattle.wl_linking.specs.Infos.{info_at, init_at, alignment_at, is_tls};
+ghost use Rattle.wl_linking.specs.Infos.{alignment_at, is_tls};
 
 use std::alloc::Global;
 use std::marker::Model;
@@ -50,8 +49,7 @@ const MAX_EXPONENT: u32 = 31;
 /// The alignment in front, of which the bytes are the exponent.
 #[tactic(auto, unfolding(crate::specs::Infos::alignment_at))]
 fn read_alignment(reader: &mut Reader<'_>) -> Result<u32, ReadError>
-    ensures value { Yields (λ n. n) result reader.new (alignment_at reader.old) }
-    ensures end { end_of reader.new ≡ end_of reader.old }
+    ensures { Yields (λ n. n) result reader.new (alignment_at reader.old) }
 {
     let exponent = reader.read_u32()?;
     if exponent > MAX_EXPONENT {
@@ -60,32 +58,23 @@ fn read_alignment(reader: &mut Reader<'_>) -> Result<u32, ReadError>
     Ok(1 << exponent)
 }
 
-/// What is told of the segment in front.
-#[tactic(auto, unfolding(crate::specs::Infos::info_at))]
-fn read_info<'a>(reader: &mut Reader<'a>) -> Result<WasmSegmentInfo<'a>, ReadError>
-    ensures value { Yields (λ i. i) result reader.new (info_at reader.old) }
-    ensures end { end_of reader.new ≡ end_of reader.old }
-{
-    let name = reader.read_name()?;
-    let alignment = read_alignment(reader)?;
-    let flags = reader.read_u32()?;
-    Ok(WasmSegmentInfo {
-        name,
-        alignment,
-        flags,
-    })
-}
-
 impl<'a> Item<'a> for WasmSegmentInfo<'a> {
     ghost use Rattle.wl_linking.specs.Infos.{info_at};
 
-    ghost item_at = { info_at };
+    type Under = ();
 
-    ghost may_end = { λ _. Unit {0} };
+    ghost item_at = { λ _. info_at };
 
-    fn read(_alloc: Global, mut reader: Reader<'a>) -> Result<(Self, Reader<'a>), ReadError> {
-        let info = read_info(&mut reader)?;
-        Ok((info, reader))
+    #[tactic(auto, unfolding(crate::specs::Infos::info_at))]
+    fn read(_alloc: Global, _under: &mut (), reader: &mut Reader<'a>) -> Result<Self, ReadError> {
+        let name = reader.read_name()?;
+        let alignment = read_alignment(reader)?;
+        let flags = reader.read_u32()?;
+        Ok(WasmSegmentInfo {
+            name,
+            alignment,
+            flags,
+        })
     }
 }
 
@@ -99,29 +88,20 @@ pub struct WasmInitFunc {
     pub symbol_index: u32,
 }
 
-/// The function in front.
-#[tactic(auto, unfolding(crate::specs::Infos::init_at))]
-fn read_init(reader: &mut Reader<'_>) -> Result<WasmInitFunc, ReadError>
-    ensures value { Yields (λ f. f) result reader.new (init_at reader.old) }
-    ensures end { end_of reader.new ≡ end_of reader.old }
-{
-    let priority = reader.read_u32()?;
-    let symbol_index = reader.read_u32()?;
-    Ok(WasmInitFunc {
-        priority,
-        symbol_index,
-    })
-}
-
 impl<'a> Item<'a> for WasmInitFunc {
     ghost use Rattle.wl_linking.specs.Infos.{init_at};
 
-    ghost item_at = { init_at };
+    type Under = ();
 
-    ghost may_end = { λ _. Unit {0} };
+    ghost item_at = { λ _. init_at };
 
-    fn read(_alloc: Global, mut reader: Reader<'a>) -> Result<(Self, Reader<'a>), ReadError> {
-        let function = read_init(&mut reader)?;
-        Ok((function, reader))
+    #[tactic(auto, unfolding(crate::specs::Infos::init_at))]
+    fn read(_alloc: Global, _under: &mut (), reader: &mut Reader<'a>) -> Result<Self, ReadError> {
+        let priority = reader.read_u32()?;
+        let symbol_index = reader.read_u32()?;
+        Ok(WasmInitFunc {
+            priority,
+            symbol_index,
+        })
     }
 }

@@ -5,6 +5,7 @@
 //! why objects can't be linked.
 #![tactic(auto)]
 
+mod base;
 mod contents;
 mod debug;
 mod error;

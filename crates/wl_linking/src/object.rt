@@ -1,6 +1,7 @@
 //! A relocatable object: its sections, and what must hold across them.
 
-ghost use Rattle.std.specs.Prelude.{◌≡◌, ◌⊎◌, ◌<◌, ◌≤◌, ◌^◌, ℕ, List, length, map, Some, slice_get, MatchResult};
+ghost use Rattle.std.specs.Prelude.{◌≡◌, ◌⊎◌, ◌<◌, ◌≤◌, ℕ, List, length, map, Some, slice_get, MatchResult};
+ghost use Rattle.wl_bytes.specs.declared.reader.TheConstants.{MAX_LEN};
 ghost use Rattle.std.specs.List.{AllByRecursion};
 ghost use Rattle.wl_module.specs.Sections.{Section, IsModule, FrameFault};
 ghost use Rattle.wl_module.specs.declared.error.ReadError.{ReadError as Fault};
@@ -80,8 +81,9 @@ fn check_names(alloc: Global, contents: &Contents<'_>) -> Result<(), ReadError>
 
 /// The object that the bytes are.
 fn read_contents(alloc: Global, bytes: &[u8]) -> Result<Contents<'_>, ReadError>
-    requires { length bytes.now ≤ 2 ^ 30 }
-    ensures { MatchResult result (λ o. IsObject o bytes.now) (HasCause (λ e. ObjectFault e bytes.now)) }
+    requires { length bytes.now ≤ MAX_LEN }
+    ensures { MatchResult result (λ o. IsObject o bytes.now)
+        (HasCause (λ e. ObjectFault e bytes.now)) }
 {
     let sections = read_sections(alloc, bytes)?;
     let parts = read_parts(alloc, &sections)?;
@@ -91,14 +93,14 @@ fn read_contents(alloc: Global, bytes: &[u8]) -> Result<Contents<'_>, ReadError>
     Ok(contents)
 }
 /// Reads a relocatable object (core specification, "Modules"; object file linking, version 2), of
-/// 2^30 bytes at most.
+/// `MAX_LEN` bytes at most.
 ///
 /// # Errors
 /// `Malformed` and `Unsupported` say what is wrong with the bytes: their frame is judged first,
 /// then the sections in file order, up to the first that isn't sound, then what must hold across
 /// them. Where more than one of these last rules is broken, which one is told is left open.
 pub fn parse_wasm_module(alloc: Global, bytes: &[u8]) -> Result<File<'_>, ReadError>
-    requires { length bytes.now ≤ 2 ^ 30 }
+    requires { length bytes.now ≤ MAX_LEN }
     ensures { ParsesObject bytes.now result }
 {
     let contents = read_contents(alloc, bytes)?;
@@ -126,8 +128,8 @@ pub fn names_stand()
         → AllByRecursion (NameStands bytes) o.symbols }
 {}
 
-/// The names of imports, exports, features and what is told of segments, the expressions of globals,
-/// bodies, and the bytes of segments stand in the object's bytes.
+/// The names of imports, exports, features and what is told of segments, the expressions of
+/// globals, bodies, and the bytes of segments stand in the object's bytes.
 pub fn parts_of_objects_stand()
     ensures { (bytes : List ℕ) (o : Object) → IsObject o bytes → PartsStandIn bytes o }
 {}
@@ -137,13 +139,14 @@ pub fn lists_are_few()
     ensures { (bytes : List ℕ) (o : Object) → IsObject o bytes → HasFewItems (length bytes) o }
 {}
 
-/// What holds of each object that is kept: it fits together, its lists have 2^30 items at most, each
+/// What holds of each object that is kept: it fits together, its lists have `MAX_LEN` items at
+/// most, each
 /// function has one of its types, and each relocation has one site, in one of the bodies or of the
 /// segments.
 pub fn whole_objects()
     ensures fitting { (o : Object) → IsWhole o → IsFitting o }
-    ensures few { (o : Object) → IsWhole o → HasFewItems (2 ^ 30) o }
-    ensures imports { (o : Object) (k : Kind) → IsWhole o → count_imports k o.imports ≤ 2 ^ 30 }
+    ensures few { (o : Object) → IsWhole o → HasFewItems MAX_LEN o }
+    ensures imports { (o : Object) (k : Kind) → IsWhole o → count_imports k o.imports ≤ MAX_LEN }
     ensures types { (o : Object) (i t : ℕ) → IsWhole o
         → slice_get o.functions i ≡ Some t → t < length o.types }
     ensures code_sites { (o : Object) → IsWhole o

@@ -1,16 +1,15 @@
 //! Relocation sections (object file linking, version 2, "Relocation Sections").
 
 ghost use Rattle.std.specs.Prelude.{◌≡◌, length};
-ghost use Rattle.wl_bytes.specs.Grammar.{times_at};
 ghost use Rattle.wl_module.specs.Outcome.{Yields, Gives};
-ghost use Rattle.wl_linking.specs.Relocations.{type_verdict, addend_where_at, entry_at, entries_of, held_at};
+ghost use Rattle.wl_linking.specs.Relocations.{type_verdict, addend_where_at, entries_of, held_at};
 
 use crate::items::Items;
 use crate::relocation_type::RelocationType;
 use std::alloc::Global;
 use std::marker::Model;
 use wl_bytes::Reader;
-use wl_module::{Form, ReadError, Why};
+use wl_module::{Form, Item, ReadError, Why, expect_end, read_list};
 
 /// A place in a section's payload that takes the value of a symbol or a type (object file linking,
 /// version 2, "Relocation Sections").
@@ -68,7 +67,7 @@ pub struct WasmRelocSection {
 
 /// What the fields of a relocation section lie in.
 #[derive(Clone, Copy, Debug, PartialEq, Eq)]
-pub(crate) enum Target {
+pub enum Target {
     /// The code section.
     Code,
     /// The data section.
@@ -117,41 +116,35 @@ fn read_addend_where(has_addend: bool, reader: &mut Reader<'_>) -> Result<i64, R
     }
 }
 
-/// The entry in front.
-#[tactic(auto, unfolding(crate::specs::Relocations::entry_at))]
-fn read_entry(target: Target, reader: &mut Reader<'_>) -> Result<WasmRelocation, ReadError>
-    ensures { Yields (λ r. r) result reader.new (entry_at target reader.old) }
-{
-    let number = reader.read_u8()?;
-    let ty = read_type(target, number)?;
-    let offset = reader.read_u32()?;
-    let index = reader.read_u32()?;
-    let addend = read_addend_where(ty.has_addend(), reader)?;
-    Ok(WasmRelocation {
-        ty,
-        offset,
-        index,
-        addend,
-    })
-}
+impl<'a> Item<'a> for WasmRelocation {
+    ghost use Rattle.wl_linking.specs.Relocations.{entry_at};
 
-/// So many entries, in a list that grows as they are read.
-fn entries_in(
-    alloc: Global,
-    target: Target,
-    reader: &mut Reader<'_>,
-    count: u32,
-) -> Result<Vec<WasmRelocation>, ReadError>
-    ensures { Yields (λ v. v.items) result reader.new (times_at (entry_at target) count reader.old) }
-{
-    let mut entries = Vec::new(alloc);
-    for _ in 0..count {
-        entries.push(read_entry(target, reader)?)?;
+    type Under = Target;
+
+    ghost item_at = { entry_at };
+
+    #[tactic(auto, unfolding(crate::specs::Relocations::entry_at))]
+    fn read(
+        _alloc: Global,
+        target: &mut Target,
+        reader: &mut Reader<'a>,
+    ) -> Result<Self, ReadError> {
+        let number = reader.read_u8()?;
+        let ty = read_type(*target, number)?;
+        let offset = reader.read_u32()?;
+        let index = reader.read_u32()?;
+        let addend = read_addend_where(ty.has_addend(), reader)?;
+        Ok(WasmRelocation {
+            ty,
+            offset,
+            index,
+            addend,
+        })
     }
-    Ok(entries)
 }
 
 /// The entries up to the end of the payload.
+#[tactic(auto, using(wl_module::proofs::Loops::list_kept))]
 fn read_entries(
     alloc: Global,
     target: Target,
@@ -159,11 +152,8 @@ fn read_entries(
 ) -> Result<Vec<WasmRelocation>, ReadError>
     ensures { Gives (λ v. v.items) result (entries_of target reader.old) }
 {
-    let count = reader.read_u32()?;
-    let entries = entries_in(alloc, target, reader, count)?;
-    if !reader.rest().is_empty() {
-        return Err(ReadError::Malformed(Why::Trailing));
-    }
+    let entries = read_list(alloc, target, reader)?;
+    expect_end(reader)?;
     Ok(entries)
 }
 

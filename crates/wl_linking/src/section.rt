@@ -1,6 +1,7 @@
 //! One section of an object.
 
-ghost use Rattle.std.specs.Prelude.{◌≡◌, MatchResult};
+ghost use Rattle.std.specs.Prelude.{◌≡◌, ◌≤◌, length, MatchResult};
+ghost use Rattle.wl_bytes.specs.declared.reader.TheConstants.{MAX_LEN};
 ghost use Rattle.wl_module.specs.Outcome.{Gives, ReadsWhole};
 ghost use Rattle.wl_module.specs.Memories.{AreMemories, MemoriesFault};
 ghost use Rattle.wl_linking.specs.Relocations.{reloc_section_of};
@@ -51,7 +52,8 @@ fn read_first_linking<'a>(
     section: &FramedSection<'a>,
 ) -> Result<Linking<'a>, ReadError>
     requires { EndsWithin section.now }
-    ensures { let s = section.now in MatchResult result (λ linking. LinkingItems before.now s linking s.payload)
+    ensures { let s = section.now in
+        MatchResult result (λ linking. LinkingItems before.now s linking s.payload)
         (HasCause (λ e. LinkingItemsFault before.now s e s.payload)) }
 {
     if before.has_linking {
@@ -67,6 +69,7 @@ fn read_reloc_section(
     before: &Parts<'_>,
     payload: &[u8],
 ) -> Result<RelocHeld, ReadError>
+    requires { length payload.now ≤ MAX_LEN }
     ensures { let verdict = numbered_verdict sections.now before.now in
         Gives (λ s. s) result (reloc_section_of verdict payload.now) }
 {
@@ -98,8 +101,10 @@ fn read_own_memories(
     imports: &[Import<'_>],
     payload: &[u8],
 ) -> Result<Vec<MemoryType>, ReadError>
+    requires { length payload.now ≤ MAX_LEN }
     ensures { let imported = has_memory imports.now in
-        ReadsWhole (λ v. v.items) (AreMemories imported) (MemoriesFault imported) payload.now result }
+        ReadsWhole (λ v. v.items) (AreMemories imported) (MemoriesFault imported)
+        payload.now result }
 {
     read_memories(alloc, has_memory(imports), payload)
 }

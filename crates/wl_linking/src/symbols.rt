@@ -1,20 +1,20 @@
 //! The symbol table of a linking section (object file linking, version 2, "Symbol Table
 //! Subsection").
 
-ghost use Rattle.std.specs.Prelude.{◌≡◌, ◌≤◌, ◌^◌, ◌-◌, length};
-ghost use Rattle.wl_bytes.specs.Cursor.{end_of};
-ghost use Rattle.wl_bytes.specs.Grammar.{times_at};
+ghost use Rattle.std.specs.Prelude.{◌≡◌, ◌≤◌, ◌<◌, ◌^◌, ◌+◌, ◌-◌, length};
+ghost use Rattle.wl_bytes.specs.declared.reader.TheConstants.{MAX_LEN};
 ghost use Rattle.wl_module.specs.Outcome.{Yields, Gives};
 ghost use Rattle.wl_linking.specs.Symbols.{kind_verdict, has_flag, has_name, is_undefined, is_weak, is_local, is_absolute, named, range_of};
-ghost use Rattle.wl_linking.specs.SymbolsReading.{based_name_at, name_where_at, extent_where_at, numbered_at, located_at, section_at, details_at, symbol_at, symbols_of};
+ghost use Rattle.wl_linking.specs.SymbolsReading.{based_name_at, name_where_at, extent_where_at, numbered_at, located_at, section_at, details_at, symbols_of};
 
+use crate::base::Base;
 use crate::flags::SymbolFlags;
 use crate::items::Items;
 use bitflags::Flags;
 use std::alloc::Global;
 use std::marker::Model;
 use wl_bytes::Reader;
-use wl_module::{Form, ReadError, Why};
+use wl_module::{Form, Item, ReadError, Why, read_payload};
 
 /// What a symbol stands for (object file linking, version 2, "Symbol Table Subsection").
 #[derive(Clone, Copy, Debug, PartialEq, Eq)]
@@ -193,8 +193,7 @@ impl<'a> Model for Details<'a> {
 /// Where a name of so many bytes stands in the object, by how many bytes of the object lie before
 /// the reader's, and how many of these before the end of the name.
 pub(crate) fn range_of(base: u32, end: usize, len: usize) -> (u32, u32)
-    requires base { base ≤ 2 ^ 31 }
-    requires end { end ≤ 2 ^ 30 }
+    requires end { base + end < 2 ^ 32 }
     requires len { len ≤ end }
     ensures { result ≡ range_of base (end - len) len }
 {
@@ -207,28 +206,22 @@ pub(crate) fn range_of(base: u32, end: usize, len: usize) -> (u32, u32)
 
 /// The name in front, with its place in the object.
 #[tactic(auto, unfolding(crate::specs::SymbolsReading::based_name_at, wl_module::specs::Words::placed_name_at))]
-fn read_name<'a>(base: u32, reader: &mut Reader<'a>) -> Result<(&'a str, (u32, u32)), ReadError>
-    requires base { base ≤ 2 ^ 31 }
-    requires end { end_of reader.old ≤ 2 ^ 30 }
-    ensures value { Yields (λ w. (w.0.now, w.1)) result reader.new (based_name_at base reader.old) }
-    ensures end { end_of reader.new ≡ end_of reader.old }
+fn read_name<'a>(base: Base, reader: &mut Reader<'a>) -> Result<(&'a str, (u32, u32)), ReadError>
+    ensures { Yields (λ w. (w.0.now, w.1)) result reader.new (based_name_at base.before reader.old) }
 {
     let name = reader.read_name()?;
-    let range = range_of(base, reader.position(), name.len());
+    let range = range_of(base.before, reader.position(), name.len());
     Ok((name, range))
 }
 
 /// The name in front, where there is to be one.
 #[tactic(auto, unfolding(crate::specs::SymbolsReading::name_where_at))]
 fn read_name_where<'a>(
-    base: u32,
+    base: Base,
     named: bool,
     reader: &mut Reader<'a>,
 ) -> Result<(&'a str, (u32, u32)), ReadError>
-    requires base { base ≤ 2 ^ 31 }
-    requires end { end_of reader.old ≤ 2 ^ 30 }
-    ensures value { Yields (λ w. (w.0.now, w.1)) result reader.new (name_where_at base named reader.old) }
-    ensures end { end_of reader.new ≡ end_of reader.old }
+    ensures { Yields (λ w. (w.0.now, w.1)) result reader.new (name_where_at base.before named reader.old) }
 {
     if named {
         read_name(base, reader)
@@ -240,8 +233,7 @@ fn read_name_where<'a>(
 /// Where the data in front lies: its segment, its offset there and its size.
 #[tactic(auto, unfolding(crate::specs::SymbolsReading::extent_where_at))]
 fn read_extent_where(defined: bool, reader: &mut Reader<'_>) -> Result<(u32, (u32, u32)), ReadError>
-    ensures value { Yields (λ e. e) result reader.new (extent_where_at defined reader.old) }
-    ensures end { end_of reader.new ≡ end_of reader.old }
+    ensures { Yields (λ e. e) result reader.new (extent_where_at defined reader.old) }
 {
     if !defined {
         return Ok((0, (0, 0)));
@@ -255,14 +247,11 @@ fn read_extent_where(defined: bool, reader: &mut Reader<'_>) -> Result<(u32, (u3
 /// An index, and a name where there is to be one.
 #[tactic(auto, unfolding(crate::specs::SymbolsReading::numbered_at))]
 fn read_numbered<'a>(
-    base: u32,
+    base: Base,
     flags: SymbolFlags,
     reader: &mut Reader<'a>,
 ) -> Result<Details<'a>, ReadError>
-    requires base { base ≤ 2 ^ 31 }
-    requires end { end_of reader.old ≤ 2 ^ 30 }
-    ensures value { Yields (λ d. d) result reader.new (numbered_at base flags.0 reader.old) }
-    ensures end { end_of reader.new ≡ end_of reader.old }
+    ensures { Yields (λ d. d) result reader.new (numbered_at base.before flags.0 reader.old) }
 {
     let index = reader.read_u32()?;
     let named = !flags.contains(SymbolFlags::UNDEFINED)
@@ -280,14 +269,11 @@ fn read_numbered<'a>(
 /// A name, and where data lies that the object defines.
 #[tactic(auto, unfolding(crate::specs::SymbolsReading::located_at))]
 fn read_located<'a>(
-    base: u32,
+    base: Base,
     flags: SymbolFlags,
     reader: &mut Reader<'a>,
 ) -> Result<Details<'a>, ReadError>
-    requires base { base ≤ 2 ^ 31 }
-    requires end { end_of reader.old ≤ 2 ^ 30 }
-    ensures value { Yields (λ d. d) result reader.new (located_at base flags.0 reader.old) }
-    ensures end { end_of reader.new ≡ end_of reader.old }
+    ensures { Yields (λ d. d) result reader.new (located_at base.before flags.0 reader.old) }
 {
     let (name, name_range) = read_name(base, reader)?;
     let defined = !flags.contains(SymbolFlags::UNDEFINED);
@@ -304,8 +290,7 @@ fn read_located<'a>(
 /// The number of a section.
 #[tactic(auto, unfolding(crate::specs::SymbolsReading::section_at))]
 fn read_section<'a>(reader: &mut Reader<'a>) -> Result<Details<'a>, ReadError>
-    ensures value { Yields (λ d. d) result reader.new (section_at reader.old) }
-    ensures end { end_of reader.new ≡ end_of reader.old }
+    ensures { Yields (λ d. d) result reader.new (section_at reader.old) }
 {
     let index = reader.read_u32()?;
     Ok(Details {
@@ -319,15 +304,12 @@ fn read_section<'a>(reader: &mut Reader<'a>) -> Result<Details<'a>, ReadError>
 
 /// What stands behind the flags of a symbol of that kind.
 fn read_details<'a>(
-    base: u32,
+    base: Base,
     kind: WasmSymbolKind,
     flags: SymbolFlags,
     reader: &mut Reader<'a>,
 ) -> Result<Details<'a>, ReadError>
-    requires base { base ≤ 2 ^ 31 }
-    requires end { end_of reader.old ≤ 2 ^ 30 }
-    ensures value { Yields (λ d. d) result reader.new (details_at base kind flags.0 reader.old) }
-    ensures end { end_of reader.new ≡ end_of reader.old }
+    ensures { Yields (λ d. d) result reader.new (details_at base.before kind flags.0 reader.old) }
 {
     match kind {
         WasmSymbolKind::Func | WasmSymbolKind::Global | WasmSymbolKind::Table => {
@@ -338,63 +320,43 @@ fn read_details<'a>(
     }
 }
 
-/// The symbol in front.
-#[tactic(auto, unfolding(crate::specs::SymbolsReading::symbol_at))]
-fn read_symbol<'a>(base: u32, reader: &mut Reader<'a>) -> Result<WasmSymbol<'a>, ReadError>
-    requires base { base ≤ 2 ^ 31 }
-    requires end { end_of reader.old ≤ 2 ^ 30 }
-    ensures value { Yields (λ s. s) result reader.new (symbol_at base reader.old) }
-    ensures end { end_of reader.new ≡ end_of reader.old }
-{
-    let kind = reader.read_u8()?;
-    let kind = read_kind(kind)?;
-    let flags = SymbolFlags::from_bits_retain(reader.read_u32()?);
-    let details = read_details(base, kind, flags, reader)?;
-    Ok(WasmSymbol {
-        kind,
-        flags,
-        index: details.index,
-        offset: details.offset,
-        size: details.size,
-        name: details.name,
-        name_range: details.name_range,
-    })
-}
+impl<'a> Item<'a> for WasmSymbol<'a> {
+    ghost use Rattle.wl_linking.specs.SymbolsReading.{symbol_at};
 
-/// So many symbols, in a list that grows as they are read.
-fn symbols_in<'a>(
-    alloc: Global,
-    base: u32,
-    reader: &mut Reader<'a>,
-    count: u32,
-) -> Result<Vec<WasmSymbol<'a>>, ReadError>
-    requires base { base ≤ 2 ^ 31 }
-    requires end { end_of reader.old ≤ 2 ^ 30 }
-    ensures { Yields (λ v. v.items) result reader.new (times_at (symbol_at base) count reader.old) }
-{
-    let mut symbols = Vec::new(alloc);
-    for _ in 0..count {
-        symbols.push(read_symbol(base, reader)?)?;
+    type Under = Base;
+
+    ghost item_at = { λ base. symbol_at base.before };
+
+    #[tactic(auto, unfolding(crate::specs::SymbolsReading::symbol_at))]
+    fn read(_alloc: Global, base: &mut Base, reader: &mut Reader<'a>) -> Result<Self, ReadError> {
+        let kind = reader.read_u8()?;
+        let kind = read_kind(kind)?;
+        let flags = SymbolFlags::from_bits_retain(reader.read_u32()?);
+        let details = read_details(*base, kind, flags, reader)?;
+        Ok(WasmSymbol {
+            kind,
+            flags,
+            index: details.index,
+            offset: details.offset,
+            size: details.size,
+            name: details.name,
+            name_range: details.name_range,
+        })
     }
-    Ok(symbols)
 }
 
 /// The symbols of a symbol table, in order, where so many bytes of the object lie before its
 /// payload.
+#[tactic(auto, using(wl_module::proofs::Loops::list_kept))]
 pub(crate) fn read_symbols(
     alloc: Global,
     base: u32,
     payload: &[u8],
 ) -> Result<Items<WasmSymbol<'_>>, ReadError>
-    requires base { base ≤ 2 ^ 31 }
-    requires len { length payload.now ≤ 2 ^ 30 }
+    requires base { base + MAX_LEN < 2 ^ 32 }
+    requires len { length payload.now ≤ MAX_LEN }
     ensures { Gives (λ symbols. symbols) result (symbols_of base payload.now) }
 {
-    let mut reader = Reader::new(payload);
-    let count = reader.read_u32()?;
-    let symbols = symbols_in(alloc, base, &mut reader, count)?;
-    if !reader.rest().is_empty() {
-        return Err(ReadError::Malformed(Why::Trailing));
-    }
+    let symbols = read_payload(alloc, Base::new(base), payload)?;
     Ok(Items::new(symbols))
 }

@@ -1,20 +1,17 @@
 -- The laws of constant expressions.
-use Rattle.std.proofs.Common.{◌≡◌, ◌≢◌, ℕ, ◌+◌, ◌-◌, ◌<◌, ◌≤◌, true, false, List, [], ◌∷◌, ◌++◌, length, take, Option, Some, None, Result, Ok, Err, refl, sym, ap, subst, ◌∙◌, arith, inl, inr, append_assoc, length-append}
+use Rattle.std.proofs.Common.{◌≡◌, ◌≢◌, ℕ, ◌+◌, ◌-◌, ◌<◌, true, false, List, [], ◌∷◌, ◌++◌, length, take, Option, Some, None, Ok, Err, refl, sym, ap, subst, ◌∙◌, arith, inl, inr, append_assoc, length-append}
 use Rattle.std.proofs.lemmas.List.{take_at}
 use Rattle.std.specs.Prelude.{is_some}
 use Rattle.wl_bytes.specs.Cursor.{Cursor}
 use Rattle.wl_bytes.specs.Parse.{Takes}
-use Rattle.wl_bytes.specs.Leb.{form_of, s32_form, s64_form, IsU32, IsSigned, SignedFault}
-use Rattle.wl_bytes.specs.Items.{IsStretch, EndsBefore}
+use Rattle.wl_bytes.specs.Leb.{form_of, IsSigned, SignedFault}
 use Rattle.wl_bytes.specs.Reading as bytes
-use Rattle.wl_bytes.specs.Grammar.{Then, then_at, Items}
+use Rattle.wl_bytes.specs.Grammar.{Items}
 use Rattle.wl_bytes.specs.declared.leb.LebForm.{LebForm}
 use Rattle.wl_bytes.specs.declared.leb.LebForm.TheVariants.{S32, S64}
-use Rattle.wl_bytes.proofs.Steps.{bind_ok, bind_err, ok_is}
 use Rattle.wl_bytes.proofs.Readings.{IsReading}
 use Rattle.wl_bytes.proofs.SignedLaws.{signed_reading}
-use Rattle.wl_bytes.proofs.ItemLaws.{take_reading}
-use Rattle.wl_bytes.proofs.GrammarLaws.{then_reading, map_reading, error_reading, take_nothing, nothing_taken, cons_text, first_of_items}
+use Rattle.wl_bytes.proofs.GrammarLaws.{map_reading, error_reading, take_nothing, nothing_taken, cons_text, first_of_items}
 use Rattle.wl_module.specs.declared.constants.ConstOperator.{ConstOperator}
 use Rattle.wl_module.specs.declared.constants.ConstOperator.TheVariants.{I32Const, I64Const, F32Const, F64Const, GlobalGet, RefNull, RefFunc, I32Add, I32Sub, I32Mul, I64Add, I64Sub, I64Mul, Vector}
 use Rattle.wl_module.specs.declared.error.Why.TheVariants.{Truncated}
@@ -23,76 +20,63 @@ use Rattle.wl_module.specs.declared.error.ReadError.{ReadError}
 use Rattle.wl_module.specs.declared.error.ReadError.TheVariants.{OutOfMemory, Malformed, Unsupported}
 use Rattle.wl_module.specs.Error.{read_error}
 use Rattle.wl_module.specs.Outcome.{Fails}
-use Rattle.wl_module.specs.Lists.{NumberFault, number_at, IsCoded, CodedFault, coded_at}
-use Rattle.wl_module.specs.Types.{value_type_code}
-use Rattle.wl_module.specs.Reading.{value_type_of}
-use Rattle.wl_module.specs.Bodies.{StretchFault}
-use Rattle.wl_module.specs.BodiesReading.{stretch_at}
-use Rattle.wl_module.specs.Checks.{Where, WhereFault, where_at, Any}
+use Rattle.wl_module.specs.Lists.{IsCoded, CodedFault}
+use Rattle.wl_module.specs.Types.{value_type_code, value_types, is_reference}
+use Rattle.wl_module.specs.Checks.{Any}
 use Rattle.wl_module.specs.Ends.{Ended, EndedFault, ended_at}
-use Rattle.wl_module.specs.Constants.{operator_code, step_code, all_steps, step_of, first_at, SignedNumberFault, signed_number_at, is_reference, IsReference, ReferenceFault, reference_at, is_vector_const, IsVector, VectorFault, vector_at, IsImmediate, ImmediateFault, immediate_at, IsOperator, IsStepImmediate, IsStep, StepImmediateFault, StepFault, step_immediate_at, step_at, IsExpression, ExpressionFault, expression_at}
-use Rattle.wl_module.proofs.ListLaws.{Decodes, found_code, coded_reading, number_reading}
-use Rattle.wl_module.proofs.TypeLaws.{value_types_decode}
+use Rattle.wl_module.specs.Constants.{operator_code, step_code, all_steps, first_at, SignedNumberFault, signed_number_at, IsReference, ReferenceFault, reference_at, is_vector_const, IsVector, VectorFault, vector_at, IsImmediate, ImmediateFault, immediate_at, IsOperator, IsStepImmediate, IsStep, StepImmediateFault, StepFault, step_immediate_at, step_at, IsExpression, ExpressionFault, expression_at}
+use Rattle.wl_module.proofs.ReadingLaws.{respelled, either, reading_by, both}
+use Rattle.wl_module.proofs.ListLaws.{AreAll, coded_reading, number_reading}
+use Rattle.wl_module.proofs.TypeLaws.{all_value_types}
+use Rattle.wl_module.proofs.BodyLaws.{stretch_reading}
 use Rattle.wl_module.proofs.CheckLaws.{where_reading, any_reading, nothing_reading}
 use Rattle.wl_module.proofs.EndLaws.{AreSteps, end_of_items, step_shortens, ended_reading}
 
 -- ---- the first bytes
 
-steps_decode : Decodes step_code step_of
-steps_decode = record { back = back; only = λ b x e. found_code step_code all_steps b x e }
-  where
-    back : (x : Option ConstOperator) → step_of (step_code x) ≡ Some x
-    back None = refl
-    back (Some I32Const) = refl
-    back (Some I64Const) = refl
-    back (Some F32Const) = refl
-    back (Some F64Const) = refl
-    back (Some GlobalGet) = refl
-    back (Some RefNull) = refl
-    back (Some RefFunc) = refl
-    back (Some I32Add) = refl
-    back (Some I32Sub) = refl
-    back (Some I32Mul) = refl
-    back (Some I64Add) = refl
-    back (Some I64Sub) = refl
-    back (Some I64Mul) = refl
-    back (Some Vector) = refl
+all_first : AreAll step_code all_steps
+all_first None = refl
+all_first (Some I32Const) = refl
+all_first (Some I64Const) = refl
+all_first (Some F32Const) = refl
+all_first (Some F64Const) = refl
+all_first (Some GlobalGet) = refl
+all_first (Some RefNull) = refl
+all_first (Some RefFunc) = refl
+all_first (Some I32Add) = refl
+all_first (Some I32Sub) = refl
+all_first (Some I32Mul) = refl
+all_first (Some I64Add) = refl
+all_first (Some I64Sub) = refl
+all_first (Some I64Mul) = refl
+all_first (Some Vector) = refl
 
 first_reading : IsReading (IsCoded step_code) (CodedFault step_code (λ _. Unsupported OtherOperator)) first_at
 unfolding first_at
-first_reading = coded_reading step_code step_of (λ _. Unsupported OtherOperator) steps_decode
+first_reading = coded_reading step_code all_steps (λ _. Unsupported OtherOperator) all_first
 
 -- ---- what stands behind them
 
 signed_number_reading : (f : LebForm) → IsReading (IsSigned (form_of f)) (SignedNumberFault (form_of f)) (signed_number_at (form_of f))
 signed_number_reading f = error_reading (IsSigned (form_of f)) (SignedFault (form_of f)) (bytes.signed_at (form_of f)) read_error (signed_reading f)
 
-pub stretch_reading : (n : ℕ) → IsReading (IsStretch n) (StretchFault n) (stretch_at n)
-stretch_reading n = error_reading (IsStretch n) (EndsBefore n) (bytes.take_at n) read_error (take_reading n)
-
 reference_reading : IsReading (Any IsReference) ReferenceFault reference_at
 unfolding reference_at
-reference_reading =
-    any_reading IsReference ReferenceFault (where_at (coded_at value_type_of (λ _. Unsupported Operator)) is_reference (Unsupported Operator))
-    (where_reading (IsCoded value_type_code) (CodedFault value_type_code (λ _. Unsupported Operator)) (coded_at value_type_of (λ _. Unsupported Operator)) is_reference (Unsupported Operator)
-    (coded_reading value_type_code value_type_of (λ _. Unsupported Operator) value_types_decode))
+reference_reading = any_reading _ _ _ (where_reading _ _ _ is_reference (Unsupported Operator) (coded_reading value_type_code value_types (λ _. Unsupported Operator) all_value_types))
 
 vector_reading : IsReading (Any IsVector) VectorFault vector_at
 unfolding vector_at
-vector_reading =
-    any_reading IsVector VectorFault (then_at (where_at number_at is_vector_const (Unsupported OtherOperator)) (λ _. stretch_at 16))
-    (then_reading (Where IsU32 is_vector_const) (λ _. IsStretch 16) (WhereFault IsU32 NumberFault is_vector_const (Unsupported OtherOperator)) (λ _. StretchFault 16) (where_at number_at is_vector_const (Unsupported OtherOperator)) (λ _. stretch_at 16)
-    (where_reading IsU32 NumberFault number_at is_vector_const (Unsupported OtherOperator) number_reading) (λ _. stretch_reading 16))
+vector_reading = any_reading _ _ _ (both (where_reading _ _ _ is_vector_const (Unsupported OtherOperator) number_reading) (λ _. stretch_reading 16))
 
 immediate_reading : (o : ConstOperator) → IsReading (IsImmediate o) (ImmediateFault o) (immediate_at o)
 unfolding immediate_at
-immediate_reading I32Const = any_reading (IsSigned s32_form) (SignedNumberFault s32_form) (signed_number_at s32_form) (signed_number_reading S32)
-immediate_reading I64Const = any_reading (IsSigned s64_form) (SignedNumberFault s64_form) (signed_number_at s64_form) (signed_number_reading S64)
-immediate_reading F32Const = any_reading (IsStretch 4) (StretchFault 4) (stretch_at 4) (stretch_reading 4)
-immediate_reading F64Const = any_reading (IsStretch 8) (StretchFault 8) (stretch_at 8) (stretch_reading 8)
-immediate_reading GlobalGet = any_reading IsU32 NumberFault number_at number_reading
+immediate_reading I32Const = any_reading _ _ _ (signed_number_reading S32)
+immediate_reading I64Const = any_reading _ _ _ (signed_number_reading S64)
+immediate_reading F32Const = any_reading _ _ _ (stretch_reading 4)
+immediate_reading F64Const = any_reading _ _ _ (stretch_reading 8)
+immediate_reading GlobalGet = any_reading _ _ _ number_reading
 immediate_reading RefNull = reference_reading
-immediate_reading RefFunc = any_reading IsU32 NumberFault number_at number_reading
+immediate_reading RefFunc = any_reading _ _ _ number_reading
 immediate_reading I32Add = nothing_reading
 immediate_reading I32Sub = nothing_reading
 immediate_reading I32Mul = nothing_reading
@@ -102,7 +86,6 @@ immediate_reading I64Mul = nothing_reading
 immediate_reading Vector = vector_reading
 
 step_immediate_reading : (o : Option ConstOperator) → IsReading (IsStepImmediate o) (StepImmediateFault o) (step_immediate_at o)
-unfolding step_immediate_at
 step_immediate_reading None = nothing_reading
 step_immediate_reading (Some o) = immediate_reading o
 
@@ -110,9 +93,7 @@ step_immediate_reading (Some o) = immediate_reading o
 
 pub step_reading : IsReading IsStep StepFault step_at
 unfolding step_at
-step_reading = map_reading (Then (IsCoded step_code) IsStepImmediate) IsStep StepFault (then_at first_at step_immediate_at) (λ p. p.0) (λ o. (o, tt))
-    (λ place p text s. s) (λ place o text s. (s, refl))
-    (then_reading (IsCoded step_code) IsStepImmediate (CodedFault step_code (λ _. Unsupported OtherOperator)) StepImmediateFault first_at step_immediate_at first_reading step_immediate_reading)
+step_reading = map_reading _ IsStep StepFault _ (λ p. p.0) (λ o. (o, tt)) (λ place p text s. s) (λ place o text s. (s, refl)) (both first_reading step_immediate_reading)
 
 some_step : (text back : List ℕ) (b : ℕ) (front : List ℕ) → text ≡ front ++ back → front ≡ b ∷ [] → text ≢ []
 some_step text back b front e f none = absurd (let whole : text ≡ b ∷ back = e ∙ ap (λ (x : List ℕ). x ++ back) f in cc)
@@ -156,35 +137,18 @@ body_is body c to t =
     let whole : c.rest ≡ body ++ (0x0b ∷ to.rest) = t.parts ∙ ap (λ (x : List ℕ). x ++ to.rest) t.spelled.1 ∙ append_assoc body (0x0b ∷ []) to.rest in
     rw (len, whole) (take_at body (0x0b ∷ to.rest) (length body) refl)
 
-abbrev body_from : Cursor → List ConstOperator × Cursor → Result (List ℕ × Cursor) ReadError
-body_from c p = Ok (take (p.1.position - c.position - 1) c.rest, p.1)
-
 pub expression_reading : IsReading IsExpression ExpressionFault expression_at
 unfolding expression_at
-expression_reading = record {
-  found = λ c body to e.
-      let a = bind_ok (ended_at step_at (Malformed Truncated) c) (body_from c) (body, to) e in
-      let t = as_expression a.0.0 c a.0.1 (steps_reading.found c a.0.0 a.0.1 a.1) in
-      let same = ok_is {E = ReadError} (take (a.0.1.position - c.position - 1) c.rest, a.0.1) (body, to) a.2 in
-      subst (λ (p : List ℕ × Cursor). Takes IsExpression p.0 c p.1) same (rw (body_is (steps_reading.found c a.0.0 a.0.1 a.1).spelled.0 c a.0.1 t) t);
-  again = λ c body to t.
-      rw (steps_reading.again c t.spelled.0 to (as_steps body c to t), body_is body c to t) refl;
-  fault = λ c e is.
-      elim (bind_err (ended_at step_at (Malformed Truncated) c) (body_from c) e is) [
-        | inl f ↦ steps_reading.fault c e f
-        | inr f ↦ absurd (let g = f.2 in cc)
-      ];
-  fails = λ c e f. rw (steps_reading.fails c e f) refl;
-}
+expression_reading = reading_by IsExpression ExpressionFault expression_at
+    (λ c body to t. rw (steps_reading.again c t.spelled.0 to (as_steps body c to t), body_is body c to t) refl)
+    (λ c e f. rw (steps_reading.fails c e f) refl)
+    (λ c. elim (either steps_reading c) [ inl t ↦ inl (t.2.spelled.0, t.1, as_expression t.0 c t.1 t.2) | inr f ↦ inr f ])
 
 -- ---- the loop
 
 -- behind some operators of the expression at a place
 pub record AreSkipped (os : List ConstOperator) (a b : Cursor) : Type 0 where
   pub stand : Takes (Items IsOperator) os a b
-
-pub skips_none : (a : Cursor) → AreSkipped [] a a
-skips_none a = record { stand = take_nothing IsOperator a }
 
 one_more : (os : List ConstOperator) (o : ConstOperator) (a b c : Cursor) → Takes (Items IsOperator) os a b → Takes IsOperator o b c → Takes (Items IsOperator) (os ++ o ∷ []) a c
 one_more [] o a b c t u = cons_text IsOperator o [] a c c (subst (λ (d : Cursor). Takes IsOperator o d c) (sym (nothing_taken IsOperator a b t)) u) (take_nothing IsOperator c)
@@ -193,7 +157,7 @@ one_more (p ∷ os) o a b c t u =
     cons_text IsOperator p (os ++ o ∷ []) a f.0 c f.1 (one_more os o f.0 b c f.2 u)
 
 step_taken : (o : ConstOperator) (b c : Cursor) → step_at b ≡ Ok (Some o, c) → Takes IsOperator o b c
-step_taken o b c e = let t = step_reading.found b (Some o) c e in record { text = t.text; spelled = t.spelled; parts = t.parts; moved = t.moved }
+step_taken o b c e = let t = step_reading.found b (Some o) c e in respelled t t.spelled
 
 pub skips_more : (os : List ConstOperator) (o : Option ConstOperator) (a b c : Cursor) → is_some o ≡ true → AreSkipped os a b → step_at b ≡ Ok (o, c) → (qs : List ConstOperator) × AreSkipped qs a c
 skips_more os None a b c some h e = absurd cc
@@ -202,9 +166,6 @@ skips_more os (Some o) a b c some h e = (os ++ o ∷ [], record { stand = one_mo
 pub skips_less : (o : Option ConstOperator) (b c : Cursor) → is_some o ≡ true → step_at b ≡ Ok (o, c) → length c.rest < length b.rest
 skips_less None b c some e = absurd cc
 skips_less (Some o) b c some e = step_shortens IsStep StepFault step_at are_steps o b c (step_taken o b c e)
-
-pub skips_within : (os : List ConstOperator) (a b : Cursor) → AreSkipped os a b → (a.position ≤ b.position) × (b.position - a.position ≤ length a.rest)
-skips_within os a b h = (omega (arith, h.stand.moved), omega (arith, h.stand.moved, ap length h.stand.parts, length-append h.stand.text b.rest))
 
 pub expression_ends : (os : List ConstOperator) (o : Option ConstOperator) (a b c : Cursor) → is_some o ≡ false → AreSkipped os a b → step_at b ≡ Ok (o, c) → expression_at a ≡ Ok (take (b.position - a.position) a.rest, c)
 expression_ends os (Some o) a b c none h e = absurd cc

@@ -1,20 +1,21 @@
 -- Items take at least a byte each, so a list has at most as many as there are bytes.
-use Rattle.std.proofs.Common.{ℕ, ◌+◌, ◌≤◌, ◌<◌, Bool, false, List, [], ◌∷◌, length, map, Result, Ok, Err, ap, arith, length-append}
+use Rattle.std.proofs.Common.{ℕ, ◌+◌, ◌≤◌, ◌<◌, ◌≡◌, Bool, true, false, List, [], ◌∷◌, ◌++◌, length, map, Result, Ok, Err, ap, arith, length-append}
 use Rattle.std.specs.Prelude.{IfOk}
 use Rattle.std.proofs.lemmas.List.{length-map}
 use Rattle.wl_bytes.specs.Leb.{IsU32}
 use Rattle.wl_bytes.specs.Items.{IsName}
-use Rattle.wl_bytes.specs.Grammar.{Then, Items}
+use Rattle.wl_bytes.specs.Grammar.{Items}
 use Rattle.wl_module.specs.declared.error.ReadError.{ReadError}
 use Rattle.wl_module.specs.Outcome.{ReadsWhole}
-use Rattle.wl_module.specs.Lists.{IsCoded, Listed, Whole, SeenAs, AreFew}
-use Rattle.wl_module.specs.Chains.{Chain, ListedAfter}
+use Rattle.wl_module.specs.Lists.{Listed, Whole, SeenAs, AreFew}
+use Rattle.wl_module.specs.Chains.{Chain, ListedAfter, may_come, seen_then}
 use Rattle.wl_module.specs.Checks.{Where}
-use Rattle.wl_module.specs.Types.{IsValueType, mark, IsFuncType, AreTypes}
+use Rattle.wl_module.specs.Limits.{IsMemoryType}
+use Rattle.wl_module.specs.Types.{IsFuncType, AreTypes}
 use Rattle.wl_module.specs.Bodies.{AreIndices, IsBody, AreBodies}
-use Rattle.wl_module.specs.Memories.{IsMemoryAfter, memory_seen, AreMemories}
+use Rattle.wl_module.specs.Memories.{AreMemories}
 use Rattle.wl_module.specs.Globals.{IsGlobal, AreGlobals}
-use Rattle.wl_module.specs.Imports.{IsImportAfter, import_seen, ArePlacedImports, AreImports}
+use Rattle.wl_module.specs.Imports.{IsImport, imports_memory, ArePlacedImports, AreImports}
 use Rattle.wl_module.specs.Exports.{IsExport, AreExports}
 use Rattle.wl_module.specs.Segments.{IsSegment, AreTargeted, AreSegments}
 use Rattle.wl_module.specs.Sections.{Section, IsSection, next, magic, IsModule, Framed}
@@ -23,22 +24,17 @@ use Rattle.wl_module.specs.Sections.{Section, IsSection, next, magic, IsModule, 
 abbrev pub HasBytes : {X : Type 0} → (ℕ → X → List ℕ → Type 0) → Type 0
 HasBytes {X} item = (place : ℕ) (x : X) (text : List ℕ) → item place x text → 0 < length text
 
--- ---- items put together
+front_bytes : (text front back : List ℕ) → text ≡ front ++ back → 0 < length front → 0 < length text
+front_bytes text front back parts some = omega (arith, some, ap length parts, length-append front back)
 
-pub then_bytes : {X Y : Type 0} (first : ℕ → X → List ℕ → Type 0) (second : X → ℕ → Y → List ℕ → Type 0) → HasBytes first → HasBytes (Then first second)
-then_bytes first second h place p text s = let some = h place p.0 s.0 s.3 in omega (arith, some, ap length s.2, length-append s.0 s.1)
-
-pub where_bytes : {X : Type 0} (item : ℕ → X → List ℕ → Type 0) (test : X → Bool) → HasBytes item → HasBytes (Where item test)
-where_bytes item test h place x text s = h place x text s.0
-
-pub coded_bytes : {X : Type 0} (code : X → ℕ) → HasBytes (IsCoded code)
-coded_bytes code place x text s = omega (arith, ap length s)
+one_byte : (text : List ℕ) (b : ℕ) → text ≡ b ∷ [] → 0 < length text
+one_byte text b is = omega (arith, ap length is)
 
 pub number_bytes : HasBytes IsU32
 number_bytes place n text s = omega (arith, ap length s.leb.parts, length-append s.leb.front (s.leb.end ∷ []))
 
 pub name_bytes : HasBytes IsName
-name_bytes place name text s = let some = number_bytes place (length name) s.0 s.2 in omega (arith, some, ap length s.1, length-append s.0 name)
+name_bytes place name text s = front_bytes _ _ _ s.1 (number_bytes place (length name) s.0 s.2)
 
 -- ---- lists put together
 
@@ -77,31 +73,31 @@ count_of view spells faults payload (Err e) few h = tt
 -- ---- the sections
 
 pub types_few : AreFew AreTypes
-types_few = listed_few IsFuncType (λ place t text s. then_bytes (IsCoded mark) (λ _. Then (Listed IsValueType) (λ _. Listed IsValueType)) (coded_bytes mark) place (tt, (t.params, t.results)) text s)
+types_few = listed_few IsFuncType (λ place t text s. front_bytes _ _ _ s.1.2 (one_byte _ _ s.1.3))
 
 pub indices_few : AreFew AreIndices
 indices_few = listed_few IsU32 number_bytes
 
 pub memories_few : (imported : Bool) → AreFew (AreMemories imported)
-memories_few imported = listed_after_few IsMemoryAfter memory_seen (λ seen place m text s. omega (arith, ap length s.0.0.3, ap length s.0.0.2, length-append s.0.0.0 s.0.0.1)) imported
+memories_few imported = listed_after_few (λ seen. Where IsMemoryType (may_come (λ _. true) seen)) (seen_then (λ _. true)) (λ seen place m text s. front_bytes _ _ _ s.0.1.0.1.2 (one_byte _ _ s.0.1.0.1.3)) imported
 
 pub globals_few : AreFew AreGlobals
-globals_few = listed_few IsGlobal (λ place g text s. omega (arith, ap length s.0.3.3, ap length s.0.3.2, length-append s.0.3.0 s.0.3.1, ap length s.0.2, length-append s.0.0 s.0.1))
+globals_few = listed_few IsGlobal (λ place g text s. front_bytes _ _ _ s.1.2 (front_bytes _ _ _ s.1.3.1.2 (one_byte _ _ s.1.3.1.3)))
 
 pub placed_imports_few : AreFew ArePlacedImports
-placed_imports_few = listed_after_few IsImportAfter import_seen (λ seen place i text s. let some = name_bytes place i.import.origin s.0.0 s.0.3 in omega (arith, some, ap length s.0.2, length-append s.0.0 s.0.1)) false
+placed_imports_few = listed_after_few (λ seen. Where IsImport (may_come imports_memory seen)) (seen_then imports_memory) (λ seen place i text s. front_bytes _ _ _ s.0.1.2 (name_bytes place s.0.0.0 s.0.1.0 s.0.1.3)) false
 
 pub imports_few : AreFew AreImports
 imports_few = seen_few (λ i. i.import) ArePlacedImports placed_imports_few
 
 pub exports_few : AreFew AreExports
-exports_few = listed_few IsExport (λ place x text s. let some = name_bytes place x.name s.0 s.3 in omega (arith, some, ap length s.2, length-append s.0 s.1))
+exports_few = listed_few IsExport (λ place x text s. front_bytes _ _ _ s.1.2 (name_bytes place s.0.0 s.1.0 s.1.3))
 
 pub bodies_few : AreFew AreBodies
-bodies_few = listed_few IsBody (λ place b text s. let some = number_bytes place (length b.bytes) s.0 s.2 in omega (arith, some, ap length s.1, length-append s.0 b.bytes))
+bodies_few = listed_few IsBody (λ place b text s. front_bytes _ _ _ s.1 (number_bytes place (length b.bytes) s.0 s.2))
 
 pub targeted_few : AreFew AreTargeted
-targeted_few = listed_few IsSegment (λ place t text s. omega (arith, ap length s.1.3, ap length s.1.2, length-append s.1.0 s.1.1))
+targeted_few = listed_few IsSegment (λ place t text s. front_bytes _ _ _ s.1.2 (one_byte _ _ s.1.3))
 
 pub segments_few : AreFew AreSegments
 segments_few = seen_few (λ t. t.segment) AreTargeted targeted_few

@@ -1,3 +1,4 @@
+pub mod ReadingLaws
 pub mod Loops
 pub mod ListLaws
 pub mod CheckLaws

@@ -3,13 +3,19 @@ use Rattle.std.proofs.Common.{◌≡◌, ℕ, ◌+◌, false, List, [], ◌∷�
 use Rattle.std.proofs.lemmas.List.{append-nil}
 use Rattle.std.specs.List.{AllByRecursion}
 use Rattle.wl_bytes.specs.Items.{IsName}
-use Rattle.wl_bytes.specs.Grammar.{Items}
+use Rattle.wl_bytes.specs.Leb.{IsU32}
+use Rattle.wl_bytes.specs.Grammar.{Then, Items}
 use Rattle.wl_module.specs.Lists.{Listed, Whole, SeenAs}
-use Rattle.wl_module.specs.Chains.{Chain, ListedAfter}
+use Rattle.wl_module.specs.Chains.{Chain, ListedAfter, may_come, seen_then}
+use Rattle.wl_module.specs.Checks.{Where, Seen}
+use Rattle.wl_module.specs.Words.{IsPlacedName}
+use Rattle.wl_module.specs.Constants.{IsExpression}
 use Rattle.wl_module.specs.Bodies.{Body, IsBody, AreBodies}
-use Rattle.wl_module.specs.Globals.{DefinedGlobal, IsGlobal, AreGlobals}
-use Rattle.wl_module.specs.Imports.{PlacedImported, IsImport, IsImportAfter, import_seen, ArePlacedImports, AreImports}
-use Rattle.wl_module.specs.Exports.{Exported, IsExport, AreExports}
+use Rattle.wl_module.specs.Globals.{IsGlobalType, global_from, IsGlobal, AreGlobals}
+use Rattle.wl_module.specs.declared.imports.ExternalKind.{ExternalKind}
+use Rattle.wl_module.specs.declared.imports.ImportEntity.{ImportEntity}
+use Rattle.wl_module.specs.Imports.{IsKind, IsEntity, import_from, IsImport, imports_memory, ArePlacedImports, AreImports}
+use Rattle.wl_module.specs.Exports.{export_from, IsExport, AreExports}
 use Rattle.wl_module.specs.Segments.{Targeted, IsSegment, AreTargeted, AreSegments}
 use Rattle.wl_module.specs.Places.{StandsAt, PartsStand, ImportStands, PlacedImportStands, ExportStands, GlobalStands, BodyStands, SegmentStands, TargetedStands}
 
@@ -42,6 +48,10 @@ behind_stands bytes text front back place parts h = record {
 -- an item whose text stands in the bytes has its parts there
 abbrev pub HasParts : {X : Type 0} → (List ℕ → X → Type 0) → (ℕ → X → List ℕ → Type 0) → Type 0
 HasParts {X} stands item = (bytes : List ℕ) (place : ℕ) (x : X) (text : List ℕ) → item place x text → StandsAt bytes text place → stands bytes x
+
+-- the same of what f sees of it
+seen_parts : {X Y : Type 0} (stands : List ℕ → Y → Type 0) (item : ℕ → X → List ℕ → Type 0) (f : X → Y) → HasParts (λ bytes x. stands bytes (f x)) item → HasParts stands (Seen item f)
+seen_parts stands item f h bytes place y text s there = subst (stands bytes) s.2 (h bytes place s.0 text s.1 there)
 
 pub items_stand : {X : Type 0} (stands : List ℕ → X → Type 0) (item : ℕ → X → List ℕ → Type 0) → HasParts stands item
     → (bytes : List ℕ) (place : ℕ) (xs : List X) (text : List ℕ) → Items item place xs text → StandsAt bytes text place → AllByRecursion (stands bytes) xs
@@ -84,21 +94,23 @@ name_stands : (bytes : List ℕ) (place : ℕ) (name text : List ℕ) → IsName
 name_stands bytes place name text (head, parts, count, utf8) there =
     (place + length head, behind_stands bytes text head name place parts there, omega (arith, ap length parts, length-append head name))
 
-import_stands : (bytes : List ℕ) (place : ℕ) (i : PlacedImported) (text : List ℕ) → IsImport place i text → StandsAt bytes text place → PlacedImportStands bytes i
-import_stands bytes place i text (first, behind, parts, origin, (second, others, parts', (name, ends), more)) there =
-    let o = name_stands bytes place i.import.origin first origin (before_stands bytes text first behind place parts there) in
-    let n = name_stands bytes (place + length first) i.import.name second name (before_stands bytes behind second others (place + length first) parts' (behind_stands bytes text first behind place parts there)) in
-    let at : n.0 ≡ i.name_offset = omega (arith, n.2, ends) in
-    record { origin = (o.0, o.1); name = subst (λ (k : ℕ). StandsAt bytes i.import.name k) at n.1 }
+import_stands : HasParts PlacedImportStands IsImport
+import_stands = seen_parts PlacedImportStands (Then IsName (λ _. Then IsPlacedName (λ _. Then IsKind IsEntity))) import_from by_parts
+  where
+    by_parts : (bytes : List ℕ) (place : ℕ) (p : List ℕ × ((List ℕ × ℕ) × (ExternalKind × ImportEntity))) (text : List ℕ) → Then IsName (λ _. Then IsPlacedName (λ _. Then IsKind IsEntity)) place p text → StandsAt bytes text place → PlacedImportStands bytes (import_from p)
+    by_parts bytes place p text (first, behind, parts, origin, (second, others, parts', (name, ends), more)) there =
+        let o = name_stands bytes place p.0 first origin (before_stands bytes text first behind place parts there) in
+        let n = name_stands bytes (place + length first) p.1.0.0 second name (before_stands bytes behind second others (place + length first) parts' (behind_stands bytes text first behind place parts there)) in
+        let at : n.0 ≡ p.1.0.1 = omega (arith, n.2, ends) in
+        record { origin = (o.0, o.1); name = subst (λ (k : ℕ). StandsAt bytes p.1.0.0 k) at n.1 }
 
-export_stands : (bytes : List ℕ) (place : ℕ) (x : Exported) (text : List ℕ) → IsExport place x text → StandsAt bytes text place → ExportStands bytes x
-export_stands bytes place x text (first, behind, parts, name, others) there =
-    let n = name_stands bytes place x.name first name (before_stands bytes text first behind place parts there) in
-    (n.0, n.1)
+export_stands : HasParts ExportStands IsExport
+export_stands = seen_parts ExportStands (Then IsName (λ _. Then IsKind (λ _. IsU32))) export_from
+    (λ bytes place p text s there. let n = name_stands bytes place p.0 s.0 s.3 (before_stands bytes text s.0 s.1 place s.2 there) in (n.0, n.1))
 
-global_stands : (bytes : List ℕ) (place : ℕ) (g : DefinedGlobal) (text : List ℕ) → IsGlobal place g text → StandsAt bytes text place → GlobalStands bytes g
-global_stands bytes place g text ((first, behind, parts, ty, (operators, whole, spelled)), own) there =
-    (place + length first, before_stands bytes behind g.body (0x0b ∷ []) (place + length first) whole (behind_stands bytes text first behind place parts there))
+global_stands : HasParts GlobalStands IsGlobal
+global_stands = seen_parts GlobalStands (Then IsGlobalType (λ _. IsExpression)) global_from
+    (λ bytes place p text s there. (place + length s.0, before_stands bytes s.1 p.1 (0x0b ∷ []) (place + length s.0) s.4.1 (behind_stands bytes text s.0 s.1 place s.2 there)))
 
 body_stands : (bytes : List ℕ) (place : ℕ) (b : Body) (text : List ℕ) → IsBody place b text → StandsAt bytes text place → BodyStands bytes b
 body_stands bytes place b text (head, parts, count, own, offset, object) there =
@@ -118,7 +130,7 @@ segment_stands bytes place t text (flag, (first, behind, parts, code, (target, c
 -- ---- the sections
 
 pub placed_imports_stand : PartsStand PlacedImportStands ArePlacedImports
-placed_imports_stand = listed_after_stand PlacedImportStands IsImportAfter import_seen (λ seen bytes place i text s there. import_stands bytes place i text s.0 there) false
+placed_imports_stand = listed_after_stand PlacedImportStands (λ seen. Where IsImport (may_come imports_memory seen)) (seen_then imports_memory) (λ seen bytes place i text s there. import_stands bytes place i text s.0 there) false
 
 pub imports_stand : PartsStand ImportStands AreImports
 imports_stand = seen_stand (λ i. i.import) PlacedImportStands ImportStands ArePlacedImports (λ bytes i h. record { origin = h.origin; name = (i.name_offset, h.name) }) placed_imports_stand

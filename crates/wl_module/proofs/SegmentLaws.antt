@@ -2,59 +2,50 @@
 use Rattle.std.proofs.Common.{◌≡◌, ℕ, ◌-◌, ◌≤◌, List, [], ◌∷◌, ◌++◌, length, Option, Some, None, Result, Ok, refl, sym, ap, subst, ◌∙◌, arith}
 use Rattle.wl_bytes.specs.Cursor.{Cursor}
 use Rattle.wl_bytes.specs.Leb.{IsU32}
-use Rattle.wl_bytes.specs.Items.{IsStretch}
-use Rattle.wl_bytes.specs.Grammar.{Then, ThenFault, then_at}
+use Rattle.wl_bytes.specs.Grammar.{then_at}
 use Rattle.wl_bytes.proofs.Readings.{IsReading}
-use Rattle.wl_bytes.proofs.GrammarLaws.{then_reading, map_reading, seen_reading}
+use Rattle.wl_bytes.proofs.GrammarLaws.{map_reading}
 use Rattle.wl_module.specs.declared.segments.SegmentFlag.{SegmentFlag}
 use Rattle.wl_module.specs.declared.segments.SegmentFlag.TheVariants.{InMemory, InNoMemory, InMemoryOf}
 use Rattle.wl_module.specs.declared.error.Why.TheVariants.{BadByte}
 use Rattle.wl_module.specs.declared.error.ReadError.{ReadError}
 use Rattle.wl_module.specs.declared.error.ReadError.TheVariants.{Malformed}
-use Rattle.wl_module.specs.Lists.{NumberFault, number_at, IsCoded, Listed, ListedFault, list_at}
-use Rattle.wl_module.specs.Bodies.{StretchFault}
-use Rattle.wl_module.specs.BodiesReading.{stretch_at}
-use Rattle.wl_module.specs.Checks.{IsNothing, NoFault, nothing_at}
-use Rattle.wl_module.specs.Constants.{IsExpression, ExpressionFault, expression_at}
-use Rattle.wl_module.specs.Segments.{segment_code, segment_flag_of, SegmentFlagFault, segment_flag_at, IsTarget, TargetFault, target_at, AreCounted, CountedFault, counted_at, segment_kind, IsSegmentText, IsSegment, SegmentFault, segment_from, segment_at, Targeted, plain_segments, AreTargeted, targeted_of, AreSegments, SegmentsFault, segments_of}
-use Rattle.wl_module.proofs.ListLaws.{Decodes, found_code, coded_reading, number_reading, list_reading, whole_reading, IsWholeReading, seen_reading as seen_whole}
+use Rattle.wl_module.specs.Lists.{number_at, IsCoded, Listed, ListedFault, list_at}
+use Rattle.wl_module.specs.Bodies.{BodyFault, stretch_at}
+use Rattle.wl_module.specs.Segments.{segment_code, SegmentFlagFault, segment_flag_at, IsTarget, TargetFault, target_at, AreCounted, counted_at, segment_kind, IsSegmentText, IsSegment, SegmentFault, segment_from, segment_at, Targeted, plain_segments, AreTargeted, targeted_of, AreSegments, SegmentsFault, segments_of}
+use Rattle.wl_module.proofs.ReadingLaws.{both, seen}
+use Rattle.wl_module.proofs.ListLaws.{AreAll, coded_reading, number_reading, list_reading, whole_reading, IsWholeReading, seen_reading}
 use Rattle.wl_module.proofs.CheckLaws.{nothing_reading, measured_reading}
-use Rattle.wl_module.proofs.ConstantLaws.{stretch_reading, expression_reading}
+use Rattle.wl_module.proofs.ConstantLaws.{expression_reading}
+use Rattle.wl_module.proofs.BodyLaws.{stretch_reading}
 
-flags_decode : Decodes segment_code segment_flag_of
-flags_decode = record { back = back; only = λ b f e. found_code segment_code (InMemory ∷ InNoMemory ∷ InMemoryOf ∷ []) b f e }
-  where
-    back : (f : SegmentFlag) → segment_flag_of (segment_code f) ≡ Some f
-    back InMemory = refl
-    back InNoMemory = refl
-    back InMemoryOf = refl
+all_flags : AreAll segment_code (InMemory ∷ InNoMemory ∷ InMemoryOf ∷ [])
+all_flags InMemory = refl
+all_flags InNoMemory = refl
+all_flags InMemoryOf = refl
 
 flag_reading : IsReading (IsCoded segment_code) SegmentFlagFault segment_flag_at
 unfolding segment_flag_at
-flag_reading = coded_reading segment_code segment_flag_of (λ _. Malformed BadByte) flags_decode
+flag_reading = coded_reading segment_code (InMemory ∷ InNoMemory ∷ InMemoryOf ∷ []) (λ _. Malformed BadByte) all_flags
 
 target_reading : (f : SegmentFlag) → IsReading (IsTarget f) (TargetFault f) (target_at f)
 unfolding target_at
-target_reading InMemory = seen_reading IsExpression (IsTarget InMemory) ExpressionFault expression_at (λ _. Some 0) (λ place body text s. (refl, (body, s))) (λ place m text s. (s.1.0, s.1.1, sym s.0)) expression_reading
-target_reading InNoMemory = seen_reading IsNothing (IsTarget InNoMemory) NoFault nothing_at (λ _. None) (λ place u text s. (refl, s)) (λ place m text s. (tt, s.1, sym s.0)) nothing_reading
-target_reading InMemoryOf =
-    seen_reading (Then IsU32 (λ _. IsExpression)) (IsTarget InMemoryOf) (ThenFault IsU32 NumberFault (λ _. ExpressionFault)) (then_at number_at (λ _. expression_at)) (λ p. Some p.0)
-    (λ place p text s. (p.0, refl, (p.1, s))) (λ place m text s. ((s.0, s.2.0), s.2.1, sym s.1))
-    (then_reading IsU32 (λ _. IsExpression) NumberFault (λ _. ExpressionFault) number_at (λ _. expression_at) number_reading (λ _. expression_reading))
+target_reading InMemory = seen (λ _. Some 0) expression_reading
+target_reading InNoMemory = seen (λ _. None) nothing_reading
+target_reading InMemoryOf = seen (λ p. Some p.0) (both number_reading (λ _. expression_reading))
 
-counted_reading : IsReading AreCounted CountedFault counted_at
+counted_reading : IsReading AreCounted BodyFault counted_at
 unfolding counted_at
-counted_reading = map_reading (Then IsU32 IsStretch) AreCounted CountedFault (then_at number_at stretch_at) (λ p. p.1) (λ bytes. (length bytes, bytes))
+counted_reading = map_reading _ AreCounted BodyFault _ (λ p. p.1) (λ bytes. (length bytes, bytes))
     (λ place p text s. (s.0, s.2 ∙ ap (λ (x : List ℕ). s.0 ++ x) s.4.0, subst (λ (n : ℕ). IsU32 place n s.0) (sym s.4.1) s.3))
     (λ place bytes text s. ((s.0, bytes, s.1, s.2, (refl, refl)), refl))
-    (then_reading IsU32 IsStretch NumberFault StretchFault number_at stretch_at number_reading stretch_reading)
+    (both number_reading stretch_reading)
 
 abbrev text_at : Cursor → Result ((SegmentFlag × (Option ℕ × List ℕ)) × Cursor) ReadError
 text_at = then_at segment_flag_at (λ f. then_at (target_at f) (λ _. counted_at))
 
 text_reading : IsReading IsSegmentText SegmentFault text_at
-text_reading = then_reading (IsCoded segment_code) (λ f. Then (IsTarget f) (λ _. AreCounted)) SegmentFlagFault (λ f. ThenFault (IsTarget f) (TargetFault f) (λ _. CountedFault)) segment_flag_at (λ f. then_at (target_at f) (λ _. counted_at)) flag_reading
-    (λ f. then_reading (IsTarget f) (λ _. AreCounted) (TargetFault f) (λ _. CountedFault) (target_at f) (λ _. counted_at) (target_reading f) (λ _. counted_reading))
+text_reading = both flag_reading (λ f. both (target_reading f) (λ _. counted_reading))
 
 -- the same segment, by its kind, its place and its size
 same_segment : (place len : ℕ) (f : SegmentFlag) (t : Targeted) → t.segment.kind ≡ segment_kind f → t.segment.section_offset ≡ place → t.segment.encoded_size ≡ len → segment_from place len (f, (t.memory_index, t.segment.payload)) ≡ t
@@ -80,4 +71,4 @@ pub targeted_reading : IsWholeReading AreTargeted SegmentsFault targeted_of
 targeted_reading = whole_reading (Listed IsSegment) (ListedFault IsSegment SegmentFault) (list_at segment_at) (list_reading IsSegment SegmentFault segment_at segment_reading)
 
 pub segments_reading : IsWholeReading AreSegments SegmentsFault segments_of
-segments_reading = seen_whole plain_segments AreTargeted SegmentsFault targeted_of targeted_reading
+segments_reading = seen_reading plain_segments AreTargeted SegmentsFault targeted_of targeted_reading

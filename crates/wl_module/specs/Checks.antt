@@ -1,4 +1,4 @@
--- Items under a condition, and items that tell their place or nothing.
+-- Items under a condition, items seen otherwise, and items that tell their place or nothing.
 use Rattle.std.specs.Prelude.{◌≡◌, ◌⊎◌, ℕ, ◌-◌, Bool, true, false, if◌then◌else◌, List, [], Option, Some, None, Result, Ok, Err}
 use Rattle.wl_bytes.specs.Cursor.{Cursor}
 use Rattle.wl_bytes.specs.Parse.{Takes, ◌>>=◌}
@@ -36,6 +36,12 @@ WhenFault wrong true e from = wrong e from
 abbrev pub when_at : {X E : Type 0} → (Cursor → Result (X × Cursor) E) → Bool → Cursor → Result (Option X × Cursor) E
 when_at read false c = Ok (None, c)
 when_at read true c = map_at (λ x. Some x) read c
+
+-- ---- an item seen otherwise
+
+-- the text spells something that f sees as y; map_at reads it
+abbrev pub Seen : {X Y : Type 0} → (ℕ → X → List ℕ → Type 0) → (X → Y) → ℕ → Y → List ℕ → Type 0
+Seen {X} spells f place y text = (x : X) × spells place x text × (f x ≡ y)
 
 -- ---- an item that tells where it stands, and how many bytes it has
 

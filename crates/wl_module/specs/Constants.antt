@@ -1,6 +1,5 @@
 -- Constant expressions (core specification, "Expressions" and "Constant Expressions").
-use Rattle.std.specs.Prelude.{◌≡◌, ℕ, ℤ, ◌-◌, ◌==◌, Bool, true, false, List, [], ◌∷◌, ◌++◌, Option, Some, None, Result, Ok, take}
-use Rattle.std.specs.List.{find}
+use Rattle.std.specs.Prelude.{◌≡◌, ℕ, ℤ, ◌-◌, ◌==◌, Bool, List, [], ◌∷◌, ◌++◌, Option, Some, None, Result, Ok, take}
 use Rattle.wl_bytes.specs.Cursor.{Cursor}
 use Rattle.wl_bytes.specs.Parse.{Takes, ◌>>=◌}
 use Rattle.wl_bytes.specs.Leb.{Form, s32_form, s64_form, IsU32, IsSigned, SignedFault}
@@ -10,17 +9,14 @@ use Rattle.wl_bytes.specs.Grammar.{Then, ThenFault, then_at, Items, map_at, erro
 use Rattle.wl_module.specs.declared.constants.ConstOperator.{ConstOperator}
 use Rattle.wl_module.specs.declared.constants.ConstOperator.TheVariants.{I32Const, I64Const, F32Const, F64Const, GlobalGet, RefNull, RefFunc, I32Add, I32Sub, I32Mul, I64Add, I64Sub, I64Mul, Vector}
 use Rattle.wl_module.specs.declared.types.ValType.{ValType}
-use Rattle.wl_module.specs.declared.types.ValType.TheVariants.{I32, I64, F32, F64, V128, FuncRef, ExternRef}
 use Rattle.wl_module.specs.declared.error.Why.TheVariants.{Truncated}
 use Rattle.wl_module.specs.declared.error.Form.TheVariants.{ConstOperator as OtherOperator, Operator}
 use Rattle.wl_module.specs.declared.error.ReadError.{ReadError}
 use Rattle.wl_module.specs.declared.error.ReadError.TheVariants.{Malformed, Unsupported}
 use Rattle.wl_module.specs.Error.{read_error}
 use Rattle.wl_module.specs.Lists.{NumberFault, number_at, IsCoded, CodedFault, coded_at}
-use Rattle.wl_module.specs.Types.{value_type_code}
-use Rattle.wl_module.specs.Reading.{value_type_of}
-use Rattle.wl_module.specs.Bodies.{StretchFault}
-use Rattle.wl_module.specs.BodiesReading.{stretch_at}
+use Rattle.wl_module.specs.Types.{value_type_code, value_types, is_reference}
+use Rattle.wl_module.specs.Bodies.{StretchFault, stretch_at}
 use Rattle.wl_module.specs.Checks.{Where, WhereFault, where_at, Any, any_at, IsNothing, NoFault, nothing_at}
 use Rattle.wl_module.specs.Ends.{ended_at}
 
@@ -53,13 +49,9 @@ abbrev pub all_steps : List (Option ConstOperator)
 all_steps = None ∷ Some I32Const ∷ Some I64Const ∷ Some F32Const ∷ Some F64Const ∷ Some GlobalGet ∷ Some RefNull ∷ Some RefFunc
     ∷ Some I32Add ∷ Some I32Sub ∷ Some I32Mul ∷ Some I64Add ∷ Some I64Sub ∷ Some I64Mul ∷ Some Vector ∷ []
 
--- what begins with that byte
-abbrev pub step_of : ℕ → Option (Option ConstOperator)
-step_of b = find (λ o. step_code o == b) all_steps
-
 -- the first byte in front
 unfoldable pub first_at : Cursor → Result (Option ConstOperator × Cursor) ReadError
-first_at c = coded_at step_of (λ _. Unsupported OtherOperator) c
+first_at c = coded_at step_code all_steps (λ _. Unsupported OtherOperator) c
 
 -- ---- what stands behind them
 
@@ -71,17 +63,7 @@ SignedNumberFault form = FaultOf read_error (SignedFault form)
 abbrev pub signed_number_at : Form → Cursor → Result (ℤ × Cursor) ReadError
 signed_number_at form c = error_of read_error (bytes.signed_at form c)
 
--- the types of references
-abbrev pub is_reference : ValType → Bool
-is_reference I32 = false
-is_reference I64 = false
-is_reference F32 = false
-is_reference F64 = false
-is_reference V128 = false
-is_reference FuncRef = true
-is_reference ExternRef = true
-
--- the byte of such a type
+-- the byte of a type of references
 abbrev pub IsReference : ℕ → ValType → List ℕ → Type 0
 IsReference = Where (IsCoded value_type_code) is_reference
 
@@ -91,7 +73,7 @@ ReferenceFault = WhereFault (IsCoded value_type_code) (CodedFault value_type_cod
 
 -- such a type in front
 unfoldable pub reference_at : Cursor → Result (Unit {0} × Cursor) ReadError
-reference_at c = any_at (where_at (coded_at value_type_of (λ _. Unsupported Operator)) is_reference (Unsupported Operator)) c
+reference_at c = any_at (where_at (coded_at value_type_code value_types (λ _. Unsupported Operator)) is_reference (Unsupported Operator)) c
 
 -- the number of `v128.const` among the operators that begin as it does
 abbrev pub is_vector_const : ℕ → Bool
@@ -118,13 +100,8 @@ IsImmediate F64Const = Any (IsStretch 8)
 IsImmediate GlobalGet = Any IsU32
 IsImmediate RefNull = Any IsReference
 IsImmediate RefFunc = Any IsU32
-IsImmediate I32Add = IsNothing
-IsImmediate I32Sub = IsNothing
-IsImmediate I32Mul = IsNothing
-IsImmediate I64Add = IsNothing
-IsImmediate I64Sub = IsNothing
-IsImmediate I64Mul = IsNothing
 IsImmediate Vector = Any IsVector
+IsImmediate _ = IsNothing
 
 -- what is wrong with it
 abbrev pub ImmediateFault : ConstOperator → ReadError → Cursor → Type 0
@@ -135,13 +112,8 @@ ImmediateFault F64Const = StretchFault 8
 ImmediateFault GlobalGet = NumberFault
 ImmediateFault RefNull = ReferenceFault
 ImmediateFault RefFunc = NumberFault
-ImmediateFault I32Add = NoFault
-ImmediateFault I32Sub = NoFault
-ImmediateFault I32Mul = NoFault
-ImmediateFault I64Add = NoFault
-ImmediateFault I64Sub = NoFault
-ImmediateFault I64Mul = NoFault
 ImmediateFault Vector = VectorFault
+ImmediateFault _ = NoFault
 
 -- what stands in front
 unfoldable pub immediate_at : ConstOperator → Cursor → Result (Unit {0} × Cursor) ReadError
@@ -152,13 +124,8 @@ immediate_at F64Const c = any_at (stretch_at 8) c
 immediate_at GlobalGet c = any_at number_at c
 immediate_at RefNull c = reference_at c
 immediate_at RefFunc c = any_at number_at c
-immediate_at I32Add c = nothing_at c
-immediate_at I32Sub c = nothing_at c
-immediate_at I32Mul c = nothing_at c
-immediate_at I64Add c = nothing_at c
-immediate_at I64Sub c = nothing_at c
-immediate_at I64Mul c = nothing_at c
 immediate_at Vector c = vector_at c
+immediate_at _ c = nothing_at c
 
 -- ---- operators
 
@@ -185,7 +152,7 @@ abbrev pub StepFault : ReadError → Cursor → Type 0
 StepFault = ThenFault (IsCoded step_code) (CodedFault step_code (λ _. Unsupported OtherOperator)) StepImmediateFault
 
 -- what stands behind the first byte in front
-unfoldable pub step_immediate_at : Option ConstOperator → Cursor → Result (Unit {0} × Cursor) ReadError
+abbrev pub step_immediate_at : Option ConstOperator → Cursor → Result (Unit {0} × Cursor) ReadError
 step_immediate_at None c = nothing_at c
 step_immediate_at (Some o) c = immediate_at o c
 

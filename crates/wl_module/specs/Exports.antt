@@ -7,6 +7,7 @@ use Rattle.wl_bytes.specs.Grammar.{Then, ThenFault, then_at, map_at}
 use Rattle.wl_module.specs.declared.imports.ExternalKind.{ExternalKind}
 use Rattle.wl_module.specs.declared.error.ReadError.{ReadError}
 use Rattle.wl_module.specs.Lists.{NumberFault, number_at, WordFault, word_at, Listed, ListedFault, list_at, Whole, WholeFault, whole_of}
+use Rattle.wl_module.specs.Checks.{Seen}
 use Rattle.wl_module.specs.Imports.{IsKind, KindFault, kind_at}
 
 -- an export as clauses see it: its name, and which thing of which kind
@@ -15,10 +16,6 @@ pub record Exported : Type 0 where
   pub kind : ExternalKind
   pub index : ℕ
 
--- a name, a kind, and an index
-abbrev pub IsExport : ℕ → Exported → List ℕ → Type 0
-IsExport place x text = Then IsName (λ _. Then IsKind (λ _. IsU32)) place (x.name, (x.kind, x.index)) text
-
 -- the first of the three that is at fault
 abbrev pub ExportFault : ReadError → Cursor → Type 0
 ExportFault = ThenFault IsName WordFault (λ _. ThenFault IsKind KindFault (λ _. NumberFault))
@@ -26,6 +23,10 @@ ExportFault = ThenFault IsName WordFault (λ _. ThenFault IsKind KindFault (λ _
 -- what was read as an export
 abbrev pub export_from : List ℕ × (ExternalKind × ℕ) → Exported
 export_from p = record { name = p.0; kind = p.1.0; index = p.1.1 }
+
+-- a name, a kind, and an index
+abbrev pub IsExport : ℕ → Exported → List ℕ → Type 0
+IsExport = Seen (Then IsName (λ _. Then IsKind (λ _. IsU32))) export_from
 
 -- the export in front
 unfoldable pub export_at : Cursor → Result (Exported × Cursor) ReadError

@@ -1,15 +1,15 @@
 -- Global types and the global section (core specification, "Global Types" and "Global Section").
-use Rattle.std.specs.Prelude.{◌≡◌, ℕ, ◌==◌, Bool, true, false, List, [], ◌∷◌, Option, Result}
-use Rattle.std.specs.List.{find}
+use Rattle.std.specs.Prelude.{ℕ, Bool, true, false, List, [], ◌∷◌, Result}
 use Rattle.wl_bytes.specs.Cursor.{Cursor}
 use Rattle.wl_bytes.specs.Grammar.{Then, ThenFault, then_at, map_at}
 use Rattle.wl_module.specs.declared.globals.GlobalType.{GlobalType}
+use Rattle.wl_module.specs.declared.types.ValType.{ValType}
 use Rattle.wl_module.specs.declared.error.Why.TheVariants.{BadByte}
 use Rattle.wl_module.specs.declared.error.ReadError.{ReadError}
 use Rattle.wl_module.specs.declared.error.ReadError.TheVariants.{Malformed}
 use Rattle.wl_module.specs.Lists.{IsCoded, CodedFault, coded_at, Listed, ListedFault, list_at, Whole, WholeFault, whole_of}
-use Rattle.wl_module.specs.Types.{IsValueType, ValueTypeFault}
-use Rattle.wl_module.specs.Reading.{value_type_at}
+use Rattle.wl_module.specs.Checks.{Seen}
+use Rattle.wl_module.specs.Types.{IsValueType, ValueTypeFault, value_type_at}
 use Rattle.wl_module.specs.Constants.{IsExpression, ExpressionFault, expression_at}
 
 -- ---- global types
@@ -18,10 +18,6 @@ use Rattle.wl_module.specs.Constants.{IsExpression, ExpressionFault, expression_
 abbrev pub mutability_code : Bool → ℕ
 mutability_code false = 0
 mutability_code true = 1
-
--- what that byte says
-abbrev pub mutability_of : ℕ → Option Bool
-mutability_of b = find (λ m. mutability_code m == b) (false ∷ true ∷ [])
 
 -- that byte
 abbrev pub IsMutability : ℕ → Bool → List ℕ → Type 0
@@ -33,11 +29,15 @@ MutabilityFault = CodedFault mutability_code (λ _. Malformed BadByte)
 
 -- what the byte in front says
 unfoldable pub mutability_at : Cursor → Result (Bool × Cursor) ReadError
-mutability_at c = coded_at mutability_of (λ _. Malformed BadByte) c
+mutability_at c = coded_at mutability_code (false ∷ true ∷ []) (λ _. Malformed BadByte) c
+
+-- what was read as a global type
+abbrev pub global_type_from : ValType × Bool → GlobalType
+global_type_from p = record { content_type = p.0; mutable = p.1 }
 
 -- a value type, and whether it may change
 abbrev pub IsGlobalType : ℕ → GlobalType → List ℕ → Type 0
-IsGlobalType place g text = Then IsValueType (λ _. IsMutability) place (g.content_type, g.mutable) text
+IsGlobalType = Seen (Then IsValueType (λ _. IsMutability)) global_type_from
 
 -- the first of the two that is at fault
 abbrev pub GlobalTypeFault : ReadError → Cursor → Type 0
@@ -45,7 +45,7 @@ GlobalTypeFault = ThenFault IsValueType ValueTypeFault (λ _. MutabilityFault)
 
 -- the global type in front
 unfoldable pub global_type_at : Cursor → Result (GlobalType × Cursor) ReadError
-global_type_at c = map_at (λ p. record { content_type = p.0; mutable = p.1 }) (then_at value_type_at (λ _. mutability_at)) c
+global_type_at c = map_at global_type_from (then_at value_type_at (λ _. mutability_at)) c
 
 -- ---- the section
 
@@ -55,9 +55,13 @@ pub record DefinedGlobal : Type 0 where
   pub body : List ℕ
   pub owned : Bool
 
--- its type, and the expression, itself and no copy
+-- what was read as a global: the expression is itself and no copy
+abbrev pub global_from : GlobalType × List ℕ → DefinedGlobal
+global_from p = record { ty = p.0; body = p.1; owned = false }
+
+-- its type, and the expression
 abbrev pub IsGlobal : ℕ → DefinedGlobal → List ℕ → Type 0
-IsGlobal place g text = Then IsGlobalType (λ _. IsExpression) place (g.ty, g.body) text × (g.owned ≡ false)
+IsGlobal = Seen (Then IsGlobalType (λ _. IsExpression)) global_from
 
 -- the first of the two that is at fault
 abbrev pub GlobalFault : ReadError → Cursor → Type 0
@@ -65,8 +69,7 @@ GlobalFault = ThenFault IsGlobalType GlobalTypeFault (λ _. ExpressionFault)
 
 -- the global in front
 unfoldable pub global_at : Cursor → Result (DefinedGlobal × Cursor) ReadError
-global_at c =
-    map_at (λ p. record { ty = p.0; body = p.1; owned = false }) (then_at global_type_at (λ _. expression_at)) c
+global_at c = map_at global_from (then_at global_type_at (λ _. expression_at)) c
 
 -- the payload is a list of these globals
 abbrev pub AreGlobals : List DefinedGlobal → List ℕ → Type 0

@@ -1,6 +1,5 @@
 -- The import section (core specification, "Import Section").
-use Rattle.std.specs.Prelude.{◌≡◌, ℕ, ◌==◌, ◌||◌, ◌&&◌, not, Bool, true, false, if◌then◌else◌, List, [], ◌∷◌, map, Option, Some, None, Result}
-use Rattle.std.specs.List.{find}
+use Rattle.std.specs.Prelude.{ℕ, ◌==◌, Bool, true, false, if◌then◌else◌, List, [], ◌∷◌, map, Option, Some, None, Result}
 use Rattle.wl_bytes.specs.Cursor.{Cursor}
 use Rattle.wl_bytes.specs.Leb.{IsU32}
 use Rattle.wl_bytes.specs.Items.{IsName}
@@ -16,8 +15,8 @@ use Rattle.wl_module.specs.declared.error.ReadError.{ReadError}
 use Rattle.wl_module.specs.declared.error.ReadError.TheVariants.{Malformed, Unsupported}
 use Rattle.wl_module.specs.Lists.{NumberFault, number_at, WordFault, word_at, IsCoded, CodedFault, coded_at, Whole, WholeFault, whole_of, SeenAs, seen_of}
 use Rattle.wl_module.specs.Words.{IsPlacedName, placed_name_at}
-use Rattle.wl_module.specs.Chains.{ListedAfter, ListedAfterFault, list_after_at}
-use Rattle.wl_module.specs.Checks.{Where, WhereFault, where_at}
+use Rattle.wl_module.specs.Chains.{ListedOnce, ListedOnceFault, list_once_at}
+use Rattle.wl_module.specs.Checks.{Seen}
 use Rattle.wl_module.specs.Limits.{IsTableType, TableTypeFault, table_type_at, IsMemoryType, MemoryTypeFault, memory_type_at}
 use Rattle.wl_module.specs.Globals.{IsGlobalType, GlobalTypeFault, global_type_at}
 
@@ -29,10 +28,6 @@ kind_code Func = 0
 kind_code Table = 1
 kind_code Memory = 2
 kind_code Global = 3
-
--- the kind with that byte
-abbrev pub kind_of_byte : ℕ → Option ExternalKind
-kind_of_byte b = find (λ k. kind_code k == b) (Func ∷ Table ∷ Memory ∷ Global ∷ [])
 
 -- another byte: tags are known and not taken
 abbrev pub kind_error : ℕ → ReadError
@@ -48,27 +43,16 @@ KindFault = CodedFault kind_code kind_error
 
 -- the kind in front
 unfoldable pub kind_at : Cursor → Result (ExternalKind × Cursor) ReadError
-kind_at c = coded_at kind_of_byte kind_error c
+kind_at c = coded_at kind_code (Func ∷ Table ∷ Memory ∷ Global ∷ []) kind_error c
 
 -- ---- what is imported
 
--- the kind of what is imported
-abbrev pub entity_kind : ImportEntity → ExternalKind
-entity_kind (AFunction n) = Func
-entity_kind (ATable t) = Table
-entity_kind (AMemory m) = Memory
-entity_kind (AGlobal g) = Global
-
--- its type: of a function the number, of the others the type itself
-abbrev pub IsEntityType : ImportEntity → ℕ → List ℕ → Type 0
-IsEntityType (AFunction n) place text = IsU32 place n text
-IsEntityType (ATable t) place text = IsTableType place t text
-IsEntityType (AMemory m) place text = IsMemoryType place m text
-IsEntityType (AGlobal g) place text = IsGlobalType place g text
-
--- the type of something of that kind
+-- the type of something of that kind: of a function the number, of the others the type itself
 abbrev pub IsEntity : ExternalKind → ℕ → ImportEntity → List ℕ → Type 0
-IsEntity kind place e text = (entity_kind e ≡ kind) × IsEntityType e place text
+IsEntity Func = Seen IsU32 (λ n. AFunction n)
+IsEntity Table = Seen IsTableType (λ t. ATable t)
+IsEntity Memory = Seen IsMemoryType (λ m. AMemory m)
+IsEntity Global = Seen IsGlobalType (λ g. AGlobal g)
 
 -- what is wrong with the type
 abbrev pub EntityFault : ExternalKind → ReadError → Cursor → Type 0
@@ -97,19 +81,6 @@ pub record PlacedImported : Type 0 where
   pub import : Imported
   pub name_offset : ℕ
 
--- its two names with the place of the second, its kind, and its type
-abbrev pub import_parts : PlacedImported → List ℕ × ((List ℕ × ℕ) × (ExternalKind × ImportEntity))
-import_parts i = (i.import.origin, ((i.import.name, i.name_offset), (entity_kind i.import.entity, i.import.entity)))
-
--- two names, the kind, and the type
-abbrev pub IsImport : ℕ → PlacedImported → List ℕ → Type 0
-IsImport place i text =
-    Then IsName (λ _. Then IsPlacedName (λ _. Then IsKind IsEntity)) place (import_parts i) text
-
--- the first of the four that is at fault
-abbrev pub ImportFault : ReadError → Cursor → Type 0
-ImportFault = ThenFault IsName WordFault (λ _. ThenFault IsPlacedName WordFault (λ _. ThenFault IsKind KindFault EntityFault))
-
 -- what was read as an import
 abbrev pub import_from : List ℕ × ((List ℕ × ℕ) × (ExternalKind × ImportEntity)) → PlacedImported
 import_from p = record {
@@ -117,40 +88,30 @@ import_from p = record {
   name_offset = p.1.0.1;
 }
 
+-- two names, the kind, and the type
+abbrev pub IsImport : ℕ → PlacedImported → List ℕ → Type 0
+IsImport = Seen (Then IsName (λ _. Then IsPlacedName (λ _. Then IsKind IsEntity))) import_from
+
+-- the first of the four that is at fault
+abbrev pub ImportFault : ReadError → Cursor → Type 0
+ImportFault = ThenFault IsName WordFault (λ _. ThenFault IsPlacedName WordFault (λ _. ThenFault IsKind KindFault EntityFault))
+
 -- the import in front
 unfoldable pub import_at : Cursor → Result (PlacedImported × Cursor) ReadError
 import_at c = map_at import_from (then_at word_at (λ _. then_at placed_name_at (λ _. then_at kind_at entity_at))) c
 
--- a memory is imported
+-- a memory
 abbrev pub is_memory : ImportEntity → Bool
-is_memory (AFunction n) = false
-is_memory (ATable t) = false
 is_memory (AMemory m) = true
-is_memory (AGlobal g) = false
+is_memory _ = false
 
--- no second memory
-abbrev pub import_may_be : Bool → PlacedImported → Bool
-import_may_be seen i = not (seen && is_memory i.import.entity)
-
--- an import that is no second memory
-abbrev pub IsImportAfter : Bool → ℕ → PlacedImported → List ℕ → Type 0
-IsImportAfter seen = Where IsImport (import_may_be seen)
-
--- the import is at fault, or it is a second memory
-abbrev pub ImportAfterFault : Bool → ReadError → Cursor → Type 0
-ImportAfterFault seen = WhereFault IsImport ImportFault (import_may_be seen) (Unsupported ManyMemories)
-
--- the import in front
-unfoldable pub import_after_at : Bool → Cursor → Result (PlacedImported × Cursor) ReadError
-import_after_at seen c = where_at import_at (import_may_be seen) (Unsupported ManyMemories) c
-
--- whether there is a memory behind an import
-abbrev pub import_seen : Bool → PlacedImported → Bool
-import_seen seen i = seen || is_memory i.import.entity
+-- a memory is imported
+abbrev pub imports_memory : PlacedImported → Bool
+imports_memory i = is_memory i.import.entity
 
 -- the payload is a list of these imports, at most one of them a memory
 abbrev pub ArePlacedImports : List PlacedImported → List ℕ → Type 0
-ArePlacedImports = Whole (ListedAfter IsImportAfter import_seen false)
+ArePlacedImports = Whole (ListedOnce IsImport imports_memory false)
 
 -- the same without the places of the names
 abbrev pub plain_imports : List PlacedImported → List Imported
@@ -162,11 +123,11 @@ AreImports = SeenAs plain_imports ArePlacedImports
 
 -- what is wrong with a payload that is no such list
 abbrev pub ImportsFault : ReadError → List ℕ → Type 0
-ImportsFault = WholeFault (ListedAfter IsImportAfter import_seen false) (ListedAfterFault IsImportAfter import_seen ImportAfterFault false)
+ImportsFault = WholeFault (ListedOnce IsImport imports_memory false) (ListedOnceFault IsImport ImportFault imports_memory (Unsupported ManyMemories) false)
 
 -- the imports of a whole payload, with the places of their names
 abbrev pub placed_imports_of : List ℕ → Result (List PlacedImported) ReadError
-placed_imports_of payload = whole_of (list_after_at import_after_at import_seen false) payload
+placed_imports_of payload = whole_of (list_once_at import_at imports_memory (Unsupported ManyMemories) false) payload
 
 -- the imports of a whole payload
 abbrev pub imports_of : List ℕ → Result (List Imported) ReadError
@@ -190,16 +151,12 @@ pub record ImportedGlobal : Type 0 where
 abbrev pub function_import : Imported → Option ImportedFunction
 function_import i = elim i.entity [
   | AFunction n ↦ Some (record { origin = i.origin; name = i.name; type_index = n })
-  | ATable t ↦ None
-  | AMemory m ↦ None
-  | AGlobal g ↦ None
+  | _ ↦ None
 ]
 
 -- the import as one of a global
 abbrev pub global_import : Imported → Option ImportedGlobal
 global_import i = elim i.entity [
-  | AFunction n ↦ None
-  | ATable t ↦ None
-  | AMemory m ↦ None
   | AGlobal g ↦ Some (record { origin = i.origin; name = i.name; ty = g })
+  | _ ↦ None
 ]

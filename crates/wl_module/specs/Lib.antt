@@ -2,10 +2,8 @@ pub mod Error
 pub mod Outcome
 pub mod Lists
 pub mod Types
-pub mod Reading
 pub mod Slices
 pub mod Bodies
-pub mod BodiesReading
 pub mod Chains
 pub mod Checks
 pub mod Ends

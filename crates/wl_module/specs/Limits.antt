@@ -1,6 +1,5 @@
 -- Limits of memories and tables (core specification, "Limits", "Memory Types" and "Table Types").
 use Rattle.std.specs.Prelude.{ℕ, ◌+◌, ◌/◌, ◌%◌, ◌==◌, ◌||◌, ◌&&◌, not, Bool, true, false, nat_lt, nat_le, if◌then◌else◌, List, [], ◌∷◌, Option, Some, None, is_some, Result}
-use Rattle.std.specs.List.{find}
 use Rattle.wl_bytes.specs.Cursor.{Cursor}
 use Rattle.wl_bytes.specs.Leb.{IsU32}
 use Rattle.wl_bytes.specs.Grammar.{Then, ThenFault, then_at, map_at}
@@ -13,7 +12,7 @@ use Rattle.wl_module.specs.declared.error.Form.TheVariants.{Memory64, PageSize, 
 use Rattle.wl_module.specs.declared.error.ReadError.{ReadError}
 use Rattle.wl_module.specs.declared.error.ReadError.TheVariants.{Malformed, Unsupported}
 use Rattle.wl_module.specs.Lists.{NumberFault, number_at, IsCoded, CodedFault, coded_at}
-use Rattle.wl_module.specs.Checks.{Where, WhereFault, where_at, When, WhenFault, when_at}
+use Rattle.wl_module.specs.Checks.{Where, WhereFault, where_at, When, WhenFault, when_at, Seen}
 
 -- ---- the flags
 
@@ -24,10 +23,6 @@ flags_code f = (if f.has_maximum then 1 else 0) + (if f.shared then 2 else 0)
 -- all that the two bits can say
 abbrev pub all_flags : List LimitsFlags
 all_flags = record { has_maximum = false; shared = false } ∷ record { has_maximum = true; shared = false } ∷ record { has_maximum = false; shared = true } ∷ record { has_maximum = true; shared = true } ∷ []
-
--- the flags with that byte
-abbrev pub flags_of_byte : ℕ → Option LimitsFlags
-flags_of_byte b = find (λ f. flags_code f == b) all_flags
 
 -- another byte of a memory: bit 2 says that its addresses have 64 bits, bit 3 that its pages have their own size, and
 -- higher ones say nothing
@@ -48,7 +43,7 @@ MemoryFlagsFault = CodedFault flags_code memory_flags_error
 
 -- the flags in front
 unfoldable pub memory_flags_at : Cursor → Result (LimitsFlags × Cursor) ReadError
-memory_flags_at c = coded_at flags_of_byte memory_flags_error c
+memory_flags_at c = coded_at flags_code all_flags memory_flags_error c
 
 -- tables aren't shared
 abbrev pub is_own : LimitsFlags → Bool
@@ -64,17 +59,17 @@ TableFlagsFault = WhereFault (IsCoded flags_code) (CodedFault flags_code table_f
 
 -- the flags in front
 unfoldable pub table_flags_at : Cursor → Result (LimitsFlags × Cursor) ReadError
-table_flags_at c = where_at (coded_at flags_of_byte table_flags_error) is_own (Unsupported TableForm) c
+table_flags_at c = where_at (coded_at flags_code all_flags table_flags_error) is_own (Unsupported TableForm) c
 
 -- ---- the limits
 
--- the flags of these limits
-abbrev pub flags_of : Limits → LimitsFlags
-flags_of l = record { has_maximum = is_some l.maximum; shared = l.shared }
+-- what was read as limits
+abbrev pub limits_from : LimitsFlags × (ℕ × Option ℕ) → Limits
+limits_from p = record { minimum = p.1.0; maximum = p.1.1; shared = p.0.shared }
 
 -- flags, the minimum, and the maximum where the flags say that there is one
 abbrev pub IsLimits : (ℕ → LimitsFlags → List ℕ → Type 0) → ℕ → Limits → List ℕ → Type 0
-IsLimits flags place l text = Then flags (λ f. Then IsU32 (λ _. When IsU32 f.has_maximum)) place (flags_of l, (l.minimum, l.maximum)) text
+IsLimits flags = Seen (Then flags (λ f. Then IsU32 (λ _. When IsU32 f.has_maximum))) limits_from
 
 -- the first of the three that is at fault
 abbrev pub LimitsFault : (ℕ → LimitsFlags → List ℕ → Type 0) → (ReadError → Cursor → Type 0) → ReadError → Cursor → Type 0
@@ -83,10 +78,6 @@ LimitsFault flags wrong = ThenFault flags wrong (λ f. ThenFault IsU32 NumberFau
 -- the sizes in front, behind such flags
 unfoldable pub sizes_at : LimitsFlags → Cursor → Result ((ℕ × Option ℕ) × Cursor) ReadError
 sizes_at f c = then_at number_at (λ _. when_at number_at f.has_maximum) c
-
--- what was read as limits
-abbrev pub limits_from : LimitsFlags × (ℕ × Option ℕ) → Limits
-limits_from p = record { minimum = p.1.0; maximum = p.1.1; shared = p.0.shared }
 
 -- the limits in front
 abbrev pub limits_at : (Cursor → Result (LimitsFlags × Cursor) ReadError) → Cursor → Result (Limits × Cursor) ReadError
@@ -112,21 +103,17 @@ memory_limits_fit l = limits_fit l && (is_within 65536 l.minimum l.maximum && (n
 
 -- ---- memories
 
--- the limits of a memory
-abbrev pub memory_limits : MemoryType → Limits
-memory_limits m = record { minimum = m.initial; maximum = m.maximum; shared = m.shared }
+-- the memory with these limits
+abbrev pub memory_of : Limits → MemoryType
+memory_of l = record { initial = l.minimum; maximum = l.maximum; shared = l.shared }
 
 -- limits that a memory can have
 abbrev pub IsMemoryType : ℕ → MemoryType → List ℕ → Type 0
-IsMemoryType place m text = Where (IsLimits IsMemoryFlags) memory_limits_fit place (memory_limits m) text
+IsMemoryType = Seen (Where (IsLimits IsMemoryFlags) memory_limits_fit) memory_of
 
 -- the limits are at fault, or they stand there and can't be
 abbrev pub MemoryTypeFault : ReadError → Cursor → Type 0
 MemoryTypeFault = WhereFault (IsLimits IsMemoryFlags) (LimitsFault IsMemoryFlags MemoryFlagsFault) memory_limits_fit (Malformed BadLimits)
-
--- the memory with these limits
-abbrev pub memory_of : Limits → MemoryType
-memory_of l = record { initial = l.minimum; maximum = l.maximum; shared = l.shared }
 
 -- the memory in front
 unfoldable pub memory_type_at : Cursor → Result (MemoryType × Cursor) ReadError
@@ -138,13 +125,13 @@ memory_type_at c = map_at memory_of (where_at (limits_at memory_flags_at) memory
 abbrev pub elements_code : Unit {0} → ℕ
 elements_code _ = 0x70
 
--- the limits of a table
-abbrev pub table_limits : TableType → Limits
-table_limits t = record { minimum = t.initial; maximum = t.maximum; shared = false }
+-- the table with these limits
+abbrev pub table_of : Unit {0} × Limits → TableType
+table_of p = record { initial = p.1.minimum; maximum = p.1.maximum }
 
 -- the type of the elements, and limits
 abbrev pub IsTableType : ℕ → TableType → List ℕ → Type 0
-IsTableType place t text = Then (IsCoded elements_code) (λ _. Where (IsLimits IsTableFlags) limits_fit) place (tt, table_limits t) text
+IsTableType = Seen (Then (IsCoded elements_code) (λ _. Where (IsLimits IsTableFlags) limits_fit)) table_of
 
 -- the elements are at fault, or the limits are, or they can't be
 abbrev pub TableTypeFault : ReadError → Cursor → Type 0
@@ -153,12 +140,8 @@ TableTypeFault = ThenFault (IsCoded elements_code) (CodedFault elements_code (λ
 
 -- the type of the elements in front
 unfoldable pub elements_at : Cursor → Result (Unit {0} × Cursor) ReadError
-elements_at c = coded_at (λ b. if b == 0x70 then Some tt else None) (λ _. Unsupported OtherElements) c
-
--- the table with these limits
-abbrev pub table_of : Limits → TableType
-table_of l = record { initial = l.minimum; maximum = l.maximum }
+elements_at c = coded_at elements_code (tt ∷ []) (λ _. Unsupported OtherElements) c
 
 -- the table in front
 unfoldable pub table_type_at : Cursor → Result (TableType × Cursor) ReadError
-table_type_at c = map_at (λ p. table_of p.1) (then_at elements_at (λ _. where_at (limits_at table_flags_at) limits_fit (Malformed BadLimits))) c
+table_type_at c = map_at table_of (then_at elements_at (λ _. where_at (limits_at table_flags_at) limits_fit (Malformed BadLimits))) c

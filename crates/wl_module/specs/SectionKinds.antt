@@ -1,6 +1,6 @@
 -- What the sections of a module are (core specification, "Sections"): their ids, and the order in which they stand.
 use Rattle.std.specs.Prelude.{ℕ, ◌==◌, Bool, List, [], ◌∷◌, Option}
-use Rattle.std.specs.List.{find}
+use Rattle.wl_module.specs.Lists.{with_code}
 use Rattle.wl_module.specs.declared.section_kind.SectionKind.{SectionKind}
 use Rattle.wl_module.specs.declared.section_kind.SectionKind.TheVariants as kind
 
@@ -28,7 +28,7 @@ section_kinds = kind.Custom ∷ kind.Type ∷ kind.Import ∷ kind.Function ∷ 
 
 -- the section of an id
 abbrev pub kind_of : ℕ → Option SectionKind
-kind_of id = find (λ k. id_of k == id) section_kinds
+kind_of = with_code id_of section_kinds
 
 -- a section with a name, for tools
 abbrev pub is_custom : SectionKind → Bool

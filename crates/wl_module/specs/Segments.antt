@@ -1,6 +1,5 @@
 -- The data section (core specification, "Data Section").
-use Rattle.std.specs.Prelude.{◌≡◌, ℕ, ◌==◌, List, [], ◌∷◌, ◌++◌, length, map, Option, Some, None, Result}
-use Rattle.std.specs.List.{find}
+use Rattle.std.specs.Prelude.{◌≡◌, ℕ, List, [], ◌∷◌, ◌++◌, length, map, Option, Some, None, Result}
 use Rattle.wl_bytes.specs.Cursor.{Cursor}
 use Rattle.wl_bytes.specs.Leb.{IsU32}
 use Rattle.wl_bytes.specs.Grammar.{Then, ThenFault, then_at, map_at}
@@ -12,9 +11,8 @@ use Rattle.wl_module.specs.declared.error.Why.TheVariants.{BadByte}
 use Rattle.wl_module.specs.declared.error.ReadError.{ReadError}
 use Rattle.wl_module.specs.declared.error.ReadError.TheVariants.{Malformed}
 use Rattle.wl_module.specs.Lists.{NumberFault, number_at, IsCoded, CodedFault, coded_at, Listed, ListedFault, list_at, Whole, WholeFault, whole_of, SeenAs, seen_of}
-use Rattle.wl_module.specs.Bodies.{StretchFault}
-use Rattle.wl_module.specs.BodiesReading.{stretch_at}
-use Rattle.wl_module.specs.Checks.{NoFault, nothing_at, measured_at}
+use Rattle.wl_module.specs.Bodies.{BodyFault, stretch_at}
+use Rattle.wl_module.specs.Checks.{Seen, IsNothing, NoFault, nothing_at, measured_at}
 use Rattle.wl_module.specs.Constants.{IsExpression, ExpressionFault, expression_at}
 
 -- ---- flags
@@ -25,25 +23,21 @@ segment_code InMemory = 0
 segment_code InNoMemory = 1
 segment_code InMemoryOf = 2
 
--- what that byte says
-abbrev pub segment_flag_of : ℕ → Option SegmentFlag
-segment_flag_of b = find (λ f. segment_code f == b) (InMemory ∷ InNoMemory ∷ InMemoryOf ∷ [])
-
 -- there is no byte, or another one
 abbrev pub SegmentFlagFault : ReadError → Cursor → Type 0
 SegmentFlagFault = CodedFault segment_code (λ _. Malformed BadByte)
 
 -- the flag in front
 unfoldable pub segment_flag_at : Cursor → Result (SegmentFlag × Cursor) ReadError
-segment_flag_at c = coded_at segment_flag_of (λ _. Malformed BadByte) c
+segment_flag_at c = coded_at segment_code (InMemory ∷ InNoMemory ∷ InMemoryOf ∷ []) (λ _. Malformed BadByte) c
 
 -- ---- where a segment goes
 
 -- the memory of an active segment, the first one where none is named, and the expression of its place
 abbrev pub IsTarget : SegmentFlag → ℕ → Option ℕ → List ℕ → Type 0
-IsTarget InMemory place m text = (m ≡ Some 0) × ((body : List ℕ) × IsExpression place body text)
-IsTarget InNoMemory place m text = (m ≡ None) × (text ≡ [])
-IsTarget InMemoryOf place m text = (n : ℕ) × (m ≡ Some n) × ((body : List ℕ) × Then IsU32 (λ _. IsExpression) place (n, body) text)
+IsTarget InMemory = Seen IsExpression (λ _. Some 0)
+IsTarget InNoMemory = Seen IsNothing (λ _. None)
+IsTarget InMemoryOf = Seen (Then IsU32 (λ _. IsExpression)) (λ p. Some p.0)
 
 -- what is wrong with it
 abbrev pub TargetFault : SegmentFlag → ReadError → Cursor → Type 0
@@ -62,10 +56,6 @@ target_at InMemoryOf c = map_at (λ p. Some p.0) (then_at number_at (λ _. expre
 -- their number, and then they
 abbrev pub AreCounted : ℕ → List ℕ → List ℕ → Type 0
 AreCounted place bytes text = (head : List ℕ) × (text ≡ head ++ bytes) × IsU32 place (length bytes) head
-
--- the number is at fault, or fewer are left
-abbrev pub CountedFault : ReadError → Cursor → Type 0
-CountedFault = ThenFault IsU32 NumberFault StretchFault
 
 -- the bytes in front
 unfoldable pub counted_at : Cursor → Result (List ℕ × Cursor) ReadError
@@ -103,7 +93,7 @@ IsSegment place t text = (f : SegmentFlag) × IsSegmentText place (f, (t.memory_
 
 -- the first of the three that is at fault
 abbrev pub SegmentFault : ReadError → Cursor → Type 0
-SegmentFault = ThenFault (IsCoded segment_code) SegmentFlagFault (λ f. ThenFault (IsTarget f) (TargetFault f) (λ _. CountedFault))
+SegmentFault = ThenFault (IsCoded segment_code) SegmentFlagFault (λ f. ThenFault (IsTarget f) (TargetFault f) (λ _. BodyFault))
 
 -- what was read as a segment of so many bytes, which stands at a place
 abbrev pub segment_from : ℕ → ℕ → SegmentFlag × (Option ℕ × List ℕ) → Targeted

@@ -1,7 +1,5 @@
 //! Constant expressions: what a global starts with, and where a segment is put.
 
-ghost use Rattle.std.specs.Prelude.{◌≡◌};
-ghost use Rattle.wl_bytes.specs.Cursor.{end_of};
 ghost use Rattle.wl_module.specs.Constants.{first_at, reference_at, vector_at, immediate_at, step_at, expression_at};
 ghost use Rattle.wl_module.specs.Outcome.{Yields};
 
@@ -37,8 +35,7 @@ pub(crate) enum ConstOperator {
 /// The first byte of an operator, or `None` for that of the end.
 #[tactic(auto, unfolding(crate::specs::Constants::first_at))]
 fn read_first(reader: &mut Reader<'_>) -> Result<Option<ConstOperator>, ReadError>
-    ensures value { Yields (λ o. o) result reader.new (first_at reader.old) }
-    ensures end { end_of reader.new ≡ end_of reader.old }
+    ensures { Yields (λ o. o) result reader.new (first_at reader.old) }
 {
     match reader.read_u8()? {
         END => Ok(None),
@@ -63,8 +60,7 @@ fn read_first(reader: &mut Reader<'_>) -> Result<Option<ConstOperator>, ReadErro
 /// The type of a null reference.
 #[tactic(auto, unfolding(crate::specs::Constants::reference_at))]
 fn skip_reference(reader: &mut Reader<'_>) -> Result<(), ReadError>
-    ensures value { Yields (λ u. u) result reader.new (reference_at reader.old) }
-    ensures end { end_of reader.new ≡ end_of reader.old }
+    ensures { Yields (λ u. u) result reader.new (reference_at reader.old) }
 {
     match reader.read_u8()? {
         0x70 | 0x6f => Ok(()),
@@ -75,8 +71,7 @@ fn skip_reference(reader: &mut Reader<'_>) -> Result<(), ReadError>
 /// What stands behind the first byte of a vector operator.
 #[tactic(auto, unfolding(crate::specs::Constants::vector_at))]
 fn skip_vector(reader: &mut Reader<'_>) -> Result<(), ReadError>
-    ensures value { Yields (λ u. u) result reader.new (vector_at reader.old) }
-    ensures end { end_of reader.new ≡ end_of reader.old }
+    ensures { Yields (λ u. u) result reader.new (vector_at reader.old) }
 {
     if reader.read_u32()? != V128_CONST {
         return Err(ReadError::Unsupported(Form::ConstOperator));
@@ -88,8 +83,7 @@ fn skip_vector(reader: &mut Reader<'_>) -> Result<(), ReadError>
 /// What stands behind an operator's first byte.
 #[tactic(auto, unfolding(crate::specs::Constants::immediate_at))]
 fn skip_immediate(operator: ConstOperator, reader: &mut Reader<'_>) -> Result<(), ReadError>
-    ensures value { Yields (λ u. u) result reader.new (immediate_at operator reader.old) }
-    ensures end { end_of reader.new ≡ end_of reader.old }
+    ensures { Yields (λ u. u) result reader.new (immediate_at operator reader.old) }
 {
     match operator {
         ConstOperator::I32Const => {
@@ -120,10 +114,9 @@ fn skip_immediate(operator: ConstOperator, reader: &mut Reader<'_>) -> Result<()
 }
 
 /// The operator in front, or `None` at the end.
-#[tactic(auto, unfolding(crate::specs::Constants::step_at, crate::specs::Constants::step_immediate_at))]
+#[tactic(auto, unfolding(crate::specs::Constants::step_at))]
 fn read_step(reader: &mut Reader<'_>) -> Result<Option<ConstOperator>, ReadError>
-    ensures value { Yields (λ o. o) result reader.new (step_at reader.old) }
-    ensures end { end_of reader.new ≡ end_of reader.old }
+    ensures { Yields (λ o. o) result reader.new (step_at reader.old) }
 {
     let first = read_first(reader)?;
     if let Some(operator) = first {
@@ -134,8 +127,7 @@ fn read_step(reader: &mut Reader<'_>) -> Result<Option<ConstOperator>, ReadError
 
 /// The expression in front, without its end. What it computes isn't looked at.
 pub(crate) fn read_expression<'a>(reader: &mut Reader<'a>) -> Result<&'a [u8], ReadError>
-    ensures value { Yields (λ b. b.now) result reader.new (expression_at reader.old) }
-    ensures end { end_of reader.new ≡ end_of reader.old }
+    ensures { Yields (λ b. b.now) result reader.new (expression_at reader.old) }
 {
     let bytes = reader.rest();
     let start = reader.position();

@@ -1,9 +1,9 @@
 //! The export section: what a module gives to others.
 
-ghost use Rattle.std.specs.Prelude.{◌≡◌, ◌≤◌, length, IfOk};
-ghost use Rattle.wl_bytes.specs.Cursor.{end_of};
-ghost use Rattle.wl_module.specs.Exports.{export_at, AreExports, ExportsFault};
-ghost use Rattle.wl_module.specs.Outcome.{Yields, ReadsWhole, AreAlternatives};
+ghost use Rattle.std.specs.Prelude.{◌≤◌, length, IfOk};
+ghost use Rattle.wl_bytes.specs.declared.reader.TheConstants.{MAX_LEN};
+ghost use Rattle.wl_module.specs.Exports.{AreExports, ExportsFault};
+ghost use Rattle.wl_module.specs.Outcome.{ReadsWhole, AreAlternatives};
 
 use crate::error::ReadError;
 use crate::imports::{ExternalKind, read_kind};
@@ -35,26 +35,17 @@ impl<'a> Model for OutputExport<'a> {
 impl<'a> Item<'a> for OutputExport<'a> {
     ghost use Rattle.wl_module.specs.Exports.{export_at};
 
-    ghost item_at = { export_at };
+    type Under = ();
 
-    ghost may_end = { λ _. Unit {0} };
+    ghost item_at = { λ _. export_at };
 
-    fn read(_alloc: Global, mut reader: Reader<'a>) -> Result<(Self, Reader<'a>), ReadError> {
-        let export = read_export(&mut reader)?;
-        Ok((export, reader))
+    #[tactic(auto, unfolding(crate::specs::Exports::export_at))]
+    fn read(_alloc: Global, _under: &mut (), reader: &mut Reader<'a>) -> Result<Self, ReadError> {
+        let name = reader.read_name()?;
+        let kind = read_kind(reader)?;
+        let index = reader.read_u32()?;
+        Ok(OutputExport { name, kind, index })
     }
-}
-
-/// The export in front.
-#[tactic(auto, unfolding(crate::specs::Exports::export_at))]
-fn read_export<'a>(reader: &mut Reader<'a>) -> Result<OutputExport<'a>, ReadError>
-    ensures value { Yields (λ x. x) result reader.new (export_at reader.old) }
-    ensures end { end_of reader.new ≡ end_of reader.old }
-{
-    let name = reader.read_name()?;
-    let kind = read_kind(reader)?;
-    let index = reader.read_u32()?;
-    Ok(OutputExport { name, kind, index })
 }
 
 /// Reads the payload of an export section (core specification, "Export Section"): the exports in
@@ -63,10 +54,11 @@ fn read_export<'a>(reader: &mut Reader<'a>) -> Result<OutputExport<'a>, ReadErro
 /// A kind above 4 is `Malformed(BadByte)`, the kind 4 of an exception tag `Unsupported(Tag)`; each
 /// is judged in front of the index.
 pub fn read_exports(alloc: Global, payload: &[u8]) -> Result<Vec<OutputExport<'_>>, ReadError>
+    requires { length payload.now ≤ MAX_LEN }
     ensures reads { ReadsWhole (λ v. v.items) AreExports ExportsFault payload.now result }
     ensures count { IfOk result (λ v. length v.items ≤ length payload.now) }
 {
-    read_payload(alloc, payload)
+    read_payload(alloc, (), payload)
 }
 
 /// Each payload spells one list of exports or has one fault, and never both.

@@ -1,6 +1,7 @@
 //! The function section: which type each function of a module has.
 
 ghost use Rattle.std.specs.Prelude.{◌≤◌, length, IfOk};
+ghost use Rattle.wl_bytes.specs.declared.reader.TheConstants.{MAX_LEN};
 ghost use Rattle.wl_module.specs.Bodies.{AreIndices, IndicesFault};
 ghost use Rattle.wl_module.specs.Lists.{number_at};
 ghost use Rattle.wl_module.specs.Outcome.{ReadsWhole, AreAlternatives};
@@ -11,13 +12,12 @@ use std::alloc::Global;
 use wl_bytes::Reader;
 
 impl<'a> Item<'a> for u32 {
-    ghost item_at = { number_at };
+    type Under = ();
 
-    ghost may_end = { λ _. Unit {0} };
+    ghost item_at = { λ _. number_at };
 
-    fn read(_alloc: Global, mut reader: Reader<'a>) -> Result<(Self, Reader<'a>), ReadError> {
-        let index = reader.read_u32()?;
-        Ok((index, reader))
+    fn read(_alloc: Global, _under: &mut (), reader: &mut Reader<'a>) -> Result<Self, ReadError> {
+        Ok(reader.read_u32()?)
     }
 }
 
@@ -27,10 +27,11 @@ impl<'a> Item<'a> for u32 {
 /// The indices are as the bytes have them: that there is such a type isn't looked at. Bytes after
 /// the last index are `Malformed(Trailing)`.
 pub fn read_functions(alloc: Global, payload: &[u8]) -> Result<Vec<u32>, ReadError>
+    requires { length payload.now ≤ MAX_LEN }
     ensures reads { ReadsWhole (λ v. v.items) AreIndices IndicesFault payload.now result }
     ensures count { IfOk result (λ v. length v.items ≤ length payload.now) }
 {
-    read_payload(alloc, payload)
+    read_payload(alloc, (), payload)
 }
 
 /// Each payload spells one list of indices or has one fault, and never both.

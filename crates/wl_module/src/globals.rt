@@ -1,8 +1,8 @@
 //! The global section: the globals that a module defines.
 
-ghost use Rattle.std.specs.Prelude.{◌≡◌, ◌≤◌, length, IfOk};
-ghost use Rattle.wl_bytes.specs.Cursor.{end_of};
-ghost use Rattle.wl_module.specs.Globals.{mutability_at, global_type_at, global_at, AreGlobals, GlobalsFault};
+ghost use Rattle.std.specs.Prelude.{◌≤◌, length, IfOk};
+ghost use Rattle.wl_bytes.specs.declared.reader.TheConstants.{MAX_LEN};
+ghost use Rattle.wl_module.specs.Globals.{mutability_at, global_type_at, AreGlobals, GlobalsFault};
 ghost use Rattle.wl_module.specs.Outcome.{Yields, ReadsWhole, AreAlternatives};
 
 use crate::constants::read_expression;
@@ -51,21 +51,25 @@ impl<'a> Model for OutputGlobal<'a> {
 impl<'a> Item<'a> for OutputGlobal<'a> {
     ghost use Rattle.wl_module.specs.Globals.{global_at};
 
-    ghost item_at = { global_at };
+    type Under = ();
 
-    ghost may_end = { λ _. Unit {0} };
+    ghost item_at = { λ _. global_at };
 
-    fn read(_alloc: Global, mut reader: Reader<'a>) -> Result<(Self, Reader<'a>), ReadError> {
-        let global = read_global(&mut reader)?;
-        Ok((global, reader))
+    #[tactic(auto, unfolding(crate::specs::Globals::global_at))]
+    fn read(_alloc: Global, _under: &mut (), reader: &mut Reader<'a>) -> Result<Self, ReadError> {
+        let ty = read_global_type(reader)?;
+        let body = read_expression(reader)?;
+        Ok(OutputGlobal {
+            ty,
+            init_expr_body: CowSlice::Borrowed(body),
+        })
     }
 }
 
 /// The byte that says whether a global may change.
 #[tactic(auto, unfolding(crate::specs::Globals::mutability_at))]
 fn read_mutability(reader: &mut Reader<'_>) -> Result<bool, ReadError>
-    ensures value { Yields (λ m. m) result reader.new (mutability_at reader.old) }
-    ensures end { end_of reader.new ≡ end_of reader.old }
+    ensures { Yields (λ m. m) result reader.new (mutability_at reader.old) }
 {
     match reader.read_u8()? {
         0 => Ok(false),
@@ -77,28 +81,13 @@ fn read_mutability(reader: &mut Reader<'_>) -> Result<bool, ReadError>
 /// The global type in front.
 #[tactic(auto, unfolding(crate::specs::Globals::global_type_at))]
 pub(crate) fn read_global_type(reader: &mut Reader<'_>) -> Result<GlobalType, ReadError>
-    ensures value { Yields (λ g. g) result reader.new (global_type_at reader.old) }
-    ensures end { end_of reader.new ≡ end_of reader.old }
+    ensures { Yields (λ g. g) result reader.new (global_type_at reader.old) }
 {
     let content_type = read_value_type(reader)?;
     let mutable = read_mutability(reader)?;
     Ok(GlobalType {
         content_type,
         mutable,
-    })
-}
-
-/// The global in front.
-#[tactic(auto, unfolding(crate::specs::Globals::global_at))]
-fn read_global<'a>(reader: &mut Reader<'a>) -> Result<OutputGlobal<'a>, ReadError>
-    ensures value { Yields (λ g. g) result reader.new (global_at reader.old) }
-    ensures end { end_of reader.new ≡ end_of reader.old }
-{
-    let ty = read_global_type(reader)?;
-    let body = read_expression(reader)?;
-    Ok(OutputGlobal {
-        ty,
-        init_expr_body: CowSlice::Borrowed(body),
     })
 }
 
@@ -110,10 +99,11 @@ fn read_global<'a>(reader: &mut Reader<'a>) -> Result<OutputGlobal<'a>, ReadErro
 /// than `funcref` and `externref` `Unsupported(Operator)`. The expressions aren't typed, and the
 /// indices in them aren't looked at.
 pub fn read_globals(alloc: Global, payload: &[u8]) -> Result<Vec<OutputGlobal<'_>>, ReadError>
+    requires { length payload.now ≤ MAX_LEN }
     ensures reads { ReadsWhole (λ v. v.items) AreGlobals GlobalsFault payload.now result }
     ensures count { IfOk result (λ v. length v.items ≤ length payload.now) }
 {
-    read_payload(alloc, payload)
+    read_payload(alloc, (), payload)
 }
 
 /// Each payload spells one list of globals or has one fault, and never both.

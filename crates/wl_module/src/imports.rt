@@ -1,13 +1,13 @@
 //! The import section: what a module takes from others.
 
-ghost use Rattle.std.specs.Prelude.{◌≡◌, false, IfOk, ◌≤◌, length};
-ghost use Rattle.wl_bytes.specs.Cursor.{end_of};
-ghost use Rattle.wl_module.specs.Chains.{times_after_at};
-ghost use Rattle.wl_module.specs.Imports.{kind_at, entity_at, import_at, is_memory, import_after_at, import_seen, plain_imports, placed_imports_of, ArePlacedImports, imports_of, AreImports, ImportsFault, function_import, global_import};
-ghost use Rattle.wl_module.specs.Outcome.{Yields, Gives, ReadsWhole, AreAlternatives};
+ghost use Rattle.std.specs.Prelude.{◌≡◌, IfOk, ◌≤◌, length};
+ghost use Rattle.wl_bytes.specs.declared.reader.TheConstants.{MAX_LEN};
+ghost use Rattle.wl_module.specs.Imports.{kind_at, entity_at, import_at, is_memory, plain_imports, ArePlacedImports, AreImports, ImportsFault, function_import, global_import};
+ghost use Rattle.wl_module.specs.Outcome.{Yields, ReadsWhole, AreAlternatives};
 
 use crate::error::{Form, ReadError, Why};
 use crate::globals::{GlobalType, read_global_type};
+use crate::items::{Item, read_payload};
 use crate::limits::{MemoryType, TableType, read_memory_type, read_table_type};
 use crate::words::read_placed_name;
 use std::alloc::{AllocError, Global};
@@ -93,7 +93,11 @@ impl<'a> Model for WasmFunctionImport<'a> {
 
     ghost Value = { ImportedFunction };
 
-    ghost view = { λ i. record { origin = i.module.now; name = i.name.now; type_index = i.type_index } };
+    ghost view = { λ i. record {
+      origin = i.module.now;
+      name = i.name.now;
+      type_index = i.type_index;
+    } };
 }
 
 /// An imported global. Clauses see it as an `ImportedGlobal`.
@@ -158,8 +162,7 @@ impl<'a> Import<'a> {
 /// The byte that tells the kind of what is imported or exported.
 #[tactic(auto, unfolding(crate::specs::Imports::kind_at))]
 pub(crate) fn read_kind(reader: &mut Reader<'_>) -> Result<ExternalKind, ReadError>
-    ensures value { Yields (λ k. k) result reader.new (kind_at reader.old) }
-    ensures end { end_of reader.new ≡ end_of reader.old }
+    ensures { Yields (λ k. k) result reader.new (kind_at reader.old) }
 {
     match reader.read_u8()? {
         0 => Ok(ExternalKind::Func),
@@ -204,54 +207,27 @@ fn read_import<'a>(reader: &mut Reader<'a>) -> Result<PlacedImport<'a>, ReadErro
     })
 }
 
-/// The import in front, which may not be a memory where there is one.
-#[tactic(auto, unfolding(crate::specs::Imports::import_after_at))]
-fn read_import_after<'a>(seen: bool, reader: &mut Reader<'a>) -> Result<PlacedImport<'a>, ReadError>
-    ensures { Yields (λ i. i) result reader.new (import_after_at seen reader.old) }
-{
-    let placed = read_import(reader)?;
-    if seen && placed.import.is_memory() {
-        return Err(ReadError::Unsupported(Form::ManyMemories));
-    }
-    Ok(placed)
-}
+impl<'a> Item<'a> for PlacedImport<'a> {
+    ghost use Rattle.wl_module.specs.declared.error.Form.TheVariants.{ManyMemories};
+    ghost use Rattle.wl_module.specs.declared.error.ReadError.TheVariants.{Unsupported};
+    ghost use Rattle.wl_module.specs.Chains.{once_at, seen_then};
+    ghost use Rattle.wl_module.specs.Imports.{import_at, imports_memory};
 
-/// Whether there is a memory behind one more import.
-fn seen_after(seen: bool, placed: &PlacedImport<'_>) -> bool
-    ensures { result ≡ import_seen seen placed.now }
-{
-    seen || placed.import.is_memory()
-}
+    /// Whether a memory is imported already.
+    type Under = bool;
 
-/// So many imports, in a list that grows as they are read.
-fn imports_in<'a>(
-    alloc: Global,
-    reader: &mut Reader<'a>,
-    count: u32,
-) -> Result<Vec<PlacedImport<'a>>, ReadError>
-    ensures { Yields (λ v. v.items) result reader.new (times_after_at import_after_at import_seen count false reader.old) }
-{
-    let mut imports = Vec::new(alloc);
-    let mut seen = false;
-    for _ in 0..count {
-        let import = read_import_after(seen, reader)?;
-        seen = seen_after(seen, &import);
-        imports.push(import)?;
-    }
-    Ok(imports)
-}
+    ghost item_at = { once_at import_at imports_memory (Unsupported ManyMemories) };
 
-/// The imports of a whole payload, with the places of their names.
-fn payload_imports(alloc: Global, payload: &[u8]) -> Result<Vec<PlacedImport<'_>>, ReadError>
-    ensures { Gives (λ v. v.items) result (placed_imports_of payload.now) }
-{
-    let mut reader = Reader::new(payload);
-    let count = reader.read_u32()?;
-    let imports = imports_in(alloc, &mut reader, count)?;
-    if !reader.rest().is_empty() {
-        return Err(ReadError::Malformed(Why::Trailing));
+    ghost after = { seen_then imports_memory };
+
+    fn read(_alloc: Global, seen: &mut bool, reader: &mut Reader<'a>) -> Result<Self, ReadError> {
+        let placed = read_import(reader)?;
+        if *seen && placed.import.is_memory() {
+            return Err(ReadError::Unsupported(Form::ManyMemories));
+        }
+        *seen = *seen || placed.import.is_memory();
+        Ok(placed)
     }
-    Ok(imports)
 }
 
 /// The imports by themselves.
@@ -267,14 +243,6 @@ fn without_places<'a>(
         .collect(alloc)
 }
 
-/// The imports of a whole payload.
-fn payload_plain(alloc: Global, payload: &[u8]) -> Result<Vec<Import<'_>>, ReadError>
-    ensures { Gives (λ v. v.items) result (imports_of payload.now) }
-{
-    let placed = payload_imports(alloc, payload)?;
-    Ok(without_places(alloc, placed)?)
-}
-
 /// Reads the payload of an import section (core specification, "Import Section"): the imports in
 /// order, their names slices of the payload. The indices of types aren't looked at.
 ///
@@ -285,10 +253,12 @@ fn payload_plain(alloc: Global, payload: &[u8]) -> Result<Vec<Import<'_>>, ReadE
 /// `Unsupported(PageSize)`; limits that can't be are `Malformed(BadLimits)`. A second memory is
 /// `Unsupported(ManyMemories)`, once its limits are read.
 pub fn read_imports(alloc: Global, payload: &[u8]) -> Result<Vec<Import<'_>>, ReadError>
+    requires { length payload.now ≤ MAX_LEN }
     ensures reads { ReadsWhole (λ v. v.items) AreImports ImportsFault payload.now result }
     ensures count { IfOk result (λ v. length v.items ≤ length payload.now) }
 {
-    payload_plain(alloc, payload)
+    let placed = read_payload(alloc, false, payload)?;
+    Ok(without_places(alloc, placed)?)
 }
 
 /// Reads the same as [`read_imports`], and tells for each import where its name stands in the
@@ -297,10 +267,11 @@ pub fn read_placed_imports(
     alloc: Global,
     payload: &[u8],
 ) -> Result<Vec<PlacedImport<'_>>, ReadError>
+    requires { length payload.now ≤ MAX_LEN }
     ensures reads { ReadsWhole (λ v. v.items) ArePlacedImports ImportsFault payload.now result }
     ensures count { IfOk result (λ v. length v.items ≤ length payload.now) }
 {
-    payload_imports(alloc, payload)
+    read_payload(alloc, false, payload)
 }
 
 /// Each payload spells one list of imports and places of names or has one fault, and never both.

@@ -1,75 +1,96 @@
 //! Items of sections, and lists of them.
 
-ghost use Rattle.std.specs.Prelude.{◌≡◌, ℕ, Result, IfOk, length};
-ghost use Rattle.wl_bytes.specs.Cursor.{Cursor, end_of};
-ghost use Rattle.wl_bytes.specs.Grammar.{times_at};
+ghost use Rattle.std.specs.Prelude.{◌≡◌, ◌≤◌, Result, IfOk, length};
+ghost use Rattle.wl_bytes.specs.declared.reader.TheConstants.{MAX_LEN};
+ghost use Rattle.wl_bytes.specs.Cursor.{Cursor};
 ghost use Rattle.wl_module.specs.declared.error.ReadError.{ReadError};
-ghost use Rattle.wl_module.specs.Lists.{list_at, whole_of};
-ghost use Rattle.wl_module.specs.Outcome.{Gives};
+ghost use Rattle.wl_module.specs.Chains.{times_after_at, list_after_at};
+ghost use Rattle.wl_module.specs.Lists.{whole_of, nothing_left};
+ghost use Rattle.wl_module.specs.Outcome.{Yields, Gives};
 
 use crate::error::{ReadError, Why};
 use std::alloc::Global;
 use wl_bytes::Reader;
 
-/// What stands in a section or a part of one, one behind the other: [`read_payload`] reads the
-/// lists of it.
+/// What stands in a section or a part of one, one behind the other: [`read_list`] reads the lists
+/// of it, and [`read_payload`] payloads that are one such list.
 pub trait Item<'a>: Drop {
-    /// The item in front, on lists.
-    ghost item_at: { Cursor → Result (Self × Cursor) ReadError };
-    /// At which places the bytes may end: items that tell their place ask for a bound.
-    ghost may_end: { ℕ → Type 0 };
+    /// What an item is read under: nothing, what is the same for all of a list, or what the items
+    /// before it have left.
+    type Under: Copy;
 
-    /// Reads the item in front, and answers it with the reader behind it. The errors are those of
+    /// The item in front, on lists.
+    ghost item_at: { Self.Under → Cursor → Result (Self × Cursor) ReadError };
+    /// What the next one is read under.
+    ghost after: { Self.Under → Self → Self.Under } = { λ under _. under };
+
+    /// Reads the item in front, and leaves what the next one is read under. The errors are those of
     /// the item.
-    fn read(alloc: Global, reader: Reader<'a>) -> Result<(Self, Reader<'a>), ReadError>
-        requires { may_end (end_of reader) }
-        ensures value { Gives (λ p. p) result (item_at reader.entry) }
-        ensures end { IfOk result (λ p. end_of p.1 ≡ end_of reader.entry) };
+    fn read(
+        alloc: Global,
+        under: &mut Self::Under,
+        reader: &mut Reader<'a>,
+    ) -> Result<Self, ReadError>
+        ensures value { Yields (λ x. x) result reader.new (item_at under.old reader.old) }
+        ensures next { IfOk result (λ x. under.new ≡ after under.old x) };
 }
 
 /// So many items. The list grows as they are read: a count that the bytes don't bear out reserves
 /// nothing.
 fn read_items<'a, T: Item<'a>>(
     alloc: Global,
-    reader: Reader<'a>,
+    under: T::Under,
+    reader: &mut Reader<'a>,
     count: u32,
-) -> Result<(Vec<T>, Reader<'a>), ReadError>
-    requires { T.may_end (end_of reader) }
-    ensures value { Gives (λ p. (p.0.items, p.1)) result (times_at T.item_at count reader.entry) }
-    ensures end { IfOk result (λ p. end_of p.1 ≡ end_of reader.entry) }
+) -> Result<Vec<T>, ReadError>
+    ensures { Yields (λ v. v.items) result reader.new
+        (times_after_at T.item_at T.after count under reader.old) }
 {
     let mut items = Vec::new(alloc);
-    let mut rest = reader;
+    let mut under = under;
     for _ in 0..count {
-        let (item, behind) = T::read(alloc, rest)?;
-        rest = behind;
-        items.push(item)?;
+        items.push(T::read(alloc, &mut under, reader)?)?;
     }
-    Ok((items, rest))
+    Ok(items)
 }
 
 /// The list in front (core specification, "Vectors"): how many items there are, and the items. It
 /// grows as they are read.
-pub(crate) fn read_list<'a, T: Item<'a>>(
+pub fn read_list<'a, T: Item<'a>>(
     alloc: Global,
-    mut reader: Reader<'a>,
-) -> Result<(Vec<T>, Reader<'a>), ReadError>
-    requires { T.may_end (end_of reader) }
-    ensures value { Gives (λ p. (p.0.items, p.1)) result (list_at T.item_at reader.entry) }
-    ensures end { IfOk result (λ p. end_of p.1 ≡ end_of reader.entry) }
+    under: T::Under,
+    reader: &mut Reader<'a>,
+) -> Result<Vec<T>, ReadError>
+    ensures { Yields (λ v. v.items) result reader.new
+        (list_after_at T.item_at T.after under reader.old) }
 {
     let count = reader.read_u32()?;
-    read_items(alloc, reader, count)
+    read_items(alloc, under, reader, count)
+}
+
+/// That nothing is left to read: bytes behind what was read are `Malformed(Trailing)`.
+pub fn expect_end(reader: &Reader<'_>) -> Result<(), ReadError>
+    ensures { result ≡ nothing_left reader.now }
+{
+    if reader.rest().is_empty() {
+        Ok(())
+    } else {
+        Err(ReadError::Malformed(Why::Trailing))
+    }
 }
 
 /// Reads a payload that is one list. Bytes behind it are `Malformed(Trailing)`.
-pub fn read_payload<'a, T: Item<'a>>(alloc: Global, payload: &'a [u8]) -> Result<Vec<T>, ReadError>
-    requires { T.may_end (length payload.now) }
-    ensures { Gives (λ v. v.items) result (whole_of (list_at T.item_at) payload.now) }
+pub fn read_payload<'a, T: Item<'a>>(
+    alloc: Global,
+    under: T::Under,
+    payload: &'a [u8],
+) -> Result<Vec<T>, ReadError>
+    requires { length payload.now ≤ MAX_LEN }
+    ensures { Gives (λ v. v.items) result
+        (whole_of (list_after_at T.item_at T.after under) payload.now) }
 {
-    let (items, reader) = read_list(alloc, Reader::new(payload))?;
-    if !reader.rest().is_empty() {
-        return Err(ReadError::Malformed(Why::Trailing));
-    }
+    let mut reader = Reader::new(payload);
+    let items = read_list(alloc, under, &mut reader)?;
+    expect_end(&reader)?;
     Ok(items)
 }

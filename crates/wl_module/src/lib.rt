@@ -33,7 +33,7 @@ pub use imports::{
     ExternalKind, Import, ImportEntity, PlacedImport, WasmFunctionImport, WasmGlobalImport,
     imports_or_fault, placed_imports_or_fault, read_imports, read_placed_imports,
 };
-pub use items::{Item, read_payload};
+pub use items::{Item, expect_end, read_list, read_payload};
 pub use laws::{lists_are_few, parts_stand};
 pub use limits::{Limits, MemoryType, TableType};
 pub use memories::{data_count_or_fault, memories_or_fault, read_data_count, read_memories};

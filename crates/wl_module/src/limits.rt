@@ -1,7 +1,6 @@
 //! Limits: how large a memory or a table is at first, and how large it may grow.
 
 ghost use Rattle.std.specs.Prelude.{◌≡◌};
-ghost use Rattle.wl_bytes.specs.Cursor.{end_of};
 ghost use Rattle.wl_bytes.specs.Grammar.{map_at};
 ghost use Rattle.wl_module.specs.Checks.{when_at};
 ghost use Rattle.wl_module.specs.Limits.{memory_flags_at, table_flags_at, limits_from, sizes_at, limits_fit, memory_limits_fit, elements_at, memory_type_at, table_type_at};
@@ -82,8 +81,7 @@ pub(crate) struct LimitsFlags {
 /// The flags of a memory.
 #[tactic(auto, unfolding(crate::specs::Limits::memory_flags_at))]
 fn read_memory_flags(reader: &mut Reader<'_>) -> Result<LimitsFlags, ReadError>
-    ensures value { Yields (λ f. f) result reader.new (memory_flags_at reader.old) }
-    ensures end { end_of reader.new ≡ end_of reader.old }
+    ensures { Yields (λ f. f) result reader.new (memory_flags_at reader.old) }
 {
     match reader.read_u8()? {
         0 => Ok(LimitsFlags {
@@ -111,8 +109,7 @@ fn read_memory_flags(reader: &mut Reader<'_>) -> Result<LimitsFlags, ReadError>
 /// The flags of a table, which isn't shared.
 #[tactic(auto, unfolding(crate::specs::Limits::table_flags_at))]
 fn read_table_flags(reader: &mut Reader<'_>) -> Result<LimitsFlags, ReadError>
-    ensures value { Yields (λ f. f) result reader.new (table_flags_at reader.old) }
-    ensures end { end_of reader.new ≡ end_of reader.old }
+    ensures { Yields (λ f. f) result reader.new (table_flags_at reader.old) }
 {
     match reader.read_u8()? {
         0 => Ok(LimitsFlags {
@@ -130,8 +127,7 @@ fn read_table_flags(reader: &mut Reader<'_>) -> Result<LimitsFlags, ReadError>
 
 /// The maximum, where the flags say that there is one.
 fn read_maximum(has_maximum: bool, reader: &mut Reader<'_>) -> Result<Option<u64>, ReadError>
-    ensures value { Yields (λ m. m) result reader.new (when_at number_at has_maximum reader.old) }
-    ensures end { end_of reader.new ≡ end_of reader.old }
+    ensures { Yields (λ m. m) result reader.new (when_at number_at has_maximum reader.old) }
 {
     if !has_maximum {
         return Ok(None);
@@ -143,8 +139,8 @@ fn read_maximum(has_maximum: bool, reader: &mut Reader<'_>) -> Result<Option<u64
 /// What stands behind the flags.
 #[tactic(auto, unfolding(crate::specs::Limits::sizes_at))]
 fn read_sizes(flags: LimitsFlags, reader: &mut Reader<'_>) -> Result<Limits, ReadError>
-    ensures value { Yields (λ l. l) result reader.new (map_at (λ p. limits_from (flags, p)) (sizes_at flags) reader.old) }
-    ensures end { end_of reader.new ≡ end_of reader.old }
+    ensures { Yields (λ l. l) result reader.new
+        (map_at (λ p. limits_from (flags, p)) (sizes_at flags) reader.old) }
 {
     let minimum = reader.read_u32()?;
     let maximum = read_maximum(flags.has_maximum, reader)?;
@@ -158,8 +154,7 @@ fn read_sizes(flags: LimitsFlags, reader: &mut Reader<'_>) -> Result<Limits, Rea
 /// The memory type in front.
 #[tactic(auto, unfolding(crate::specs::Limits::memory_type_at))]
 pub(crate) fn read_memory_type(reader: &mut Reader<'_>) -> Result<MemoryType, ReadError>
-    ensures value { Yields (λ m. m) result reader.new (memory_type_at reader.old) }
-    ensures end { end_of reader.new ≡ end_of reader.old }
+    ensures { Yields (λ m. m) result reader.new (memory_type_at reader.old) }
 {
     let flags = read_memory_flags(reader)?;
     let limits = read_sizes(flags, reader)?;
@@ -176,8 +171,7 @@ pub(crate) fn read_memory_type(reader: &mut Reader<'_>) -> Result<MemoryType, Re
 /// The type of a table's elements.
 #[tactic(auto, unfolding(crate::specs::Limits::elements_at))]
 fn read_elements(reader: &mut Reader<'_>) -> Result<(), ReadError>
-    ensures value { Yields (λ u. u) result reader.new (elements_at reader.old) }
-    ensures end { end_of reader.new ≡ end_of reader.old }
+    ensures { Yields (λ u. u) result reader.new (elements_at reader.old) }
 {
     match reader.read_u8()? {
         FUNCREF => Ok(()),
@@ -188,8 +182,7 @@ fn read_elements(reader: &mut Reader<'_>) -> Result<(), ReadError>
 /// The table type in front.
 #[tactic(auto, unfolding(crate::specs::Limits::table_type_at))]
 pub(crate) fn read_table_type(reader: &mut Reader<'_>) -> Result<TableType, ReadError>
-    ensures value { Yields (λ t. t) result reader.new (table_type_at reader.old) }
-    ensures end { end_of reader.new ≡ end_of reader.old }
+    ensures { Yields (λ t. t) result reader.new (table_type_at reader.old) }
 {
     read_elements(reader)?;
     let flags = read_table_flags(reader)?;

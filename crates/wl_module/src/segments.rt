@@ -1,9 +1,9 @@
 //! The data section: the bytes that a module's memory starts with.
 
-ghost use Rattle.std.specs.Prelude.{◌≡◌, ◌≤◌, ◌^◌, length, IfOk};
-ghost use Rattle.wl_bytes.specs.Cursor.{end_of};
-ghost use Rattle.wl_module.specs.Outcome.{Yields, Gives, ReadsWhole, AreAlternatives};
-ghost use Rattle.wl_module.specs.Segments.{segment_flag_at, segment_kind, target_at, segment_at, plain_segments, AreTargeted, segments_of, AreSegments, SegmentsFault};
+ghost use Rattle.std.specs.Prelude.{◌≡◌, ◌≤◌, length, IfOk};
+ghost use Rattle.wl_bytes.specs.declared.reader.TheConstants.{MAX_LEN};
+ghost use Rattle.wl_module.specs.Outcome.{Yields, ReadsWhole, AreAlternatives};
+ghost use Rattle.wl_module.specs.Segments.{segment_flag_at, segment_kind, target_at, segment_at, plain_segments, AreTargeted, AreSegments, SegmentsFault};
 
 use crate::constants::read_expression;
 use crate::error::{ReadError, Why};
@@ -80,16 +80,14 @@ impl<'a> WasmDataSegment<'a> {
 }
 
 impl<'a> Item<'a> for TargetedSegment<'a> {
-    ghost use Rattle.std.specs.Prelude.{◌≤◌, ◌^◌};
     ghost use Rattle.wl_module.specs.Segments.{segment_at};
 
-    ghost item_at = { segment_at };
+    type Under = ();
 
-    ghost may_end = { λ end. end ≤ 2 ^ 30 };
+    ghost item_at = { λ _. segment_at };
 
-    fn read(_alloc: Global, mut reader: Reader<'a>) -> Result<(Self, Reader<'a>), ReadError> {
-        let segment = read_segment(&mut reader)?;
-        Ok((segment, reader))
+    fn read(_alloc: Global, _under: &mut (), reader: &mut Reader<'a>) -> Result<Self, ReadError> {
+        read_segment(reader)
     }
 }
 
@@ -119,8 +117,7 @@ impl SegmentFlag {
 /// The flag of the segment in front.
 #[tactic(auto, unfolding(crate::specs::Segments::segment_flag_at))]
 fn read_flag(reader: &mut Reader<'_>) -> Result<SegmentFlag, ReadError>
-    ensures value { Yields (λ f. f) result reader.new (segment_flag_at reader.old) }
-    ensures end { end_of reader.new ≡ end_of reader.old }
+    ensures { Yields (λ f. f) result reader.new (segment_flag_at reader.old) }
 {
     match reader.read_u8()? {
         0 => Ok(SegmentFlag::InMemory),
@@ -133,8 +130,7 @@ fn read_flag(reader: &mut Reader<'_>) -> Result<SegmentFlag, ReadError>
 /// The memory that the segment in front names, and past the expression of its place there.
 #[tactic(auto, unfolding(crate::specs::Segments::target_at))]
 fn read_target(flag: SegmentFlag, reader: &mut Reader<'_>) -> Result<Option<u32>, ReadError>
-    ensures value { Yields (λ m. m) result reader.new (target_at flag reader.old) }
-    ensures end { end_of reader.new ≡ end_of reader.old }
+    ensures { Yields (λ m. m) result reader.new (target_at flag reader.old) }
 {
     let memory = match flag {
         SegmentFlag::InMemory => 0,
@@ -148,9 +144,7 @@ fn read_target(flag: SegmentFlag, reader: &mut Reader<'_>) -> Result<Option<u32>
 /// The segment in front.
 #[tactic(auto, unfolding(crate::specs::Segments::segment_at, crate::specs::Segments::counted_at))]
 fn read_segment<'a>(reader: &mut Reader<'a>) -> Result<TargetedSegment<'a>, ReadError>
-    requires { end_of reader.old ≤ 2 ^ 30 }
-    ensures value { Yields (λ s. s) result reader.new (segment_at reader.old) }
-    ensures end { end_of reader.new ≡ end_of reader.old }
+    ensures { Yields (λ s. s) result reader.new (segment_at reader.old) }
 {
     let start = reader.position();
     let flag = read_flag(reader)?;
@@ -182,15 +176,6 @@ fn without_memories<'a>(
         .collect(alloc)
 }
 
-/// The segments of a whole payload.
-fn payload_segments(alloc: Global, payload: &[u8]) -> Result<Vec<WasmDataSegment<'_>>, ReadError>
-    requires { length payload.now ≤ 2 ^ 30 }
-    ensures { Gives (λ v. v.items) result (segments_of payload.now) }
-{
-    let targeted = read_payload(alloc, payload)?;
-    Ok(without_memories(alloc, targeted)?)
-}
-
 /// Reads the payload of a data section (core specification, "Data Section"): the segments in
 /// order, each with its place in the payload. Their bytes are slices of the payload. The number of
 /// a memory isn't looked at, nor what the expression of a place computes.
@@ -199,11 +184,12 @@ fn payload_segments(alloc: Global, payload: &[u8]) -> Result<Vec<WasmDataSegment
 /// `Unsupported(ConstOperator)`, a null reference of another type than `funcref` and `externref`
 /// `Unsupported(Operator)`.
 pub fn read_segments(alloc: Global, payload: &[u8]) -> Result<Vec<WasmDataSegment<'_>>, ReadError>
-    requires { length payload.now ≤ 2 ^ 30 }
+    requires { length payload.now ≤ MAX_LEN }
     ensures reads { ReadsWhole (λ v. v.items) AreSegments SegmentsFault payload.now result }
     ensures count { IfOk result (λ v. length v.items ≤ length payload.now) }
 {
-    payload_segments(alloc, payload)
+    let targeted = read_payload(alloc, (), payload)?;
+    Ok(without_memories(alloc, targeted)?)
 }
 
 /// Reads the same as [`read_segments`], and tells for each segment which memory it is written to.
@@ -211,11 +197,11 @@ pub fn read_targeted_segments(
     alloc: Global,
     payload: &[u8],
 ) -> Result<Vec<TargetedSegment<'_>>, ReadError>
-    requires { length payload.now ≤ 2 ^ 30 }
+    requires { length payload.now ≤ MAX_LEN }
     ensures reads { ReadsWhole (λ v. v.items) AreTargeted SegmentsFault payload.now result }
     ensures count { IfOk result (λ v. length v.items ≤ length payload.now) }
 {
-    read_payload(alloc, payload)
+    read_payload(alloc, (), payload)
 }
 
 /// Each payload spells one list of segments and memories or has one fault, and never both.

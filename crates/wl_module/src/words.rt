@@ -1,7 +1,5 @@
 //! Names that tell where they stand.
 
-ghost use Rattle.std.specs.Prelude.{◌≡◌, length};
-ghost use Rattle.wl_bytes.specs.Cursor.{end_of};
 ghost use Rattle.wl_module.specs.Outcome.{Yields};
 ghost use Rattle.wl_module.specs.Words.{placed_name_at};
 
@@ -12,8 +10,7 @@ use wl_bytes::Reader;
 /// counted as the reader counts.
 #[tactic(auto, unfolding(crate::specs::Words::placed_name_at))]
 pub(crate) fn read_placed_name<'a>(reader: &mut Reader<'a>) -> Result<(&'a str, usize), ReadError>
-    ensures value { Yields (λ w. (w.0.now, w.1)) result reader.new (placed_name_at reader.old) }
-    ensures end { end_of reader.new ≡ end_of reader.old }
+    ensures { Yields (λ w. (w.0.now, w.1)) result reader.new (placed_name_at reader.old) }
 {
     let name = reader.read_name()?;
     Ok((name, reader.position() - name.len()))

@@ -28,7 +28,7 @@ use Rattle.wl_ops.specs.declared.table.Immediate.TheVariants.{One, ListOf, Catch
 use Rattle.wl_ops.specs.declared.table.Shape.{Shape}
 use Rattle.wl_ops.specs.Seen.{Seen}
 use Rattle.wl_ops.specs.Table.{immediates, is_prefix, is_element, shape_of}
-use Rattle.wl_ops.specs.Immediates.{is_alignment, is_block_type, is_reference, is_value_type, IsSingle, SingleFault, single_at, is_catch, catch_numbers, IsKind, KindFault, kind_at, IsCatch, CatchFault, catch_at, counted, counted_lists, IsImmediate, ImmediateFault, immediate_at, joined, AreImmediates, ImmediatesFault, immediates_at}
+use Rattle.wl_ops.specs.Immediates.{is_alignment, is_block_type, is_reference_type, is_value_type, IsSingle, SingleFault, single_at, is_catch, catch_numbers, IsKind, KindFault, kind_at, IsCatch, CatchFault, catch_at, counted, counted_lists, IsImmediate, ImmediateFault, immediate_at, joined, AreImmediates, ImmediatesFault, immediates_at}
 use Rattle.wl_ops.specs.Operators.{sub_of, IsSub, SubFault, sub_at, IsHead, HeadFault, head_at, IsBehind, IsTaken, taken_shape, IsBehindTaken, BehindFault, OpFault, behind_at, op_of, op_at}
 
 -- what is seen of an item is read as the item is
@@ -49,8 +49,8 @@ single_reading BlockType = where_reading (IsSigned s33_form) (SignedNumberFault 
 single_reading Signed32 = signed_number_reading S32
 single_reading Signed64 = signed_number_reading S64
 single_reading Byte = see (λ b. pos b) IsByte ByteFault one_byte_at one_byte_reading
-single_reading ReferenceType = see (λ b. pos b) (Where IsByte is_reference) (WhereFault IsByte ByteFault is_reference (Unsupported Operator)) (where_at one_byte_at is_reference (Unsupported Operator))
-    (where_reading IsByte ByteFault one_byte_at is_reference (Unsupported Operator) one_byte_reading)
+single_reading ReferenceType = see (λ b. pos b) (Where IsByte is_reference_type) (WhereFault IsByte ByteFault is_reference_type (Unsupported Operator)) (where_at one_byte_at is_reference_type (Unsupported Operator))
+    (where_reading IsByte ByteFault one_byte_at is_reference_type (Unsupported Operator) one_byte_reading)
 single_reading ValueType = see (λ b. pos b) (Where IsByte is_value_type) (WhereFault IsByte ByteFault is_value_type (Malformed BadByte)) (where_at one_byte_at is_value_type (Malformed BadByte))
     (where_reading IsByte ByteFault one_byte_at is_value_type (Malformed BadByte) one_byte_reading)
 

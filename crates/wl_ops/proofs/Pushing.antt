@@ -1,5 +1,5 @@
 -- Reading values behind those that are there.
-use Rattle.std.proofs.Common.{◌≡◌, ℕ, ℤ, pos, suc, ◌+◌, ◌-◌, ◌<◌, ◌≤◌, List, [], ◌∷◌, ◌++◌, drop, Result, Ok, Err, refl, sym, ap, ◌∙◌, arith, append_assoc}
+use Rattle.std.proofs.Common.{◌≡◌, ℕ, ℤ, pos, suc, ◌+◌, ◌-◌, ◌<◌, ◌≤◌, List, [], ◌∷◌, ◌++◌, drop, Result, Ok, Err, refl, sym, ap, subst, ◌∙◌, arith, append_assoc}
 use Rattle.std.specs.List.{flat_map}
 use Rattle.std.proofs.lemmas.List.{append-nil}
 use Rattle.wl_bytes.specs.Cursor.{Cursor}
@@ -55,6 +55,33 @@ regroup front z (Err e) = refl
 joins : (front xs : List ℤ) (read : Reading) → with_front front (read >>= λ q. Ok (xs ++ q.0, q.1)) ≡ with_front (front ++ xs) read
 joins front xs (Ok q) = ap (λ (zs : List ℤ). Ok (zs, q.1)) (simp append_assoc)
 joins front xs (Err e) = refl
+
+-- ---- so many values
+
+-- one more is read
+pub goes_on : (item : Cursor → Result (ℤ × Cursor) ReadError) (front : List ℤ) (count i : ℕ) (c : Cursor) (x : ℤ) (behind : Cursor) (total : Reading) → i < count → item c ≡ Ok (x, behind)
+    → with_front front (times_at item (count - i) c) ≡ total → with_front (front ++ x ∷ []) (times_at item (count - (i + 1)) behind) ≡ total
+unfolding times_at
+goes_on item front count i c x behind total lt h so_far =
+    let k : count - i ≡ suc (count - (i + 1)) = omega arith in
+    let one : with_front front (times_at item (count - i) c) ≡ with_front (front ++ x ∷ []) (times_at item (count - (i + 1)) behind) = rw (k, h) (regroup front x (times_at item (count - (i + 1)) behind)) in
+    sym one ∙ so_far
+
+-- the next one is at fault
+pub ends : (item : Cursor → Result (ℤ × Cursor) ReadError) (e : ReadError) (front : List ℤ) (count i : ℕ) (c : Cursor) (total : Reading) → i < count → Fails e (item c) → with_front front (times_at item (count - i) c) ≡ total → Fails e total
+unfolding times_at
+ends item e front count i c total lt h so_far =
+    let k : count - i ≡ suc (count - (i + 1)) = omega arith in
+    let rest = λ (p : ℤ × Cursor). times_at item (count - (i + 1)) p.1 >>= λ q. Ok (p.0 ∷ q.0, q.1) in
+    subst (Fails e) so_far (rw k (fails_front e front (item c >>= rest) (fails_bind e (item c) rest h)))
+
+-- all are read
+pub is_done : (item : Cursor → Result (ℤ × Cursor) ReadError) (front : List ℤ) (count i : ℕ) (c : Cursor) (total : Reading) → count ≤ i → with_front front (times_at item (count - i) c) ≡ total → total ≡ Ok (front, c)
+unfolding times_at
+is_done item front count i c total le so_far =
+    let k : count - i ≡ 0 = omega arith in
+    let one : with_front front (times_at item (count - i) c) ≡ Ok (front, c) = rw k (ap (λ (zs : List ℤ). Ok (zs, c)) (append-nil front)) in
+    sym so_far ∙ one
 
 -- ---- so many lists
 

@@ -1,5 +1,5 @@
 -- What stands behind an operator, and the values that it spells (core specification, "Instructions").
-use Rattle.std.specs.Prelude.{ℕ, ℤ, pos, negsuc, int_le, ◌==◌, ◌||◌, ◌&&◌, nat_lt, nat_le, Bool, if◌then◌else◌, List, [], ◌∷◌, ◌++◌, Result}
+use Rattle.std.specs.Prelude.{ℕ, ℤ, pos, negsuc, int_le, ◌||◌, ◌&&◌, nat_lt, Bool, false, if◌then◌else◌, List, [], ◌∷◌, ◌++◌, Option, Some, None, is_some, Result}
 use Rattle.std.specs.List.{flat_map}
 use Rattle.wl_bytes.specs.Cursor.{Cursor}
 use Rattle.wl_bytes.specs.Leb.{s32_form, s33_form, s64_form, IsU32, IsSigned}
@@ -11,6 +11,8 @@ use Rattle.wl_module.specs.declared.error.ReadError.{ReadError}
 use Rattle.wl_module.specs.declared.error.ReadError.TheVariants.{Malformed, Unsupported}
 use Rattle.wl_module.specs.Lists.{NumberFault, number_at, ByteFault, one_byte_at}
 use Rattle.wl_module.specs.Checks.{Where, WhereFault, where_at, IsNothing, NoFault, nothing_at}
+use Rattle.wl_module.specs.declared.types.ValType.{ValType}
+use Rattle.wl_module.specs.Types.{value_type_of, is_reference}
 use Rattle.wl_module.specs.Constants.{SignedNumberFault, signed_number_at}
 use Rattle.wl_ops.specs.declared.table.Single.{Single}
 use Rattle.wl_ops.specs.declared.table.Single.TheVariants.{Number, Alignment, BlockType, Signed32, Signed64, Byte, ReferenceType, ValueType}
@@ -28,13 +30,18 @@ is_alignment n = nat_lt n 0x40
 abbrev pub is_block_type : ℤ → Bool
 is_block_type z = int_le (negsuc 4) z || (int_le (negsuc 16) z && int_le z (negsuc 15)) || (int_le (negsuc 63) z && int_le z (negsuc 63))
 
--- the types of references
-abbrev pub is_reference : ℕ → Bool
-is_reference b = b == 0x70 || b == 0x6f
-
--- the types of values
+-- the byte of a type of values
 abbrev pub is_value_type : ℕ → Bool
-is_value_type b = (nat_le 0x7b b && nat_le b 0x7f) || b == 0x70 || b == 0x6f
+is_value_type b = is_some (value_type_of b)
+
+-- there is such a type, and it is one of references
+abbrev pub is_some_reference : Option ValType → Bool
+is_some_reference None = false
+is_some_reference (Some t) = is_reference t
+
+-- the byte of a type of references
+abbrev pub is_reference_type : ℕ → Bool
+is_reference_type b = is_some_reference (value_type_of b)
 
 -- what spells a value
 abbrev pub IsSingle : Single → ℕ → ℤ → List ℕ → Type 0
@@ -44,7 +51,7 @@ IsSingle BlockType = Where (IsSigned s33_form) is_block_type
 IsSingle Signed32 = IsSigned s32_form
 IsSingle Signed64 = IsSigned s64_form
 IsSingle Byte = Seen (λ b. pos b) IsByte
-IsSingle ReferenceType = Seen (λ b. pos b) (Where IsByte is_reference)
+IsSingle ReferenceType = Seen (λ b. pos b) (Where IsByte is_reference_type)
 IsSingle ValueType = Seen (λ b. pos b) (Where IsByte is_value_type)
 
 -- what is wrong with it
@@ -55,7 +62,7 @@ SingleFault BlockType = WhereFault (IsSigned s33_form) (SignedNumberFault s33_fo
 SingleFault Signed32 = SignedNumberFault s32_form
 SingleFault Signed64 = SignedNumberFault s64_form
 SingleFault Byte = ByteFault
-SingleFault ReferenceType = WhereFault IsByte ByteFault is_reference (Unsupported Operator)
+SingleFault ReferenceType = WhereFault IsByte ByteFault is_reference_type (Unsupported Operator)
 SingleFault ValueType = WhereFault IsByte ByteFault is_value_type (Malformed BadByte)
 
 -- the value in front
@@ -66,7 +73,7 @@ single_at BlockType c = where_at (signed_number_at s33_form) is_block_type (Unsu
 single_at Signed32 c = signed_number_at s32_form c
 single_at Signed64 c = signed_number_at s64_form c
 single_at Byte c = map_at (λ b. pos b) one_byte_at c
-single_at ReferenceType c = map_at (λ b. pos b) (where_at one_byte_at is_reference (Unsupported Operator)) c
+single_at ReferenceType c = map_at (λ b. pos b) (where_at one_byte_at is_reference_type (Unsupported Operator)) c
 single_at ValueType c = map_at (λ b. pos b) (where_at one_byte_at is_value_type (Malformed BadByte)) c
 
 -- ---- catches

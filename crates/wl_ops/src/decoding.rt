@@ -1,6 +1,7 @@
 //! Decoding the bodies of functions.
 
 ghost use Rattle.std.specs.Prelude.{◌≡◌, ◌≤◌, IfOk, length};
+ghost use Rattle.wl_bytes.specs.declared.reader.TheConstants.{MAX_LEN};
 ghost use Rattle.wl_bytes.specs.Cursor.{end_of};
 ghost use Rattle.wl_bytes.specs.Grammar.{times_at};
 ghost use Rattle.wl_module.specs.Outcome.{Yields, Gives, ReadsWhole};
@@ -8,12 +9,12 @@ ghost use Rattle.wl_module.specs.Lists.{list_at};
 ghost use Rattle.wl_module.specs.Checks.{any_at};
 ghost use Rattle.wl_ops.specs.Decoding.{local_at, ops_of, body_of, in_body, decoded, AreTaken, DecodeFault, list_items};
 
-use crate::immediates::{is_value_type, read_count};
+use crate::immediates::read_count;
 use crate::op::Op;
 use crate::operators::{END, read_op};
 use std::alloc::Global;
 use wl_bytes::Reader;
-use wl_module::{ReadError, Why};
+use wl_module::{ReadError, ValType, Why};
 
 /// The local declaration in front: how many locals, and the byte of their type.
 #[tactic(auto, unfolding(crate::specs::Decoding::local_at))]
@@ -23,10 +24,9 @@ fn read_local(reader: &mut Reader<'_>) -> Result<(u32, u8), ReadError>
 {
     let count = reader.read_u32()?;
     let value_type = reader.read_u8()?;
-    if is_value_type(value_type) {
-        Ok((count, value_type))
-    } else {
-        Err(ReadError::Malformed(Why::BadByte))
+    match ValType::from_byte(value_type) {
+        Some(_) => Ok((count, value_type)),
+        None => Err(ReadError::Malformed(Why::BadByte)),
     }
 }
 
@@ -72,6 +72,7 @@ fn read_ops(alloc: Global, reader: &mut Reader<'_>) -> Result<Vec<Op>, ReadError
 /// The operators of a body, with each fault as it is.
 #[tactic(auto, unfolding(crate::specs::Decoding::body_of))]
 fn read_body(alloc: Global, body: &[u8]) -> Result<Vec<Op>, ReadError>
+    requires { length body.now ≤ MAX_LEN }
     ensures { Gives (λ v. v.items) result (body_of body.now) }
 {
     let mut reader = Reader::new(body);
@@ -91,6 +92,7 @@ pub(crate) fn in_body(error: ReadError) -> ReadError
 
 /// The operators of a body, as they are told.
 fn decode(alloc: Global, body: &[u8]) -> Result<Vec<Op>, ReadError>
+    requires { length body.now ≤ MAX_LEN }
     ensures { Gives (λ v. v.items) result (decoded body.now) }
 {
     match read_body(alloc, body) {
@@ -110,6 +112,7 @@ fn decode(alloc: Global, body: &[u8]) -> Result<Vec<Op>, ReadError>
 ///
 /// Operators and immediates are together no more than the bytes, so a body bounds the memory.
 pub fn decode_body(alloc: Global, body: &[u8]) -> Result<Vec<Op>, ReadError>
+    requires { length body.now ≤ MAX_LEN }
     ensures reads { ReadsWhole (λ v. v.items) AreTaken DecodeFault body.now result }
     ensures few { IfOk result (λ v. list_items v.items ≤ length body.now) }
 {

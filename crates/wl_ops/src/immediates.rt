@@ -6,33 +6,19 @@ ghost use Rattle.wl_bytes.specs.Grammar.{times_at};
 ghost use Rattle.wl_module.specs.Outcome.{Yields};
 ghost use Rattle.wl_module.specs.Lists.{number_at};
 ghost use Rattle.wl_ops.specs.Seen.{with_front};
-ghost use Rattle.wl_ops.specs.Immediates.{is_block_type, is_reference, is_value_type, single_at, catch_numbers, kind_at, catch_at, flat_at, immediate_at, immediates_at};
+ghost use Rattle.wl_ops.specs.Immediates.{is_block_type, single_at, catch_numbers, kind_at, catch_at, flat_at, immediate_at, immediates_at};
 
 use crate::op::OpArgs;
 use crate::table::{Immediate, Single};
 use std::alloc::Global;
 use wl_bytes::Reader;
-use wl_module::{Form, ReadError, Why};
+use wl_module::{Form, ReadError, ValType, Why};
 
 /// Whether the number is the type of a block: the index of a type, a value type or nothing.
 fn is_block_type(value: i64) -> bool
     ensures { result ≡ is_block_type value }
 {
     -5 <= value || (-17 <= value && value <= -16) || (-64 <= value && value <= -64)
-}
-
-/// Whether the byte is a reference type.
-fn is_reference(byte: u8) -> bool
-    ensures { result ≡ is_reference byte }
-{
-    byte == 0x70 || byte == 0x6f
-}
-
-/// Whether the byte is a value type.
-pub(crate) fn is_value_type(byte: u8) -> bool
-    ensures { result ≡ is_value_type byte }
-{
-    (0x7b <= byte && byte <= 0x7f) || byte == 0x70 || byte == 0x6f
 }
 
 /// The value in front.
@@ -64,18 +50,16 @@ fn read_single(single: Single, reader: &mut Reader<'_>) -> Result<i64, ReadError
         Single::Byte => Ok(i64::from(reader.read_u8()?)),
         Single::ReferenceType => {
             let byte = reader.read_u8()?;
-            if is_reference(byte) {
-                Ok(i64::from(byte))
-            } else {
-                Err(ReadError::Unsupported(Form::Operator))
+            match ValType::from_byte(byte) {
+                Some(ty) if ty.is_reference() => Ok(i64::from(byte)),
+                Some(_) | None => Err(ReadError::Unsupported(Form::Operator)),
             }
         }
         Single::ValueType => {
             let byte = reader.read_u8()?;
-            if is_value_type(byte) {
-                Ok(i64::from(byte))
-            } else {
-                Err(ReadError::Malformed(Why::BadByte))
+            match ValType::from_byte(byte) {
+                Some(_) => Ok(i64::from(byte)),
+                None => Err(ReadError::Malformed(Why::BadByte)),
             }
         }
     }

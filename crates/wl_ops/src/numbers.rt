@@ -1,7 +1,8 @@
 //! The numbers of data segments in the bodies of functions.
 
-ghost use Rattle.std.specs.Prelude.{◌≡◌, ◌++◌, [], Ok, false, IfOk};
+ghost use Rattle.std.specs.Prelude.{◌≡◌, ◌≤◌, ◌++◌, [], Ok, false, IfOk, length};
 ghost use Rattle.std.specs.Option.{option_to_list};
+ghost use Rattle.wl_bytes.specs.declared.reader.TheConstants.{MAX_LEN};
 ghost use Rattle.wl_bytes.specs.Cursor.{end_of};
 ghost use Rattle.wl_module.specs.Outcome.{Yields, Gives, ReadsWhole};
 ghost use Rattle.wl_ops.specs.Numbers.{is_segment, placed_number_at, segment_at, segment_args, marked_at, NumbersIn, NumbersOf, AreTold, NumbersFault, holds_prefix};
@@ -126,6 +127,7 @@ fn numbers_in(alloc: Global, reader: &mut Reader<'_>) -> Result<Vec<DataIndexImm
 
 /// The numbers of a body, with each fault as it is.
 fn numbers_of(alloc: Global, body: &[u8]) -> Result<Vec<DataIndexImm>, ReadError>
+    requires { length body.now ≤ MAX_LEN }
     ensures { NumbersOf (λ v. v.items) body.now result }
 {
     let mut reader = Reader::new(body);
@@ -146,6 +148,7 @@ fn holds_prefix(body: &[u8]) -> bool
 /// A body without a byte 0xfc has none, and isn't decoded. On another the errors are those of
 /// `decode_body`.
 pub fn data_index_immediates(alloc: Global, body: &[u8]) -> Result<Vec<DataIndexImm>, ReadError>
+    requires { length body.now ≤ MAX_LEN }
     ensures reads { ReadsWhole (λ v. v.items) AreTold NumbersFault body.now result }
     ensures undecoded { holds_prefix body.now ≡ false → Gives (λ v. v.items) result (Ok []) }
 {

@@ -4,6 +4,7 @@ ghost use Rattle.std.specs.Prelude.{◌≡◌, ◌≤◌, ◌<◌, ◌^◌, ◌+
 ghost use Rattle.std.specs.List.{All, AllByRecursion};
 ghost use Rattle.std.specs.List.Sorted.{IsNonDecreasingBy, IsPartitionPoint};
 ghost use Rattle.std.specs.Cow.{cow_slice_items};
+ghost use Rattle.wl_bytes.specs.declared.reader.TheConstants.{MAX_LEN};
 ghost use Rattle.wl_ops.specs.declared.op.DataIndexImm.{DataIndexImm as Number};
 ghost use Rattle.wl_ops.specs.declared.rewriting.Shift.{Shift as ShiftRecord};
 ghost use Rattle.wl_ops.specs.Numbers.{HasNumbers};
@@ -101,7 +102,7 @@ fn shifts_before(shifts: &[Shift], place: usize) -> usize
 fn moved(shifts: &[Shift], field: u32) -> u32
     requires rising { IsNonDecreasingBy (λ (s : ShiftRecord). s.old_end) shifts.now }
     requires near { AllByRecursion IsNear shifts.now }
-    requires field { field ≤ 2 ^ 30 }
+    requires field { field ≤ MAX_LEN }
     ensures { result ≡ shifted shifts.now field field }
 {
     let place = field as usize;
@@ -117,7 +118,7 @@ fn moved(shifts: &[Shift], field: u32) -> u32
 fn move_fields(shifts: &[Shift], fields: &mut [u32])
     requires rising { IsNonDecreasingBy (λ (s : ShiftRecord). s.old_end) shifts.now }
     requires near { AllByRecursion IsNear shifts.now }
-    requires fields { All (λ p. p ≤ 2 ^ 30) fields.old }
+    requires fields { All (λ p. p ≤ MAX_LEN) fields.old }
     ensures { fields.new ≡ map (λ p. shifted shifts.now p p) fields.old }
 {
     for i in 0..fields.len() {
@@ -140,7 +141,7 @@ pub fn remap_body_data_indices(
     indices: &[Option<u32>],
     fields: &mut [u32],
 ) -> Result<bool, ReadError>
-    requires bytes { length (cow_slice_items body.old) ≤ 2 ^ 30 }
+    requires bytes { length (cow_slice_items body.old) ≤ MAX_LEN }
     requires fields { All (λ p. p ≤ length (cow_slice_items body.old)) fields.old }
     ensures remaps { Remaps (new_index indices.now) (cow_slice_items body.old) fields.old
         (cow_slice_items body.new) fields.new result }

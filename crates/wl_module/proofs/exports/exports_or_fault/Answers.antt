@@ -1,7 +1,6 @@
-use Rattle.wl_module.specs.Exports.{AreExports, ExportsFault, exports_of}
 use Rattle.wl_module.proofs.ListLaws.{whole_alternatives}
 use Rattle.wl_module.proofs.ImportLaws.{exports_reading}
 use Rattle.wl_module.proofs.exports.exports_or_fault.Goals as goal
 
 pub returns : goal.returns
-returns c = whole_alternatives AreExports ExportsFault exports_of exports_reading
+returns c = whole_alternatives _ _ _ exports_reading

@@ -1,8 +1,6 @@
-use Rattle.wl_module.specs.Bodies.{AreIndices, IndicesFault}
-use Rattle.wl_module.specs.BodiesReading.{indices_of}
 use Rattle.wl_module.proofs.ListLaws.{whole_alternatives}
 use Rattle.wl_module.proofs.BodyLaws.{indices_reading}
 use Rattle.wl_module.proofs.functions.functions_or_fault.Goals as goal
 
 pub returns : goal.returns
-returns c = whole_alternatives AreIndices IndicesFault indices_of indices_reading
+returns c = whole_alternatives _ _ _ indices_reading

@@ -1,11 +1,10 @@
-use Rattle.wl_module.specs.Imports.{ArePlacedImports, ImportsFault, placed_imports_of}
 use Rattle.wl_module.proofs.ListLaws.{reads_whole}
 use Rattle.wl_module.proofs.ImportLaws.{placed_imports_reading}
 use Rattle.wl_module.proofs.CountLaws.{count_of, placed_imports_few}
 use Rattle.wl_module.proofs.imports.read_placed_imports.Goals as goal
 
 pub returns-clause-reads : goal.returns-clause-reads
-returns-clause-reads c = reads_whole (λ v. v.items) ArePlacedImports ImportsFault placed_imports_of placed_imports_reading c.args.payload.now c.payload_imports.result c.payload_imports.ensures
+returns-clause-reads c = reads_whole (λ v. v.items) _ _ _ placed_imports_reading c.args.payload.now c.read_payload.result c.read_payload.ensures
 
 pub returns-clause-count : goal.returns-clause-count
-returns-clause-count c = count_of (λ v. v.items) ArePlacedImports ImportsFault c.args.payload.now c.payload_imports.result placed_imports_few (returns-clause-reads c)
+returns-clause-count c = count_of _ _ _ _ _ placed_imports_few (returns-clause-reads c)

@@ -1,6 +1,6 @@
 use Rattle.std.proofs.Common.{◌≡◌, Ok, refl}
 use Rattle.wl_module.specs.Lists.{number_at}
-use Rattle.wl_module.specs.BodiesReading.{stretch_at}
+use Rattle.wl_module.specs.Bodies.{stretch_at}
 use Rattle.wl_module.proofs.SegmentLaws.{segment_read}
 use Rattle.wl_module.proofs.segments.read_segment.Goals as goal
 
@@ -8,12 +8,12 @@ pub overflow_sub-segment : goal.overflow_sub-segment
 overflow_sub-segment c =
     let n : number_at c.read_target.new.reader ≡ Ok (c.in_ok-len.len, c.read_u32.new.self) = rw c.in_ok-len.ensures.exact refl in
     let b : stretch_at c.in_ok-len.len c.read_u32.new.self ≡ Ok (c.in_ok-payload.payload.now, c.take.new.self) = rw c.in_ok-payload.ensures.exact refl in
-    let r = segment_read c.args.reader.now c.read_flag.new.reader c.read_target.new.reader c.read_u32.new.self c.take.new.self c.in_ok-flag.flag c.in_ok-memory_index.memory_index c.in_ok-len.len c.in_ok-payload.payload.now c.in_ok-flag.ensures.value c.in_ok-memory_index.ensures.value n b in
-    rw (c.position-start.ensures, c.position.ensures) r.0
+    let r = segment_read c.args.reader.now c.read_flag.new.reader c.read_target.new.reader c.read_u32.new.self c.take.new.self c.in_ok-flag.flag c.in_ok-memory_index.memory_index c.in_ok-len.len c.in_ok-payload.payload.now c.in_ok-flag.ensures c.in_ok-memory_index.ensures n b in
+    rw (c.position-start.ensures.value, c.position.ensures.value) r.0
 
-pub returns-clause-value : goal.returns-clause-value
-returns-clause-value c =
+pub returns : goal.returns
+returns c =
     let n : number_at c.read_target.new.reader ≡ Ok (c.in_ok-len.len, c.read_u32.new.self) = rw c.in_ok-len.ensures.exact refl in
     let b : stretch_at c.in_ok-len.len c.read_u32.new.self ≡ Ok (c.in_ok-payload.payload.now, c.take.new.self) = rw c.in_ok-payload.ensures.exact refl in
-    let r = segment_read c.args.reader.now c.read_flag.new.reader c.read_target.new.reader c.read_u32.new.self c.take.new.self c.in_ok-flag.flag c.in_ok-memory_index.memory_index c.in_ok-len.len c.in_ok-payload.payload.now c.in_ok-flag.ensures.value c.in_ok-memory_index.ensures.value n b in
-    rw (c.position-start.ensures, c.position.ensures, c.kind.ensures) r.1
+    let r = segment_read c.args.reader.now c.read_flag.new.reader c.read_target.new.reader c.read_u32.new.self c.take.new.self c.in_ok-flag.flag c.in_ok-memory_index.memory_index c.in_ok-len.len c.in_ok-payload.payload.now c.in_ok-flag.ensures c.in_ok-memory_index.ensures n b in
+    rw (c.position-start.ensures.value, c.position.ensures.value, c.kind.ensures) r.1

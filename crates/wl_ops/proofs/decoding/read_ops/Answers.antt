@@ -9,7 +9,7 @@ use Rattle.wl_ops.proofs.decoding.read_ops.Goals as goal
 pub returns-in_err-op : goal.returns-in_err-op
 returns-in_err-op c =
     let p = err_from_is_err_and c.from_residual.result c.from_residual.ensures.1 in
-    let some : eqb (length c.loop-alloc.reader.rest) 0 ≡ false = rw (← c.rest.ensures) (sym c.is_empty.ensures ∙ c.loop-alloc-test.true) in
+    let some : eqb (length c.loop-alloc.reader.rest) 0 ≡ false = rw (← c.rest.ensures.value) (sym c.is_empty.ensures ∙ c.loop-alloc-test.true) in
     rw (p.1, p.2) (stops_so c.loop-alloc.ops.items c.args.reader.now c.loop-alloc.reader c.in_err-op.field-0.0 c.loop-alloc.invariant.0 some c.in_err-op.ensures.value)
 
 pub loop-alloc-smaller : goal.loop-alloc-smaller
@@ -25,10 +25,10 @@ loop-alloc-preserved c =
 
 pub returns-then-is_ended : goal.returns-then-is_ended
 returns-then-is_ended c =
-    let none : eqb (length c.loop-alloc.reader.rest) 0 ≡ true = rw (← c.rest.ensures) (sym c.is_empty.ensures ∙ c.loop-alloc-test.false) in
+    let none : eqb (length c.loop-alloc.reader.rest) 0 ≡ true = rw (← c.rest.ensures.value) (sym c.is_empty.ensures ∙ c.loop-alloc-test.false) in
     ends_so c.loop-alloc.ops.items c.args.reader.now c.loop-alloc.reader true c.loop-alloc.invariant.0 none (c.loop-alloc.invariant.1 ∙ c.if-is_ended.true)
 
 pub returns-else-is_ended : goal.returns-else-is_ended
 returns-else-is_ended c =
-    let none : eqb (length c.loop-alloc.reader.rest) 0 ≡ true = rw (← c.rest.ensures) (sym c.is_empty.ensures ∙ c.loop-alloc-test.false) in
+    let none : eqb (length c.loop-alloc.reader.rest) 0 ≡ true = rw (← c.rest.ensures.value) (sym c.is_empty.ensures ∙ c.loop-alloc-test.false) in
     ends_so c.loop-alloc.ops.items c.args.reader.now c.loop-alloc.reader false c.loop-alloc.invariant.0 none (c.loop-alloc.invariant.1 ∙ c.if-is_ended.false)

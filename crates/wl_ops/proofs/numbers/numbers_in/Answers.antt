@@ -13,7 +13,7 @@ loop-alloc-init c = ([], take_nothing IsMarked c.args.reader.now, refl, c.new-nu
 pub returns-in_err-marked : goal.returns-in_err-marked
 returns-in_err-marked c =
     let p = err_from_is_err_and c.from_residual.result c.from_residual.ensures.1 in
-    let some : eqb (length c.loop-alloc.reader.rest) 0 ≡ false = rw (← c.rest.ensures) (sym c.is_empty.ensures ∙ c.loop-alloc-test.true) in
+    let some : eqb (length c.loop-alloc.reader.rest) 0 ≡ false = rw (← c.rest.ensures.value) (sym c.is_empty.ensures ∙ c.loop-alloc-test.true) in
     rw (p.1, p.2) (numbers_stop c.loop-alloc.invariant.0 c.args.reader.now c.loop-alloc.reader c.in_err-marked.field-0.0 c.loop-alloc.invariant.1 some c.in_err-marked.ensures.value)
 
 pub loop-alloc-smaller : goal.loop-alloc-smaller
@@ -30,10 +30,10 @@ loop-alloc-preserved-in_ok-keep c = read_more c.loop-alloc.invariant.0 c.in_ok-m
 
 pub returns-then-is_ended : goal.returns-then-is_ended
 returns-then-is_ended c =
-    let none : eqb (length c.loop-alloc.reader.rest) 0 ≡ true = rw (← c.rest.ensures) (sym c.is_empty.ensures ∙ c.loop-alloc-test.false) in
+    let none : eqb (length c.loop-alloc.reader.rest) 0 ≡ true = rw (← c.rest.ensures.value) (sym c.is_empty.ensures ∙ c.loop-alloc-test.false) in
     (c.loop-alloc.invariant.0, c.loop-alloc.reader, c.loop-alloc.invariant.1, nil_from_length c.loop-alloc.reader.rest (eqb-true (length c.loop-alloc.reader.rest) 0 none), c.loop-alloc.invariant.2 ∙ c.if-is_ended.true, c.loop-alloc.invariant.3)
 
 pub returns-else-is_ended : goal.returns-else-is_ended
 returns-else-is_ended c =
-    let none : eqb (length c.loop-alloc.reader.rest) 0 ≡ true = rw (← c.rest.ensures) (sym c.is_empty.ensures ∙ c.loop-alloc-test.false) in
+    let none : eqb (length c.loop-alloc.reader.rest) 0 ≡ true = rw (← c.rest.ensures.value) (sym c.is_empty.ensures ∙ c.loop-alloc-test.false) in
     numbers_end c.loop-alloc.invariant.0 c.args.reader.now c.loop-alloc.reader false c.loop-alloc.invariant.1 none (c.loop-alloc.invariant.2 ∙ c.if-is_ended.false)

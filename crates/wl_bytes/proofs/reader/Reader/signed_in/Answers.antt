@@ -2,7 +2,6 @@ use Rattle.std.proofs.Common.{◌≡◌, take, to_z, of_z, ap, ◌∙◌, refl, 
 use Rattle.std.specs.Prelude.{FitsSigned}
 use Rattle.std.specs.Int.{w64, w128}
 use Rattle.std.proofs.lemmas.Int.{ints}
-use Rattle.wl_bytes.specs.Leb.{form_of}
 use Rattle.wl_bytes.specs.Reading.{signed_value, signed_at}
 use Rattle.wl_bytes.proofs.SignedLaws.{signed_small}
 use Rattle.wl_bytes.proofs.reader.Reader.signed_in.Goals as goal
