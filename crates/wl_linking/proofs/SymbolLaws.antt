@@ -15,7 +15,6 @@ use Rattle.wl_linking.proofs.Exact.{judged_reading}
 -- ---- the parts of what stands behind the flags
 
 based_name_reading : (base : ℕ) → IsReading (IsBasedName base) WordFault (based_name_at base)
-unfolding based_name_at
 based_name_reading base = seen (based_name base) placed_name_reading
 
 name_where_reading : (base : ℕ) (named : Bool) → IsReading (IsNameWhere base named) (WhenFault WordFault named) (name_where_at base named)

@@ -12,7 +12,7 @@ use Rattle.wl_linking.specs.declared.symbols.WasmSymbolKind.{WasmSymbolKind}
 use Rattle.wl_linking.specs.declared.symbols.WasmSymbolKind.TheVariants.{Func, Data, Global, Section, Event, Table}
 
 -- a name with its range, read from a place
-unfoldable pub based_name_at : ℕ → Cursor → Result ((List ℕ × (ℕ × ℕ)) × Cursor) ReadError
+abbrev pub based_name_at : ℕ → Cursor → Result ((List ℕ × (ℕ × ℕ)) × Cursor) ReadError
 based_name_at base c = map_at (based_name base) placed_name_at c
 
 -- a name where there is to be one, read from a place

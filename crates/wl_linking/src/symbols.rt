@@ -205,9 +205,10 @@ pub(crate) fn range_of(base: u32, end: usize, len: usize) -> (u32, u32)
 }
 
 /// The name in front, with its place in the object.
-#[tactic(auto, unfolding(crate::specs::SymbolsReading::based_name_at, wl_module::specs::Words::placed_name_at))]
+#[tactic(auto, unfolding(wl_module::specs::Words::placed_name_at))]
 fn read_name<'a>(base: Base, reader: &mut Reader<'a>) -> Result<(&'a str, (u32, u32)), ReadError>
-    ensures { Yields (λ w. (w.0.now, w.1)) result reader.new (based_name_at base.before reader.old) }
+    ensures { Yields (λ w. (w.0.now, w.1)) result reader.new
+        (based_name_at base.before reader.old) }
 {
     let name = reader.read_name()?;
     let range = range_of(base.before, reader.position(), name.len());
@@ -221,7 +222,8 @@ fn read_name_where<'a>(
     named: bool,
     reader: &mut Reader<'a>,
 ) -> Result<(&'a str, (u32, u32)), ReadError>
-    ensures { Yields (λ w. (w.0.now, w.1)) result reader.new (name_where_at base.before named reader.old) }
+    ensures { Yields (λ w. (w.0.now, w.1)) result reader.new
+        (name_where_at base.before named reader.old) }
 {
     if named {
         read_name(base, reader)

@@ -62,6 +62,7 @@ pub fn read_exports(alloc: Global, payload: &[u8]) -> Result<Vec<OutputExport<'_
 }
 
 /// Each payload spells one list of exports or has one fault, and never both.
+#[tactic(auto, using(crate::proofs::ListLaws::exact, crate::proofs::ImportLaws::exports_reading))]
 pub fn exports_or_fault()
     ensures { AreAlternatives AreExports ExportsFault }
 {}

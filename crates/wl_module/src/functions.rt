@@ -35,6 +35,7 @@ pub fn read_functions(alloc: Global, payload: &[u8]) -> Result<Vec<u32>, ReadErr
 }
 
 /// Each payload spells one list of indices or has one fault, and never both.
+#[tactic(auto, using(crate::proofs::ListLaws::exact, crate::proofs::BodyLaws::indices_reading))]
 pub fn functions_or_fault()
     ensures { AreAlternatives AreIndices IndicesFault }
 {}

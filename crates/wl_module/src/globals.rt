@@ -107,6 +107,7 @@ pub fn read_globals(alloc: Global, payload: &[u8]) -> Result<Vec<OutputGlobal<'_
 }
 
 /// Each payload spells one list of globals or has one fault, and never both.
+#[tactic(auto, using(crate::proofs::ListLaws::exact, crate::proofs::GlobalLaws::globals_reading))]
 pub fn globals_or_fault()
     ensures { AreAlternatives AreGlobals GlobalsFault }
 {}

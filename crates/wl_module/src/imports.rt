@@ -280,6 +280,7 @@ pub fn placed_imports_or_fault()
 {}
 
 /// Each payload spells one list of imports or has one fault, and never both.
+#[tactic(auto, using(crate::proofs::ListLaws::exact, crate::proofs::ImportLaws::imports_reading))]
 pub fn imports_or_fault()
     ensures { AreAlternatives AreImports ImportsFault }
 {}

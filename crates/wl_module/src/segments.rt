@@ -205,11 +205,13 @@ pub fn read_targeted_segments(
 }
 
 /// Each payload spells one list of segments and memories or has one fault, and never both.
+#[tactic(auto, using(crate::proofs::ListLaws::exact, crate::proofs::SegmentLaws::targeted_reading))]
 pub fn targeted_segments_or_fault()
     ensures { AreAlternatives AreTargeted SegmentsFault }
 {}
 
 /// Each payload spells one list of segments or has one fault, and never both.
+#[tactic(auto, using(crate::proofs::ListLaws::exact, crate::proofs::SegmentLaws::segments_reading))]
 pub fn segments_or_fault()
     ensures { AreAlternatives AreSegments SegmentsFault }
 {}

@@ -1,6 +1,6 @@
-use Rattle.wl_module.proofs.ListLaws.{whole_alternatives}
+use Rattle.wl_module.proofs.ListLaws.{exact}
 use Rattle.wl_module.proofs.ImportLaws.{placed_imports_reading}
 use Rattle.wl_module.proofs.imports.placed_imports_or_fault.Goals as goal
 
 pub returns : goal.returns
-returns c = whole_alternatives _ _ _ placed_imports_reading
+returns c = exact placed_imports_reading
