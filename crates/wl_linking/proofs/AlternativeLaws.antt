@@ -9,29 +9,26 @@ use Rattle.wl_module.specs.declared.sections.SectionHeader.{SectionHeader}
 use Rattle.wl_module.specs.declared.error.Why.TheVariants as why
 use Rattle.wl_module.specs.declared.error.ReadError.{ReadError}
 use Rattle.wl_module.specs.declared.error.ReadError.TheVariants.{Malformed}
-use Rattle.wl_module.specs.Imports.{plain_imports}
-use Rattle.wl_module.specs.Segments.{plain_segments}
-use Rattle.wl_module.specs.Sections.{Framed, FrameFault}
-use Rattle.wl_module.proofs.SectionLaws.{frame_alternatives}
+use Rattle.wl_module.specs.Sections.{Section, headers_of, IsModule, FrameFault}
+use Rattle.wl_module.proofs.SectionLaws.{module_alternatives}
 use Rattle.wl_linking.specs.RelocationTypes.{form_of}
 use Rattle.wl_linking.specs.Symbols.{Symbol}
-use Rattle.wl_linking.specs.Sections.{AreSound, AreFaulty, nothing_seen}
+use Rattle.wl_linking.specs.Sections.{AreSound}
 use Rattle.wl_linking.specs.Object.{Object}
-use Rattle.wl_linking.specs.Parts.{parts_of}
+use Rattle.wl_linking.specs.Parts.{no_parts}
 use Rattle.wl_linking.specs.Placing.{Ascend}
 use Rattle.wl_linking.specs.Spaces.{NamesExist, NamesFault, spaces_of, counts_hold, core_names_exist, linked_names_exist}
 use Rattle.wl_linking.specs.Slots.{claims, SharesSlot, HasOneName, HasTwoNames, AgreeOnNames, SlotFault}
-use Rattle.wl_linking.specs.Sites.{PieceOf, IsSite, AreSites, IsBefore, AreApart, HasNoSite, HasOverlap, LieApart, FieldsFault, field_len, body_piece, segment_piece}
-use Rattle.wl_linking.specs.Fitting.{HasItems, named_symbols, memories_of, IsFitting, PartsFault, IsObject, ObjectFault}
+use Rattle.wl_linking.specs.Sites.{PieceOf, AreInOrder, IsSite, AreSites, IsBefore, AreApart, HasNoSite, HasOverlap, LieApart, FieldsFault, field_len, body_piece, segment_piece}
+use Rattle.wl_linking.specs.Fitting.{named_symbols, HasItems, IsFitting, PartsFault, IsObject, SectionFault, ObjectFault}
 use Rattle.wl_linking.specs.declared.parts.Parts.{Parts}
 use Rattle.wl_linking.specs.declared.relocations.WasmRelocation.{WasmRelocation}
-use Rattle.wl_linking.specs.declared.section.Section.{Section}
 use Rattle.wl_linking.specs.declared.sites.Site.{Site}
-use Rattle.wl_linking.specs.declared.spaces.Spaces.{Spaces}
+use Rattle.wl_linking.specs.declared.spaces.Counts.{Counts}
 use Rattle.wl_linking.specs.declared.symbols.WasmSymbolKind.{WasmSymbolKind}
 use Rattle.wl_linking.specs.declared.symbols.WasmSymbolKind.TheVariants.{Func, Global, Table}
 use Rattle.wl_linking.proofs.ExistLaws.{names_exist}
-use Rattle.wl_linking.proofs.OnceLaws.{object_code_ascends, object_data_ascends}
+use Rattle.wl_linking.proofs.OnceLaws.{code_ascends, data_ascends}
 use Rattle.wl_linking.proofs.OrderExists.{ordered, order_exists}
 use Rattle.wl_linking.proofs.SectionLaws.{sections_some}
 use Rattle.wl_linking.proofs.SiteLaws.{site_among, site_is, site_is_found}
@@ -102,7 +99,7 @@ one_name_or_two kind count symbols = by_pairs (each_or_one Agrees Differs agree_
     by_pairs (inl all) = inl (λ i j s t here there. all i s here j t there)
     by_pairs (inr (i, s, here, (j, t, there, differ))) = inr (record { first = i; second = j; one = s; other = t; one_is = here; other_is = there; shared = differ.0; differ = differ.1 })
 
-slots_or_fault : (spaces : Spaces) (symbols : List Symbol) → AgreeOnNames spaces symbols ⊎ ((e : ReadError) × SlotFault spaces symbols e)
+slots_or_fault : (spaces : Counts) (symbols : List Symbol) → AgreeOnNames spaces symbols ⊎ ((e : ReadError) × SlotFault spaces symbols e)
 slots_or_fault spaces symbols = by_kind (one_name_or_two Func spaces.imported_functions symbols) (one_name_or_two Global spaces.imported_globals symbols) (one_name_or_two Table spaces.imported_tables symbols)
   where
     by_kind : HasOneName Func spaces.imported_functions symbols ⊎ HasTwoNames Func spaces.imported_functions symbols
@@ -166,77 +163,69 @@ fields_or_fault pieces rs up = by_both (sites_or_none pieces rs up) (apart_or_ov
 
 -- ---- the object of sound sections
 
--- the object of these items, with these places of fields
-abbrev object_of : List ℕ → List SectionHeader → Parts → List Site → List Site → Object
-object_of bytes headers parts code data_ = record {
+-- the object of these parts, its relocations in this order
+abbrev object_with : List ℕ → List SectionHeader → Parts → List WasmRelocation → List WasmRelocation → List Site → List Site → Object
+object_with bytes headers parts code data_ code_sites data_sites = record {
   bytes = bytes;
   sections = headers;
   types = parts.types;
-  imports = plain_imports parts.imports;
+  imports = parts.imports;
   functions = parts.functions;
   memories = parts.memories;
   globals = parts.globals;
   exports = parts.exports;
   data_counts = parts.data_counts;
   bodies = parts.bodies;
-  segments = plain_segments parts.segments;
-  segment_memories = memories_of parts.segments;
+  segments = parts.segments;
+  segment_memories = parts.segment_memories;
   segment_infos = parts.segment_infos;
   init_funcs = parts.init_funcs;
-  symbols = named_symbols headers parts;
+  symbols = named_symbols parts;
   reloc_sections = parts.reloc_sections;
   features = parts.features;
   debug_sections = parts.debug_sections;
-  code_relocations = ordered parts.code_entries;
-  code_sites = code;
-  data_relocations = ordered parts.data_entries;
-  data_sites = data_;
-}
-
-has_items : (bytes : List ℕ) (headers : List SectionHeader) (parts : Parts) (code data_ : List Site) → HasItems bytes headers parts (object_of bytes headers parts code data_)
-has_items bytes headers parts code data_ = record {
-  bytes_are = refl;
-  sections = refl;
-  types = refl;
-  imports = refl;
-  functions = refl;
-  memories = refl;
-  globals = refl;
-  exports = refl;
-  data_counts = refl;
-  bodies = refl;
-  segments = refl;
-  segment_memories = refl;
-  segment_infos = refl;
-  init_funcs = refl;
-  symbols = refl;
-  reloc_sections = refl;
-  features = refl;
-  debug_sections = refl;
-  code = order_exists parts.code_entries;
-  data_ = order_exists parts.data_entries;
+  code_relocations = code;
+  code_sites = code_sites;
+  data_relocations = data_;
+  data_sites = data_sites;
 }
 
 -- the items fit together, or don't
 abbrev FitsOrNot : List ℕ → List SectionHeader → Parts → Type 0
 FitsOrNot bytes headers parts = ((o : Object) × HasItems bytes headers parts o × IsFitting o) ⊎ ((e : ReadError) × PartsFault bytes headers parts e)
 
-fits_or_fault : (bytes : List ℕ) (headers : List SectionHeader) (parts : Parts) → Ascend 0 (map body_piece parts.bodies) → Ascend 0 (map segment_piece (plain_segments parts.segments)) → FitsOrNot bytes headers parts
-fits_or_fault bytes headers parts code_up data_up = by_fields (fields_or_fault (map body_piece parts.bodies) (ordered parts.code_entries) code_up) (fields_or_fault (map segment_piece (plain_segments parts.segments)) (ordered parts.data_entries) data_up)
-  where
-    by_names : (code data_ : List Site) → LieApart (map body_piece parts.bodies) (ordered parts.code_entries) code → LieApart (map segment_piece (plain_segments parts.segments)) (ordered parts.data_entries) data_
-        → (let o = object_of bytes headers parts code data_ in NamesExist o ⊎ ((e : ReadError) × NamesFault o e) → AgreeOnNames (spaces_of o) o.symbols ⊎ ((e : ReadError) × SlotFault (spaces_of o) o.symbols e) → FitsOrNot bytes headers parts)
-    by_names code data_ c d (inr f) slots = inr (f.0, (object_of bytes headers parts code data_, has_items bytes headers parts code data_, inl f.1))
-    by_names code data_ c d (inl names) (inr f) = inr (f.0, (object_of bytes headers parts code data_, has_items bytes headers parts code data_, inr (inl f.1)))
-    by_names code data_ c d (inl names) (inl slots) = inl (object_of bytes headers parts code data_, has_items bytes headers parts code data_, record { names = names; slots = slots; code = c; data_ = d })
+-- fields of code at fault are a fault of the parts
+pub code_fault : (bytes : List ℕ) (headers : List SectionHeader) (parts : Parts) (rs : List WasmRelocation) (e : ReadError) → AreInOrder parts.code_relocations rs → FieldsFault (map body_piece parts.bodies) rs e → PartsFault bytes headers parts e
+code_fault bytes headers parts rs e order f =
+    (object_with bytes headers parts rs (ordered parts.data_relocations) [] [], record { items = refl; code = order; data_ = order_exists parts.data_relocations }, inr (inr (inl f)))
 
-    by_fields : ((ss : List Site) × LieApart (map body_piece parts.bodies) (ordered parts.code_entries) ss) ⊎ ((e : ReadError) × FieldsFault (map body_piece parts.bodies) (ordered parts.code_entries) e)
-        → ((ss : List Site) × LieApart (map segment_piece (plain_segments parts.segments)) (ordered parts.data_entries) ss) ⊎ ((e : ReadError) × FieldsFault (map segment_piece (plain_segments parts.segments)) (ordered parts.data_entries) e) → FitsOrNot bytes headers parts
-    by_fields (inr f) data_ = inr (f.0, (object_of bytes headers parts [] [], has_items bytes headers parts [] [], inr (inr (inl f.1))))
-    by_fields (inl code) (inr f) = inr (f.0, (object_of bytes headers parts [] [], has_items bytes headers parts [] [], inr (inr (inr f.1))))
-    by_fields (inl code) (inl data_) =
-        let o = object_of bytes headers parts code.0 data_.0 in
-        by_names code.0 data_.0 code.1 data_.1 (names_or_fault o) (slots_or_fault (spaces_of o) o.symbols)
+-- and so are fields of data
+pub data_fault : (bytes : List ℕ) (headers : List SectionHeader) (parts : Parts) (rs : List WasmRelocation) (e : ReadError) → AreInOrder parts.data_relocations rs → FieldsFault (map segment_piece parts.segments) rs e → PartsFault bytes headers parts e
+data_fault bytes headers parts rs e order f =
+    (object_with bytes headers parts (ordered parts.code_relocations) rs [] [], record { items = refl; code = order_exists parts.code_relocations; data_ = order }, inr (inr (inr f)))
+
+fits_or_fault : (bytes : List ℕ) (headers : List SectionHeader) (parts : Parts) → Ascend 0 (map body_piece parts.bodies) → Ascend 0 (map segment_piece parts.segments) → FitsOrNot bytes headers parts
+fits_or_fault bytes headers parts code_up data_up = by_fields (fields_or_fault (map body_piece parts.bodies) code code_up) (fields_or_fault (map segment_piece parts.segments) data' data_up)
+  where
+    code : List WasmRelocation
+    code = ordered parts.code_relocations
+
+    data' : List WasmRelocation
+    data' = ordered parts.data_relocations
+
+    by_names : (xs ys : List Site) → LieApart (map body_piece parts.bodies) (ordered parts.code_relocations) xs → LieApart (map segment_piece parts.segments) (ordered parts.data_relocations) ys
+        → (let o = object_with bytes headers parts (ordered parts.code_relocations) (ordered parts.data_relocations) xs ys in HasItems bytes headers parts o → NamesExist o ⊎ ((e : ReadError) × NamesFault o e) → AgreeOnNames (spaces_of o) o.symbols ⊎ ((e : ReadError) × SlotFault (spaces_of o) o.symbols e) → FitsOrNot bytes headers parts)
+    by_names xs ys c d items (inr f) slots = inr (f.0, (object_with bytes headers parts code data' xs ys, items, inl f.1))
+    by_names xs ys c d items (inl names) (inr f) = inr (f.0, (object_with bytes headers parts code data' xs ys, items, inr (inl f.1)))
+    by_names xs ys c d items (inl names) (inl slots) = inl (object_with bytes headers parts code data' xs ys, items, record { names = names; slots = slots; code = c; data_ = d })
+
+    by_fields : ((ss : List Site) × LieApart (map body_piece parts.bodies) (ordered parts.code_relocations) ss) ⊎ ((e : ReadError) × FieldsFault (map body_piece parts.bodies) (ordered parts.code_relocations) e)
+        → ((ss : List Site) × LieApart (map segment_piece parts.segments) (ordered parts.data_relocations) ss) ⊎ ((e : ReadError) × FieldsFault (map segment_piece parts.segments) (ordered parts.data_relocations) e) → FitsOrNot bytes headers parts
+    by_fields (inr f) ys = inr (f.0, code_fault bytes headers parts (ordered parts.code_relocations) f.0 (order_exists parts.code_relocations) f.1)
+    by_fields (inl xs) (inr f) = inr (f.0, data_fault bytes headers parts (ordered parts.data_relocations) f.0 (order_exists parts.data_relocations) f.1)
+    by_fields (inl xs) (inl ys) =
+        let o = object_with bytes headers parts (ordered parts.code_relocations) (ordered parts.data_relocations) xs.0 ys.0 in
+        by_names xs.0 ys.0 xs.1 ys.1 (record { items = refl; code = order_exists parts.code_relocations; data_ = order_exists parts.data_relocations }) (names_or_fault o) (slots_or_fault (spaces_of o) o.symbols)
 
 -- ---- the object of some bytes
 
@@ -245,26 +234,17 @@ ObjectOrFault bytes = ((o : Object) × IsObject o bytes) ⊎ ((e : ReadError) ×
 
 -- bytes are an object, or have a fault
 pub object_some : (bytes : List ℕ) → ObjectOrFault bytes
-object_some bytes = by_frame (frame_alternatives.some bytes)
+object_some bytes = by_frame (module_alternatives.some bytes)
   where
-    by_fit : (headers : List SectionHeader) (held : List Section) → Framed headers bytes → AreSound bytes headers nothing_seen headers held → FitsOrNot bytes headers (parts_of held) → ObjectOrFault bytes
-    by_fit headers held framed sound (inl (o, items, fitting)) = inl (
-      o,
-      record {
-        framed = rw items.sections framed;
-        held = held;
-        sound = rw items.sections sound;
-        items = subst (λ (hs : List SectionHeader). HasItems bytes hs (parts_of held) o) (sym items.sections) items;
-        fitting = fitting;
-      },
-    )
-    by_fit headers held framed sound (inr (e, f)) = inr (e, inr (headers, framed, inr (record { held = held; sound = sound; fault = f })))
+    by_fit : (sections : List Section) (parts : Parts) → IsModule sections bytes → AreSound sections no_parts sections parts → FitsOrNot bytes (headers_of sections) parts → ObjectOrFault bytes
+    by_fit sections parts framed sound (inl (o, items, fitting)) = inl (o, record { sections = sections; framed = framed; parts = parts; sound = sound; items = items; fitting = fitting })
+    by_fit sections parts framed sound (inr (e, f)) = inr (e, inr (sections, framed, inr (record { parts = parts; sound = sound; fault = f })))
 
-    by_sections : (headers : List SectionHeader) → Framed headers bytes → ((held : List Section) × AreSound bytes headers nothing_seen headers held) ⊎ ((e : ReadError) × AreFaulty bytes headers nothing_seen headers e) → ObjectOrFault bytes
-    by_sections headers framed (inr (e, f)) = inr (e, inr (headers, framed, inl f))
-    by_sections headers framed (inl (held, sound)) =
-        by_fit headers held framed sound (fits_or_fault bytes headers (parts_of held) (object_code_ascends bytes headers held framed sound) (object_data_ascends bytes headers held framed sound))
+    by_sections : (sections : List Section) → IsModule sections bytes → ((parts : Parts) × AreSound sections no_parts sections parts) ⊎ ((e : ReadError) × SectionFault sections e) → ObjectOrFault bytes
+    by_sections sections framed (inr (e, f)) = inr (e, inr (sections, framed, inl f))
+    by_sections sections framed (inl (parts, sound)) =
+        by_fit sections parts framed sound (fits_or_fault bytes (headers_of sections) parts (code_ascends bytes sections parts framed sound) (data_ascends bytes sections parts framed sound))
 
-    by_frame : ((headers : List SectionHeader) × Framed headers bytes) ⊎ ((e : ReadError) × FrameFault e bytes) → ObjectOrFault bytes
+    by_frame : ((sections : List Section) × IsModule sections bytes) ⊎ ((e : ReadError) × FrameFault e bytes) → ObjectOrFault bytes
     by_frame (inr (e, f)) = inr (e, inl f)
-    by_frame (inl (headers, framed)) = by_sections headers framed (sections_some bytes headers nothing_seen headers)
+    by_frame (inl (sections, framed)) = by_sections sections framed (sections_some sections no_parts sections)

@@ -1,59 +1,42 @@
 -- What is read is determined by its bytes: one value, or one fault.
-use Rattle.std.proofs.Common.{◌≡◌, ◌⊎◌, ℕ, List, [], ◌++◌, Result, Ok, Err, refl, sym, ap, subst, ◌∙◌, arith, length, inl, inr}
+use Rattle.std.proofs.Common.{◌≡◌, ℕ, List, [], ◌++◌, Result, Ok, Err, refl, ap, subst, ◌∙◌, arith, length, inl, inr}
 use Rattle.std.specs.Prelude.{MatchResult}
 use Rattle.wl_bytes.specs.Cursor.{Cursor}
 use Rattle.wl_bytes.specs.Parse.{Takes}
-use Rattle.wl_bytes.proofs.Steps.{bind_ok, bind_err, ok_is, err_is}
+use Rattle.wl_bytes.proofs.Steps.{bind_ok, bind_err, ok_is}
 use Rattle.wl_bytes.proofs.Readings.{IsReading}
 use Rattle.wl_bytes.specs.Grammar.{map_at}
 use Rattle.wl_bytes.proofs.GrammarLaws.{cursor_is, seen_reading}
 use Rattle.wl_module.specs.declared.error.ReadError.{ReadError}
 use Rattle.wl_module.specs.declared.error.ReadError.TheVariants.{OutOfMemory, Malformed, Unsupported}
-use Rattle.wl_module.specs.Outcome.{IsFault, ReadsWhole}
+use Rattle.wl_module.specs.Outcome.{Fails, IsFault}
 use Rattle.wl_module.specs.Checks.{NoFault}
 use Rattle.wl_module.proofs.ListLaws.{IsWholeReading}
-use Rattle.wl_linking.specs.Verdict.{Judged, JudgedFault, judged_at, Inside, InsideFault, Seen, IsHere, here_at}
+use Rattle.wl_linking.specs.Verdict.{HasCause, Judged, JudgedFault, judged_at, Inside, InsideFault, Seen, IsHere, here_at}
 
--- the bytes spell one thing, or have one fault: always one of the two, and never both
-pub record IsExact {X : Type 0} (spells : X → List ℕ → Type 0) (faults : ReadError → List ℕ → Type 0) : Type 0 where
-  pub some : (payload : List ℕ) → ((x : X) × spells x payload) ⊎ ((e : ReadError) × faults e payload)
-  pub one : (payload : List ℕ) (x y : X) → spells x payload → spells y payload → x ≡ y
-  pub either : (payload : List ℕ) (x : X) (e : ReadError) → spells x payload → faults e payload → ⊥
-  pub one_fault : (payload : List ℕ) (e d : ReadError) → faults e payload → faults d payload → e ≡ d
+-- what has a cause has another that follows from it
+pub cause_follows : (P Q : ReadError → Type 0) → ((e : ReadError) → P e → Q e) → (e : ReadError) → HasCause P e → HasCause Q e
+cause_follows P Q step OutOfMemory h = tt
+cause_follows P Q step (Malformed why) h = step (Malformed why) h
+cause_follows P Q step (Unsupported form) h = step (Unsupported form) h
 
-pub exact_from : {X : Type 0} (spells : X → List ℕ → Type 0) (faults : ReadError → List ℕ → Type 0) (read : List ℕ → Result X ReadError) → IsWholeReading spells faults read → IsExact spells faults
-exact_from {X} spells faults read law = record {
-  some = λ payload. by_answer payload (read payload) refl;
-  one = λ payload x y s t. ok_is {E = ReadError} x y (sym (law.again payload x s) ∙ law.again payload y t);
-  either = λ payload x e s f. let a = law.again payload x s in let b = law.fails payload e f in cc;
-  one_fault = λ payload e d f g. err_is {A = X} e d (sym (law.fails payload e f) ∙ law.fails payload d g);
-}
-  where
-    by_answer : (payload : List ℕ) (r : Result X ReadError) → read payload ≡ r → ((x : X) × spells x payload) ⊎ ((e : ReadError) × faults e payload)
-    by_answer payload (Ok x) is = inl (x, law.found payload x is)
-    by_answer payload (Err e) is = inr (e, law.fault payload e is)
+-- and so it is with all that a call may answer
+pub answer_follows : {X : Type 0} (P Q : X → Type 0) (Cause Other : ReadError → Type 0) → ((x : X) → P x → Q x) → ((e : ReadError) → Cause e → Other e)
+    → (r : Result X ReadError) → MatchResult r P (HasCause Cause) → MatchResult r Q (HasCause Other)
+answer_follows P Q Cause Other step other (Ok x) h = step x h
+answer_follows P Q Cause Other step other (Err e) h = cause_follows Cause Other other e h
 
-abbrev right : {Y : Type 0} → Y → Result Y ReadError
-right y = Ok y
+-- the fault of a payload is a cause
+pub fault_causes : (faults : ReadError → List ℕ → Type 0) (payload : List ℕ) (e : ReadError) → IsFault faults payload e → HasCause (λ d. faults d payload) e
+fault_causes faults payload OutOfMemory h = tt
+fault_causes faults payload (Malformed why) h = h
+fault_causes faults payload (Unsupported form) h = h
 
-abbrev wrong : {Y : Type 0} → ReadError → Result Y ReadError
-wrong e = Err e
-
--- what a call that answered so has done
-pub exactly : {X Y : Type 0} (view : X → Y) (spells : Y → List ℕ → Type 0) (faults : ReadError → List ℕ → Type 0) → IsExact spells faults
-    → (b : List ℕ) (r : Result X ReadError) → MatchResult r (λ x. spells (view x) b) (IsFault faults b) → ReadsWhole view spells faults b r
-exactly {X} {Y} view spells faults law b (Ok x) h = record {
-  sound = h;
-  only = λ y s. ap (λ (z : Y). right z) (law.one b y (view x) s h);
-  fault = tt;
-  why = λ e f. never (law.either b (view x) e h f);
-}
-  where
-    never : {P : Type 0} → ⊥ → P
-    never h = absurd h
-exactly view spells faults law b (Err OutOfMemory) h = record { sound = tt; only = λ y s. tt; fault = tt; why = λ e f. tt }
-exactly {X} {Y} view spells faults law b (Err (Malformed why)) h = record { sound = tt; only = λ y s. absurd (law.either b y (Malformed why) s h); fault = h; why = λ e f. ap (λ (d : ReadError). wrong {Y = Y} d) (law.one_fault b e (Malformed why) f h) }
-exactly {X} {Y} view spells faults law b (Err (Unsupported form)) h = record { sound = tt; only = λ y s. absurd (law.either b y (Unsupported form) s h); fault = h; why = λ e f. ap (λ (d : ReadError). wrong {Y = Y} d) (law.one_fault b e (Unsupported form) f h) }
+-- a reading that fails has its cause
+pub failed : {Y : Type 0} (P : ReadError → Type 0) (read : Result Y ReadError) → ((e : ReadError) → read ≡ Err e → P e) → (e : ReadError) → Fails e read → HasCause P e
+failed P read step OutOfMemory f = tt
+failed P read step (Malformed why) f = step (Malformed why) f
+failed P read step (Unsupported form) f = step (Unsupported form) f
 
 -- a verdict is a reading of no byte
 pub judged_reading : {X : Type 0} (verdict : Result X ReadError) → IsReading (Judged verdict) (JudgedFault verdict) (judged_at verdict)

@@ -1,7 +1,6 @@
 -- What sound sections hold, whatever their kinds: a law of the items of each section is one of those of all sections.
-use Rattle.std.proofs.Common.{ℕ, ◌-◌, ◌≤◌, Bool, List, [], ◌∷◌, ◌++◌, length, take, drop, Result, sym, ap, subst, ◌∙◌}
-use Rattle.std.proofs.lemmas.List.{length-take-le, take-append-drop}
-use Rattle.std.specs.List.{AllByRecursion, flat_map}
+use Rattle.std.proofs.Common.{◌≡◌, ℕ, Bool, List, [], ◌∷◌, ◌++◌, map, Result, refl, sym, subst}
+use Rattle.std.specs.List.{AllByRecursion}
 use Rattle.wl_module.specs.Types.{AreTypes}
 use Rattle.wl_module.specs.Imports.{ArePlacedImports}
 use Rattle.wl_module.specs.Bodies.{AreIndices, AreBodies}
@@ -9,70 +8,70 @@ use Rattle.wl_module.specs.Memories.{AreMemories, IsDataCount}
 use Rattle.wl_module.specs.Globals.{AreGlobals}
 use Rattle.wl_module.specs.Exports.{AreExports}
 use Rattle.wl_module.specs.Segments.{AreTargeted}
-use Rattle.wl_module.specs.Places.{StandsAt}
+use Rattle.wl_module.specs.Sections.{Section, SectionStands}
 use Rattle.wl_module.specs.declared.error.ReadError.{ReadError}
-use Rattle.wl_module.specs.declared.sections.SectionHeader.{SectionHeader}
+use Rattle.wl_module.specs.declared.section_kind.SectionKind.{SectionKind}
+use Rattle.wl_module.specs.declared.section_kind.SectionKind.TheVariants as kind
 use Rattle.wl_linking.specs.Features.{AreFeatures}
 use Rattle.wl_linking.specs.Linking.{IsLinking}
+use Rattle.wl_linking.specs.Parts.{join, part_of}
 use Rattle.wl_linking.specs.Relocations.{IsRelocSection}
-use Rattle.wl_linking.specs.Targets.{kind_of, payload_of, numbered_verdict}
-use Rattle.wl_linking.specs.Sections.{HoldsItems, IsPlaced, AreSound, seen_then}
-use Rattle.wl_linking.specs.declared.kinds.SectionKind.{SectionKind}
-use Rattle.wl_linking.specs.declared.kinds.SectionKind.TheVariants as kind
-use Rattle.wl_linking.specs.declared.kinds.Seen.{Seen}
+use Rattle.wl_linking.specs.Targets.{custom_kind, numbered_verdict}
+use Rattle.wl_linking.specs.Sections.{has_memory, base_of, LinkingItems, Holding, imports_at, HoldsCustom, HoldsItems, AreSound}
+use Rattle.wl_linking.specs.declared.kinds.CustomKind.{CustomKind}
+use Rattle.wl_linking.specs.declared.kinds.CustomKind.TheVariants as custom
+use Rattle.wl_linking.specs.declared.parts.Parts.{Parts}
 use Rattle.wl_linking.specs.declared.relocations.Target.{Target}
-use Rattle.wl_linking.specs.declared.section.Section.{Section}
-use Rattle.wl_linking.specs.declared.section.Section.TheVariants.{Types, Imports, Functions, Memories, Globals, Exports, DataCount, Code, Data, Linking, Reloc, Features, Debug, Skipped}
+use Rattle.wl_linking.specs.declared.section.SectionItems.{SectionItems}
+use Rattle.wl_linking.specs.declared.section.SectionItems.TheVariants.{Types, Imports, Functions, Memories, Globals, Exports, DataCount, Code, Data, Linking, Reloc, Features, Debug, Nothing}
 
 -- ---- one section
 
--- the payload spells what the section of this header holds
-abbrev pub Spelled : SectionHeader → Section → List ℕ → Type 0
-Spelled s (Types types) = AreTypes types
-Spelled s (Imports imports) = ArePlacedImports imports
-Spelled s (Functions functions) = AreIndices functions
-Spelled s (Memories memories) = λ payload. (imported : Bool) × AreMemories imported memories payload
-Spelled s (Globals globals) = AreGlobals globals
-Spelled s (Exports exports) = AreExports exports
-Spelled s (DataCount count) = IsDataCount count
-Spelled s (Code bodies) = AreBodies bodies
-Spelled s (Data segments) = AreTargeted segments
-Spelled s (Linking linking) = IsLinking s.payload_range.0 linking
-Spelled s (Reloc held) = λ payload. (verdict : ℕ → Result Target ReadError) × IsRelocSection verdict held payload
-Spelled s (Features features) = AreFeatures features
-Spelled s (Debug section) = λ payload. Unit {0}
-Spelled s Skipped = λ payload. Unit {0}
+-- what a section of a kind holds is what its payload spells, and is held by sections of that kind alone
+abbrev pub Spelled : SectionKind → Section → SectionItems → List ℕ → Type 0
+Spelled k s (Types types) payload = (k ≡ kind.Type) × AreTypes types payload
+Spelled k s (Imports imports base) payload = (k ≡ kind.Import) × (base ≡ base_of s) × ArePlacedImports imports payload
+Spelled k s (Functions functions) payload = (k ≡ kind.Function) × AreIndices functions payload
+Spelled k s (Memories memories) payload = (k ≡ kind.Memory) × (imported : Bool) × AreMemories imported memories payload
+Spelled k s (Globals globals) payload = (k ≡ kind.Global) × AreGlobals globals payload
+Spelled k s (Exports exports) payload = (k ≡ kind.Export) × AreExports exports payload
+Spelled k s (DataCount count) payload = (k ≡ kind.DataCount) × IsDataCount count payload
+Spelled k s (Code bodies) payload = (k ≡ kind.Code) × AreBodies bodies payload
+Spelled k s (Data segments) payload = (k ≡ kind.Data) × AreTargeted segments payload
+Spelled k s (Linking linking) payload = (k ≡ kind.Custom) × IsLinking (base_of s) linking payload
+Spelled k s (Reloc held) payload = (k ≡ kind.Custom) × (verdict : ℕ → Result Target ReadError) × IsRelocSection verdict held payload
+Spelled k s (Features features) payload = (k ≡ kind.Custom) × AreFeatures features payload
+Spelled k s (Debug section) payload = k ≡ kind.Custom
+Spelled k s Nothing payload = Unit {0}
+
+-- what is spelled as one thing
+spelled_as : {X : Type 0} (k : SectionKind) (s : Section) (make : X → SectionItems) (spells : X → List ℕ → Type 0) (items : SectionItems) (payload : List ℕ)
+    → ((x : X) → spells x payload → Spelled k s (make x) payload) → Holding make spells items payload → Spelled k s items payload
+spelled_as k s make spells items payload step (x, is, h) = subst (λ (y : SectionItems). Spelled k s y payload) (sym is) (step x h)
+
+spelled_custom : (c : CustomKind) (sections : List Section) (before : Parts) (s : Section) (items : SectionItems) (payload : List ℕ) → HoldsCustom c sections before s items payload → Spelled kind.Custom s items payload
+spelled_custom custom.Linking sections before s items payload h = spelled_as kind.Custom s Linking (LinkingItems before s) items payload (λ x is. (refl, is.1)) h
+spelled_custom custom.Reloc sections before s items payload h = let verdict = numbered_verdict sections before in spelled_as kind.Custom s Reloc (IsRelocSection verdict) items payload (λ x is. (refl, verdict, is)) h
+spelled_custom custom.Features sections before s items payload h = spelled_as kind.Custom s Features AreFeatures items payload (λ x is. (refl, is)) h
+spelled_custom custom.Debug sections before s items payload is = subst (λ (y : SectionItems). Spelled kind.Custom s y payload) (sym is) refl
+spelled_custom custom.Other sections before s items payload is = subst (λ (y : SectionItems). Spelled kind.Custom s y payload) (sym is) tt
 
 -- what a section holds is spelled
-pub spelled : (k : SectionKind) (bytes : List ℕ) (all : List SectionHeader) (seen : Seen) (s : SectionHeader) (section : Section) (payload : List ℕ) → HoldsItems k bytes all seen s section payload → Spelled s section payload
-spelled kind.Type bytes all seen s section payload h = subst (λ (x : Section). Spelled s x payload) (sym h.1) h.2
-spelled kind.Import bytes all seen s section payload h = subst (λ (x : Section). Spelled s x payload) (sym h.1) h.2
-spelled kind.Function bytes all seen s section payload h = subst (λ (x : Section). Spelled s x payload) (sym h.1) h.2
-spelled kind.Memory bytes all seen s section payload h = subst (λ (x : Section). Spelled s x payload) (sym h.1) (seen.memory, h.2)
-spelled kind.Global bytes all seen s section payload h = subst (λ (x : Section). Spelled s x payload) (sym h.1) h.2
-spelled kind.Export bytes all seen s section payload h = subst (λ (x : Section). Spelled s x payload) (sym h.1) h.2
-spelled kind.DataCount bytes all seen s section payload h = subst (λ (x : Section). Spelled s x payload) (sym h.1) h.2
-spelled kind.Code bytes all seen s section payload h = subst (λ (x : Section). Spelled s x payload) (sym h.1) h.2
-spelled kind.Data bytes all seen s section payload h = subst (λ (x : Section). Spelled s x payload) (sym h.1) h.2
-spelled kind.Linking bytes all seen s section payload h = subst (λ (x : Section). Spelled s x payload) (sym h.1) h.2.1
-spelled kind.Reloc bytes all seen s section payload h = subst (λ (x : Section). Spelled s x payload) (sym h.1) (numbered_verdict bytes all seen, h.2)
-spelled kind.Features bytes all seen s section payload h = subst (λ (x : Section). Spelled s x payload) (sym h.1) h.2
-spelled kind.Debug bytes all seen s section payload h = subst (λ (x : Section). Spelled s x payload) (sym h) tt
-spelled kind.Skipped bytes all seen s section payload h = subst (λ (x : Section). Spelled s x payload) (sym h) tt
-spelled kind.Table bytes all seen s section payload h = absurd h
-spelled kind.Start bytes all seen s section payload h = absurd h
-spelled kind.Tag bytes all seen s section payload h = absurd h
-
--- a payload stands where its section's header says
-pub payload_stands : (bytes : List ℕ) (s : SectionHeader) → s.payload_range.0 ≤ length bytes → StandsAt bytes (payload_of bytes s) s.payload_range.0
-payload_stands bytes s le =
-    let many = s.payload_range.1 - s.payload_range.0 in
-    record {
-      front = take s.payload_range.0 bytes;
-      back = drop many (drop s.payload_range.0 bytes);
-      whole = sym (take-append-drop s.payload_range.0 bytes) ∙ ap (λ (t : List ℕ). take s.payload_range.0 bytes ++ t) (sym (take-append-drop many (drop s.payload_range.0 bytes)));
-      len = length-take-le s.payload_range.0 bytes le;
-    }
+pub spelled : (k : SectionKind) (sections : List Section) (before : Parts) (s : Section) (items : SectionItems) (payload : List ℕ) → HoldsItems k sections before s items payload → Spelled k s items payload
+spelled kind.Custom sections before s items payload h = spelled_custom (custom_kind s.name) sections before s items payload h
+spelled kind.Type sections before s items payload h = spelled_as kind.Type s Types AreTypes items payload (λ x is. (refl, is)) h
+spelled kind.Import sections before s items payload h = spelled_as kind.Import s (imports_at s) ArePlacedImports items payload (λ x is. (refl, refl, is)) h
+spelled kind.Function sections before s items payload h = spelled_as kind.Function s Functions AreIndices items payload (λ x is. (refl, is)) h
+spelled kind.Table sections before s items payload h = absurd h
+spelled kind.Memory sections before s items payload h = let imported = has_memory before.imports in spelled_as kind.Memory s Memories (AreMemories imported) items payload (λ x is. (refl, imported, is)) h
+spelled kind.Global sections before s items payload h = spelled_as kind.Global s Globals AreGlobals items payload (λ x is. (refl, is)) h
+spelled kind.Export sections before s items payload h = spelled_as kind.Export s Exports AreExports items payload (λ x is. (refl, is)) h
+spelled kind.Start sections before s items payload h = absurd h
+spelled kind.Element sections before s items payload is = subst (λ (y : SectionItems). Spelled kind.Element s y payload) (sym is) tt
+spelled kind.Code sections before s items payload h = spelled_as kind.Code s Code AreBodies items payload (λ x is. (refl, is)) h
+spelled kind.Data sections before s items payload h = spelled_as kind.Data s Data AreTargeted items payload (λ x is. (refl, is)) h
+spelled kind.DataCount sections before s items payload h = spelled_as kind.DataCount s DataCount IsDataCount items payload (λ x is. (refl, is)) h
+spelled kind.Tag sections before s items payload h = absurd h
 
 -- ---- all sections
 
@@ -82,21 +81,23 @@ all_append P [] ys h k = k
 all_append P (x ∷ xs) ys h k = (h.0, all_append P xs ys h.1 k)
 
 -- the items of each section that stands in the bytes have a property
-abbrev pub HaveInEach : {X : Type 0} → (Section → List X) → (X → Type 0) → List ℕ → Type 0
-HaveInEach items_in P bytes = (s : SectionHeader) (section : Section) → StandsAt bytes (payload_of bytes s) s.payload_range.0 → Spelled s section (payload_of bytes s) → AllByRecursion P (items_in section)
+abbrev pub HaveInEach : {X : Type 0} → (Parts → List X) → (X → Type 0) → List ℕ → Type 0
+HaveInEach list P bytes = (k : SectionKind) (s : Section) (items : SectionItems) → SectionStands bytes s → Spelled k s items s.payload → AllByRecursion P (list (part_of items))
 
--- then those of all sections have it
-pub all_held : {X : Type 0} (items_in : Section → List X) (P : X → Type 0) (bytes : List ℕ) → HaveInEach items_in P bytes
-    → (all : List SectionHeader) (seen : Seen) (hs : List SectionHeader) (held : List Section) → AllByRecursion (IsPlaced bytes) hs → AreSound bytes all seen hs held → AllByRecursion P (flat_map items_in held)
-all_held items_in P bytes each all seen [] [] placed h = tt
-all_held items_in P bytes each all seen [] (x ∷ held) placed h = absurd h
-all_held items_in P bytes each all seen (s ∷ hs) [] placed h = absurd h
-all_held items_in P bytes each all seen (s ∷ hs) (x ∷ held) placed h =
-    all_append P (items_in x) (flat_map items_in held)
-    (each s x (payload_stands bytes s placed.0.begins) (spelled (kind_of bytes s) bytes all seen s x (payload_of bytes s) h.0))
-    (all_held items_in P bytes each all (seen_then seen x) hs held placed.1 h.1)
+-- then those of all sections have it, where those before had it
+pub all_held : {X : Type 0} (list : Parts → List X) (P : X → Type 0) (bytes : List ℕ) → ((a b : Parts) → list (join a b) ≡ list a ++ list b) → HaveInEach list P bytes
+    → (sections : List Section) (before : Parts) (ss : List Section) (after : Parts) → AllByRecursion (SectionStands bytes) ss → AreSound sections before ss after → AllByRecursion P (list before) → AllByRecursion P (list after)
+all_held {X} list P bytes joins each sections before [] after placed is h = subst (λ (p : Parts). AllByRecursion P (list p)) is h
+all_held {X} list P bytes joins each sections before (s ∷ ss) after placed (items, sound, rest) h =
+    let more = all_append P (list before) (list (part_of items)) h (each s.kind s items placed.0 (spelled s.kind sections before s items s.payload sound)) in
+    all_held list P bytes joins each sections (join before (part_of items)) ss after placed.1 rest (subst (λ (xs : List X). AllByRecursion P xs) (sym (joins before (part_of items))) more)
 
 -- what follows from a property that all have is one that all have
 pub all_follow : {X : Type 0} (P Q : X → Type 0) (xs : List X) → ((x : X) → P x → Q x) → AllByRecursion P xs → AllByRecursion Q xs
 all_follow P Q [] f h = tt
 all_follow P Q (x ∷ xs) f h = (f x h.0, all_follow P Q xs f h.1)
+
+-- the same where another thing is made of each
+pub all_mapped : {X Y : Type 0} (f : X → Y) (P : X → Type 0) (Q : Y → Type 0) (xs : List X) → ((x : X) → P x → Q (f x)) → AllByRecursion P xs → AllByRecursion Q (map f xs)
+all_mapped f P Q [] step h = tt
+all_mapped f P Q (x ∷ xs) step h = (step x h.0, all_mapped f P Q xs step h.1)

@@ -1,38 +1,28 @@
 -- The field name of each import stands at its range of the object's bytes, and so do the names that symbols take from there.
-use Rattle.std.proofs.Common.{◌≡◌, ℕ, zero, suc, ◌+◌, Bool, true, false, cond, eqb, List, [], ◌∷◌, ◌++◌, ◌&&◌, length, map, not, Option, Some, None, slice_get, refl, sym, ap, subst, ◌∙◌, arith}
-use Rattle.std.specs.List.{AllByRecursion, flat_map, filter, find, starts_with}
-use Rattle.std.specs.Str.{bytes_eq}
-use Rattle.std.specs.Prelude.{codes, nat_eq}
-use Rattle.std.proofs.lemmas.Bool.{eqb-true}
-use Rattle.std.proofs.lemmas.List.{append-nil}
-use Rattle.wl_module.specs.Chains.{Chain}
+use Rattle.std.proofs.Common.{◌≡◌, ℕ, zero, suc, Bool, true, false, cond, List, [], ◌∷◌, ◌&&◌, length, map, not, Option, Some, None, slice_get, refl, sym, ap, subst, ◌∙◌}
+use Rattle.std.specs.List.{AllByRecursion, filter}
 use Rattle.wl_module.specs.Imports.{PlacedImported}
 use Rattle.wl_module.specs.Places.{StandsAt, PlacedImportStands}
 use Rattle.wl_module.proofs.PlaceLaws.{placed_imports_stand}
-use Rattle.wl_module.specs.Sections.{rank, IsSection, next, Framed}
-use Rattle.wl_module.specs.declared.sections.SectionHeader.{SectionHeader}
+use Rattle.wl_module.proofs.SectionLaws.{module_stands}
+use Rattle.wl_module.specs.Sections.{Section, IsModule, SectionStands}
 use Rattle.wl_module.specs.declared.imports.ExternalKind.{ExternalKind}
 use Rattle.wl_module.specs.declared.imports.ExternalKind.TheVariants.{Func as FuncImport, Global as GlobalImport}
 use Rattle.wl_linking.specs.Symbols.{Symbol, is_undefined, has_name, range_of}
 use Rattle.wl_linking.specs.Spaces.{is_of}
-use Rattle.wl_linking.specs.Slots.{Slot, slot_of, slots_of, begin_of, import_base, with_slot, with_name_of, with_import_name}
-use Rattle.wl_linking.specs.Targets.{stretch, kind_of, named_kind, payload_of}
-use Rattle.wl_linking.specs.Sections.{HoldsItems, IsPlaced, AreSound, seen_then, nothing_seen, imports_in, symbols_in}
+use Rattle.wl_linking.specs.Slots.{Slot, slot_of, slots_of, with_slot, with_name_of, with_import_name}
+use Rattle.wl_linking.specs.Targets.{stretch}
+use Rattle.wl_linking.specs.Parts.{no_parts}
+use Rattle.wl_linking.specs.Sections.{base_of, AreSound}
 use Rattle.wl_linking.specs.Object.{Object}
 use Rattle.wl_linking.specs.SlotsReading.{AreNamedByRange}
-use Rattle.wl_linking.specs.Parts.{parts_of}
 use Rattle.wl_linking.specs.Fitting.{IsObject, NameStands, named_symbols}
-use Rattle.wl_linking.specs.declared.kinds.SectionKind.{SectionKind}
-use Rattle.wl_linking.specs.declared.kinds.SectionKind.TheVariants as kind
-use Rattle.wl_linking.specs.declared.kinds.Seen.{Seen}
-use Rattle.wl_linking.specs.declared.section.Section.{Section}
-use Rattle.wl_linking.specs.declared.section.Section.TheVariants.{Imports}
+use Rattle.wl_linking.specs.declared.parts.Parts.{Parts}
+use Rattle.wl_linking.specs.declared.section.SectionItems.TheVariants.{Imports}
 use Rattle.wl_linking.specs.declared.symbols.WasmSymbolKind.{WasmSymbolKind}
 use Rattle.wl_linking.specs.declared.symbols.WasmSymbolKind.TheVariants.{Func, Data, Global, Section as SectionSymbol, Event, Table}
-use Rattle.wl_linking.proofs.PlacedLaws.{placed_headers}
-use Rattle.wl_linking.proofs.HeldLaws.{Spelled, spelled, payload_stands, all_follow}
-use Rattle.wl_linking.proofs.OnceLaws.{ComesOnce, IsPast, rank_of, no_second, none_of_all, custom_by, standard_by}
-use Rattle.wl_linking.proofs.NameLaws.{Stands, SymbolStands, outer_stands, name_stands, sections_stand}
+use Rattle.wl_linking.proofs.HeldLaws.{HaveInEach, all_held, all_follow}
+use Rattle.wl_linking.proofs.NameLaws.{Stands, SymbolStands, outer_stands, name_stands, symbols_stand}
 
 -- ---- the imports of a section
 
@@ -40,103 +30,17 @@ use Rattle.wl_linking.proofs.NameLaws.{Stands, SymbolStands, outer_stands, name_
 abbrev InObject : List ℕ → ℕ → PlacedImported → Type 0
 InObject bytes base i = Stands bytes 0 i.import.name (range_of base i.name_offset (length i.import.name))
 
+abbrev SlotStands : List ℕ → Slot → Type 0
+SlotStands bytes slot = Stands bytes 0 slot.name slot.range
+
 import_stands : (bytes payload : List ℕ) (base : ℕ) (i : PlacedImported) → StandsAt bytes payload base → PlacedImportStands payload i → InObject bytes base i
 import_stands bytes payload base i there h = outer_stands bytes payload i.import.name base (range_of base i.name_offset (length i.import.name)) there (record { at = i.name_offset; there = h.name; range_is = refl })
 
-imports_of : (bytes : List ℕ) (s : SectionHeader) (section : Section) → StandsAt bytes (payload_of bytes s) s.payload_range.0 → Spelled s section (payload_of bytes s) → AllByRecursion (InObject bytes s.payload_range.0) (imports_in section)
-imports_of bytes s (Imports imports) there h =
-    let payload = payload_of bytes s in
-    all_follow (PlacedImportStands payload) (InObject bytes s.payload_range.0) imports (λ i stands. import_stands bytes payload s.payload_range.0 i there stands) (placed_imports_stand imports payload h)
-imports_of bytes s _ there h = tt
-
--- ---- one import section at most
-
-abbrev is_import : SectionKind → Bool
-is_import kind.Import = true
-is_import _ = false
-
-custom_no_import : (a b c d : Bool) → is_import (custom_by a b c d) ≡ false
-custom_no_import true b c d = refl
-custom_no_import false true c d = refl
-custom_no_import false false true d = refl
-custom_no_import false false false true = refl
-custom_no_import false false false false = refl
-
-import_is : (a b c d e f g h i j k l : Bool) → is_import (standard_by a b c d e f g h i j k l) ≡ true → b ≡ true
-import_is true b c d e f g h i j k l is = absurd cc
-import_is false true c d e f g h i j k l is = refl
-import_is false false true d e f g h i j k l is = absurd cc
-import_is false false false true e f g h i j k l is = absurd cc
-import_is false false false false true f g h i j k l is = absurd cc
-import_is false false false false false true g h i j k l is = absurd cc
-import_is false false false false false false true h i j k l is = absurd cc
-import_is false false false false false false false true i j k l is = absurd cc
-import_is false false false false false false false false true j k l is = absurd cc
-import_is false false false false false false false false false true k l is = absurd cc
-import_is false false false false false false false false false false true l is = absurd cc
-import_is false false false false false false false false false false false true is = absurd cc
-import_is false false false false false false false false false false false false is = absurd cc
-
-import_id : (bytes : List ℕ) (s : SectionHeader) → is_import (kind_of bytes s) ≡ true → s.id ≡ 2
-import_id bytes s h = by_name s.name_range h
-  where
-    by_name : (range : Option (ℕ × ℕ)) → is_import (named_kind bytes s.id range) ≡ true → s.id ≡ 2
-    by_name None h = eqb-true s.id 2 (import_is (eqb s.id 1) (eqb s.id 2) (eqb s.id 3) (eqb s.id 4) (eqb s.id 5) (eqb s.id 6) (eqb s.id 7) (eqb s.id 8) (eqb s.id 10) (eqb s.id 11) (eqb s.id 12) (eqb s.id 13) h)
-    by_name (Some range) h =
-        let name = stretch bytes range in
-        absurd (let f = custom_no_import (bytes_eq name (codes "linking")) (starts_with nat_eq name (codes "reloc.")) (starts_with nat_eq name (codes ".debug_")) (bytes_eq name (codes "target_features")) in cc)
-
-no_import : (k : SectionKind) (bytes : List ℕ) (all : List SectionHeader) (seen : Seen) (s : SectionHeader) (section : Section) (payload : List ℕ) → is_import k ≡ false → HoldsItems k bytes all seen s section payload → imports_in section ≡ []
-no_import kind.Type bytes all seen s section payload not h = rw h.1 refl
-no_import kind.Import bytes all seen s section payload not h = absurd cc
-no_import kind.Function bytes all seen s section payload not h = rw h.1 refl
-no_import kind.Memory bytes all seen s section payload not h = rw h.1 refl
-no_import kind.Global bytes all seen s section payload not h = rw h.1 refl
-no_import kind.Export bytes all seen s section payload not h = rw h.1 refl
-no_import kind.DataCount bytes all seen s section payload not h = rw h.1 refl
-no_import kind.Code bytes all seen s section payload not h = rw h.1 refl
-no_import kind.Data bytes all seen s section payload not h = rw h.1 refl
-no_import kind.Linking bytes all seen s section payload not h = rw h.1 refl
-no_import kind.Reloc bytes all seen s section payload not h = rw h.1 refl
-no_import kind.Features bytes all seen s section payload not h = rw h.1 refl
-no_import kind.Debug bytes all seen s section payload not h = rw h refl
-no_import kind.Skipped bytes all seen s section payload not h = rw h refl
-no_import kind.Table bytes all seen s section payload not h = absurd h
-no_import kind.Start bytes all seen s section payload not h = absurd h
-no_import kind.Tag bytes all seen s section payload not h = absurd h
-
-abbrev anything : List PlacedImported → Type 0
-anything xs = Unit {0}
-
-import_once : ComesOnce is_import 2 imports_in anything
-import_once = record { ranked = omega arith; by_id = import_id; none = tt; good = λ k bytes all seen s section payload is h. tt; others = no_import }
-
--- the imports of all sections, by the place of the import section
-imports_stand : (bytes : List ℕ) (all : List SectionHeader) (seen : Seen) (last place : ℕ) (hs : List SectionHeader) (text : List ℕ) (held : List Section) → Chain IsSection next last place hs text → AllByRecursion (IsPlaced bytes) hs → AreSound bytes all seen hs held → AllByRecursion (InObject bytes (import_base hs)) (flat_map imports_in held)
-imports_stand bytes all seen last place [] text [] chain placed h = tt
-imports_stand bytes all seen last place [] text (x ∷ held) chain placed h = absurd h
-imports_stand bytes all seen last place (s ∷ hs) text [] chain placed h = absurd h
-imports_stand bytes all seen last place (s ∷ hs) text (x ∷ held) (front, back, parts, here, rest) placed h =
-    by_id (eqb s.id 2) refl (imports_stand bytes all (seen_then seen x) (next last s) (place + length front) hs back held rest placed.1 h.1)
-  where
-    other : (b : Bool) → is_import (kind_of bytes s) ≡ b → eqb s.id 2 ≡ false → is_import (kind_of bytes s) ≡ false
-    other false is two = is
-    other true is two = absurd (let id = import_id bytes s is in let e : eqb s.id 2 ≡ true = rw id refl in cc)
-
-    by_id : (b : Bool) → eqb s.id 2 ≡ b → AllByRecursion (InObject bytes (import_base hs)) (flat_map imports_in held) → AllByRecursion (InObject bytes (begin_of (cond b (Some s) (find (λ (t : SectionHeader). eqb t.id 2) hs)))) (imports_in x ++ flat_map imports_in held)
-    by_id true is more =
-        let rank_is : rank s.id ≡ rank 2 = rank_of 2 s.id (eqb-true s.id 2 is) in
-        let past : IsPast (rank 2) (next last s) = rw rank_is (omega arith) in
-        let none = none_of_all is_import 2 imports_in anything import_once bytes all (seen_then seen x) hs held (no_second is_import 2 imports_in anything import_once bytes (next last s) (place + length front) hs back past rest) h.1 in
-        rw (none, append-nil (imports_in x)) (imports_of bytes s x (payload_stands bytes s placed.0.begins) (spelled (kind_of bytes s) bytes all seen s x (payload_of bytes s) h.0))
-    by_id false is more =
-        let others = no_import (kind_of bytes s) bytes all seen s x (payload_of bytes s) (other (is_import (kind_of bytes s)) refl is) h.0 in
-        rw others more
+imports_stand : (bytes : List ℕ) (s : Section) (imports : List PlacedImported) (base : ℕ) → SectionStands bytes s → base ≡ base_of s → AllByRecursion (PlacedImportStands s.payload) imports → AllByRecursion (InObject bytes base) imports
+imports_stand bytes s imports base there is h =
+    subst (λ (n : ℕ). AllByRecursion (InObject bytes n) imports) (sym is) (all_follow (PlacedImportStands s.payload) (InObject bytes (base_of s)) imports (λ i stands. import_stands bytes s.payload (base_of s) i there.payload.0 stands) h)
 
 -- ---- symbols that take these names
-
-abbrev SlotStands : List ℕ → Slot → Type 0
-SlotStands bytes slot = Stands bytes 0 slot.name slot.range
 
 slots_stand : (bytes : List ℕ) (kind : ExternalKind) (base : ℕ) (xs : List PlacedImported) → AllByRecursion (InObject bytes base) xs → AllByRecursion (SlotStands bytes) (slots_of kind base xs)
 slots_stand bytes kind base [] h = tt
@@ -176,19 +80,27 @@ symbols_named bytes functions globals (s ∷ symbols) f g h =
     let s' = with_import_name functions globals s in
     (name_stands bytes s'.name s'.name_range (symbol_named bytes functions globals s f g h.0), symbols_named bytes functions globals symbols f g h.1)
 
+-- ---- the names of all sections
+
+function_names_in_each : (bytes : List ℕ) → HaveInEach (λ p. p.function_names) (SlotStands bytes) bytes
+function_names_in_each bytes k s (Imports imports base) there h = slots_stand bytes FuncImport base imports (imports_stand bytes s imports base there h.1 (placed_imports_stand imports s.payload h.2))
+function_names_in_each bytes k s _ there h = tt
+
+global_names_in_each : (bytes : List ℕ) → HaveInEach (λ p. p.global_names) (SlotStands bytes) bytes
+global_names_in_each bytes k s (Imports imports base) there h = slots_stand bytes GlobalImport base imports (imports_stand bytes s imports base there h.1 (placed_imports_stand imports s.payload h.2))
+global_names_in_each bytes k s _ there h = tt
+
 -- the symbols of sound sections
-pub parts_names_stand : (bytes : List ℕ) (headers : List SectionHeader) (held : List Section) → Framed headers bytes → AreSound bytes headers nothing_seen headers held → AllByRecursion (NameStands bytes) (named_symbols headers (parts_of held))
-parts_names_stand bytes headers held framed sound =
-    let placed = placed_headers bytes headers framed in
-    let imports = imports_stand bytes headers nothing_seen 0 8 headers framed.0 held framed.2 placed sound in
-    let base = import_base headers in
-    let all = flat_map imports_in held in
-    symbols_named bytes (slots_of FuncImport base all) (slots_of GlobalImport base all) (flat_map symbols_in held)
-    (slots_stand bytes FuncImport base all imports) (slots_stand bytes GlobalImport base all imports)
-    (sections_stand bytes headers nothing_seen headers held placed sound)
+pub parts_names_stand : (bytes : List ℕ) (sections : List Section) (parts : Parts) → IsModule sections bytes → AreSound sections no_parts sections parts → AllByRecursion (NameStands bytes) (named_symbols parts)
+parts_names_stand bytes sections parts framed sound =
+    let placed = module_stands bytes sections framed in
+    symbols_named bytes parts.function_names parts.global_names parts.symbols
+    (all_held (λ p. p.function_names) (SlotStands bytes) bytes (λ a b. refl) (function_names_in_each bytes) sections no_parts sections parts placed sound tt)
+    (all_held (λ p. p.global_names) (SlotStands bytes) bytes (λ a b. refl) (global_names_in_each bytes) sections no_parts sections parts placed sound tt)
+    (symbols_stand bytes sections parts framed sound)
 
 pub object_names_stand : (bytes : List ℕ) (o : Object) → IsObject o bytes → AllByRecursion (NameStands bytes) o.symbols
-object_names_stand bytes o h = rw h.items.symbols (parts_names_stand bytes o.sections h.held h.framed h.sound)
+object_names_stand bytes o h = subst (λ (x : Object). AllByRecursion (NameStands bytes) x.symbols) (sym h.items.items) (parts_names_stand bytes h.sections h.parts h.framed h.sound)
 
 -- ---- names by their ranges
 

@@ -1,61 +1,43 @@
 -- The names of imports stand within the bytes of their object, and so do segments.
-use Rattle.std.proofs.Common.{ℕ, ◌+◌, ◌-◌, ◌≤◌, ◌^◌, List, [], ◌∷◌, ◌++◌, length, drop, ap, arith, length-append}
-use Rattle.std.proofs.lemmas.List.{length-take, length-drop}
-use Rattle.std.specs.List.{flat_map, AllByRecursion}
-use Rattle.wl_module.specs.Segments.{Targeted, plain_segments}
-use Rattle.wl_module.specs.Places.{StandsAt, PlacedImportStands, TargetedStands}
+use Rattle.std.proofs.Common.{ℕ, ◌≤◌, List, ◌++◌, length, refl, arith, length-append}
+use Rattle.wl_bytes.specs.declared.reader.TheConstants.{MAX_LEN}
+use Rattle.std.specs.List.{AllByRecursion}
+use Rattle.wl_module.specs.Segments.{Targeted}
+use Rattle.wl_module.specs.Places.{PlacedImportStands, TargetedStands}
+use Rattle.wl_module.specs.Sections.{Section, IsModule}
+use Rattle.wl_module.specs.declared.section_kind.SectionKind.{SectionKind}
 use Rattle.wl_module.proofs.PlaceLaws.{placed_imports_stand, targeted_stand}
-use Rattle.wl_module.specs.declared.sections.SectionHeader.{SectionHeader}
+use Rattle.wl_module.proofs.SectionLaws.{module_stands}
 use Rattle.wl_linking.specs.SlotsReading.{IsNamedWithin}
+use Rattle.wl_linking.specs.Parts.{no_parts, AreNamedWithin}
 use Rattle.wl_linking.specs.Placing.{IsSpanned}
-use Rattle.wl_linking.specs.Targets.{payload_of}
-use Rattle.wl_linking.specs.Sections.{IsPlaced, AreSound, imports_in, segments_in}
-use Rattle.wl_linking.specs.declared.kinds.Seen.{Seen}
-use Rattle.wl_linking.specs.declared.section.Section.{Section}
-use Rattle.wl_linking.specs.declared.section.Section.TheVariants.{Imports, Data}
-use Rattle.wl_linking.proofs.HeldLaws.{HaveInEach, all_held, all_follow}
+use Rattle.wl_linking.specs.Sections.{EndsWithin, AreSound}
+use Rattle.wl_linking.specs.declared.parts.Parts.{Parts}
+use Rattle.wl_linking.specs.declared.section.SectionItems.{SectionItems}
+use Rattle.wl_linking.specs.declared.section.SectionItems.TheVariants.{Imports, Data}
+use Rattle.wl_linking.proofs.HeldLaws.{Spelled, HaveInEach, all_held, all_follow, all_mapped}
+use Rattle.wl_linking.proofs.PlacedLaws.{ends_within}
 
--- a text that stands in some bytes ends within them
-ends_within : (bytes text : List ℕ) (place : ℕ) → StandsAt bytes text place → place + length text ≤ length bytes
-ends_within bytes text place h = omega (arith, h.len, ap length h.whole, length-append h.front (text ++ h.back), length-append text h.back)
+-- the names of a section's imports stand within the limit where it does
+pub named_within : (k : SectionKind) (s : Section) (items : SectionItems) → EndsWithin s → Spelled k s items s.payload → AreNamedWithin items
+named_within k s (Imports imports base) le (kind_is, base_is, h) = (
+  rw base_is (omega arith),
+  all_follow (PlacedImportStands s.payload) IsNamedWithin imports (λ i stands. omega (arith, ends_within s.payload i.import.name i.name_offset stands.name, le)) (placed_imports_stand imports s.payload h),
+)
+named_within k s _ le h = tt
 
-payload_within : (bytes : List ℕ) (s : SectionHeader) → length (payload_of bytes s) ≤ length bytes
-payload_within bytes s = omega (arith, length-take (s.payload_range.1 - s.payload_range.0) (drop s.payload_range.0 bytes), length-drop s.payload_range.0 bytes)
-
--- ---- imports
-
-imports_of_each : (bytes : List ℕ) → length bytes ≤ 2 ^ 30 → HaveInEach imports_in IsNamedWithin bytes
-imports_of_each bytes le s (Imports imports) there h =
-    let payload = payload_of bytes s in
-    all_follow (PlacedImportStands payload) IsNamedWithin imports (λ i stands. omega (arith, ends_within payload i.import.name i.name_offset stands.name, payload_within bytes s, le)) (placed_imports_stand imports payload h)
-imports_of_each bytes le s _ there h = tt
-
--- those of all sections
-pub sections_named : (bytes : List ℕ) (all : List SectionHeader) (seen : Seen) (hs : List SectionHeader) (held : List Section) → length bytes ≤ 2 ^ 30 → AllByRecursion (IsPlaced bytes) hs → AreSound bytes all seen hs held → AllByRecursion IsNamedWithin (flat_map imports_in held)
-sections_named bytes all seen hs held le = all_held imports_in IsNamedWithin bytes (imports_of_each bytes le) all seen hs held
-
--- ---- segments
-
-abbrev IsTargetSpanned : Targeted → Type 0
-IsTargetSpanned t = IsSpanned t.segment
-
-target_spanned : (payload : List ℕ) (t : Targeted) → length payload ≤ 2 ^ 30 → TargetedStands payload t → IsSpanned t.segment
+target_spanned : (payload : List ℕ) (t : Targeted) → length payload ≤ MAX_LEN → TargetedStands payload t → IsSpanned t.segment
 target_spanned payload t le h = record {
   payload = omega (arith, h.size);
   end = omega (arith, h.size, ends_within payload (h.head ++ t.segment.payload) t.segment.section_offset h.there, length-append h.head t.segment.payload, le);
 }
 
-segments_of_each : (bytes : List ℕ) → length bytes ≤ 2 ^ 30 → HaveInEach segments_in IsTargetSpanned bytes
-segments_of_each bytes le s (Data segments) there h =
-    let payload = payload_of bytes s in
-    let within : length payload ≤ 2 ^ 30 = omega (arith, payload_within bytes s, le) in
-    all_follow (TargetedStands payload) IsTargetSpanned segments (λ t stands. target_spanned payload t within stands) (targeted_stand segments payload h)
-segments_of_each bytes le s _ there h = tt
+spanned_in_each : (bytes : List ℕ) → length bytes ≤ MAX_LEN → HaveInEach (λ p. p.segments) IsSpanned bytes
+spanned_in_each bytes le k s (Data segments) there h =
+    let within : length s.payload ≤ MAX_LEN = omega (arith, ends_within bytes s.payload s.header.payload_range.0 there.payload.0, le) in
+    all_mapped (λ (t : Targeted). t.segment) (TargetedStands s.payload) IsSpanned segments (λ t stands. target_spanned s.payload t within stands) (targeted_stand segments s.payload h.1)
+spanned_in_each bytes le k s _ there h = tt
 
-plain_spanned : (segments : List Targeted) → AllByRecursion IsTargetSpanned segments → AllByRecursion IsSpanned (plain_segments segments)
-plain_spanned [] h = tt
-plain_spanned (t ∷ segments) h = (h.0, plain_spanned segments h.1)
-
--- those of all sections
-pub sections_spanned : (bytes : List ℕ) (all : List SectionHeader) (seen : Seen) (hs : List SectionHeader) (held : List Section) → length bytes ≤ 2 ^ 30 → AllByRecursion (IsPlaced bytes) hs → AreSound bytes all seen hs held → AllByRecursion IsSpanned (plain_segments (flat_map segments_in held))
-sections_spanned bytes all seen hs held le placed sound = plain_spanned (flat_map segments_in held) (all_held segments_in IsTargetSpanned bytes (segments_of_each bytes le) all seen hs held placed sound)
+-- the segments of all sections lie within the limit
+pub parts_spanned : (bytes : List ℕ) (sections : List Section) (parts : Parts) → length bytes ≤ MAX_LEN → IsModule sections bytes → AreSound sections no_parts sections parts → AllByRecursion IsSpanned parts.segments
+parts_spanned bytes sections parts le framed sound = all_held (λ p. p.segments) IsSpanned bytes (λ a b. refl) (spanned_in_each bytes le) sections no_parts sections parts (module_stands bytes sections framed) sound tt

@@ -19,23 +19,22 @@ use Rattle.wl_module.specs.Bodies.{StretchFault}
 use Rattle.wl_module.specs.Bodies.{stretch_at}
 use Rattle.wl_module.specs.Chains.{Chain, after}
 use Rattle.wl_module.specs.Checks.{NoFault}
-use Rattle.wl_module.specs.Outcome.{Fails, IsFault}
+use Rattle.wl_module.specs.Outcome.{Fails, AreAlternatives}
 use Rattle.wl_module.specs.declared.error.ReadError.{ReadError}
-use Rattle.wl_module.specs.declared.error.ReadError.TheVariants.{OutOfMemory, Malformed, Unsupported}
 use Rattle.wl_module.proofs.ListLaws.{number_reading, one_byte_reading, IsWholeReading}
 use Rattle.wl_module.proofs.ChainLaws.{AreReadings, Stops, chains_agree, chain_stops, chain_goes_on, chain_begins, after-push, item_shortens}
-use Rattle.wl_linking.specs.Verdict.{Judged, JudgedFault, judged_at, Inside, InsideFault, IsHere, here_at}
+use Rattle.wl_linking.specs.Verdict.{HasCause, Judged, JudgedFault, judged_at, Inside, InsideFault, IsHere, here_at}
 use Rattle.wl_linking.specs.Infos.{AreInfos, InfosFault, infos_of, AreInits, InitsFault, inits_of}
 use Rattle.wl_linking.specs.Symbols.{AreSymbols, SymbolsFault}
 use Rattle.wl_linking.specs.SymbolsReading.{symbols_of}
-use Rattle.wl_linking.specs.Linking.{subsection_kind, subsection_verdict, HoldsAll, IsHeld, HeldFault, held_of, AreSubsectionParts, IsSubsection, SubsectionFault, subsection_parts_at, subsection_at, version_verdict, IsVersion, VersionFault, version_at, nothing_seen, seen_after, infos_in, inits_in, table_in, linking_of, with_subsection, AreSubsections, HaveSubsections, IsSubsectionsFault, IsLinking, LinkingFault}
+use Rattle.wl_linking.specs.Linking.{subsection_kind, subsection_verdict, HoldsAll, IsHeld, HeldFault, held_of, AreSubsectionParts, IsSubsection, SubsectionFault, subsection_parts_at, subsection_at, version_verdict, IsVersion, VersionFault, version_at, nothing_seen, seen_after, infos_in, inits_in, table_in, linking_of, with_subsection, AreSubsections, SubsectionsFault, HaveSubsections, IsLinking, LinkingFault}
 use Rattle.wl_linking.specs.declared.linking.Linking.{Linking}
 use Rattle.wl_linking.specs.declared.linking.SeenSubsections.{SeenSubsections}
 use Rattle.wl_linking.specs.declared.linking.Subsection.{Subsection}
 use Rattle.wl_linking.specs.declared.linking.Subsection.TheVariants as held
 use Rattle.wl_linking.specs.declared.linking.SubsectionKind.{SubsectionKind}
 use Rattle.wl_linking.specs.declared.linking.SubsectionKind.TheVariants as kind
-use Rattle.wl_linking.proofs.Exact.{IsExact, judged_reading, inside_reading, seen_as, here_reading}
+use Rattle.wl_linking.proofs.Exact.{failed, cause_follows, judged_reading, inside_reading, seen_as, here_reading}
 use Rattle.wl_linking.proofs.InfoLaws.{infos_reading, inits_reading}
 use Rattle.wl_linking.proofs.SymbolLaws.{symbols_reading}
 
@@ -166,8 +165,8 @@ linking_some base payload = by_version (version_at (start payload)) refl
         let h = chain_stops (IsSubsection base) seen_after (SubsectionFault base) (subsection_at base) (subsections_read base) (length behind.rest) nothing_seen behind (omega arith) in
         by_end v behind (version_reading.found (start payload) v behind is) h.0 h.1 h.2 h.3 h.4
 
-pub linking_exact : (base : ℕ) → IsExact (IsLinking base) (LinkingFault base)
-linking_exact base = record { some = linking_some base; one = linking_one base; either = linking_either base; one_fault = linking_one_fault base }
+pub linking_exact : (base : ℕ) → AreAlternatives (IsLinking base) (LinkingFault base)
+linking_exact base = record { some = linking_some base; one_value = linking_one base; no_fault = linking_either base; one_fault = linking_one_fault base }
 
 -- ---- the loop
 
@@ -208,21 +207,16 @@ reads_more base from now to seen linking s h e =
 fault_behind : (base : ℕ) (now : Cursor) (seen : SeenSubsections) (ss : List Subsection) (e : ReadError) → after seen_after nothing_seen ss ≡ seen → subsection_at base seen now ≡ Err e → SubsectionFault base (after seen_after nothing_seen ss) e now
 fault_behind base now seen ss e is f = subst (λ (b : SeenSubsections). SubsectionFault base b e now) (sym is) ((subsection_reading base seen).fault now e f)
 
-pub reads_fault : (base : ℕ) (from now : Cursor) (seen : SeenSubsections) (linking : Linking) (e : ReadError) → ReadsOn base from now seen linking → eqb (length now.rest) 0 ≡ false → Fails e (subsection_at base seen now) → IsSubsectionsFault base from e
-reads_fault base from now seen linking OutOfMemory h some f = tt
-reads_fault base from now seen linking (Malformed why) h some f = (h.subsections, now, h.stand, not_empty now.rest some, fault_behind base now seen h.subsections (Malformed why) h.seen_is f)
-reads_fault base from now seen linking (Unsupported form) h some f = (h.subsections, now, h.stand, not_empty now.rest some, fault_behind base now seen h.subsections (Unsupported form) h.seen_is f)
+pub reads_fault : (base : ℕ) (from now : Cursor) (seen : SeenSubsections) (linking : Linking) (e : ReadError) → ReadsOn base from now seen linking → eqb (length now.rest) 0 ≡ false → Fails e (subsection_at base seen now) → HasCause (λ d. SubsectionsFault base d from) e
+reads_fault base from now seen linking e h some =
+    failed (λ d. SubsectionsFault base d from) (subsection_at base seen now) (λ d f. (h.subsections, now, h.stand, not_empty now.rest some, fault_behind base now seen h.subsections d h.seen_is f)) e
 
 -- ---- the whole section
 
-pub version_fault : (base : ℕ) (payload : List ℕ) (e : ReadError) → Fails e (version_at (start payload)) → IsFault (LinkingFault base) payload e
-version_fault base payload OutOfMemory f = tt
-version_fault base payload (Malformed why) f = inl (version_reading.fault (start payload) (Malformed why) f)
-version_fault base payload (Unsupported form) f = inl (version_reading.fault (start payload) (Unsupported form) f)
+pub version_fault : (base : ℕ) (payload : List ℕ) (e : ReadError) → Fails e (version_at (start payload)) → HasCause (λ d. LinkingFault base d payload) e
+version_fault base payload = failed (λ d. LinkingFault base d payload) (version_at (start payload)) (λ d f. inl (version_reading.fault (start payload) d f))
 
 pub whole_linking : (base : ℕ) (payload : List ℕ) (v : ℕ × Unit {0}) (behind : Cursor) (r : Result Linking ReadError) → version_at (start payload) ≡ Ok (v, behind)
-    → MatchResult r (HaveSubsections base behind) (IsSubsectionsFault base behind) → MatchResult r (λ linking. IsLinking base linking payload) (IsFault (LinkingFault base) payload)
+    → MatchResult r (HaveSubsections base behind) (HasCause (λ d. SubsectionsFault base d behind)) → MatchResult r (λ linking. IsLinking base linking payload) (HasCause (λ d. LinkingFault base d payload))
 whole_linking base payload v behind (Ok linking) e h = (v, behind, version_reading.found (start payload) v behind e, h)
-whole_linking base payload v behind (Err OutOfMemory) e h = tt
-whole_linking base payload v behind (Err (Malformed why)) e h = inr (v, behind, version_reading.found (start payload) v behind e, h)
-whole_linking base payload v behind (Err (Unsupported form)) e h = inr (v, behind, version_reading.found (start payload) v behind e, h)
+whole_linking base payload v behind (Err d) e h = cause_follows (λ d. SubsectionsFault base d behind) (λ d. LinkingFault base d payload) (λ d f. inr (v, behind, version_reading.found (start payload) v behind e, f)) d h

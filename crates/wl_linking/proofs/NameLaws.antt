@@ -6,23 +6,24 @@ use Rattle.std.proofs.lemmas.List.{nil_from_length}
 use Rattle.wl_bytes.specs.Grammar.{Items}
 use Rattle.wl_module.specs.Chains.{Chain}
 use Rattle.wl_module.specs.Checks.{When}
-use Rattle.wl_module.specs.declared.sections.SectionHeader.{SectionHeader}
+use Rattle.wl_module.specs.Sections.{Section, IsModule}
 use Rattle.wl_linking.specs.Symbols.{Symbol, SymbolDetails, range_of, IsBasedName, name_or_none, IsNameWhere, is_named, IsNumbered, IsLocated, IsDetails, IsSymbol, AreSymbols}
 use Rattle.wl_linking.specs.Linking.{subsection_kind, IsHeld, IsSubsection, seen_after, nothing_seen as no_subsection_seen, table_in, linking_of, IsLinking}
-use Rattle.wl_linking.specs.Targets.{stretch, payload_of}
-use Rattle.wl_linking.specs.Sections.{IsPlaced, AreSound, symbols_in}
-use Rattle.wl_linking.specs.declared.kinds.Seen.{Seen}
+use Rattle.wl_linking.specs.Targets.{stretch}
+use Rattle.wl_linking.specs.Parts.{no_parts}
+use Rattle.wl_linking.specs.Sections.{base_of, AreSound}
+use Rattle.wl_linking.specs.declared.parts.Parts.{Parts}
 use Rattle.wl_linking.specs.declared.linking.Linking.{Linking as LinkingHeld}
 use Rattle.wl_linking.specs.declared.linking.SeenSubsections.{SeenSubsections}
 use Rattle.wl_linking.specs.declared.linking.Subsection.{Subsection}
 use Rattle.wl_linking.specs.declared.linking.SubsectionKind.{SubsectionKind}
 use Rattle.wl_linking.specs.declared.linking.SubsectionKind.TheVariants as part
-use Rattle.wl_linking.specs.declared.section.Section.{Section}
-use Rattle.wl_linking.specs.declared.section.Section.TheVariants.{Linking}
+use Rattle.wl_linking.specs.declared.section.SectionItems.TheVariants.{Linking}
 use Rattle.wl_linking.specs.declared.symbols.WasmSymbolKind.{WasmSymbolKind}
 use Rattle.wl_linking.specs.declared.symbols.WasmSymbolKind.TheVariants.{Func, Data, Global, Section as SectionSymbol, Event, Table}
 use Rattle.wl_module.specs.Places.{StandsAt}
 use Rattle.wl_module.proofs.PlaceLaws.{all_stands, before_stands, behind_stands}
+use Rattle.wl_module.proofs.SectionLaws.{module_stands}
 use Rattle.wl_linking.proofs.PlacedLaws.{stretch_is}
 use Rattle.wl_linking.proofs.HeldLaws.{HaveInEach, all_held, all_append}
 
@@ -169,10 +170,10 @@ linking_has {X} items_in items_of P bytes each same payload base linking outer (
 
 -- ---- all sections
 
-symbols_of_each : (bytes : List ℕ) → HaveInEach symbols_in (SymbolStands bytes 0) bytes
-symbols_of_each bytes s (Linking linking) there h = linking_has table_in (λ (l : LinkingHeld). l.symbols) (SymbolStands bytes 0) bytes (held_stand bytes) (λ xs. refl) (payload_of bytes s) s.payload_range.0 linking there h
-symbols_of_each bytes s _ there h = tt
+symbols_of_each : (bytes : List ℕ) → HaveInEach (λ p. p.symbols) (SymbolStands bytes 0) bytes
+symbols_of_each bytes k s (Linking linking) there h = linking_has table_in (λ (l : LinkingHeld). l.symbols) (SymbolStands bytes 0) bytes (held_stand bytes) (λ xs. refl) s.payload (base_of s) linking there.payload.0 h.1
+symbols_of_each bytes k s _ there h = tt
 
 -- the symbols of all sections
-pub sections_stand : (bytes : List ℕ) (all : List SectionHeader) (seen : Seen) (hs : List SectionHeader) (held : List Section) → AllByRecursion (IsPlaced bytes) hs → AreSound bytes all seen hs held → AllByRecursion (SymbolStands bytes 0) (flat_map symbols_in held)
-sections_stand bytes = all_held symbols_in (SymbolStands bytes 0) bytes (symbols_of_each bytes)
+pub symbols_stand : (bytes : List ℕ) (sections : List Section) (parts : Parts) → IsModule sections bytes → AreSound sections no_parts sections parts → AllByRecursion (SymbolStands bytes 0) parts.symbols
+symbols_stand bytes sections parts framed sound = all_held (λ p. p.symbols) (SymbolStands bytes 0) bytes (λ a b. refl) (symbols_of_each bytes) sections no_parts sections parts (module_stands bytes sections framed) sound tt

@@ -1,25 +1,26 @@
 -- Names, expressions, bodies and the bytes of segments stand in the object's bytes.
-use Rattle.std.proofs.Common.{ℕ, ◌+◌, List, [], ◌∷◌, ◌++◌, length, map, refl, subst}
-use Rattle.std.specs.List.{AllByRecursion, flat_map}
+use Rattle.std.proofs.Common.{◌≡◌, ℕ, ◌+◌, List, ◌++◌, length, refl, sym, subst}
+use Rattle.std.specs.List.{AllByRecursion}
 use Rattle.wl_bytes.specs.Items.{IsName}
 use Rattle.wl_module.specs.Imports.{PlacedImported}
 use Rattle.wl_module.specs.Segments.{Targeted}
+use Rattle.wl_module.proofs.SectionLaws.{module_stands}
 use Rattle.wl_module.specs.Places.{StandsAt, IsPart, PartsStand, ImportStands, PlacedImportStands, ExportStands, GlobalStands, BodyStands, TargetedStands}
 use Rattle.wl_module.proofs.PlaceLaws.{before_stands, behind_stands, listed_stand, placed_imports_stand, exports_stand, globals_stand, bodies_stand, targeted_stand}
 use Rattle.wl_linking.specs.Infos.{SegmentInfo, IsInfo, AreInfos}
 use Rattle.wl_linking.specs.Features.{Feature, IsFeature, AreFeatures}
 use Rattle.wl_linking.specs.Linking.{infos_in as infos_of_part}
-use Rattle.wl_linking.specs.Targets.{payload_of}
-use Rattle.wl_linking.specs.Sections.{imports_in, globals_in, exports_in, bodies_in, segments_in, infos_in, features_in, nothing_seen}
+use Rattle.wl_linking.specs.Parts.{no_parts, join}
+use Rattle.wl_linking.specs.Sections.{base_of}
 use Rattle.wl_linking.specs.Object.{Object}
 use Rattle.wl_linking.specs.Fitting.{IsObject}
 use Rattle.wl_linking.specs.Stretches.{BodyIsPart, PayloadIsPart, InfoStands, FeatureStands, PartsStandIn}
+use Rattle.wl_linking.specs.declared.parts.Parts.{Parts}
 use Rattle.wl_linking.specs.declared.linking.Linking.{Linking as LinkingHeld}
 use Rattle.wl_linking.specs.declared.linking.Subsection.{Subsection}
 use Rattle.wl_linking.specs.declared.linking.SubsectionKind.TheVariants as part
-use Rattle.wl_linking.specs.declared.section.Section.TheVariants.{Imports, Globals, Exports, Code, Data, Linking, Features}
-use Rattle.wl_linking.proofs.PlacedLaws.{placed_headers}
-use Rattle.wl_linking.proofs.HeldLaws.{HaveInEach, all_held, all_follow}
+use Rattle.wl_linking.specs.declared.section.SectionItems.TheVariants.{Imports, Globals, Exports, Code, Data, Linking, Features}
+use Rattle.wl_linking.proofs.HeldLaws.{HaveInEach, all_held, all_follow, all_mapped}
 use Rattle.wl_linking.proofs.NameLaws.{inside_stands, HaveInEachPart, linking_has}
 
 -- ---- parts of a payload that stands in the bytes
@@ -46,83 +47,66 @@ features_stand = listed_stand FeatureStands IsFeature feature_stands
 
 -- ---- the items of each section
 
-abbrev ImportIsPart : List ℕ → PlacedImported → Type 0
-ImportIsPart bytes i = ImportStands bytes i.import
+imports_in_each : (bytes : List ℕ) → HaveInEach (λ p. p.imports) (ImportStands bytes) bytes
+imports_in_each bytes k s (Imports imports base) there h =
+    all_mapped (λ (i : PlacedImported). i.import) (PlacedImportStands s.payload) (ImportStands bytes) imports (λ i p. record {
+      origin = part_within bytes s.payload i.import.origin (base_of s) there.payload.0 p.origin;
+      name = part_within bytes s.payload i.import.name (base_of s) there.payload.0 (i.name_offset, p.name);
+    }) (placed_imports_stand imports s.payload h.2)
+imports_in_each bytes k s _ there h = tt
 
-imports_of_each : (bytes : List ℕ) → HaveInEach imports_in (ImportIsPart bytes) bytes
-imports_of_each bytes s (Imports imports) there h =
-    let payload = payload_of bytes s in
-    all_follow (PlacedImportStands payload) (ImportIsPart bytes) imports (λ i p. record {
-      origin = part_within bytes payload i.import.origin s.payload_range.0 there p.origin;
-      name = part_within bytes payload i.import.name s.payload_range.0 there (i.name_offset, p.name);
-    }) (placed_imports_stand imports payload h)
-imports_of_each bytes s _ there h = tt
+globals_in_each : (bytes : List ℕ) → HaveInEach (λ p. p.globals) (GlobalStands bytes) bytes
+globals_in_each bytes k s (Globals globals) there h =
+    all_follow (GlobalStands s.payload) (GlobalStands bytes) globals (λ g p. part_within bytes s.payload g.body (base_of s) there.payload.0 p) (globals_stand globals s.payload h.1)
+globals_in_each bytes k s _ there h = tt
 
-globals_of_each : (bytes : List ℕ) → HaveInEach globals_in (GlobalStands bytes) bytes
-globals_of_each bytes s (Globals globals) there h =
-    let payload = payload_of bytes s in
-    all_follow (GlobalStands payload) (GlobalStands bytes) globals (λ g p. part_within bytes payload g.body s.payload_range.0 there p) (globals_stand globals payload h)
-globals_of_each bytes s _ there h = tt
+exports_in_each : (bytes : List ℕ) → HaveInEach (λ p. p.exports) (ExportStands bytes) bytes
+exports_in_each bytes k s (Exports exports) there h =
+    all_follow (ExportStands s.payload) (ExportStands bytes) exports (λ x p. part_within bytes s.payload x.name (base_of s) there.payload.0 p) (exports_stand exports s.payload h.1)
+exports_in_each bytes k s _ there h = tt
 
-exports_of_each : (bytes : List ℕ) → HaveInEach exports_in (ExportStands bytes) bytes
-exports_of_each bytes s (Exports exports) there h =
-    let payload = payload_of bytes s in
-    all_follow (ExportStands payload) (ExportStands bytes) exports (λ x p. part_within bytes payload x.name s.payload_range.0 there p) (exports_stand exports payload h)
-exports_of_each bytes s _ there h = tt
+bodies_in_each : (bytes : List ℕ) → HaveInEach (λ p. p.bodies) (BodyIsPart bytes) bytes
+bodies_in_each bytes k s (Code bodies) there h =
+    all_follow (BodyStands s.payload) (BodyIsPart bytes) bodies (λ b p. part_within bytes s.payload b.bytes (base_of s) there.payload.0 (b.code_offset, p)) (bodies_stand bodies s.payload h.1)
+bodies_in_each bytes k s _ there h = tt
 
-bodies_of_each : (bytes : List ℕ) → HaveInEach bodies_in (BodyIsPart bytes) bytes
-bodies_of_each bytes s (Code bodies) there h =
-    let payload = payload_of bytes s in
-    all_follow (BodyStands payload) (BodyIsPart bytes) bodies (λ b p. part_within bytes payload b.bytes s.payload_range.0 there (b.code_offset, p)) (bodies_stand bodies payload h)
-bodies_of_each bytes s _ there h = tt
-
-abbrev TargetIsPart : List ℕ → Targeted → Type 0
-TargetIsPart bytes t = PayloadIsPart bytes t.segment
-
-segments_of_each : (bytes : List ℕ) → HaveInEach segments_in (TargetIsPart bytes) bytes
-segments_of_each bytes s (Data segments) there h =
-    let payload = payload_of bytes s in
-    all_follow (TargetedStands payload) (TargetIsPart bytes) segments (λ t p.
+segments_in_each : (bytes : List ℕ) → HaveInEach (λ p. p.segments) (PayloadIsPart bytes) bytes
+segments_in_each bytes k s (Data segments) there h =
+    all_mapped (λ (t : Targeted). t.segment) (TargetedStands s.payload) (PayloadIsPart bytes) segments (λ t p.
     let at = t.segment.section_offset in
-    part_within bytes payload t.segment.payload s.payload_range.0 there (at + length p.head, behind_stands payload (p.head ++ t.segment.payload) p.head t.segment.payload at refl p.there))
-    (targeted_stand segments payload h)
-segments_of_each bytes s _ there h = tt
+    part_within bytes s.payload t.segment.payload (base_of s) there.payload.0 (at + length p.head, behind_stands s.payload (p.head ++ t.segment.payload) p.head t.segment.payload at refl p.there))
+    (targeted_stand segments s.payload h.1)
+segments_in_each bytes k s _ there h = tt
 
-infos_of_each_part : (bytes : List ℕ) → HaveInEachPart infos_of_part (InfoStands bytes) bytes
-infos_of_each_part bytes base part.SegmentInfo s payload there held =
+infos_in_each_part : (bytes : List ℕ) → HaveInEachPart infos_of_part (InfoStands bytes) bytes
+infos_in_each_part bytes base part.SegmentInfo s payload there held =
     subst (λ (x : Subsection). AllByRecursion (InfoStands bytes) (infos_of_part x)) held.1
     (all_follow (InfoStands payload) (InfoStands bytes) held.0 (λ i p. part_within bytes payload i.name base there p) (infos_stand held.0 payload held.2))
-infos_of_each_part bytes base part.InitFuncs s payload there held = subst (λ (x : Subsection). AllByRecursion (InfoStands bytes) (infos_of_part x)) held.1 tt
-infos_of_each_part bytes base part.SymbolTable s payload there held = subst (λ (x : Subsection). AllByRecursion (InfoStands bytes) (infos_of_part x)) held.1 tt
-infos_of_each_part bytes base part.Other s payload there held = rw held tt
+infos_in_each_part bytes base part.InitFuncs s payload there held = subst (λ (x : Subsection). AllByRecursion (InfoStands bytes) (infos_of_part x)) held.1 tt
+infos_in_each_part bytes base part.SymbolTable s payload there held = subst (λ (x : Subsection). AllByRecursion (InfoStands bytes) (infos_of_part x)) held.1 tt
+infos_in_each_part bytes base part.Other s payload there held = rw held tt
 
-infos_of_each : (bytes : List ℕ) → HaveInEach infos_in (InfoStands bytes) bytes
-infos_of_each bytes s (Linking linking) there h = linking_has infos_of_part (λ (l : LinkingHeld). l.segment_infos) (InfoStands bytes) bytes (infos_of_each_part bytes) (λ xs. refl) (payload_of bytes s) s.payload_range.0 linking there h
-infos_of_each bytes s _ there h = tt
+infos_in_each : (bytes : List ℕ) → HaveInEach (λ p. p.segment_infos) (InfoStands bytes) bytes
+infos_in_each bytes k s (Linking linking) there h = linking_has infos_of_part (λ (l : LinkingHeld). l.segment_infos) (InfoStands bytes) bytes (infos_in_each_part bytes) (λ xs. refl) s.payload (base_of s) linking there.payload.0 h.1
+infos_in_each bytes k s _ there h = tt
 
-features_of_each : (bytes : List ℕ) → HaveInEach features_in (FeatureStands bytes) bytes
-features_of_each bytes s (Features features) there h =
-    let payload = payload_of bytes s in
-    all_follow (FeatureStands payload) (FeatureStands bytes) features (λ f p. part_within bytes payload f.name s.payload_range.0 there p) (features_stand features payload h)
-features_of_each bytes s _ there h = tt
+features_in_each : (bytes : List ℕ) → HaveInEach (λ p. p.features) (FeatureStands bytes) bytes
+features_in_each bytes k s (Features features) there h =
+    all_follow (FeatureStands s.payload) (FeatureStands bytes) features (λ f p. part_within bytes s.payload f.name (base_of s) there.payload.0 p) (features_stand features s.payload h.1)
+features_in_each bytes k s _ there h = tt
 
 -- ---- an object
 
-all_mapped : {X Y : Type 0} (f : X → Y) (P : X → Type 0) (Q : Y → Type 0) (xs : List X) → ((x : X) → P x → Q (f x)) → AllByRecursion P xs → AllByRecursion Q (map f xs)
-all_mapped f P Q [] step h = tt
-all_mapped f P Q (x ∷ xs) step h = (step x h.0, all_mapped f P Q xs step h.1)
-
 pub parts_stand_in : (bytes : List ℕ) (o : Object) → IsObject o bytes → PartsStandIn bytes o
-parts_stand_in bytes o h =
-    let placed = placed_headers bytes o.sections h.framed in
-    let imports = all_held imports_in (ImportIsPart bytes) bytes (imports_of_each bytes) o.sections nothing_seen o.sections h.held placed h.sound in
-    let segments = all_held segments_in (TargetIsPart bytes) bytes (segments_of_each bytes) o.sections nothing_seen o.sections h.held placed h.sound in
-    record {
-      imports = rw h.items.imports (all_mapped (λ i. i.import) (ImportIsPart bytes) (ImportStands bytes) (flat_map imports_in h.held) (λ i p. p) imports);
-      globals = rw h.items.globals (all_held globals_in (GlobalStands bytes) bytes (globals_of_each bytes) o.sections nothing_seen o.sections h.held placed h.sound);
-      exports = rw h.items.exports (all_held exports_in (ExportStands bytes) bytes (exports_of_each bytes) o.sections nothing_seen o.sections h.held placed h.sound);
-      bodies = rw h.items.bodies (all_held bodies_in (BodyIsPart bytes) bytes (bodies_of_each bytes) o.sections nothing_seen o.sections h.held placed h.sound);
-      segments = rw h.items.segments (all_mapped (λ t. t.segment) (TargetIsPart bytes) (PayloadIsPart bytes) (flat_map segments_in h.held) (λ t p. p) segments);
-      segment_infos = rw h.items.segment_infos (all_held infos_in (InfoStands bytes) bytes (infos_of_each bytes) o.sections nothing_seen o.sections h.held placed h.sound);
-      features = rw h.items.features (all_held features_in (FeatureStands bytes) bytes (features_of_each bytes) o.sections nothing_seen o.sections h.held placed h.sound);
-    }
+parts_stand_in bytes o h = subst (PartsStandIn bytes) (sym h.items.items) (record {
+  imports = all (λ p. p.imports) (ImportStands bytes) (λ a b. refl) (imports_in_each bytes) tt;
+  globals = all (λ p. p.globals) (GlobalStands bytes) (λ a b. refl) (globals_in_each bytes) tt;
+  exports = all (λ p. p.exports) (ExportStands bytes) (λ a b. refl) (exports_in_each bytes) tt;
+  bodies = all (λ p. p.bodies) (BodyIsPart bytes) (λ a b. refl) (bodies_in_each bytes) tt;
+  segments = all (λ p. p.segments) (PayloadIsPart bytes) (λ a b. refl) (segments_in_each bytes) tt;
+  segment_infos = all (λ p. p.segment_infos) (InfoStands bytes) (λ a b. refl) (infos_in_each bytes) tt;
+  features = all (λ p. p.features) (FeatureStands bytes) (λ a b. refl) (features_in_each bytes) tt;
+})
+  where
+    all : {X : Type 0} (list : Parts → List X) (P : X → Type 0) → ((a b : Parts) → list (join a b) ≡ list a ++ list b) → HaveInEach list P bytes → AllByRecursion P (list no_parts) → AllByRecursion P (list h.parts)
+    all list P joins each none = all_held list P bytes joins each h.sections no_parts h.sections h.parts (module_stands bytes h.sections h.framed) h.sound none

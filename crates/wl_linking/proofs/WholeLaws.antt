@@ -1,5 +1,6 @@
 -- The laws of whole objects.
-use Rattle.std.proofs.Common.{◌≡◌, ◌<◌, ◌≤◌, ◌^◌, ℕ, zero, suc, List, [], ◌∷◌, length, map, Some, sym, subst, refl, ap}
+use Rattle.std.proofs.Common.{◌≡◌, ◌<◌, ◌≤◌, ℕ, zero, suc, List, [], ◌∷◌, length, map, Some, sym, subst, refl, ap}
+use Rattle.wl_bytes.specs.declared.reader.TheConstants.{MAX_LEN}
 use Rattle.std.specs.List.{slice_get}
 use Rattle.std.proofs.lemmas.Bool.{ltb-true}
 use Rattle.std.proofs.lemmas.List.{length-map}
@@ -13,8 +14,10 @@ use Rattle.wl_linking.specs.declared.sites.Site.{Site}
 use Rattle.wl_linking.proofs.SlotLaws.{all_at}
 
 -- an object of bytes that are short enough is whole
-pub whole_from : (bytes : List ℕ) (o : Object) → IsObject o bytes → length bytes ≤ 2 ^ 30 → IsWhole o
-whole_from bytes o h le = record { object = subst (λ (b : List ℕ). IsObject o b) (sym h.items.bytes_are) h; within = rw h.items.bytes_are le }
+pub whole_from : (bytes : List ℕ) (o : Object) → IsObject o bytes → length bytes ≤ MAX_LEN → IsWhole o
+whole_from bytes o h le =
+    let same : o.bytes ≡ bytes = ap (λ (x : Object). x.bytes) h.items.items in
+    record { object = subst (λ (b : List ℕ). IsObject o b) (sym same) h; within = rw same le }
 
 -- a whole object fits together
 pub whole_fits : (o : Object) → IsWhole o → IsFitting o

@@ -1,59 +1,61 @@
 -- The relocatable object that some bytes are: what its sections hold, and what must hold across them
 -- (core specification, "Modules"; object file linking, version 2).
-use Rattle.std.specs.Prelude.{◌≡◌, ◌⊎◌, ◌≤◌, ◌^◌, ℕ, List, length, map, Option, Result, Ok, Err, IfOk, IfErr}
+use Rattle.std.specs.Prelude.{◌≡◌, ◌⊎◌, ◌≤◌, ℕ, List, length, map, Result, Ok, Err, IfOk, IfErr}
+use Rattle.wl_bytes.specs.declared.reader.TheConstants.{MAX_LEN}
 use Rattle.wl_module.specs.declared.sections.SectionHeader.{SectionHeader}
-use Rattle.wl_module.specs.declared.imports.ExternalKind.TheVariants.{Func, Global}
 use Rattle.wl_module.specs.declared.error.ReadError.{ReadError}
-use Rattle.wl_module.specs.Imports.{plain_imports}
-use Rattle.wl_module.specs.Segments.{Targeted, plain_segments}
-use Rattle.wl_module.specs.Sections.{Framed, FrameFault}
+use Rattle.wl_module.specs.Sections.{Section, headers_of, IsModule, FrameFault}
 use Rattle.wl_module.specs.Outcome.{Gives}
 use Rattle.wl_linking.specs.Verdict.{HasCause}
 use Rattle.wl_linking.specs.Symbols.{Symbol}
 use Rattle.wl_linking.specs.Targets.{stretch}
 use Rattle.wl_linking.specs.Object.{Object}
-use Rattle.wl_linking.specs.Sections.{AreSound, AreFaulty, nothing_seen}
-use Rattle.wl_linking.specs.Parts.{parts_of}
+use Rattle.wl_linking.specs.Parts.{no_parts}
+use Rattle.wl_linking.specs.Sections.{AreSound, AreFaulty}
 use Rattle.wl_linking.specs.Spaces.{NamesExist, NamesFault, spaces_of}
-use Rattle.wl_linking.specs.Slots.{import_base, slots_of, with_import_name, AgreeOnNames, SlotFault}
+use Rattle.wl_linking.specs.Slots.{with_import_name, AgreeOnNames, SlotFault}
 use Rattle.wl_linking.specs.Sites.{PieceOf, body_piece, segment_piece, AreInOrder, LieApart, FieldsFault}
 use Rattle.wl_linking.specs.declared.parts.Parts.{Parts}
-use Rattle.wl_linking.specs.declared.section.Section.{Section}
-use Rattle.wl_linking.specs.declared.spaces.Spaces.{Spaces}
+use Rattle.wl_linking.specs.declared.spaces.Counts.{Counts}
 
--- ---- the object of some items
+-- ---- the object of what sections hold
 
--- the symbols of these items, each with the name that it takes from its import
-abbrev pub named_symbols : List SectionHeader → Parts → List Symbol
-named_symbols headers parts = map (with_import_name (slots_of Func (import_base headers) parts.imports) (slots_of Global (import_base headers) parts.imports)) parts.symbols
+-- the symbols, each with the name that it takes from its import
+abbrev pub named_symbols : Parts → List Symbol
+named_symbols parts = map (with_import_name parts.function_names parts.global_names) parts.symbols
 
--- the memory that each segment goes into when the module starts, if it does
-abbrev pub memories_of : List Targeted → List (Option ℕ)
-memories_of = map (λ (t : Targeted). t.memory_index)
+-- the object of these bytes, headers and parts, with the relocations of o and the places of their fields
+abbrev pub object_of : List ℕ → List SectionHeader → Parts → Object → Object
+object_of bytes headers parts o = record {
+  bytes = bytes;
+  sections = headers;
+  types = parts.types;
+  imports = parts.imports;
+  functions = parts.functions;
+  memories = parts.memories;
+  globals = parts.globals;
+  exports = parts.exports;
+  data_counts = parts.data_counts;
+  bodies = parts.bodies;
+  segments = parts.segments;
+  segment_memories = parts.segment_memories;
+  segment_infos = parts.segment_infos;
+  init_funcs = parts.init_funcs;
+  symbols = named_symbols parts;
+  reloc_sections = parts.reloc_sections;
+  features = parts.features;
+  debug_sections = parts.debug_sections;
+  code_relocations = o.code_relocations;
+  code_sites = o.code_sites;
+  data_relocations = o.data_relocations;
+  data_sites = o.data_sites;
+}
 
--- An object of these bytes and sections has these items: its symbols take the names of imports, and its relocations are in
--- order of their fields.
+-- an object of these bytes and headers holds these parts, its relocations in order of their fields
 pub record HasItems (bytes : List ℕ) (headers : List SectionHeader) (parts : Parts) (o : Object) : Type 0 where
-  pub bytes_are : o.bytes ≡ bytes
-  pub sections : o.sections ≡ headers
-  pub types : o.types ≡ parts.types
-  pub imports : o.imports ≡ plain_imports parts.imports
-  pub functions : o.functions ≡ parts.functions
-  pub memories : o.memories ≡ parts.memories
-  pub globals : o.globals ≡ parts.globals
-  pub exports : o.exports ≡ parts.exports
-  pub data_counts : o.data_counts ≡ parts.data_counts
-  pub bodies : o.bodies ≡ parts.bodies
-  pub segments : o.segments ≡ plain_segments parts.segments
-  pub segment_memories : o.segment_memories ≡ memories_of parts.segments
-  pub segment_infos : o.segment_infos ≡ parts.segment_infos
-  pub init_funcs : o.init_funcs ≡ parts.init_funcs
-  pub symbols : o.symbols ≡ named_symbols headers parts
-  pub reloc_sections : o.reloc_sections ≡ parts.reloc_sections
-  pub features : o.features ≡ parts.features
-  pub debug_sections : o.debug_sections ≡ parts.debug_sections
-  pub code : AreInOrder parts.code_entries o.code_relocations
-  pub data_ : AreInOrder parts.data_entries o.data_relocations
+  pub items : o ≡ object_of bytes headers parts o
+  pub code : AreInOrder parts.code_relocations o.code_relocations
+  pub data_ : AreInOrder parts.data_relocations o.data_relocations
 
 -- ---- what must hold across sections
 
@@ -76,16 +78,7 @@ pub record IsFitting (o : Object) : Type 0 where
 abbrev pub CrossFault : Object → ReadError → Type 0
 CrossFault o e = NamesFault o e ⊎ (SlotFault (spaces_of o) o.symbols e ⊎ (FieldsFault (code_pieces o) o.code_relocations e ⊎ FieldsFault (data_pieces o) o.data_relocations e))
 
--- the same object with the places of its fields, and it fits together
-pub record Fitted (before after : Object) : Type 0 where
-  pub same : after ≡ record before { code_sites = after.code_sites; data_sites = after.data_sites }
-  pub fitting : IsFitting after
-
--- the object that these items are, where they fit together
-abbrev pub FitsParts : List ℕ → List SectionHeader → Parts → Object → Type 0
-FitsParts bytes headers parts o = HasItems bytes headers parts o × IsFitting o
-
--- the items don't fit together
+-- the parts don't fit together
 abbrev pub PartsFault : List ℕ → List SectionHeader → Parts → ReadError → Type 0
 PartsFault bytes headers parts e = (o : Object) × HasItems bytes headers parts o × CrossFault o e
 
@@ -93,20 +86,38 @@ PartsFault bytes headers parts e = (o : Object) × HasItems bytes headers parts 
 abbrev pub NameStands : List ℕ → Symbol → Type 0
 NameStands bytes s = stretch bytes s.name_range ≡ s.name
 
+-- ---- the same in steps
+
+-- an object of these parts, each of whose fields lies by itself
+pub record IsPlacedObject (bytes : List ℕ) (headers : List SectionHeader) (parts : Parts) (o : Object) : Type 0 where
+  pub items : HasItems bytes headers parts o
+  pub code : LieApart (code_pieces o) o.code_relocations o.code_sites
+  pub data_ : LieApart (data_pieces o) o.data_relocations o.data_sites
+
+-- what is named exists, and each import has one name
+pub record IsNamed (o : Object) : Type 0 where
+  pub names : NamesExist o
+  pub slots : AgreeOnNames (spaces_of o) o.symbols
+
+-- one of the two doesn't hold
+abbrev pub NamingFault : Object → ReadError → Type 0
+NamingFault o e = NamesFault o e ⊎ SlotFault (spaces_of o) o.symbols e
+
 -- ---- the object of some bytes
 
--- bytes that are an object: sound sections with these items, which fit together
+-- bytes that are an object: sound sections with these parts, which fit together
 pub record IsObject (o : Object) (bytes : List ℕ) : Type 0 where
-  pub framed : Framed o.sections bytes
-  pub held : List Section
-  pub sound : AreSound bytes o.sections nothing_seen o.sections held
-  pub items : HasItems bytes o.sections (parts_of held) o
+  pub sections : List Section
+  pub framed : IsModule sections bytes
+  pub parts : Parts
+  pub sound : AreSound sections no_parts sections parts
+  pub items : HasItems bytes (headers_of sections) parts o
   pub fitting : IsFitting o
 
--- an object as it is kept: its bytes are this object, and 2^30 at most
+-- an object as it is kept: its bytes are this object, and MAX_LEN at most
 pub record IsWhole (o : Object) : Type 0 where
   pub object : IsObject o o.bytes
-  pub within : length o.bytes ≤ 2 ^ 30
+  pub within : length o.bytes ≤ MAX_LEN
 
 -- each list of an object has at most n items
 pub record HasFewItems (n : ℕ) (o : Object) : Type 0 where
@@ -133,20 +144,24 @@ pub record HasFewItems (n : ℕ) (o : Object) : Type 0 where
   pub data_sites : length o.data_sites ≤ n
 
 -- a whole object, with how many things of each kind it has
-pub record IsFile (o : Object) (spaces : Spaces) : Type 0 where
+pub record IsFile (o : Object) (spaces : Counts) : Type 0 where
   pub whole : IsWhole o
   pub counted : spaces ≡ spaces_of o
 
 -- sound sections that don't fit together
-pub record IsUnfitting (headers : List SectionHeader) (bytes : List ℕ) (e : ReadError) : Type 0 where
-  pub held : List Section
-  pub sound : AreSound bytes headers nothing_seen headers held
-  pub fault : PartsFault bytes headers (parts_of held) e
+pub record IsUnfitting (sections : List Section) (bytes : List ℕ) (e : ReadError) : Type 0 where
+  pub parts : Parts
+  pub sound : AreSound sections no_parts sections parts
+  pub fault : PartsFault bytes (headers_of sections) parts e
+
+-- the first section that isn't sound is at fault
+abbrev pub SectionFault : List Section → ReadError → Type 0
+SectionFault sections = AreFaulty sections no_parts sections
 
 -- the frame is at fault, or the first section that isn't sound, or what must hold across sections
 abbrev pub ObjectFault : ReadError → List ℕ → Type 0
 ObjectFault e bytes = FrameFault e bytes
-    ⊎ ((headers : List SectionHeader) × Framed headers bytes × (AreFaulty bytes headers nothing_seen headers e ⊎ IsUnfitting headers bytes e))
+    ⊎ ((sections : List Section) × IsModule sections bytes × (SectionFault sections e ⊎ IsUnfitting sections bytes e))
 
 -- What a call on an object's bytes has answered, memory apart: the object exactly where they are one, and else what is wrong;
 -- the frame and the sections are judged before what must hold across them. No list of the object has more items than there are
@@ -157,4 +172,4 @@ pub record ParsesObject (bytes : List ℕ) (result : Result Object ReadError) : 
   pub only : (o : Object) → IsObject o bytes → Gives (λ f. f) result (Ok o)
   pub fault : IfErr result (HasCause (λ e. ObjectFault e bytes))
   pub frame : (e : ReadError) → FrameFault e bytes → Gives (λ f. f) result (Err e)
-  pub section : (e : ReadError) (headers : List SectionHeader) → Framed headers bytes → AreFaulty bytes headers nothing_seen headers e → Gives (λ f. f) result (Err e)
+  pub section : (e : ReadError) (sections : List Section) → IsModule sections bytes → SectionFault sections e → Gives (λ f. f) result (Err e)

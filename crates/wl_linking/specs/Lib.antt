@@ -9,12 +9,12 @@ pub mod RelocationRows
 pub mod RelocationTypes
 pub mod Relocations
 pub mod Targets
-pub mod Sections
 pub mod Object
-pub mod Parts
 pub mod Spaces
 pub mod Slots
 pub mod SlotsReading
+pub mod Parts
+pub mod Sections
 pub mod Sites
 pub mod Placing
 pub mod Fitting

@@ -12,7 +12,7 @@ use Rattle.wl_module.specs.Bodies.{stretch_at}
 use Rattle.wl_module.specs.Chains.{Chain, ChainFault}
 use Rattle.wl_module.specs.Checks.{NoFault}
 use Rattle.wl_module.specs.declared.error.ReadError.{ReadError}
-use Rattle.wl_module.specs.declared.error.ReadError.TheVariants.{OutOfMemory, Malformed, Unsupported}
+use Rattle.wl_module.specs.declared.error.ReadError.TheVariants.{Malformed, Unsupported}
 use Rattle.wl_module.specs.declared.error.Why.TheVariants.{Repeated}
 use Rattle.wl_module.specs.declared.error.Form.TheVariants.{LinkingVersion}
 use Rattle.wl_linking.specs.Verdict.{Judged, JudgedFault, judged_at, Inside, InsideFault, Seen, IsHere, here_at}
@@ -173,12 +173,6 @@ SubsectionsFault base = ChainFault (IsSubsection base) seen_after (SubsectionFau
 -- subsections to the end of the bytes hold this
 abbrev pub HaveSubsections : ℕ → Cursor → Linking → Type 0
 HaveSubsections base from linking = (subsections : List Subsection) × (last : Cursor) × AreSubsections base subsections from last × (linking ≡ linking_of subsections)
-
--- the fault, unless memory ran out
-abbrev pub IsSubsectionsFault : ℕ → Cursor → ReadError → Type 0
-IsSubsectionsFault base from OutOfMemory = Unit {0}
-IsSubsectionsFault base from (Malformed why) = SubsectionsFault base (Malformed why) from
-IsSubsectionsFault base from (Unsupported form) = SubsectionsFault base (Unsupported form) from
 
 -- a linking section: its version, and subsections to the end; so many bytes of the object lie before it
 abbrev pub IsLinking : ℕ → Linking → List ℕ → Type 0

@@ -1,5 +1,6 @@
 -- Where the fields of relocations are looked for: pieces stand one behind the other.
-use Rattle.std.specs.Prelude.{◌≡◌, ℕ, ◌+◌, ◌-◌, ◌≤◌, ◌^◌, ◌&&◌, nat_le, if◌then◌else◌, List, [], ◌∷◌, length, take, drop, Option, Some, None, ⊤}
+use Rattle.std.specs.Prelude.{◌≡◌, ℕ, ◌+◌, ◌-◌, ◌≤◌, ◌&&◌, nat_le, if◌then◌else◌, List, [], ◌∷◌, length, take, drop, Option, Some, None, ⊤}
+use Rattle.wl_bytes.specs.declared.reader.TheConstants.{MAX_LEN}
 use Rattle.wl_module.specs.declared.error.ReadError.{ReadError}
 use Rattle.wl_module.specs.declared.error.ReadError.TheVariants.{Malformed}
 use Rattle.wl_module.specs.declared.error.Why.TheVariants.{Field}
@@ -9,10 +10,10 @@ use Rattle.wl_linking.specs.declared.relocation_type.FieldForm.{FieldForm}
 use Rattle.wl_linking.specs.declared.relocations.WasmRelocation.{WasmRelocation}
 use Rattle.wl_linking.specs.declared.sites.Site.{Site}
 
--- a segment ends with its bytes, within 2^31 bytes of its section
+-- a segment ends with its bytes, within the limit of its section
 pub record IsSpanned (s : Segment) : Type 0 where
   pub payload : length s.payload ≤ s.encoded_size
-  pub end : s.section_offset + s.encoded_size ≤ 2 ^ 31
+  pub end : s.section_offset + s.encoded_size ≤ MAX_LEN
 
 -- where a piece ends in its section
 abbrev pub piece_end : PieceOf → ℕ

@@ -1,15 +1,14 @@
 -- The names of imports, which symbols refer to by slots: numbers among the imports of a kind (object file linking, version 2, "Symbol Table Subsection").
-use Rattle.std.specs.Prelude.{◌≡◌, ◌≢◌, ◌<◌, ℕ, ◌==◌, ◌&&◌, Bool, true, false, not, if◌then◌else◌, List, length, map, Option, Some, None, slice_get}
-use Rattle.std.specs.List.{filter, find}
+use Rattle.std.specs.Prelude.{◌≡◌, ◌≢◌, ◌<◌, ℕ, ◌&&◌, Bool, true, false, not, if◌then◌else◌, List, length, map, Option, Some, None, slice_get}
+use Rattle.std.specs.List.{filter}
 use Rattle.wl_module.specs.declared.imports.ExternalKind.{ExternalKind}
-use Rattle.wl_module.specs.declared.sections.SectionHeader.{SectionHeader}
 use Rattle.wl_module.specs.declared.error.ReadError.{ReadError}
 use Rattle.wl_module.specs.declared.error.ReadError.TheVariants.{Malformed}
 use Rattle.wl_module.specs.declared.error.Why.TheVariants.{SlotNames}
 use Rattle.wl_module.specs.Imports.{PlacedImported}
 use Rattle.wl_linking.specs.Spaces.{is_of}
 use Rattle.wl_linking.specs.Symbols.{Symbol, is_undefined, has_name, named, range_of}
-use Rattle.wl_linking.specs.declared.spaces.Spaces.{Spaces}
+use Rattle.wl_linking.specs.declared.spaces.Counts.{Counts}
 use Rattle.wl_linking.specs.declared.symbols.WasmSymbolKind.{WasmSymbolKind}
 use Rattle.wl_linking.specs.declared.symbols.WasmSymbolKind.TheVariants.{Func, Data, Global, Section, Event, Table}
 
@@ -19,15 +18,6 @@ use Rattle.wl_linking.specs.declared.symbols.WasmSymbolKind.TheVariants.{Func, D
 pub record Slot : Type 0 where
   pub name : List ℕ
   pub range : ℕ × ℕ
-
--- where the payload of a section begins, if there is one
-abbrev pub begin_of : Option SectionHeader → ℕ
-begin_of None = 0
-begin_of (Some header) = header.payload_range.0
-
--- how many bytes of the object lie before the payload of its import section, whose id is 2
-abbrev pub import_base : List SectionHeader → ℕ
-import_base headers = begin_of (find (λ (h : SectionHeader). h.id == 2) headers)
 
 -- the field name of an import, where so many bytes of the object lie before its section's payload
 abbrev pub slot_of : ℕ → PlacedImported → Slot
@@ -71,7 +61,7 @@ abbrev pub claims : WasmSymbolKind → Symbol → Bool
 claims kind s = is_undefined s && has_claim kind s.kind s
 
 -- how many imports of that kind there are; symbols of the other kinds stand for none
-abbrev pub imported_of : Spaces → WasmSymbolKind → ℕ
+abbrev pub imported_of : Counts → WasmSymbolKind → ℕ
 imported_of spaces Func = spaces.imported_functions
 imported_of spaces Data = 0
 imported_of spaces Global = spaces.imported_globals
@@ -102,11 +92,11 @@ pub record HasTwoNames (kind : WasmSymbolKind) (count : ℕ) (symbols : List Sym
   pub differ : one.name ≢ other.name
 
 -- each import has one name
-pub record AgreeOnNames (spaces : Spaces) (symbols : List Symbol) : Type 0 where
+pub record AgreeOnNames (spaces : Counts) (symbols : List Symbol) : Type 0 where
   pub functions : HasOneName Func spaces.imported_functions symbols
   pub globals : HasOneName Global spaces.imported_globals symbols
   pub tables : HasOneName Table spaces.imported_tables symbols
 
 -- some import has two
-abbrev pub SlotFault : Spaces → List Symbol → ReadError → Type 0
+abbrev pub SlotFault : Counts → List Symbol → ReadError → Type 0
 SlotFault spaces symbols e = (e ≡ Malformed SlotNames) × ((kind : WasmSymbolKind) × HasTwoNames kind (imported_of spaces kind) symbols)

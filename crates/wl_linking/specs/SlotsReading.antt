@@ -1,5 +1,6 @@
 -- How the names of imports are gathered and compared, one import and one symbol after the other.
-use Rattle.std.specs.Prelude.{◌≡◌, ◌≤◌, ℕ, ◌+◌, ◌^◌, Bool, true, if◌then◌else◌, List, [], ◌∷◌, length, Option, Some, None, slice_get, slice_set}
+use Rattle.std.specs.Prelude.{◌≡◌, ◌≤◌, ℕ, ◌+◌, Bool, true, if◌then◌else◌, List, [], ◌∷◌, length, Option, Some, None, slice_get, slice_set}
+use Rattle.wl_bytes.specs.declared.reader.TheConstants.{MAX_LEN}
 use Rattle.std.specs.Str.{bytes_eq}
 use Rattle.wl_module.specs.declared.imports.ExternalKind.{ExternalKind}
 use Rattle.wl_module.specs.Imports.{PlacedImported}
@@ -13,9 +14,9 @@ use Rattle.wl_linking.specs.Symbols.{Symbol}
 abbrev pub slots_from : ExternalKind → ℕ → PlacedImported → List Slot
 slots_from kind base i = if is_of kind i.import.entity then slot_of base i ∷ [] else []
 
--- the field name stands within 2^30 bytes
+-- the field name stands within the limit
 abbrev pub IsNamedWithin : PlacedImported → Type 0
-IsNamedWithin i = i.name_offset + length i.import.name ≤ 2 ^ 30
+IsNamedWithin i = i.name_offset + length i.import.name ≤ MAX_LEN
 
 -- ---- symbols
 

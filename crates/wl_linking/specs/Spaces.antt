@@ -15,7 +15,7 @@ use Rattle.wl_linking.specs.Symbols.{Symbol, is_undefined, is_absolute}
 use Rattle.wl_linking.specs.declared.infos.WasmInitFunc.{WasmInitFunc}
 use Rattle.wl_linking.specs.Object.{Object}
 use Rattle.wl_linking.specs.declared.relocations.WasmRelocation.{WasmRelocation}
-use Rattle.wl_linking.specs.declared.spaces.Spaces.{Spaces}
+use Rattle.wl_linking.specs.declared.spaces.Counts.{Counts}
 use Rattle.wl_linking.specs.declared.symbols.WasmSymbolKind.{WasmSymbolKind}
 use Rattle.wl_linking.specs.declared.symbols.WasmSymbolKind.TheVariants as symbol
 
@@ -45,7 +45,7 @@ abbrev pub count_imports : ExternalKind → List Imported → ℕ
 count_imports kind imports = count_by (λ (i : Imported). is_of kind i.entity) imports
 
 -- how many things of each kind there are
-abbrev pub spaces_of : Object → Spaces
+abbrev pub spaces_of : Object → Counts
 spaces_of o = record {
   types = length o.types;
   imported_functions = count_imports Func o.imports;
@@ -62,7 +62,7 @@ spaces_of o = record {
 -- ---- what is named exists
 
 -- an imported function has one of the types
-abbrev pub import_exists : Spaces → Imported → Bool
+abbrev pub import_exists : Counts → Imported → Bool
 import_exists spaces i = elim i.entity [
   | entity.Func n ↦ nat_lt n spaces.types
   | entity.Table t ↦ true
@@ -71,18 +71,18 @@ import_exists spaces i = elim i.entity [
 ]
 
 -- how many things of that kind are imported or defined: no table is defined
-abbrev pub space_of : Spaces → ExternalKind → ℕ
+abbrev pub space_of : Counts → ExternalKind → ℕ
 space_of spaces Func = spaces.imported_functions + spaces.functions
 space_of spaces Table = spaces.imported_tables + 0
 space_of spaces Memory = spaces.imported_memories + spaces.memories
 space_of spaces Global = spaces.imported_globals + spaces.globals
 
 -- an export leads to one of them
-abbrev pub export_exists : Spaces → Exported → Bool
+abbrev pub export_exists : Counts → Exported → Bool
 export_exists spaces x = nat_lt x.index (space_of spaces x.kind)
 
 -- an active segment goes into one of the memories
-abbrev pub memory_exists : Spaces → Option ℕ → Bool
+abbrev pub memory_exists : Counts → Option ℕ → Bool
 memory_exists spaces None = true
 memory_exists spaces (Some memory) = nat_lt memory (spaces.imported_memories + spaces.memories)
 
@@ -91,7 +91,7 @@ abbrev pub number_exists : Bool → ℕ → ℕ → ℕ → Bool
 number_exists undefined imported defined index = if undefined then nat_lt index imported else nat_le imported index && nat_lt (index - imported) defined
 
 -- what a symbol of that kind stands for exists: that of a section isn't looked at, and no table is defined
-abbrev pub thing_exists : Spaces → WasmSymbolKind → Bool → ℕ → Bool
+abbrev pub thing_exists : Counts → WasmSymbolKind → Bool → ℕ → Bool
 thing_exists spaces symbol.Func undefined index = number_exists undefined spaces.imported_functions spaces.functions index
 thing_exists spaces symbol.Global undefined index = number_exists undefined spaces.imported_globals spaces.globals index
 thing_exists spaces symbol.Table undefined index = number_exists undefined spaces.imported_tables 0 index
@@ -100,23 +100,23 @@ thing_exists spaces symbol.Section undefined index = true
 thing_exists spaces symbol.Event undefined index = true
 
 -- what a symbol stands for exists; data at an absolute address lies in no segment, and its index names nothing
-abbrev pub symbol_exists : Spaces → Symbol → Bool
+abbrev pub symbol_exists : Counts → Symbol → Bool
 symbol_exists spaces s = is_absolute s || thing_exists spaces s.kind (is_undefined s) s.index
 
 -- a function that runs at the start has one of the symbols
-abbrev pub init_exists : Spaces → WasmInitFunc → Bool
+abbrev pub init_exists : Counts → WasmInitFunc → Bool
 init_exists spaces f = nat_lt f.symbol_index spaces.symbols
 
 -- a relocation names one of the types or of the symbols
-abbrev pub relocation_exists : Spaces → WasmRelocation → Bool
+abbrev pub relocation_exists : Counts → WasmRelocation → Bool
 relocation_exists spaces r = nat_lt r.index (if names_a_type r.ty then spaces.types else spaces.symbols)
 
 -- a function's type is one of those there are
-abbrev pub type_exists : Spaces → ℕ → Bool
+abbrev pub type_exists : Counts → ℕ → Bool
 type_exists spaces t = nat_lt t spaces.types
 
 -- where there is a data count, it is how many segments there are
-abbrev pub counts_segments : Spaces → ℕ → Bool
+abbrev pub counts_segments : Counts → ℕ → Bool
 counts_segments spaces count = count == spaces.segments
 
 -- there are as many bodies as functions, the data count is that of the segments, and what is named exists
@@ -133,11 +133,11 @@ pub record NamesExist (o : Object) : Type 0 where
   pub data_ : list_all (relocation_exists (spaces_of o)) o.data_relocations ≡ true
 
 -- there are as many bodies as functions, and as many segments as the data count says, where there is one
-abbrev pub counts_hold : Spaces → Object → Bool
+abbrev pub counts_hold : Counts → Object → Bool
 counts_hold spaces o = (length o.bodies == spaces.functions) && list_all (counts_segments spaces) o.data_counts
 
 -- all that the core sections name exists
-abbrev pub core_names_exist : Spaces → Object → Bool
+abbrev pub core_names_exist : Counts → Object → Bool
 core_names_exist spaces o =
     list_all (import_exists spaces) o.imports
     && list_all (type_exists spaces) o.functions
@@ -145,7 +145,7 @@ core_names_exist spaces o =
     && list_all (memory_exists spaces) o.segment_memories
 
 -- all that the linking section and the relocations name exists
-abbrev pub linked_names_exist : Spaces → Object → Bool
+abbrev pub linked_names_exist : Counts → Object → Bool
 linked_names_exist spaces o =
     list_all (symbol_exists spaces) o.symbols
     && list_all (init_exists spaces) o.init_funcs

@@ -1,6 +1,7 @@
 //! What a relocatable object holds.
 
-ghost use Rattle.std.specs.Prelude.{◌≡◌, ◌^◌, length};
+ghost use Rattle.std.specs.Prelude.{◌≡◌, length};
+ghost use Rattle.wl_bytes.specs.declared.reader.TheConstants.{MAX_LEN};
 ghost use Rattle.wl_module.specs.declared.imports.ExternalKind.TheVariants.{Func as FuncKind, Global as GlobalKind};
 ghost use Rattle.wl_linking.specs.Spaces.{count_imports};
 ghost use Rattle.wl_linking.specs.Targets.{is_debug_at};
@@ -13,7 +14,7 @@ use crate::infos::{WasmInitFunc, WasmSegmentInfo};
 use crate::kinds::is_debug;
 use crate::relocations::{WasmRelocSection, WasmRelocation};
 use crate::sites::Site;
-use crate::spaces::Spaces;
+use crate::spaces::Counts;
 use crate::symbols::WasmSymbol;
 use std::marker::Model;
 use wl_module::{
@@ -28,7 +29,7 @@ use wl_module::{
 #[derive(Drop)]
 pub struct File<'a> {
     pub(crate) contents: Contents<'a>,
-    pub(crate) spaces: Spaces,
+    pub(crate) spaces: Counts,
 }
 
 impl<'a> Model for File<'a> {
@@ -44,11 +45,11 @@ impl<'a> Model for File<'a> {
 }
 
 impl<'a> File<'a> {
-    /// A file stands for one object: the one that its bytes are. Each of its lists has 2^30 items at
-    /// most.
+    /// A file stands for one object: the one that its bytes are. Each of its lists has at most
+    /// `MAX_LEN` items.
     pub fn stands_for_an_object(&self)
         ensures whole { IsWhole self.now }
-        ensures few { HasFewItems (2 ^ 30) self.now }
+        ensures few { HasFewItems MAX_LEN self.now }
     {
         let _ = &self.contents;
     }
@@ -71,14 +72,14 @@ impl<'a> File<'a> {
     pub fn types(&self) -> &[FuncType]
         ensures { result.now ≡ self.now.types }
     {
-        self.contents.types.as_slice()
+        self.contents.parts.types.as_slice()
     }
 
     /// The imports (core specification, "Import Section").
     pub fn imports(&self) -> &[Import<'a>]
         ensures { result.now ≡ self.now.imports }
     {
-        self.contents.imports.as_slice()
+        self.contents.parts.imports.as_slice()
     }
 
     /// The type of each function that the object defines, as its number among the types (core
@@ -86,7 +87,7 @@ impl<'a> File<'a> {
     pub fn functions(&self) -> &[u32]
         ensures { result.now ≡ self.now.functions }
     {
-        self.contents.functions.as_slice()
+        self.contents.parts.functions.as_slice()
     }
 
     /// The memories that the object defines: one at most, and none where one is imported (core
@@ -94,35 +95,35 @@ impl<'a> File<'a> {
     pub fn memory_types(&self) -> &[MemoryType]
         ensures { result.now ≡ self.now.memories }
     {
-        self.contents.memories.as_slice()
+        self.contents.parts.memories.as_slice()
     }
 
     /// The globals that the object defines (core specification, "Global Section").
     pub fn globals(&self) -> &[OutputGlobal<'a>]
         ensures { result.now ≡ self.now.globals }
     {
-        self.contents.globals.as_slice()
+        self.contents.parts.globals.as_slice()
     }
 
     /// The exports (core specification, "Export Section").
     pub fn exports(&self) -> &[OutputExport<'a>]
         ensures { result.now ≡ self.now.exports }
     {
-        self.contents.exports.as_slice()
+        self.contents.parts.exports.as_slice()
     }
 
     /// The body of each function that the object defines (core specification, "Code Section").
     pub fn bodies(&self) -> &[WasmFunctionBody<'a>]
         ensures { result.now ≡ self.now.bodies }
     {
-        self.contents.bodies.as_slice()
+        self.contents.parts.bodies.as_slice()
     }
 
     /// The segments (core specification, "Data Section").
     pub fn segments(&self) -> &[WasmDataSegment<'a>]
         ensures { result.now ≡ self.now.segments }
     {
-        self.contents.segments.as_slice()
+        self.contents.parts.segments.as_slice()
     }
 
     /// What is told of segments, by their numbers (object file linking, version 2, "Segment Info
@@ -130,7 +131,7 @@ impl<'a> File<'a> {
     pub fn segment_infos(&self) -> &[WasmSegmentInfo<'a>]
         ensures { result.now ≡ self.now.segment_infos }
     {
-        self.contents.segment_infos.as_slice()
+        self.contents.parts.segment_infos.as_slice()
     }
 
     /// The functions that run at the start (object file linking, version 2, "Init Funcs
@@ -138,7 +139,7 @@ impl<'a> File<'a> {
     pub fn init_funcs(&self) -> &[WasmInitFunc]
         ensures { result.now ≡ self.now.init_funcs }
     {
-        self.contents.init_funcs.as_slice()
+        self.contents.parts.init_funcs.as_slice()
     }
 
     /// The symbols (object file linking, version 2, "Symbol Table Subsection"). An undefined function
@@ -146,7 +147,7 @@ impl<'a> File<'a> {
     pub fn symbols(&self) -> &[WasmSymbol<'a>]
         ensures { result.now ≡ self.now.symbols }
     {
-        self.contents.symbols.as_slice()
+        self.contents.parts.symbols.as_slice()
     }
 
     /// The relocation sections (object file linking, version 2, "Relocation Sections"), with their
@@ -154,21 +155,21 @@ impl<'a> File<'a> {
     pub fn reloc_sections(&self) -> &[WasmRelocSection]
         ensures { result.now ≡ self.now.reloc_sections }
     {
-        self.contents.reloc_sections.as_slice()
+        self.contents.parts.reloc_sections.as_slice()
     }
 
     /// The features of all target features sections (tool conventions, "Target Features Section").
     pub fn target_features(&self) -> &[WasmTargetFeature<'a>]
         ensures { result.now ≡ self.now.features }
     {
-        self.contents.features.as_slice()
+        self.contents.parts.features.as_slice()
     }
 
     /// The debug sections.
     pub fn debug_inputs(&self) -> &[DebugSectionInput<'a>]
         ensures { result.now ≡ self.now.debug_sections }
     {
-        self.contents.debug_sections.as_slice()
+        self.contents.parts.debug_sections.as_slice()
     }
 
     /// The relocations of the code section, in order of their fields, whatever their order in the
@@ -176,7 +177,7 @@ impl<'a> File<'a> {
     pub fn code_relocations(&self) -> &[WasmRelocation]
         ensures { result.now ≡ self.now.code_relocations }
     {
-        self.contents.code_relocations.as_slice()
+        self.contents.parts.code_relocations.as_slice()
     }
 
     /// Where the field of each relocation of the code section lies, in the same order as these.
@@ -191,7 +192,7 @@ impl<'a> File<'a> {
     pub fn data_relocations(&self) -> &[WasmRelocation]
         ensures { result.now ≡ self.now.data_relocations }
     {
-        self.contents.data_relocations.as_slice()
+        self.contents.parts.data_relocations.as_slice()
     }
 
     /// Where the field of each relocation of the data section lies, in the same order as these.

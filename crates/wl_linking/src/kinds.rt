@@ -1,12 +1,13 @@
-//! What each section of an object is (core specification, "Sections"; object file linking,
+//! What each section of an object is for (core specification, "Sections"; object file linking,
 //! version 2).
 
 ghost use Rattle.std.specs.Prelude.{◌≡◌};
 ghost use Rattle.wl_module.specs.Outcome.{Gives};
-ghost use Rattle.wl_linking.specs.Targets.{stretch, name_of, custom_kind, standard_kind, kind_of, target_verdict, numbered_verdict, is_debug};
+ghost use Rattle.wl_linking.specs.Targets.{stretch, custom_kind, target_verdict, numbered_verdict, is_debug};
 
+use crate::parts::Parts;
 use crate::relocations::Target;
-use wl_module::{Form, ReadError, SectionHeader, Why, section_id};
+use wl_module::{Form, FramedSection, ReadError, SectionHeader, SectionKind, Why};
 
 /// The name of the section that tells of symbols and segments (object file linking, version 2,
 /// "Linking Metadata Section").
@@ -23,43 +24,68 @@ pub const TARGET_FEATURES_SECTION_NAME: &str = "target_features";
 /// What the name of a debug section begins with.
 const DEBUG_SECTION_PREFIX: &str = ".debug_";
 
-/// The id of the tag section, the only one above those of the module's own sections.
-const TAG: u8 = 13;
-
-/// What a section is.
+/// What a custom section is, by its name.
 #[derive(Clone, Copy, Debug, PartialEq, Eq)]
-pub(crate) enum SectionKind {
-    Type,
-    Import,
-    Function,
-    Memory,
-    Global,
-    Export,
-    DataCount,
-    Code,
-    Data,
-    Table,
-    Start,
-    Tag,
+pub(crate) enum CustomKind {
     Linking,
     Reloc,
     Debug,
     Features,
-    /// A section that tells nothing of the plan: one of elements, or a custom one of another name.
-    Skipped,
+    /// It tells nothing of the plan.
+    Other,
 }
 
-/// Which sections came before that may come once, and whether a memory is imported.
-#[derive(Clone, Copy, Debug, Default, PartialEq, Eq)]
-pub(crate) struct Seen {
-    pub memory: bool,
-    pub linking: bool,
-    pub code_relocations: bool,
-    pub data_relocations: bool,
+/// What a custom section of that name is.
+pub(crate) fn custom_kind(name: &[u8]) -> CustomKind
+    ensures { result ≡ custom_kind name.now }
+{
+    if name == LINKING_SECTION_NAME.as_bytes() {
+        CustomKind::Linking
+    } else if name.starts_with(RELOC_SECTION_PREFIX.as_bytes()) {
+        CustomKind::Reloc
+    } else if name.starts_with(DEBUG_SECTION_PREFIX.as_bytes()) {
+        CustomKind::Debug
+    } else if name == TARGET_FEATURES_SECTION_NAME.as_bytes() {
+        CustomKind::Features
+    } else {
+        CustomKind::Other
+    }
+}
+
+/// What a section is for relocations, after the sections with these items.
+fn check_target(before: &Parts<'_>, section: &FramedSection<'_>) -> Result<Target, ReadError>
+    ensures { Gives (λ t. t) result (target_verdict before.now section.now) }
+{
+    let (target, is_repeated) = match section.kind {
+        SectionKind::Code => (Target::Code, before.has_code_relocations),
+        SectionKind::Data => (Target::Data, before.has_data_relocations),
+        SectionKind::Custom if custom_kind(section.name.as_bytes()) == CustomKind::Debug => {
+            (Target::Debug, false)
+        }
+        _ => return Err(ReadError::Unsupported(Form::RelocTarget)),
+    };
+    if is_repeated {
+        return Err(ReadError::Malformed(Why::Repeated));
+    }
+    Ok(target)
+}
+
+/// What the section of that number is for relocations. One that isn't there has no rule either.
+pub(crate) fn target_of(
+    sections: &[FramedSection<'_>],
+    before: &Parts<'_>,
+    number: u32,
+) -> Result<Target, ReadError>
+    ensures { Gives (λ t. t) result (numbered_verdict sections.now before.now number) }
+{
+    match sections.get(number as usize) {
+        None => Err(ReadError::Unsupported(Form::RelocTarget)),
+        Some(section) => check_target(before, section),
+    }
 }
 
 /// The bytes from one place to another, as far as there are any.
-pub(crate) fn stretch(bytes: &[u8], range: (u32, u32)) -> &[u8]
+fn stretch(bytes: &[u8], range: (u32, u32)) -> &[u8]
     ensures { result.now ≡ stretch bytes.now range }
 {
     let from = bytes.len().min(range.0 as usize);
@@ -68,109 +94,12 @@ pub(crate) fn stretch(bytes: &[u8], range: (u32, u32)) -> &[u8]
     rest.split_at(len).0
 }
 
-/// The name of a section; standard ones have none.
-pub(crate) fn name_of<'a>(bytes: &'a [u8], header: &SectionHeader) -> &'a [u8]
-    ensures { result.now ≡ name_of bytes.now header.now }
-{
-    match header.name_range {
-        None => &[],
-        Some(range) => stretch(bytes, range),
-    }
-}
-
-/// What a custom section of that name is.
-fn custom_kind(name: &[u8]) -> SectionKind
-    ensures { result ≡ custom_kind name.now }
-{
-    if name == LINKING_SECTION_NAME.as_bytes() {
-        SectionKind::Linking
-    } else if name.starts_with(RELOC_SECTION_PREFIX.as_bytes()) {
-        SectionKind::Reloc
-    } else if name.starts_with(DEBUG_SECTION_PREFIX.as_bytes()) {
-        SectionKind::Debug
-    } else if name == TARGET_FEATURES_SECTION_NAME.as_bytes() {
-        SectionKind::Features
-    } else {
-        SectionKind::Skipped
-    }
-}
-
-/// What a standard section of that id is.
-fn standard_kind(id: u8) -> SectionKind
-    ensures { result ≡ standard_kind id }
-{
-    match id {
-        section_id::TYPE => SectionKind::Type,
-        section_id::IMPORT => SectionKind::Import,
-        section_id::FUNCTION => SectionKind::Function,
-        section_id::TABLE => SectionKind::Table,
-        section_id::MEMORY => SectionKind::Memory,
-        section_id::GLOBAL => SectionKind::Global,
-        section_id::EXPORT => SectionKind::Export,
-        section_id::START => SectionKind::Start,
-        section_id::CODE => SectionKind::Code,
-        section_id::DATA => SectionKind::Data,
-        section_id::DATA_COUNT => SectionKind::DataCount,
-        TAG => SectionKind::Tag,
-        _ => SectionKind::Skipped,
-    }
-}
-
-/// What the section of this header is, in the object of these bytes.
-pub(crate) fn kind_of(bytes: &[u8], header: &SectionHeader) -> SectionKind
-    ensures { result ≡ kind_of bytes.now header.now }
-{
-    match header.name_range {
-        None => standard_kind(header.id),
-        Some(range) => custom_kind(stretch(bytes, range)),
-    }
-}
-
-/// What a section of that kind is for relocations, after the sections that were seen.
-fn check_target(seen: Seen, kind: SectionKind) -> Result<Target, ReadError>
-    ensures { Gives (λ t. t) result (target_verdict seen kind) }
-{
-    match kind {
-        SectionKind::Code if seen.code_relocations => Err(ReadError::Malformed(Why::Repeated)),
-        SectionKind::Data if seen.data_relocations => Err(ReadError::Malformed(Why::Repeated)),
-        SectionKind::Code => Ok(Target::Code),
-        SectionKind::Data => Ok(Target::Data),
-        SectionKind::Debug => Ok(Target::Debug),
-        SectionKind::Type
-        | SectionKind::Import
-        | SectionKind::Function
-        | SectionKind::Memory
-        | SectionKind::Global
-        | SectionKind::Export
-        | SectionKind::DataCount
-        | SectionKind::Table
-        | SectionKind::Start
-        | SectionKind::Tag
-        | SectionKind::Linking
-        | SectionKind::Reloc
-        | SectionKind::Features
-        | SectionKind::Skipped => Err(ReadError::Unsupported(Form::RelocTarget)),
-    }
-}
-
-/// What the section of that number is for relocations. One that isn't there has no rule either.
-pub(crate) fn target_of(
-    bytes: &[u8],
-    headers: &[SectionHeader],
-    seen: Seen,
-    number: u32,
-) -> Result<Target, ReadError>
-    ensures { Gives (λ t. t) result (numbered_verdict bytes.now headers.now seen number) }
-{
-    match headers.get(number as usize) {
-        None => Err(ReadError::Unsupported(Form::RelocTarget)),
-        Some(header) => check_target(seen, kind_of(bytes, header)),
-    }
-}
-
 /// Whether the section of this header is a debug section.
 pub(crate) fn is_debug(bytes: &[u8], header: &SectionHeader) -> bool
     ensures { result ≡ is_debug bytes.now header.now }
 {
-    kind_of(bytes, header) == SectionKind::Debug
+    match header.name_range {
+        None => false,
+        Some(range) => custom_kind(stretch(bytes, range)) == CustomKind::Debug,
+    }
 }

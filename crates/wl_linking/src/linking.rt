@@ -1,9 +1,10 @@
 //! The linking section (object file linking, version 2, "Linking Metadata Section").
 
-ghost use Rattle.std.specs.Prelude.{◌≡◌, ◌≤◌, ◌^◌, OnOk, [], length, MatchResult};
-ghost use Rattle.wl_bytes.specs.Cursor.{end_of};
-ghost use Rattle.wl_module.specs.Outcome.{Yields, Gives, IsFault};
-ghost use Rattle.wl_linking.specs.Linking.{subsection_kind, subsection_verdict, held_of, subsection_at, version_at, nothing_seen, seen_after, linking_of, with_subsection, HaveSubsections, IsSubsectionsFault, IsLinking, LinkingFault};
+ghost use Rattle.std.specs.Prelude.{◌≡◌, ◌+◌, ◌<◌, ◌≤◌, ◌^◌, OnOk, [], length, MatchResult};
+ghost use Rattle.wl_bytes.specs.declared.reader.TheConstants.{MAX_LEN};
+ghost use Rattle.wl_module.specs.Outcome.{Yields, Gives};
+ghost use Rattle.wl_linking.specs.Verdict.{HasCause};
+ghost use Rattle.wl_linking.specs.Linking.{subsection_kind, subsection_verdict, held_of, subsection_at, version_at, nothing_seen, seen_after, linking_of, with_subsection, HaveSubsections, SubsectionsFault, IsLinking, LinkingFault};
 
 use crate::infos::{WasmInitFunc, WasmSegmentInfo};
 use crate::items::Items;
@@ -112,8 +113,8 @@ fn read_held(
     kind: SubsectionKind,
     payload: &[u8],
 ) -> Result<Subsection<'_>, ReadError>
-    requires base { base ≤ 2 ^ 31 }
-    requires len { length payload.now ≤ 2 ^ 30 }
+    requires base { base + MAX_LEN < 2 ^ 32 }
+    requires len { length payload.now ≤ MAX_LEN }
     ensures { Gives (λ s. s) result (held_of base kind payload.now) }
 {
     match kind {
@@ -142,10 +143,8 @@ fn read_subsection<'a>(
     seen: SeenSubsections,
     reader: &mut Reader<'a>,
 ) -> Result<Subsection<'a>, ReadError>
-    requires base { base ≤ 2 ^ 30 }
-    requires end { end_of reader.old ≤ 2 ^ 30 }
-    ensures value { Yields (λ s. s) result reader.new (subsection_at base seen reader.old) }
-    ensures end { end_of reader.new ≡ end_of reader.old }
+    requires { base ≤ MAX_LEN }
+    ensures { Yields (λ s. s) result reader.new (subsection_at base seen reader.old) }
 {
     let kind = subsection_kind(reader.read_u8()?);
     check_kind(seen, kind)?;
@@ -182,9 +181,9 @@ fn read_subsections<'a>(
     base: u32,
     reader: &mut Reader<'a>,
 ) -> Result<Linking<'a>, ReadError>
-    requires base { base ≤ 2 ^ 30 }
-    requires end { end_of reader.old ≤ 2 ^ 30 }
-    ensures { MatchResult result (HaveSubsections base reader.old) (IsSubsectionsFault base reader.old) }
+    requires { base ≤ MAX_LEN }
+    ensures { MatchResult result (HaveSubsections base reader.old)
+        (HasCause (λ e. SubsectionsFault base e reader.old)) }
 {
     let mut linking = Linking::empty(alloc);
     let mut seen = SeenSubsections::default();
@@ -199,8 +198,7 @@ fn read_subsections<'a>(
 /// The version in front is the one that is read.
 #[tactic(auto, unfolding(crate::specs::Linking::version_at))]
 fn read_version(reader: &mut Reader<'_>) -> Result<(), ReadError>
-    ensures value { Yields (λ _. (2, tt)) result reader.new (version_at reader.old) }
-    ensures end { end_of reader.new ≡ end_of reader.old }
+    ensures { Yields (λ _. (2, tt)) result reader.new (version_at reader.old) }
 {
     if reader.read_u32()? == VERSION {
         Ok(())
@@ -219,9 +217,10 @@ pub(crate) fn read_linking(
     base: u32,
     payload: &[u8],
 ) -> Result<Linking<'_>, ReadError>
-    requires base { base ≤ 2 ^ 30 }
-    requires len { length payload.now ≤ 2 ^ 30 }
-    ensures { MatchResult result (λ linking. IsLinking base linking payload.now) (IsFault (LinkingFault base) payload.now) }
+    requires base { base ≤ MAX_LEN }
+    requires len { length payload.now ≤ MAX_LEN }
+    ensures { MatchResult result (λ linking. IsLinking base linking payload.now)
+        (HasCause (λ e. LinkingFault base e payload.now)) }
 {
     let mut reader = Reader::new(payload);
     read_version(&mut reader)?;

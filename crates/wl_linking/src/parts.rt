@@ -1,56 +1,69 @@
-//! The items of all sections of an object.
+//! What all sections of an object hold.
 
-ghost use Rattle.std.specs.Prelude.{◌≡◌, [], ◌++◌, ◌≤◌, ◌^◌, length, OnOk, MatchResult};
+ghost use Rattle.std.specs.Prelude.{◌≡◌, OnOk, MatchResult};
 ghost use Rattle.std.specs.List.{AllByRecursion};
-ghost use Rattle.wl_linking.specs.Parts.{parts_of, with_section, with_linking, with_reloc, ArePartsOf};
-ghost use Rattle.wl_linking.specs.Sections.{AreFaulty, IsPlaced, nothing_seen};
+ghost use Rattle.wl_linking.specs.Parts.{no_parts, join, imports_part, reloc_part, part_of, AreNamedWithin};
+ghost use Rattle.wl_linking.specs.declared.section.SectionItems.TheVariants.{Imports, Data, Linking as LinkingSection};
+ghost use Rattle.wl_linking.specs.Sections.{AreSound, AreFaulty, EndsWithin};
 ghost use Rattle.wl_linking.specs.Verdict.{HasCause};
 
 use crate::debug::DebugSectionInput;
 use crate::features::WasmTargetFeature;
 use crate::infos::{WasmInitFunc, WasmSegmentInfo};
 use crate::items::Items;
-use crate::kinds::Seen;
 use crate::linking::Linking;
+use crate::plain::{memories_of, plain_imports, plain_segments};
 use crate::relocations::{RelocHeld, Target, WasmRelocSection, WasmRelocation};
-use crate::section::{Section, read_section, seen_then};
+use crate::section::{SectionItems, read_section};
+use crate::slots::{SlotName, slots_of};
 use crate::symbols::WasmSymbol;
 use std::alloc::{AllocError, Global};
 use wl_module::{
-    FuncType, MemoryType, OutputExport, OutputGlobal, PlacedImport, ReadError, SectionHeader,
-    TargetedSegment, WasmFunctionBody,
+    ExternalKind, FramedSection, FuncType, Import, MemoryType, OutputExport, OutputGlobal,
+    PlacedImport, ReadError, TargetedSegment, WasmDataSegment, WasmFunctionBody,
 };
 
-/// The items of the sections that were read so far, in file order.
+/// What the sections of an object hold, in file order.
 #[derive(Drop)]
 pub(crate) struct Parts<'a> {
     pub types: Items<FuncType>,
-    pub imports: Items<PlacedImport<'a>>,
+    pub imports: Items<Import<'a>>,
+    /// The field names of imported functions, which symbols may take.
+    pub function_names: Items<SlotName<'a>>,
+    /// Those of imported globals.
+    pub global_names: Items<SlotName<'a>>,
     pub functions: Items<u32>,
     pub memories: Items<MemoryType>,
     pub globals: Items<OutputGlobal<'a>>,
     pub exports: Items<OutputExport<'a>>,
     pub data_counts: Items<u32>,
     pub bodies: Items<WasmFunctionBody<'a>>,
-    pub segments: Items<TargetedSegment<'a>>,
+    pub segments: Items<WasmDataSegment<'a>>,
+    /// Of each segment the memory that it goes into when the module starts, if it does.
+    pub segment_memories: Items<Option<u32>>,
     pub segment_infos: Items<WasmSegmentInfo<'a>>,
     pub init_funcs: Items<WasmInitFunc>,
     pub symbols: Items<WasmSymbol<'a>>,
     pub reloc_sections: Items<WasmRelocSection>,
-    pub code_entries: Items<WasmRelocation>,
-    pub data_entries: Items<WasmRelocation>,
+    pub code_relocations: Items<WasmRelocation>,
+    pub data_relocations: Items<WasmRelocation>,
     pub features: Items<WasmTargetFeature<'a>>,
     pub debug_sections: Items<DebugSectionInput<'a>>,
+    pub has_linking: bool,
+    pub has_code_relocations: bool,
+    pub has_data_relocations: bool,
 }
 
 impl<'a> Parts<'a> {
-    /// The items of no section.
+    /// What no section holds.
     fn empty(alloc: Global) -> Self
-        ensures { result ≡ parts_of [] }
+        ensures { result ≡ no_parts }
     {
         Parts {
             types: Items::empty(alloc),
             imports: Items::empty(alloc),
+            function_names: Items::empty(alloc),
+            global_names: Items::empty(alloc),
             functions: Items::empty(alloc),
             memories: Items::empty(alloc),
             globals: Items::empty(alloc),
@@ -58,21 +71,57 @@ impl<'a> Parts<'a> {
             data_counts: Items::empty(alloc),
             bodies: Items::empty(alloc),
             segments: Items::empty(alloc),
+            segment_memories: Items::empty(alloc),
             segment_infos: Items::empty(alloc),
             init_funcs: Items::empty(alloc),
             symbols: Items::empty(alloc),
             reloc_sections: Items::empty(alloc),
-            code_entries: Items::empty(alloc),
-            data_entries: Items::empty(alloc),
+            code_relocations: Items::empty(alloc),
+            data_relocations: Items::empty(alloc),
             features: Items::empty(alloc),
             debug_sections: Items::empty(alloc),
+            has_linking: false,
+            has_code_relocations: false,
+            has_data_relocations: false,
         }
+    }
+
+    /// Takes in the imports of a section, where so many bytes of the object lie before its payload.
+    fn add_imports(
+        &mut self,
+        alloc: Global,
+        imports: Items<PlacedImport<'a>>,
+        base: u32,
+    ) -> Result<(), AllocError>
+        requires { AreNamedWithin (Imports imports base) }
+        ensures { OnOk result (self.new ≡ join self.old (imports_part imports.entry base)) }
+    {
+        let placed = imports.as_slice();
+        let functions = slots_of(alloc, ExternalKind::Func, base, placed)?;
+        let globals = slots_of(alloc, ExternalKind::Global, base, placed)?;
+        self.function_names.append(functions)?;
+        self.global_names.append(globals)?;
+        self.imports.append(plain_imports(alloc, imports)?)
+    }
+
+    /// Takes in the segments of a section, each with its memory.
+    fn add_segments(
+        &mut self,
+        alloc: Global,
+        segments: Items<TargetedSegment<'a>>,
+    ) -> Result<(), AllocError>
+        ensures { OnOk result (self.new ≡ join self.old (part_of (Data segments.entry))) }
+    {
+        self.segment_memories
+            .append(memories_of(alloc, segments.as_slice())?)?;
+        self.segments.append(plain_segments(alloc, segments)?)
     }
 
     /// Takes in what a linking section holds.
     fn add_linking(&mut self, linking: Linking<'a>) -> Result<(), AllocError>
-        ensures { OnOk result (self.new ≡ with_linking self.old linking.entry) }
+        ensures { OnOk result (self.new ≡ join self.old (part_of (LinkingSection linking.entry))) }
     {
+        self.has_linking = true;
         self.segment_infos.append(linking.segment_infos)?;
         self.init_funcs.append(linking.init_funcs)?;
         self.symbols.append(linking.symbols)
@@ -80,36 +129,43 @@ impl<'a> Parts<'a> {
 
     /// Takes in what a relocation section holds.
     fn add_reloc(&mut self, held: RelocHeld) -> Result<(), AllocError>
-        ensures { OnOk result (self.new ≡ with_reloc self.old held) }
+        ensures { OnOk result (self.new ≡ join self.old (reloc_part held)) }
     {
         let entries = held.section.relocations.as_slice();
         match held.target {
-            Target::Code => self.code_entries.extend(entries)?,
-            Target::Data => self.data_entries.extend(entries)?,
+            Target::Code => {
+                self.has_code_relocations = true;
+                self.code_relocations.extend(entries)?;
+            }
+            Target::Data => {
+                self.has_data_relocations = true;
+                self.data_relocations.extend(entries)?;
+            }
             Target::Debug => {}
         }
         self.reloc_sections.push(held.section)
     }
 
-    /// Takes in the items of one more section.
-    fn add(&mut self, section: Section<'a>) -> Result<(), AllocError>
-        ensures { OnOk result (self.new ≡ with_section self.old section.entry) }
+    /// Takes in what one more section holds.
+    fn add(&mut self, alloc: Global, items: SectionItems<'a>) -> Result<(), AllocError>
+        requires { AreNamedWithin items }
+        ensures { OnOk result (self.new ≡ join self.old (part_of items.entry)) }
     {
-        match section {
-            Section::Types(types) => self.types.append(types),
-            Section::Imports(imports) => self.imports.append(imports),
-            Section::Functions(functions) => self.functions.append(functions),
-            Section::Memories(memories) => self.memories.append(memories),
-            Section::Globals(globals) => self.globals.append(globals),
-            Section::Exports(exports) => self.exports.append(exports),
-            Section::DataCount(count) => self.data_counts.push(count),
-            Section::Code(bodies) => self.bodies.append(bodies),
-            Section::Data(segments) => self.segments.append(segments),
-            Section::Linking(linking) => self.add_linking(linking),
-            Section::Reloc(held) => self.add_reloc(held),
-            Section::Features(features) => self.features.append(features),
-            Section::Debug(section) => self.debug_sections.push(section),
-            Section::Skipped => Ok(()),
+        match items {
+            SectionItems::Types(types) => self.types.append(types),
+            SectionItems::Imports(imports, base) => self.add_imports(alloc, imports, base),
+            SectionItems::Functions(functions) => self.functions.append(functions),
+            SectionItems::Memories(memories) => self.memories.append(memories),
+            SectionItems::Globals(globals) => self.globals.append(globals),
+            SectionItems::Exports(exports) => self.exports.append(exports),
+            SectionItems::DataCount(count) => self.data_counts.push(count),
+            SectionItems::Code(bodies) => self.bodies.append(bodies),
+            SectionItems::Data(segments) => self.add_segments(alloc, segments),
+            SectionItems::Linking(linking) => self.add_linking(linking),
+            SectionItems::Reloc(held) => self.add_reloc(held),
+            SectionItems::Features(features) => self.features.append(features),
+            SectionItems::Debug(section) => self.debug_sections.push(section),
+            SectionItems::Nothing => Ok(()),
         }
     }
 }
@@ -117,19 +173,16 @@ impl<'a> Parts<'a> {
 /// Reads each section in turn, up to the first that isn't sound.
 pub(crate) fn read_parts<'a>(
     alloc: Global,
-    bytes: &'a [u8],
-    headers: &[SectionHeader],
+    sections: &[FramedSection<'a>],
 ) -> Result<Parts<'a>, ReadError>
-    requires len { length bytes.now ≤ 2 ^ 30 }
-    requires placed { AllByRecursion (IsPlaced bytes.now) headers.now }
-    ensures { MatchResult result (ArePartsOf bytes.now headers.now) (HasCause (AreFaulty bytes.now headers.now nothing_seen headers.now)) }
+    requires { AllByRecursion EndsWithin sections.now }
+    ensures { MatchResult result (AreSound sections.now no_parts sections.now)
+        (HasCause (AreFaulty sections.now no_parts sections.now)) }
 {
     let mut parts = Parts::empty(alloc);
-    let mut seen = Seen::default();
-    for header in headers {
-        let section = read_section(alloc, bytes, headers, seen, header)?;
-        seen = seen_then(seen, &section);
-        parts.add(section)?;
+    for section in sections {
+        let items = read_section(alloc, sections, &parts, section)?;
+        parts.add(alloc, items)?;
     }
     Ok(parts)
 }

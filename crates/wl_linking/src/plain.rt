@@ -3,7 +3,7 @@
 ghost use Rattle.std.specs.Prelude.{◌≡◌, IfOk};
 ghost use Rattle.wl_module.specs.Imports.{plain_imports};
 ghost use Rattle.wl_module.specs.Segments.{plain_segments};
-ghost use Rattle.wl_linking.specs.Fitting.{memories_of};
+ghost use Rattle.wl_linking.specs.Parts.{memories_of};
 
 use crate::items::Items;
 use std::alloc::{AllocError, Global};

@@ -15,7 +15,8 @@ use std::marker::Model;
 /// `None` where the symbol has no name, where its range isn't within the bytes, and where the bytes
 /// there aren't UTF-8.
 pub fn wasm_symbol_name_str<'a>(bytes: &'a [u8], symbol: &WasmSymbol<'_>) -> Option<&'a str>
-    ensures { MatchOption result (named_text bytes.now symbol.now ≡ None) (λ name. named_text bytes.now symbol.now ≡ Some name.now) }
+    ensures { let text = named_text bytes.now symbol.now in
+        MatchOption result (text ≡ None) (λ name. text ≡ Some name.now) }
 {
     if !symbol.has_name() {
         return None;

@@ -47,7 +47,7 @@ const PADDED_LEN: usize = 5;
 const WORD_LEN: usize = 4;
 
 /// The bodies as the pieces in which fields of code lie.
-pub(crate) fn body_pieces<'a>(
+fn body_pieces<'a>(
     alloc: Global,
     bodies: &'a [WasmFunctionBody<'_>],
 ) -> Result<Vec<Piece<'a>>, AllocError>
@@ -76,7 +76,7 @@ fn segment_piece<'a>(segment: &WasmDataSegment<'a>) -> Piece<'a>
 }
 
 /// The segments as the pieces in which fields of data lie.
-pub(crate) fn segment_pieces<'a>(
+fn segment_pieces<'a>(
     alloc: Global,
     segments: &'a [WasmDataSegment<'_>],
 ) -> Result<Vec<Piece<'a>>, AllocError>
@@ -185,7 +185,8 @@ fn find_sites(
 ) -> Result<Items<Site>, ReadError>
     requires pieces { Ascend 0 pieces.now }
     requires order { IsNonDecreasingBy offset_of relocations.now }
-    ensures { MatchResult result (AreSites pieces.now relocations.now) (HasCause (FieldFault pieces.now relocations.now)) }
+    ensures { MatchResult result (AreSites pieces.now relocations.now)
+        (HasCause (FieldFault pieces.now relocations.now)) }
 {
     let mut sites = Vec::new(alloc);
     let mut unit = 0usize;
@@ -216,18 +217,52 @@ fn are_apart(relocations: &[WasmRelocation]) -> bool
 }
 
 /// The site of each relocation of a section, whose fields lie in these pieces, each by itself.
-pub(crate) fn place_fields(
+fn place_fields(
     alloc: Global,
     pieces: &[Piece<'_>],
     relocations: &[WasmRelocation],
 ) -> Result<Items<Site>, ReadError>
     requires pieces { Ascend 0 pieces.now }
     requires order { IsNonDecreasingBy offset_of relocations.now }
-    ensures { MatchResult result (LieApart pieces.now relocations.now) (HasCause (FieldsFault pieces.now relocations.now)) }
+    ensures { MatchResult result (LieApart pieces.now relocations.now)
+        (HasCause (FieldsFault pieces.now relocations.now)) }
 {
     let sites = find_sites(alloc, pieces, relocations)?;
     if !are_apart(relocations) {
         return Err(ReadError::Malformed(Why::Overlap));
     }
     Ok(sites)
+}
+
+/// Where the fields of code lie: each in a body, and by itself.
+pub(crate) fn code_sites(
+    alloc: Global,
+    bodies: &[WasmFunctionBody<'_>],
+    relocations: &[WasmRelocation],
+) -> Result<Items<Site>, ReadError>
+    requires bodies { Ascend 0 (map body_piece bodies.now) }
+    requires order { IsNonDecreasingBy offset_of relocations.now }
+    ensures { let pieces = map body_piece bodies.now in
+        MatchResult result (LieApart pieces relocations.now)
+        (HasCause (FieldsFault pieces relocations.now)) }
+{
+    let pieces = body_pieces(alloc, bodies)?;
+    place_fields(alloc, &pieces, relocations)
+}
+
+/// Where the fields of data lie: each in a segment, and by itself.
+pub(crate) fn data_sites(
+    alloc: Global,
+    segments: &[WasmDataSegment<'_>],
+    relocations: &[WasmRelocation],
+) -> Result<Items<Site>, ReadError>
+    requires spans { AllByRecursion IsSpanned segments.now }
+    requires segments { Ascend 0 (map segment_piece segments.now) }
+    requires order { IsNonDecreasingBy offset_of relocations.now }
+    ensures { let pieces = map segment_piece segments.now in
+        MatchResult result (LieApart pieces relocations.now)
+        (HasCause (FieldsFault pieces relocations.now)) }
+{
+    let pieces = segment_pieces(alloc, segments)?;
+    place_fields(alloc, &pieces, relocations)
 }

@@ -1,18 +1,19 @@
 //! The names of imports, which symbols refer to by slots: numbers among the imports of a kind
 //! (object file linking, version 2, "Symbol Table Subsection").
 
-ghost use Rattle.std.specs.Prelude.{◌≡◌, ◌≤◌, ◌+◌, ◌^◌, [], ◌∷◌, ◌++◌, length, map, Option, Some, None, slice_get, OnOk, IfOk, MatchBool, MatchResult};
+ghost use Rattle.std.specs.Prelude.{◌≡◌, ◌≤◌, ◌+◌, [], ◌∷◌, ◌++◌, length, map, Option, Some, None, slice_get, OnOk, IfOk, MatchBool, MatchResult};
+ghost use Rattle.wl_bytes.specs.declared.reader.TheConstants.{MAX_LEN};
 ghost use Rattle.std.specs.List.{repeat, AllByRecursion};
-ghost use Rattle.wl_linking.specs.Slots.{Slot, slot_of, slots_of, with_slot, with_import_name, claims, HasOneName, HasTwoNames, AgreeOnNames, SlotFault, import_base};
+ghost use Rattle.wl_linking.specs.Slots.{Slot, slot_of, slots_of, with_slot, with_import_name, claims, HasOneName, HasTwoNames, AgreeOnNames, SlotFault};
 ghost use Rattle.wl_linking.specs.SlotsReading.{IsNamedWithin, slots_from, AreNamedByRange, IsNamedByRange, is_name_of, Agrees};
 ghost use Rattle.wl_linking.specs.Verdict.{HasCause};
 
 use crate::items::Items;
-use crate::spaces::{Spaces, is_of};
+use crate::spaces::{Counts, is_of};
 use crate::symbols::{WasmSymbol, WasmSymbolKind, range_of};
 use std::alloc::{AllocError, Global};
 use std::marker::Model;
-use wl_module::{ExternalKind, PlacedImport, ReadError, SectionHeader, Why, section_id};
+use wl_module::{ExternalKind, PlacedImport, ReadError, Why};
 
 /// The field name of an import. Clauses see it as a `Slot`, with the name as a list.
 #[derive(Drop)]
@@ -30,25 +31,11 @@ impl<'a> Model for SlotName<'a> {
     ghost view = { λ s. record { name = s.name.now; range = s.range } };
 }
 
-/// How many bytes of the object lie before the payload of its import section; 0 where there is
-/// none.
-pub(crate) fn import_base(headers: &[SectionHeader]) -> u32
-    ensures { result ≡ import_base headers.now }
-{
-    match headers
-        .iter()
-        .find(|header| header.id == section_id::IMPORT)
-    {
-        None => 0,
-        Some(header) => header.payload_range.0,
-    }
-}
-
 /// The field name of an import, where so many bytes of the object lie before its section's
 /// payload.
 fn slot_of<'a>(base: u32, placed: &PlacedImport<'a>) -> SlotName<'a>
-    requires base { base ≤ 2 ^ 30 }
-    requires place { placed.now.name_offset + length placed.now.import.name ≤ 2 ^ 30 }
+    requires base { base ≤ MAX_LEN }
+    requires place { placed.now.name_offset + length placed.now.import.name ≤ MAX_LEN }
     ensures { result ≡ slot_of base placed.now }
 {
     let name = placed.import.name;
@@ -65,8 +52,8 @@ fn push_slot<'a>(
     base: u32,
     placed: &PlacedImport<'a>,
 ) -> Result<(), AllocError>
-    requires base { base ≤ 2 ^ 30 }
-    requires place { placed.now.name_offset + length placed.now.import.name ≤ 2 ^ 30 }
+    requires base { base ≤ MAX_LEN }
+    requires place { placed.now.name_offset + length placed.now.import.name ≤ MAX_LEN }
     ensures { OnOk result (slots.new.items ≡ slots.old.items ++ slots_from kind base placed.now) }
 {
     if is_of(kind, &placed.import.entity) {
@@ -82,16 +69,16 @@ pub(crate) fn slots_of<'a>(
     kind: ExternalKind,
     base: u32,
     imports: &[PlacedImport<'a>],
-) -> Result<Vec<SlotName<'a>>, AllocError>
-    requires base { base ≤ 2 ^ 30 }
+) -> Result<Items<SlotName<'a>>, AllocError>
+    requires base { base ≤ MAX_LEN }
     requires places { AllByRecursion IsNamedWithin imports.now }
-    ensures { IfOk result (λ slots. slots.items ≡ slots_of kind base imports.now) }
+    ensures { IfOk result (λ slots. slots ≡ slots_of kind base imports.now) }
 {
     let mut slots = Vec::new(alloc);
     for placed in imports {
         push_slot(&mut slots, kind, base, placed)?;
     }
-    Ok(slots)
+    Ok(Items::new(slots))
 }
 
 /// The same symbol with the name of its slot.
@@ -132,7 +119,8 @@ pub(crate) fn name_symbols<'a>(
     globals: &[SlotName<'a>],
     symbols: Items<WasmSymbol<'a>>,
 ) -> Result<Items<WasmSymbol<'a>>, AllocError>
-    ensures { IfOk result (λ list. list ≡ map (with_import_name functions.now globals.now) symbols.entry) }
+    ensures { let named = with_import_name functions.now globals.now in
+        IfOk result (λ list. list ≡ map named symbols.entry) }
 {
     let mut list = Vec::new(alloc);
     for symbol in symbols.into_vec() {
@@ -202,7 +190,8 @@ fn is_name_of(known: &KnownName<'_>, symbol: &WasmSymbol<'_>) -> bool
 /// name that came last is kept, so that those that take the import's, at one place, find it there.
 /// For a slot that isn't there nothing is told.
 fn agrees<'a>(names: &mut Vec<KnownName<'a>>, symbol: &WasmSymbol<'a>) -> bool
-    requires { (known : Option Slot) → slice_get names.old.items symbol.now.index ≡ Some known → IsNamedByRange known symbol.now }
+    requires { (known : Option Slot) → slice_get names.old.items symbol.now.index ≡ Some known
+        → IsNamedByRange known symbol.now }
     ensures { Agrees names.old.items names.new.items symbol.now result }
 {
     let slot = symbol.index as usize;
@@ -225,7 +214,8 @@ fn have_one_name(
     symbols: &[WasmSymbol<'_>],
 ) -> Result<bool, AllocError>
     requires { AreNamedByRange symbols.now }
-    ensures { IfOk result (λ b. MatchBool b (HasOneName kind count symbols.now) (HasTwoNames kind count symbols.now)) }
+    ensures { IfOk result (λ b. MatchBool b (HasOneName kind count symbols.now)
+        (HasTwoNames kind count symbols.now)) }
 {
     let mut names = no_names(alloc, count)?;
     for symbol in symbols {
@@ -240,11 +230,12 @@ fn have_one_name(
 /// are imported.
 pub(crate) fn check_slots(
     alloc: Global,
-    spaces: Spaces,
+    spaces: Counts,
     symbols: &[WasmSymbol<'_>],
 ) -> Result<(), ReadError>
     requires { AreNamedByRange symbols.now }
-    ensures { MatchResult result (λ _. AgreeOnNames spaces symbols.now) (HasCause (SlotFault spaces symbols.now)) }
+    ensures { MatchResult result (λ _. AgreeOnNames spaces symbols.now)
+        (HasCause (SlotFault spaces symbols.now)) }
 {
     let (functions, globals, tables) = (
         spaces.imported_functions,

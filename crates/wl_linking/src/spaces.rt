@@ -15,7 +15,7 @@ use wl_module::{ExternalKind, Import, ImportEntity, OutputExport, ReadError, Why
 
 /// How many things of each kind an object has.
 #[derive(Clone, Copy, Debug, PartialEq, Eq)]
-pub(crate) struct Spaces {
+pub(crate) struct Counts {
     pub types: usize,
     pub imported_functions: usize,
     pub functions: usize,
@@ -51,21 +51,21 @@ pub(crate) fn count_imports(kind: ExternalKind, imports: &[Import<'_>]) -> usize
 }
 
 /// How many things of each kind an object has.
-pub(crate) fn spaces_of(contents: &Contents<'_>) -> Spaces
+pub(crate) fn spaces_of(contents: &Contents<'_>) -> Counts
     ensures { result ≡ spaces_of contents.now }
 {
-    let imports = contents.imports.as_slice();
-    Spaces {
-        types: contents.types.as_slice().len(),
+    let imports = contents.parts.imports.as_slice();
+    Counts {
+        types: contents.parts.types.as_slice().len(),
         imported_functions: count_imports(ExternalKind::Func, imports),
-        functions: contents.functions.as_slice().len(),
+        functions: contents.parts.functions.as_slice().len(),
         imported_tables: count_imports(ExternalKind::Table, imports),
         imported_memories: count_imports(ExternalKind::Memory, imports),
-        memories: contents.memories.as_slice().len(),
+        memories: contents.parts.memories.as_slice().len(),
         imported_globals: count_imports(ExternalKind::Global, imports),
-        globals: contents.globals.as_slice().len(),
-        segments: contents.segments.as_slice().len(),
-        symbols: contents.symbols.as_slice().len(),
+        globals: contents.parts.globals.as_slice().len(),
+        segments: contents.parts.segments.as_slice().len(),
+        symbols: contents.parts.symbols.as_slice().len(),
     }
 }
 
@@ -91,7 +91,7 @@ fn number_exists(undefined: bool, imported: usize, defined: usize, index: u32) -
 }
 
 /// Whether an imported function's type is there.
-fn import_exists(spaces: Spaces, import: &Import<'_>) -> bool
+fn import_exists(spaces: Counts, import: &Import<'_>) -> bool
     ensures { result ≡ import_exists spaces import.now }
 {
     match import.entity {
@@ -101,7 +101,7 @@ fn import_exists(spaces: Spaces, import: &Import<'_>) -> bool
 }
 
 /// Whether what is exported is there.
-fn export_exists(spaces: Spaces, export: &OutputExport<'_>) -> bool
+fn export_exists(spaces: Counts, export: &OutputExport<'_>) -> bool
     ensures { result ≡ export_exists spaces export.now }
 {
     let (imported, defined) = match export.kind {
@@ -114,7 +114,7 @@ fn export_exists(spaces: Spaces, export: &OutputExport<'_>) -> bool
 }
 
 /// Whether the memory that a segment goes to is there, if it goes to one when the module starts.
-fn memory_exists(spaces: Spaces, memory: Option<u32>) -> bool
+fn memory_exists(spaces: Counts, memory: Option<u32>) -> bool
     ensures { result ≡ memory_exists spaces memory }
 {
     match memory {
@@ -125,7 +125,7 @@ fn memory_exists(spaces: Spaces, memory: Option<u32>) -> bool
 
 /// Whether the thing of that number is there for a symbol of its kind. That of a section isn't looked
 /// at.
-fn thing_exists(spaces: Spaces, symbol: &WasmSymbol<'_>) -> bool
+fn thing_exists(spaces: Counts, symbol: &WasmSymbol<'_>) -> bool
     ensures { let s = symbol.now in result ≡ thing_exists spaces s.kind (is_undefined s) s.index }
 {
     let undefined = symbol.is_undefined();
@@ -151,14 +151,14 @@ fn thing_exists(spaces: Spaces, symbol: &WasmSymbol<'_>) -> bool
 }
 
 /// Whether what a symbol stands for is there. Data at an absolute address lies in no segment.
-fn symbol_exists(spaces: Spaces, symbol: &WasmSymbol<'_>) -> bool
+fn symbol_exists(spaces: Counts, symbol: &WasmSymbol<'_>) -> bool
     ensures { result ≡ symbol_exists spaces symbol.now }
 {
     symbol.is_absolute() || thing_exists(spaces, symbol)
 }
 
 /// Whether the type or the symbol of a relocation is there.
-fn relocation_exists(spaces: Spaces, relocation: &WasmRelocation) -> bool
+fn relocation_exists(spaces: Counts, relocation: &WasmRelocation) -> bool
     ensures { result ≡ relocation_exists spaces relocation.now }
 {
     let count = if relocation.ty.names_a_type() {
@@ -170,49 +170,49 @@ fn relocation_exists(spaces: Spaces, relocation: &WasmRelocation) -> bool
 }
 
 /// Whether the symbol of a function that runs at the start is there.
-fn init_exists(spaces: Spaces, function: &WasmInitFunc) -> bool
+fn init_exists(spaces: Counts, function: &WasmInitFunc) -> bool
     ensures { result ≡ init_exists spaces function.now }
 {
     (function.symbol_index as usize) < spaces.symbols
 }
 
 /// Whether the type of each imported function is there.
-fn imports_exist(spaces: Spaces, imports: &[Import<'_>]) -> bool
+fn imports_exist(spaces: Counts, imports: &[Import<'_>]) -> bool
     ensures { result ≡ list_all (import_exists spaces) imports.now }
 {
     imports.iter().all(|import| import_exists(spaces, import))
 }
 
 /// Whether the type of each function that the object defines is there.
-fn types_exist(spaces: Spaces, functions: &[u32]) -> bool
+fn types_exist(spaces: Counts, functions: &[u32]) -> bool
     ensures { result ≡ list_all (type_exists spaces) functions.now }
 {
     functions.iter().all(|ty| (*ty as usize) < spaces.types)
 }
 
 /// Whether all that is exported is there.
-fn exports_exist(spaces: Spaces, exports: &[OutputExport<'_>]) -> bool
+fn exports_exist(spaces: Counts, exports: &[OutputExport<'_>]) -> bool
     ensures { result ≡ list_all (export_exists spaces) exports.now }
 {
     exports.iter().all(|export| export_exists(spaces, export))
 }
 
 /// Whether each memory that a segment goes to when the module starts is there.
-fn memories_exist(spaces: Spaces, memories: &[Option<u32>]) -> bool
+fn memories_exist(spaces: Counts, memories: &[Option<u32>]) -> bool
     ensures { result ≡ list_all (memory_exists spaces) memories.now }
 {
     memories.iter().all(|memory| memory_exists(spaces, *memory))
 }
 
 /// Whether what each symbol stands for is there.
-fn symbols_exist(spaces: Spaces, symbols: &[WasmSymbol<'_>]) -> bool
+fn symbols_exist(spaces: Counts, symbols: &[WasmSymbol<'_>]) -> bool
     ensures { result ≡ list_all (symbol_exists spaces) symbols.now }
 {
     symbols.iter().all(|symbol| symbol_exists(spaces, symbol))
 }
 
 /// Whether the symbol of each function that runs at the start is there.
-fn inits_exist(spaces: Spaces, functions: &[WasmInitFunc]) -> bool
+fn inits_exist(spaces: Counts, functions: &[WasmInitFunc]) -> bool
     ensures { result ≡ list_all (init_exists spaces) functions.now }
 {
     functions
@@ -221,7 +221,7 @@ fn inits_exist(spaces: Spaces, functions: &[WasmInitFunc]) -> bool
 }
 
 /// Whether each type or symbol that a relocation names is there.
-fn relocations_exist(spaces: Spaces, relocations: &[WasmRelocation]) -> bool
+fn relocations_exist(spaces: Counts, relocations: &[WasmRelocation]) -> bool
     ensures { result ≡ list_all (relocation_exists spaces) relocations.now }
 {
     relocations
@@ -230,27 +230,27 @@ fn relocations_exist(spaces: Spaces, relocations: &[WasmRelocation]) -> bool
 }
 
 /// Whether all that the core sections name is there.
-fn core_names_exist(spaces: Spaces, contents: &Contents<'_>) -> bool
+fn core_names_exist(spaces: Counts, contents: &Contents<'_>) -> bool
     ensures { result ≡ core_names_exist spaces contents.now }
 {
-    imports_exist(spaces, contents.imports.as_slice())
-        && types_exist(spaces, contents.functions.as_slice())
-        && exports_exist(spaces, contents.exports.as_slice())
-        && memories_exist(spaces, contents.segment_memories.as_slice())
+    imports_exist(spaces, contents.parts.imports.as_slice())
+        && types_exist(spaces, contents.parts.functions.as_slice())
+        && exports_exist(spaces, contents.parts.exports.as_slice())
+        && memories_exist(spaces, contents.parts.segment_memories.as_slice())
 }
 
 /// Whether all that the linking section and the relocations name is there.
-fn linked_names_exist(spaces: Spaces, contents: &Contents<'_>) -> bool
+fn linked_names_exist(spaces: Counts, contents: &Contents<'_>) -> bool
     ensures { result ≡ linked_names_exist spaces contents.now }
 {
-    symbols_exist(spaces, contents.symbols.as_slice())
-        && inits_exist(spaces, contents.init_funcs.as_slice())
-        && relocations_exist(spaces, contents.code_relocations.as_slice())
-        && relocations_exist(spaces, contents.data_relocations.as_slice())
+    symbols_exist(spaces, contents.parts.symbols.as_slice())
+        && inits_exist(spaces, contents.parts.init_funcs.as_slice())
+        && relocations_exist(spaces, contents.parts.code_relocations.as_slice())
+        && relocations_exist(spaces, contents.parts.data_relocations.as_slice())
 }
 
 /// Whether each count is how many segments there are.
-fn are_segments(spaces: Spaces, counts: &[u32]) -> bool
+fn are_segments(spaces: Counts, counts: &[u32]) -> bool
     ensures { result ≡ list_all (counts_segments spaces) counts.now }
 {
     counts
@@ -260,18 +260,19 @@ fn are_segments(spaces: Spaces, counts: &[u32]) -> bool
 
 /// Whether each function has its body, and the data count, where there is one, is how many
 /// segments there are.
-fn counts_hold(spaces: Spaces, contents: &Contents<'_>) -> bool
+fn counts_hold(spaces: Counts, contents: &Contents<'_>) -> bool
     ensures { result ≡ counts_hold spaces contents.now }
 {
-    contents.bodies.as_slice().len() == spaces.functions
-        && are_segments(spaces, contents.data_counts.as_slice())
+    contents.parts.bodies.as_slice().len() == spaces.functions
+        && are_segments(spaces, contents.parts.data_counts.as_slice())
 }
 
 /// Sees that each function has its body, that the data count is right, and that what is named
 /// exists.
 #[tactic(auto, using(crate::proofs::ExistLaws::names_exist))]
-pub(crate) fn check_names(contents: &Contents<'_>) -> Result<(), ReadError>
-    ensures { MatchResult result (λ _. NamesExist contents.now) (HasCause (NamesFault contents.now)) }
+pub(crate) fn check_indices(contents: &Contents<'_>) -> Result<(), ReadError>
+    ensures { MatchResult result (λ _. NamesExist contents.now)
+        (HasCause (NamesFault contents.now)) }
 {
     let spaces = spaces_of(contents);
     if !counts_hold(spaces, contents) {

@@ -69,26 +69,6 @@ fn reads_symbols(rt: HostRuntime) -> Result<(), Fail> {
     look_at(rt.alloc(), |file| assert_symbols(&rt, file.symbols()))
 }
 
-// The object has as many things of each kind as its sections.
-fn assert_core(rt: &impl Abort, file: &File<'_>) {
-    assert_eq!(rt; (file.types().len(), file.imports().len()), (1, 4));
-    assert_eq!(rt;
-        (file.num_function_imports(), file.num_global_imports()),
-        (1, 1)
-    );
-    assert_eq!(rt;
-        (file.num_defined_functions(), file.num_defined_globals()),
-        (1, 1)
-    );
-    assert_eq!(rt; (file.exports().len(), file.num_data_segments()), (2, 1));
-    assert_eq!(rt; (file.sections().len(), file.bytes().len()), (13, 235));
-}
-
-#[test]
-fn reads_core_sections(rt: HostRuntime) -> Result<(), Fail> {
-    look_at(rt.alloc(), |file| assert_core(&rt, file))
-}
-
 // What is told of the segment: its alignment is 2^2 bytes.
 fn assert_infos(rt: &impl Abort, infos: &[WasmSegmentInfo<'_>]) {
     assert_eq!(rt; infos.len(), 1);

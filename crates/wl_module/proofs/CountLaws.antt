@@ -18,7 +18,7 @@ use Rattle.wl_module.specs.Globals.{IsGlobal, AreGlobals}
 use Rattle.wl_module.specs.Imports.{IsImport, imports_memory, ArePlacedImports, AreImports}
 use Rattle.wl_module.specs.Exports.{IsExport, AreExports}
 use Rattle.wl_module.specs.Segments.{IsSegment, AreTargeted, AreSegments}
-use Rattle.wl_module.specs.Sections.{IsSection, next, magic, Framed}
+use Rattle.wl_module.specs.Sections.{Section, IsSection, next, magic, IsModule, Framed}
 
 -- an item is never spelled by no bytes
 abbrev pub HasBytes : {X : Type 0} → (ℕ → X → List ℕ → Type 0) → Type 0
@@ -102,7 +102,10 @@ targeted_few = listed_few IsSegment (λ place t text s. front_bytes _ _ _ s.1.2 
 pub segments_few : AreFew AreSegments
 segments_few = seen_few (λ t. t.segment) AreTargeted targeted_few
 
-pub sections_few : AreFew Framed
-sections_few ss b s =
-    let few = chain_few IsSection next (λ last place x text t. omega (arith, ap length t.1.3.0, ap length t.1.2, length-append t.1.0 t.1.1)) 0 8 ss s.0 s.2 in
+pub modules_few : AreFew IsModule
+modules_few ss b s =
+    let few = chain_few IsSection next (λ last place x text t. omega (arith, ap length t.1.3, ap length t.1.2, length-append t.1.0 t.1.1)) 0 8 ss s.0 s.2 in
     omega (arith, few, ap length s.1, length-append magic s.0)
+
+pub sections_few : AreFew Framed
+sections_few = seen_few (λ (s : Section). s.header) IsModule modules_few

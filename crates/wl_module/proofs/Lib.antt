@@ -15,4 +15,3 @@ pub mod SegmentLaws
 pub mod SectionLaws
 pub mod CountLaws
 pub mod PlaceLaws
-pub mod Ranks

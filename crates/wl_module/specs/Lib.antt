@@ -15,5 +15,6 @@ pub mod Imports
 pub mod Exports
 pub mod Segments
 pub mod Limits
+pub mod SectionKinds
 pub mod Sections
 pub mod Places

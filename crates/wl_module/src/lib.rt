@@ -18,6 +18,7 @@ mod laws;
 mod limits;
 mod memories;
 pub mod section_id;
+mod section_kind;
 mod sections;
 mod segments;
 mod types;
@@ -36,9 +37,11 @@ pub use items::{Item, expect_end, read_list, read_payload};
 pub use laws::{lists_are_few, parts_stand};
 pub use limits::{Limits, MemoryType, TableType};
 pub use memories::{data_count_or_fault, memories_or_fault, read_data_count, read_memories};
+pub use section_kind::SectionKind;
 pub use sections::{
-    STANDARD_SECTION_LOOKUP_LEN, SectionAttributes, SectionFlags, SectionHeader, SectionType,
-    WASM_MAGIC, WASM_VERSION, ranges_lie_within, sections_or_fault, split_sections,
+    FramedSection, STANDARD_SECTION_LOOKUP_LEN, SectionAttributes, SectionFlags, SectionHeader,
+    SectionType, WASM_MAGIC, WASM_VERSION, ranges_lie_within, read_sections, section_headers,
+    sections_or_fault, sections_stand, split_sections,
 };
 pub use segments::{
     DataKind, TargetedSegment, WasmDataSegment, read_segments, read_targeted_segments,

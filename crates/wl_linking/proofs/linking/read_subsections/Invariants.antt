@@ -1,13 +1,9 @@
-use Rattle.std.proofs.Common.{◌≤◌, ◌^◌, length}
-use Rattle.wl_bytes.specs.Cursor.{end_of}
+use Rattle.std.proofs.Common.{length}
 use Rattle.wl_linking.proofs.LinkingLaws.{ReadsOn}
 use Rattle.wl_linking.proofs.linking.read_subsections.Given as goal
 
 abbrev pub invariant-loop-alloc : goal.invariant-loop-alloc
-invariant-loop-alloc l = record {
-  end : end_of l.reader ≤ 2 ^ 30;
-  so_far : ReadsOn l.base l.fn.reader l.reader l.seen l.linking;
-}
+invariant-loop-alloc l = ReadsOn l.base l.fn.reader l.reader l.seen l.linking
 
 abbrev pub decreases-loop-alloc : goal.decreases-loop-alloc
 decreases-loop-alloc l = length l.reader.rest

@@ -1,16 +1,24 @@
 use Rattle.std.proofs.Common.{arith}
 use Rattle.std.proofs.lemmas.Result.{err_from_is_err_and}
-use Rattle.wl_linking.proofs.PartLaws.{reads_more, reads_fault, placed_at}
+use Rattle.wl_linking.specs.Sections.{EndsWithin}
+use Rattle.wl_linking.proofs.HeldLaws.{spelled}
+use Rattle.wl_linking.proofs.ImportPlaces.{named_within}
+use Rattle.wl_linking.proofs.PartLaws.{reads_more, reads_fault, all_get}
 use Rattle.wl_linking.proofs.parts.read_parts.Goals as goal
 
-pub returns-in_err-section : goal.returns-in_err-section
-returns-in_err-section c =
+pub returns-in_err-items : goal.returns-in_err-items
+returns-in_err-items c =
     let p = err_from_is_err_and c.from_residual.result c.from_residual.ensures.1 in
-    rw (p.1, p.2) (reads_fault c.args.bytes.now c.args.headers.now c.loop-header.header-index _ c.loop-header.seen c.loop-header.parts c.in_err-section.field-0.0 (omega arith) c.loop-header.invariant c.in_err-section.ensures)
+    let here = rw c.section-item.is at c.in_err-items.ensures in
+    rw (p.1, p.2) (reads_fault c.args.sections.now c.loop-section.section-index c.section-item.result c.loop-section.parts c.in_err-items.field-0.0 (omega arith) c.loop-section.invariant here)
 
-pub loop-header-preserved : goal.loop-header-preserved
-loop-header-preserved c =
-    rw (c.in_ok-add.ensures, c.seen_then-seen.ensures) (reads_more c.args.bytes.now c.args.headers.now c.loop-header.header-index _ c.loop-header.seen c.loop-header.parts c.in_ok-section.section (omega arith) c.loop-header.invariant c.in_ok-section.ensures)
+pub add-requires : goal.add-requires
+add-requires c =
+    let s = c.section-item.result in
+    named_within s.kind s c.in_ok-items.items (rw (← c.section-item.is) at (all_get EndsWithin c.args.sections.now c.loop-section.section-index s c.requires (omega arith)))
+    (spelled s.kind c.args.sections.now c.loop-section.parts s c.in_ok-items.items s.payload c.in_ok-items.ensures)
 
-pub read_section-requires-clause-placed : goal.read_section-requires-clause-placed
-read_section-requires-clause-placed c = placed_at c.args.bytes.now c.args.headers.now c.loop-header.header-index _ c.requires.placed (omega arith)
+pub loop-section-preserved : goal.loop-section-preserved
+loop-section-preserved c =
+    let here = rw c.section-item.is at c.in_ok-items.ensures in
+    rw c.in_ok-add.ensures (reads_more c.args.sections.now c.loop-section.section-index c.section-item.result c.loop-section.parts c.in_ok-items.items (omega arith) c.loop-section.invariant here)

@@ -1,5 +1,5 @@
 use Rattle.std.proofs.Common.{◌≡◌, take}
-use Rattle.wl_linking.specs.Fitting.{memories_of}
+use Rattle.wl_linking.specs.Parts.{memories_of}
 use Rattle.wl_linking.proofs.plain.memories_of.Given as goal
 
 abbrev pub invariant-loop-segment : goal.invariant-loop-segment

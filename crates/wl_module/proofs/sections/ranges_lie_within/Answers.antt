@@ -2,4 +2,4 @@ use Rattle.wl_module.proofs.SectionLaws.{frame_within}
 use Rattle.wl_module.proofs.sections.ranges_lie_within.Goals as goal
 
 pub returns : goal.returns
-returns c = λ bytes sections framed. frame_within bytes sections framed
+returns c = frame_within

@@ -1,5 +1,5 @@
-use Rattle.wl_module.proofs.SectionLaws.{frame_alternatives}
+use Rattle.wl_module.proofs.SectionLaws.{frame_alternatives, module_alternatives}
 use Rattle.wl_module.proofs.sections.sections_or_fault.Goals as goal
 
 pub returns : goal.returns
-returns c = frame_alternatives
+returns c = record { headers = frame_alternatives; sections = module_alternatives }
