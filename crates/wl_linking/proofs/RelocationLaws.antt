@@ -19,7 +19,6 @@ use Rattle.wl_module.proofs.ListLaws.{number_reading, one_byte_reading, list_rea
 use Rattle.wl_module.proofs.CheckLaws.{when_reading}
 use Rattle.wl_linking.specs.RelocationTypes.{has_addend}
 use Rattle.wl_linking.specs.Relocations.{type_verdict, addend_or_zero, IsAddendWhere, addend_where_at, AreEntryParts, relocation_of, IsEntry, EntryFault, entry_parts_at, entry_at, AreEntries, EntriesFault, entries_of, Holds, HoldsFault, held_at, IsRelocSection, RelocSectionFault, reloc_section_of}
-use Rattle.wl_linking.specs.declared.relocations.WasmRelocation.{WasmRelocation}
 use Rattle.wl_linking.specs.declared.relocations.RelocHeld.{RelocHeld}
 use Rattle.wl_linking.specs.declared.relocations.Target.{Target}
 use Rattle.wl_linking.specs.declared.relocations.Target.TheVariants as target

@@ -1,5 +1,5 @@
 -- Relocation sections (object file linking, version 2, "Relocation Sections").
-use Rattle.std.specs.Prelude.{◌≡◌, ◌≢◌, ◌⊎◌, ℕ, ℤ, pos, ◌==◌, Bool, false, nat_lt, if◌then◌else◌, List, [], length, Option, Some, None, Result, Ok, Err}
+use Rattle.std.specs.Prelude.{◌≡◌, ◌⊎◌, ℕ, ℤ, pos, ◌==◌, Bool, false, nat_lt, if◌then◌else◌, List, [], Option, Some, None, Result, Ok, Err}
 use Rattle.wl_bytes.specs.Cursor.{Cursor}
 use Rattle.wl_bytes.specs.Parse.{Takes, ◌>>=◌}
 use Rattle.wl_bytes.specs.Leb.{IsU32, s32_form, IsSigned}
@@ -10,7 +10,7 @@ use Rattle.wl_module.specs.Constants.{SignedNumberFault, signed_number_at}
 use Rattle.wl_module.specs.Checks.{When, WhenFault, when_at}
 use Rattle.wl_module.specs.declared.error.ReadError.{ReadError}
 use Rattle.wl_module.specs.declared.error.ReadError.TheVariants.{Malformed, Unsupported}
-use Rattle.wl_module.specs.declared.error.Why.TheVariants.{Trailing, RelocType as UnknownType}
+use Rattle.wl_module.specs.declared.error.Why.TheVariants.{RelocType as UnknownType}
 use Rattle.wl_module.specs.declared.error.Form.TheVariants.{RelocType}
 use Rattle.wl_linking.specs.Verdict.{Judged, JudgedFault, judged_at, Seen}
 use Rattle.wl_linking.specs.RelocationTypes.{relocation_type_of, has_addend}
