@@ -19,6 +19,7 @@ use Rattle.wl_module.specs.Imports.{IsImport, imports_memory, ArePlacedImports, 
 use Rattle.wl_module.specs.Exports.{IsExport, AreExports}
 use Rattle.wl_module.specs.Segments.{IsSegment, AreTargeted, AreSegments}
 use Rattle.wl_module.specs.Sections.{Section, IsSection, next, magic, IsModule, Framed}
+use Rattle.wl_module.proofs.ChainLaws.{as_chain}
 
 -- an item is never spelled by no bytes
 abbrev pub HasBytes : {X : Type 0} → (ℕ → X → List ℕ → Type 0) → Type 0
@@ -38,13 +39,6 @@ name_bytes place name text s = front_bytes _ _ _ s.1 (number_bytes place (length
 
 -- ---- lists put together
 
-pub items_few : {X : Type 0} (item : ℕ → X → List ℕ → Type 0) → HasBytes item → (place : ℕ) (xs : List X) (text : List ℕ) → Items item place xs text → length xs ≤ length text
-items_few item h place [] text s = omega arith
-items_few item h place (x ∷ xs) text s =
-    let some = h place x s.0 s.3 in
-    let others = items_few item h (place + length s.0) xs s.1 s.4 in
-    omega (arith, some, others, ap length s.2, length-append s.0 s.1)
-
 pub chain_few : {S X : Type 0} (item : S → ℕ → X → List ℕ → Type 0) (next : S → X → S) → ((s : S) → HasBytes (item s)) → (s : S) (place : ℕ) (xs : List X) (text : List ℕ) → Chain item next s place xs text → length xs ≤ length text
 chain_few item next h s place [] text t = omega arith
 chain_few item next h s place (x ∷ xs) text t =
@@ -52,15 +46,16 @@ chain_few item next h s place (x ∷ xs) text t =
     let others = chain_few item next h (next s x) (place + length t.0) xs t.1 t.4 in
     omega (arith, some, others, ap length t.2, length-append t.0 t.1)
 
-pub listed_few : {X : Type 0} (item : ℕ → X → List ℕ → Type 0) → HasBytes item → AreFew (Whole (Listed item))
-listed_few item h xs payload s =
-    let few = items_few item h (0 + length s.0) xs s.1 s.4 in
-    omega (arith, few, ap length s.2, length-append s.0 s.1)
+pub items_few : {X : Type 0} (item : ℕ → X → List ℕ → Type 0) → HasBytes item → (place : ℕ) (xs : List X) (text : List ℕ) → Items item place xs text → length xs ≤ length text
+items_few item h place xs text s = chain_few (λ _. item) (λ u _. u) (λ _. h) tt place xs text (as_chain item place xs text s)
 
 pub listed_after_few : {S X : Type 0} (item : S → ℕ → X → List ℕ → Type 0) (next : S → X → S) → ((s : S) → HasBytes (item s)) → (s : S) → AreFew (Whole (ListedAfter item next s))
 listed_after_few item next h s xs payload t =
     let few = chain_few item next h s (0 + length t.0) xs t.1 t.4 in
     omega (arith, few, ap length t.2, length-append t.0 t.1)
+
+pub listed_few : {X : Type 0} (item : ℕ → X → List ℕ → Type 0) → HasBytes item → AreFew (Whole (Listed item))
+listed_few item h xs payload s = listed_after_few (λ _. item) (λ u _. u) (λ _. h) tt xs payload (s.0, s.1, s.2, s.3, as_chain item (0 + length s.0) xs s.1 s.4)
 
 pub seen_few : {X Y : Type 0} (f : X → Y) (spells : List X → List ℕ → Type 0) → AreFew spells → AreFew (SeenAs (map f) spells)
 seen_few f spells h ys payload s = let few = h s.0 payload s.1 in omega (arith, few, ap length s.2, length-map s.0 f)

@@ -4,7 +4,7 @@ use Rattle.std.proofs.lemmas.List.{append-nil}
 use Rattle.std.specs.List.{AllByRecursion}
 use Rattle.wl_bytes.specs.Items.{IsName}
 use Rattle.wl_bytes.specs.Leb.{IsU32}
-use Rattle.wl_bytes.specs.Grammar.{Then, Items}
+use Rattle.wl_bytes.specs.Grammar.{Then}
 use Rattle.wl_module.specs.Lists.{Listed, Whole, SeenAs}
 use Rattle.wl_module.specs.Chains.{Chain, ListedAfter, may_come, seen_then}
 use Rattle.wl_module.specs.Checks.{Where, Seen}
@@ -18,6 +18,7 @@ use Rattle.wl_module.specs.Imports.{IsKind, IsEntity, import_from, IsImport, imp
 use Rattle.wl_module.specs.Exports.{export_from, IsExport, AreExports}
 use Rattle.wl_module.specs.Segments.{Targeted, IsSegment, AreTargeted, AreSegments}
 use Rattle.wl_module.specs.Places.{StandsAt, PartsStand, ImportStands, PlacedImportStands, ExportStands, GlobalStands, BodyStands, SegmentStands, TargetedStands}
+use Rattle.wl_module.proofs.ChainLaws.{as_chain}
 
 -- ---- parts of parts
 
@@ -53,14 +54,6 @@ HasParts {X} stands item = (bytes : List ℕ) (place : ℕ) (x : X) (text : List
 seen_parts : {X Y : Type 0} (stands : List ℕ → Y → Type 0) (item : ℕ → X → List ℕ → Type 0) (f : X → Y) → HasParts (λ bytes x. stands bytes (f x)) item → HasParts stands (Seen item f)
 seen_parts stands item f h bytes place y text s there = subst (stands bytes) s.2 (h bytes place s.0 text s.1 there)
 
-pub items_stand : {X : Type 0} (stands : List ℕ → X → Type 0) (item : ℕ → X → List ℕ → Type 0) → HasParts stands item
-    → (bytes : List ℕ) (place : ℕ) (xs : List X) (text : List ℕ) → Items item place xs text → StandsAt bytes text place → AllByRecursion (stands bytes) xs
-items_stand stands item h bytes place [] text s there = tt
-items_stand stands item h bytes place (x ∷ xs) text (front, back, parts, here, others) there = (
-  h bytes place x front here (before_stands bytes text front back place parts there),
-  items_stand stands item h bytes (place + length front) xs back others (behind_stands bytes text front back place parts there),
-)
-
 pub chain_stands : {S X : Type 0} (stands : List ℕ → X → Type 0) (item : S → ℕ → X → List ℕ → Type 0) (next : S → X → S) → ((s : S) → HasParts stands (item s))
     → (bytes : List ℕ) (s : S) (place : ℕ) (xs : List X) (text : List ℕ) → Chain item next s place xs text → StandsAt bytes text place → AllByRecursion (stands bytes) xs
 chain_stands stands item next h bytes s place [] text c there = tt
@@ -69,13 +62,12 @@ chain_stands stands item next h bytes s place (x ∷ xs) text (front, back, part
   chain_stands stands item next h bytes (next s x) (place + length front) xs back others (behind_stands bytes text front back place parts there),
 )
 
-pub listed_stand : {X : Type 0} (stands : List ℕ → X → Type 0) (item : ℕ → X → List ℕ → Type 0) → HasParts stands item → PartsStand stands (Whole (Listed item))
-listed_stand stands item h xs payload (head, body, parts, count, items) =
-    items_stand stands item h payload (0 + length head) xs body items (behind_stands payload payload head body 0 parts (all_stands payload))
-
 pub listed_after_stand : {S X : Type 0} (stands : List ℕ → X → Type 0) (item : S → ℕ → X → List ℕ → Type 0) (next : S → X → S) → ((s : S) → HasParts stands (item s)) → (s : S) → PartsStand stands (Whole (ListedAfter item next s))
 listed_after_stand stands item next h s xs payload (head, body, parts, count, items) =
     chain_stands stands item next h payload s (0 + length head) xs body items (behind_stands payload payload head body 0 parts (all_stands payload))
+
+pub listed_stand : {X : Type 0} (stands : List ℕ → X → Type 0) (item : ℕ → X → List ℕ → Type 0) → HasParts stands item → PartsStand stands (Whole (Listed item))
+listed_stand stands item h xs payload (head, body, parts, count, items) = listed_after_stand stands (λ _. item) (λ u _. u) (λ _. h) tt xs payload (head, body, parts, count, as_chain item (0 + length head) xs body items)
 
 -- what f sees of each item has its parts there, if the item has
 all_seen : {X Y : Type 0} (f : X → Y) (stands : X → Type 0) (seen : Y → Type 0) → ((x : X) → stands x → seen (f x)) → (xs : List X) → AllByRecursion stands xs → AllByRecursion seen (map f xs)
