@@ -76,7 +76,10 @@ pub record IsFitting (o : Object) : Type 0 where
 
 -- one of these doesn't hold
 abbrev pub CrossFault : Object → ReadError → Type 0
-CrossFault o e = NamesFault o e ⊎ (SlotFault (spaces_of o) o.symbols e ⊎ (FieldsFault (code_pieces o) o.code_relocations e ⊎ FieldsFault (data_pieces o) o.data_relocations e))
+CrossFault o e = NamesFault o e
+    ⊎ (SlotFault (spaces_of o) o.symbols e
+    ⊎ (FieldsFault (code_pieces o) o.code_relocations e
+    ⊎ FieldsFault (data_pieces o) o.data_relocations e))
 
 -- the parts don't fit together
 abbrev pub PartsFault : List ℕ → List SectionHeader → Parts → ReadError → Type 0
@@ -172,4 +175,5 @@ pub record ParsesObject (bytes : List ℕ) (result : Result Object ReadError) : 
   pub only : (o : Object) → IsObject o bytes → Gives (λ f. f) result (Ok o)
   pub fault : IfErr result (HasCause (λ e. ObjectFault e bytes))
   pub frame : (e : ReadError) → FrameFault e bytes → Gives (λ f. f) result (Err e)
-  pub section : (e : ReadError) (sections : List Section) → IsModule sections bytes → SectionFault sections e → Gives (λ f. f) result (Err e)
+  pub section : (e : ReadError) (sections : List Section) → IsModule sections bytes → SectionFault sections e
+      → Gives (λ f. f) result (Err e)

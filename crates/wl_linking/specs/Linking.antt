@@ -164,7 +164,8 @@ with_subsection linking s = record {
 
 -- subsections to the end of the bytes
 abbrev pub AreSubsections : ℕ → List Subsection → Cursor → Cursor → Type 0
-AreSubsections base subsections from to = Takes (Chain (IsSubsection base) seen_after nothing_seen) subsections from to × (to.rest ≡ [])
+AreSubsections base subsections from to =
+    Takes (Chain (IsSubsection base) seen_after nothing_seen) subsections from to × (to.rest ≡ [])
 
 -- some subsections, and then one at fault
 abbrev pub SubsectionsFault : ℕ → ReadError → Cursor → Type 0
@@ -172,12 +173,15 @@ SubsectionsFault base = ChainFault (IsSubsection base) seen_after (SubsectionFau
 
 -- subsections to the end of the bytes hold this
 abbrev pub HaveSubsections : ℕ → Cursor → Linking → Type 0
-HaveSubsections base from linking = (subsections : List Subsection) × (last : Cursor) × AreSubsections base subsections from last × (linking ≡ linking_of subsections)
+HaveSubsections base from linking =
+    (subsections : List Subsection) × (last : Cursor) × AreSubsections base subsections from last × (linking ≡ linking_of subsections)
 
 -- a linking section: its version, and subsections to the end; so many bytes of the object lie before it
 abbrev pub IsLinking : ℕ → Linking → List ℕ → Type 0
-IsLinking base linking payload = (version : ℕ × Unit {0}) × (behind : Cursor) × Takes IsVersion version (start payload) behind × HaveSubsections base behind linking
+IsLinking base linking payload =
+    (version : ℕ × Unit {0}) × (behind : Cursor) × Takes IsVersion version (start payload) behind × HaveSubsections base behind linking
 
 -- the version is at fault, or what stands behind it is
 abbrev pub LinkingFault : ℕ → ReadError → List ℕ → Type 0
-LinkingFault base e payload = VersionFault e (start payload) ⊎ ((version : ℕ × Unit {0}) × (behind : Cursor) × Takes IsVersion version (start payload) behind × SubsectionsFault base e behind)
+LinkingFault base e payload = VersionFault e (start payload)
+    ⊎ ((version : ℕ × Unit {0}) × (behind : Cursor) × Takes IsVersion version (start payload) behind × SubsectionsFault base e behind)

@@ -127,7 +127,12 @@ part_of (Exports exports) = record no_parts { exports = exports }
 part_of (DataCount count) = record no_parts { data_counts = count ∷ [] }
 part_of (Code bodies) = record no_parts { bodies = bodies }
 part_of (Data segments) = record no_parts { segments = plain_segments segments; segment_memories = memories_of segments }
-part_of (Linking linking) = record no_parts { segment_infos = linking.segment_infos; init_funcs = linking.init_funcs; symbols = linking.symbols; has_linking = true }
+part_of (Linking linking) = record no_parts {
+  segment_infos = linking.segment_infos;
+  init_funcs = linking.init_funcs;
+  symbols = linking.symbols;
+  has_linking = true;
+}
 part_of (Reloc held) = reloc_part held
 part_of (Features features) = record no_parts { features = features }
 part_of (Debug section) = record no_parts { debug_sections = section ∷ [] }

@@ -26,7 +26,10 @@ Ascend place (piece ∷ pieces) = (place ≤ piece.place) × Ascend (piece_end p
 
 -- where in a piece a field of that form lies at that place of the section
 abbrev pub position_of : PieceOf → FieldForm → ℕ → Option ℕ
-position_of piece form offset = if nat_le piece.place offset && has_form form (take (field_len form) (drop (offset - piece.place) piece.bytes)) then Some (offset - piece.place) else None
+position_of piece form offset =
+    if nat_le piece.place offset && has_form form (take (field_len form) (drop (offset - piece.place) piece.bytes))
+    then Some (offset - piece.place)
+    else None
 
 -- the site at that place of a piece, if any
 abbrev pub site_in : ℕ → Option ℕ → Option Site
@@ -36,7 +39,10 @@ site_in unit (Some position) = Some (record { unit = unit; position = position }
 -- the site of a field among pieces, the first of which has that number
 abbrev pub site_of : ℕ → List PieceOf → FieldForm → ℕ → Option Site
 site_of unit [] form offset = None
-site_of unit (piece ∷ pieces) form offset = if nat_le (piece_end piece) offset then site_of (unit + 1) pieces form offset else site_in unit (position_of piece form offset)
+site_of unit (piece ∷ pieces) form offset =
+    if nat_le (piece_end piece) offset
+    then site_of (unit + 1) pieces form offset
+    else site_in unit (position_of piece form offset)
 
 -- a field lies in no piece
 abbrev pub FieldFault : List PieceOf → List WasmRelocation → ReadError → Type 0

@@ -45,7 +45,8 @@ LinkingItems before s linking payload = (before.has_linking ≡ false) × IsLink
 
 -- one came before, or the first one is at fault
 abbrev pub LinkingItemsFault : Parts → Section → ReadError → List ℕ → Type 0
-LinkingItemsFault before s e payload = ((before.has_linking ≡ true) × (e ≡ Malformed Repeated)) ⊎ ((before.has_linking ≡ false) × LinkingFault (base_of s) e payload)
+LinkingItemsFault before s e payload = ((before.has_linking ≡ true) × (e ≡ Malformed Repeated))
+    ⊎ ((before.has_linking ≡ false) × LinkingFault (base_of s) e payload)
 
 -- ---- a section, among all sections, after those with some items
 
@@ -132,7 +133,8 @@ EndsWithin s = base_of s + length s.payload ≤ MAX_LEN
 -- each section is sound after those before it, in file order, from some items to those that there are then
 abbrev pub AreSound : List Section → Parts → List Section → Parts → Type 0
 AreSound sections before [] after = before ≡ after
-AreSound sections before (s ∷ rest) after = (items : SectionItems) × IsSound sections before s items × AreSound sections (join before (part_of items)) rest after
+AreSound sections before (s ∷ rest) after =
+    (items : SectionItems) × IsSound sections before s items × AreSound sections (join before (part_of items)) rest after
 
 -- some sections are sound, and the next one is at fault
 abbrev pub AreFaulty : List Section → Parts → List Section → ReadError → Type 0

@@ -81,7 +81,8 @@ HasNoSite pieces rs = (i : ℕ) × (r : WasmRelocation) × (slice_get rs i ≡ S
 
 -- a field that begins before an earlier one ends
 abbrev pub HasOverlap : List WasmRelocation → Type 0
-HasOverlap rs = (i : ℕ) × (j : ℕ) × (d : WasmRelocation) × (i < j) × (j < length rs) × (IsBefore (slice_index_or rs i d) (slice_index_or rs j d) → ⊥)
+HasOverlap rs =
+    (i : ℕ) × (j : ℕ) × (d : WasmRelocation) × (i < j) × (j < length rs) × (IsBefore (slice_index_or rs i d) (slice_index_or rs j d) → ⊥)
 
 -- in ascending order of offset, and in file order where offsets are the same
 pub record AreInOrder (entries relocations : List WasmRelocation) : Type 0 where

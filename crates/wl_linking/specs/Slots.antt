@@ -78,7 +78,8 @@ pub record SharesSlot (kind : WasmSymbolKind) (count : ℕ) (s t : Symbol) : Typ
 
 -- the symbols of each of so many imports of that kind have one name
 abbrev pub HasOneName : WasmSymbolKind → ℕ → List Symbol → Type 0
-HasOneName kind count symbols = (i j : ℕ) (s t : Symbol) → slice_get symbols i ≡ Some s → slice_get symbols j ≡ Some t → SharesSlot kind count s t → s.name ≡ t.name
+HasOneName kind count symbols = (i j : ℕ) (s t : Symbol) → slice_get symbols i ≡ Some s → slice_get symbols j ≡ Some t
+    → SharesSlot kind count s t → s.name ≡ t.name
 
 -- two symbols of one of so many imports of that kind have different names
 pub record HasTwoNames (kind : WasmSymbolKind) (count : ℕ) (symbols : List Symbol) : Type 0 where

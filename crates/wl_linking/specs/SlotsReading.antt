@@ -22,7 +22,8 @@ IsNamedWithin i = i.name_offset + length i.import.name ≤ MAX_LEN
 
 -- what stands at one range of the bytes is one name
 abbrev pub AreNamedByRange : List Symbol → Type 0
-AreNamedByRange symbols = (i j : ℕ) (s t : Symbol) → slice_get symbols i ≡ Some s → slice_get symbols j ≡ Some t → s.name_range ≡ t.name_range → s.name ≡ t.name
+AreNamedByRange symbols = (i j : ℕ) (s t : Symbol) → slice_get symbols i ≡ Some s → slice_get symbols j ≡ Some t
+    → s.name_range ≡ t.name_range → s.name ≡ t.name
 
 -- a known name is that of a symbol where it stands at the same range
 abbrev pub IsNamedByRange : Option Slot → Symbol → Type 0
@@ -40,5 +41,6 @@ named_as s = record { name = s.name; range = s.name_range }
 -- The name of a symbol is taken down for its import, and whether it is the one that was known before. There may be no such
 -- import, and then nothing is told.
 pub record Agrees (before after : List (Option Slot)) (s : Symbol) (answer : Bool) : Type 0 where
-  pub there : (known : Option Slot) → slice_get before s.index ≡ Some known → (after ≡ slice_set before s.index (Some (named_as s))) × (answer ≡ is_name_of known s)
+  pub there : (known : Option Slot) → slice_get before s.index ≡ Some known
+      → (after ≡ slice_set before s.index (Some (named_as s))) × (answer ≡ is_name_of known s)
   pub beyond : slice_get before s.index ≡ None → (after ≡ before) × (answer ≡ true)

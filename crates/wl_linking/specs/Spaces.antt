@@ -88,7 +88,8 @@ memory_exists spaces (Some memory) = nat_lt memory (spaces.imported_memories + s
 
 -- the number of an undefined symbol is that of an import, and else of a definition, which come behind the imports
 abbrev pub number_exists : Bool → ℕ → ℕ → ℕ → Bool
-number_exists undefined imported defined index = if undefined then nat_lt index imported else nat_le imported index && nat_lt (index - imported) defined
+number_exists undefined imported defined index =
+    if undefined then nat_lt index imported else nat_le imported index && nat_lt (index - imported) defined
 
 -- what a symbol of that kind stands for exists: that of a section isn't looked at, and no table is defined
 abbrev pub thing_exists : Counts → WasmSymbolKind → Bool → ℕ → Bool

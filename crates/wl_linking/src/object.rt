@@ -92,6 +92,7 @@ fn read_contents(alloc: Global, bytes: &[u8]) -> Result<Contents<'_>, ReadError>
     check_names(alloc, &contents)?;
     Ok(contents)
 }
+
 /// Reads a relocatable object (core specification, "Modules"; object file linking, version 2), of
 /// `MAX_LEN` bytes at most.
 ///
