@@ -6,6 +6,7 @@ use Rattle.wl_bytes.specs.Leb.{IsU32}
 use Rattle.wl_bytes.specs.Items.{IsName}
 use Rattle.wl_bytes.specs.Grammar.{Items}
 use Rattle.wl_module.specs.declared.error.ReadError.{ReadError}
+use Rattle.wl_module.proofs.ChainLaws.{as_chain}
 use Rattle.wl_module.specs.Outcome.{ReadsWhole}
 use Rattle.wl_module.specs.Lists.{Listed, Whole, SeenAs, AreFew}
 use Rattle.wl_module.specs.Chains.{Chain, ListedAfter, may_come, seen_then}
@@ -19,7 +20,6 @@ use Rattle.wl_module.specs.Imports.{IsImport, imports_memory, ArePlacedImports, 
 use Rattle.wl_module.specs.Exports.{IsExport, AreExports}
 use Rattle.wl_module.specs.Segments.{IsSegment, AreTargeted, AreSegments}
 use Rattle.wl_module.specs.Sections.{Section, IsSection, next, magic, IsModule, Framed}
-use Rattle.wl_module.proofs.ChainLaws.{as_chain}
 
 -- an item is never spelled by no bytes
 abbrev pub HasBytes : {X : Type 0} → (ℕ → X → List ℕ → Type 0) → Type 0
