@@ -114,8 +114,8 @@ pub(crate) fn check_planned(files: &FileList<'_>) -> Result<(), LinkError>
 }
 
 /// The words ask for what can't be planned yet: to drop units, an entry, exports, to leave names to
-/// the host, shared memory, another place or size of the stack, another memory, features, or to leave
-/// sections out.
+/// the host, shared memory, another place or size of the stack, another memory, features, or to
+/// leave sections out.
 fn asks_for_unplanned(args: &WasmArgs) -> bool
     ensures { result ≡ asks_for_unplanned args.now }
 {

@@ -1,9 +1,10 @@
 //! The words of the command line, and the names that objects have in common.
 //!
 //! [`WasmArgs::parse`] reads the words; [`args_or_fault`] says that words are options and names of
-//! objects, or have a first fault. [`SymbolTable::build`] gathers the names of all objects, and sees
-//! that no two define one name. The table then answers what a name or a symbol stands for: a symbol,
-//! or what the linker makes ([`WasmLinkerSymbol`]). [`name_by_cases`] says the same by places.
+//! objects, or have a first fault. [`SymbolTable::build`] gathers the names of all objects, and
+//! sees that no two define one name. The table then answers what a name or a symbol stands for: a
+//! symbol, or what the linker makes ([`WasmLinkerSymbol`]). [`name_by_cases`] says the same by
+//! places.
 #![tactic(auto)]
 
 mod adding;

@@ -71,8 +71,8 @@ impl<'f, 'a> SymbolTable<'f, 'a> {
         build_uncounted::<Brand>(alloc, files, args, Blank::new(1))
     }
 
-    /// The same in steps that are counted: each is a call on the map of names, and there are at most
-    /// two for each symbol.
+    /// The same in steps that are counted: each is a call on the map of names, and there are at
+    /// most two for each symbol.
     ///
     /// # Errors
     /// As [`SymbolTable::build`].
