@@ -10,9 +10,9 @@ use Rattle.wl_bytes.proofs.GrammarLaws.{cursor_is, seen_reading}
 use Rattle.wl_module.specs.declared.error.ReadError.{ReadError}
 use Rattle.wl_module.specs.declared.error.ReadError.TheVariants.{OutOfMemory, Malformed, Unsupported}
 use Rattle.wl_module.specs.Outcome.{Fails, IsFault}
-use Rattle.wl_module.specs.Checks.{NoFault}
+use Rattle.wl_module.specs.Checks.{NoFault, Seen}
 use Rattle.wl_module.proofs.ListLaws.{IsWholeReading}
-use Rattle.wl_linking.specs.Verdict.{HasCause, Judged, JudgedFault, judged_at, Inside, InsideFault, Seen, IsHere, here_at}
+use Rattle.wl_linking.specs.Verdict.{HasCause, Judged, JudgedFault, judged_at, Inside, InsideFault, IsHere, here_at}
 
 -- what has a cause has another that follows from it
 pub cause_follows : (P Q : ReadError → Type 0) → ((e : ReadError) → P e → Q e) → (e : ReadError) → HasCause P e → HasCause Q e

@@ -6,11 +6,10 @@ use Rattle.wl_bytes.specs.Leb.{IsU32}
 use Rattle.wl_bytes.specs.Items.{IsName}
 use Rattle.wl_bytes.specs.Grammar.{Then, ThenFault, then_at, map_at}
 use Rattle.wl_module.specs.Lists.{NumberFault, number_at, WordFault, word_at, Listed, ListedFault, list_at, Whole, WholeFault, whole_of}
-use Rattle.wl_module.specs.Checks.{Where, WhereFault, where_at}
+use Rattle.wl_module.specs.Checks.{Where, WhereFault, where_at, Seen}
 use Rattle.wl_module.specs.declared.error.Why.TheVariants.{BadAlignment}
 use Rattle.wl_module.specs.declared.error.ReadError.{ReadError}
 use Rattle.wl_module.specs.declared.error.ReadError.TheVariants.{Malformed}
-use Rattle.wl_linking.specs.Verdict.{Seen}
 use Rattle.wl_linking.specs.declared.infos.WasmInitFunc.{WasmInitFunc}
 
 -- ---- segments

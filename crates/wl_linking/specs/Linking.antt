@@ -10,12 +10,12 @@ use Rattle.wl_module.specs.Lists.{NumberFault, ByteFault, number_at, one_byte_at
 use Rattle.wl_module.specs.Bodies.{StretchFault}
 use Rattle.wl_module.specs.Bodies.{stretch_at}
 use Rattle.wl_module.specs.Chains.{Chain, ChainFault}
-use Rattle.wl_module.specs.Checks.{NoFault}
+use Rattle.wl_module.specs.Checks.{NoFault, Seen}
 use Rattle.wl_module.specs.declared.error.ReadError.{ReadError}
 use Rattle.wl_module.specs.declared.error.ReadError.TheVariants.{Malformed, Unsupported}
 use Rattle.wl_module.specs.declared.error.Why.TheVariants.{Repeated}
 use Rattle.wl_module.specs.declared.error.Form.TheVariants.{LinkingVersion}
-use Rattle.wl_linking.specs.Verdict.{Judged, JudgedFault, judged_at, Inside, InsideFault, Seen, IsHere, here_at}
+use Rattle.wl_linking.specs.Verdict.{Judged, JudgedFault, judged_at, Inside, InsideFault, IsHere, here_at}
 use Rattle.wl_linking.specs.Infos.{SegmentInfo, AreInfos, InfosFault, infos_of, AreInits, InitsFault, inits_of}
 use Rattle.wl_linking.specs.Symbols.{Symbol, AreSymbols, SymbolsFault}
 use Rattle.wl_linking.specs.SymbolsReading.{symbols_of}

@@ -6,13 +6,13 @@ use Rattle.wl_bytes.specs.Leb.{IsU32}
 use Rattle.wl_bytes.specs.Items.{IsByte}
 use Rattle.wl_bytes.specs.Grammar.{Then, ThenFault}
 use Rattle.wl_module.specs.Lists.{NumberFault, ByteFault, WordFault, Listed, ListedFault, Whole, WholeFault}
-use Rattle.wl_module.specs.Checks.{When, WhenFault}
+use Rattle.wl_module.specs.Checks.{When, WhenFault, Seen}
 use Rattle.wl_module.specs.Words.{IsPlacedName}
 use Rattle.wl_module.specs.declared.error.ReadError.{ReadError}
 use Rattle.wl_module.specs.declared.error.ReadError.TheVariants.{Malformed, Unsupported}
 use Rattle.wl_module.specs.declared.error.Why.TheVariants.{BadByte}
 use Rattle.wl_module.specs.declared.error.Form.TheVariants.{Tag}
-use Rattle.wl_linking.specs.Verdict.{Judged, JudgedFault, Seen}
+use Rattle.wl_linking.specs.Verdict.{Judged, JudgedFault}
 use Rattle.wl_linking.specs.declared.symbols.WasmSymbolKind.{WasmSymbolKind}
 use Rattle.wl_linking.specs.declared.symbols.WasmSymbolKind.TheVariants.{Func, Data, Global, Section, Event, Table}
 

@@ -31,11 +31,7 @@ HasCause Cause OutOfMemory = Unit {0}
 HasCause Cause (Malformed why) = Cause (Malformed why)
 HasCause Cause (Unsupported form) = Cause (Unsupported form)
 
--- ---- the same seen otherwise
-
--- the text spells x, and x is seen as y
-abbrev pub Seen : {X Y : Type 0} → (ℕ → X → List ℕ → Type 0) → (X → Y) → ℕ → Y → List ℕ → Type 0
-Seen {X} spells view place y text = (x : X) × spells place x text × (view x ≡ y)
+-- ---- places
 
 -- how many bytes lie before a place, and none of them
 abbrev pub IsHere : ℕ → ℕ → List ℕ → Type 0

@@ -19,5 +19,9 @@ impl<'a> Model for DebugSectionInput<'a> {
 
     ghost Value = { DebugInput };
 
-    ghost view = { λ d. record { name = d.name.now; payload = d.payload.now; object_index = d.object_index } };
+    ghost view = { λ d. record {
+      name = d.name.now;
+      payload = d.payload.now;
+      object_index = d.object_index;
+    } };
 }

@@ -39,8 +39,9 @@ impl Flags for SymbolFlags {
 
     ghost exact = { ⊤ };
 
-    ghost table = { (codes "WEAK", 1) ∷ (codes "LOCAL", 2) ∷ (codes "HIDDEN", 4) ∷ (codes "UNDEFINED", 0x10) ∷ (codes "EXPORTED", 0x20)
-        ∷ (codes "EXPLICIT_NAME", 0x40) ∷ (codes "NO_STRIP", 0x80) ∷ (codes "TLS", 0x100) ∷ (codes "ABSOLUTE", 0x200) ∷ [] };
+    ghost table = { (codes "WEAK", 1) ∷ (codes "LOCAL", 2) ∷ (codes "HIDDEN", 4)
+        ∷ (codes "UNDEFINED", 0x10) ∷ (codes "EXPORTED", 0x20) ∷ (codes "EXPLICIT_NAME", 0x40)
+        ∷ (codes "NO_STRIP", 0x80) ∷ (codes "TLS", 0x100) ∷ (codes "ABSOLUTE", 0x200) ∷ [] };
 
     ghost set_of = { λ f. f.0 };
 

@@ -17,7 +17,7 @@ use Rattle.wl_module.specs.declared.error.ReadError.{ReadError}
 use Rattle.wl_module.specs.declared.error.ReadError.TheVariants.{Malformed, Unsupported}
 use Rattle.wl_module.specs.Error.{read_error}
 use Rattle.wl_module.specs.Lists.{NumberFault, number_at, ByteFault, one_byte_at}
-use Rattle.wl_module.specs.Checks.{Where, WhereFault, where_at, When, when_at, IsNothing, NoFault, nothing_at}
+use Rattle.wl_module.specs.Checks.{Where, WhereFault, where_at, When, when_at, IsNothing, NoFault, nothing_at, Seen}
 use Rattle.wl_module.specs.Constants.{SignedNumberFault, signed_number_at}
 use Rattle.wl_module.proofs.ListLaws.{number_reading, one_byte_reading}
 use Rattle.wl_module.proofs.CheckLaws.{where_reading, when_reading, nothing_reading}
@@ -26,14 +26,13 @@ use Rattle.wl_ops.specs.declared.table.Single.TheVariants.{Number, Alignment, Bl
 use Rattle.wl_ops.specs.declared.table.Immediate.{Immediate}
 use Rattle.wl_ops.specs.declared.table.Immediate.TheVariants.{One, ListOf, Catches}
 use Rattle.wl_ops.specs.declared.table.Shape.{Shape}
-use Rattle.wl_ops.specs.Seen.{Seen}
 use Rattle.wl_ops.specs.Table.{immediates, is_prefix, is_element, shape_of}
 use Rattle.wl_ops.specs.Immediates.{is_alignment, is_block_type, is_reference_type, is_value_type, IsSingle, SingleFault, single_at, is_catch, catch_numbers, IsKind, KindFault, kind_at, IsCatch, CatchFault, catch_at, counted, counted_lists, IsImmediate, ImmediateFault, immediate_at, joined, AreImmediates, ImmediatesFault, immediates_at}
 use Rattle.wl_ops.specs.Operators.{sub_of, IsSub, SubFault, sub_at, IsHead, HeadFault, head_at, IsBehind, IsTaken, taken_shape, IsBehindTaken, BehindFault, OpFault, behind_at, op_of, op_at}
 
 -- what is seen of an item is read as the item is
-pub see : {X Y E : Type 0} (f : X → Y) (spells : ℕ → X → List ℕ → Type 0) (wrong : E → Cursor → Type 0) (read : Cursor → Result (X × Cursor) E) → IsReading spells wrong read → IsReading (Seen f spells) wrong (map_at f read)
-see f spells wrong read law = seen_reading spells (Seen f spells) wrong read f (λ place x text s. (x, s, refl)) (λ place y text s. s) law
+pub see : {X Y E : Type 0} (f : X → Y) (spells : ℕ → X → List ℕ → Type 0) (wrong : E → Cursor → Type 0) (read : Cursor → Result (X × Cursor) E) → IsReading spells wrong read → IsReading (Seen spells f) wrong (map_at f read)
+see f spells wrong read law = seen_reading spells (Seen spells f) wrong read f (λ place x text s. (x, s, refl)) (λ place y text s. s) law
 
 -- ---- single values
 

@@ -14,7 +14,7 @@ use Rattle.wl_ops.specs.declared.table.Single.{Single}
 use Rattle.wl_ops.specs.declared.table.Single.TheVariants.{Number}
 use Rattle.wl_ops.specs.declared.table.Immediate.{Immediate}
 use Rattle.wl_ops.specs.declared.table.Immediate.TheVariants.{One, ListOf, Catches}
-use Rattle.wl_ops.specs.Seen.{with_front}
+use Rattle.wl_ops.specs.Front.{with_front}
 use Rattle.wl_ops.specs.Immediates.{single_at, catch_numbers, kind_at, catch_at, counted, counted_lists, flat_at, immediate_at, joined, immediates_at}
 
 abbrev Reading : Type 0

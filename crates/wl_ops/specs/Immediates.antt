@@ -10,7 +10,7 @@ use Rattle.wl_module.specs.declared.error.Form.TheVariants.{Operator}
 use Rattle.wl_module.specs.declared.error.ReadError.{ReadError}
 use Rattle.wl_module.specs.declared.error.ReadError.TheVariants.{Malformed, Unsupported}
 use Rattle.wl_module.specs.Lists.{NumberFault, number_at, ByteFault, one_byte_at}
-use Rattle.wl_module.specs.Checks.{Where, WhereFault, where_at, IsNothing, NoFault, nothing_at}
+use Rattle.wl_module.specs.Checks.{Where, WhereFault, where_at, IsNothing, NoFault, nothing_at, Seen}
 use Rattle.wl_module.specs.declared.types.ValType.{ValType}
 use Rattle.wl_module.specs.Types.{value_type_of, is_reference}
 use Rattle.wl_module.specs.Constants.{SignedNumberFault, signed_number_at}
@@ -18,7 +18,6 @@ use Rattle.wl_ops.specs.declared.table.Single.{Single}
 use Rattle.wl_ops.specs.declared.table.Single.TheVariants.{Number, Alignment, BlockType, Signed32, Signed64, Byte, ReferenceType, ValueType}
 use Rattle.wl_ops.specs.declared.table.Immediate.{Immediate}
 use Rattle.wl_ops.specs.declared.table.Immediate.TheVariants.{One, ListOf, Catches}
-use Rattle.wl_ops.specs.Seen.{Seen}
 
 -- ---- single values
 
@@ -45,14 +44,14 @@ is_reference_type b = is_some_reference (value_type_of b)
 
 -- what spells a value
 abbrev pub IsSingle : Single → ℕ → ℤ → List ℕ → Type 0
-IsSingle Number = Seen (λ n. pos n) IsU32
-IsSingle Alignment = Seen (λ n. pos n) (Where IsU32 is_alignment)
+IsSingle Number = Seen IsU32 (λ n. pos n)
+IsSingle Alignment = Seen (Where IsU32 is_alignment) (λ n. pos n)
 IsSingle BlockType = Where (IsSigned s33_form) is_block_type
 IsSingle Signed32 = IsSigned s32_form
 IsSingle Signed64 = IsSigned s64_form
-IsSingle Byte = Seen (λ b. pos b) IsByte
-IsSingle ReferenceType = Seen (λ b. pos b) (Where IsByte is_reference_type)
-IsSingle ValueType = Seen (λ b. pos b) (Where IsByte is_value_type)
+IsSingle Byte = Seen IsByte (λ b. pos b)
+IsSingle ReferenceType = Seen (Where IsByte is_reference_type) (λ b. pos b)
+IsSingle ValueType = Seen (Where IsByte is_value_type) (λ b. pos b)
 
 -- what is wrong with it
 abbrev pub SingleFault : Single → ReadError → Cursor → Type 0
@@ -102,7 +101,7 @@ kind_at c = where_at one_byte_at is_catch (Malformed BadByte) c
 
 -- a catch: its kind, and its numbers
 abbrev pub IsCatch : ℕ → List ℤ → List ℕ → Type 0
-IsCatch = Seen counted (Then IsKind (λ k. Times (IsSingle Number) (catch_numbers k)))
+IsCatch = Seen (Then IsKind (λ k. Times (IsSingle Number) (catch_numbers k))) counted
 
 abbrev pub CatchFault : ReadError → Cursor → Type 0
 CatchFault = ThenFault IsKind KindFault (λ k. TimesFault (IsSingle Number) (SingleFault Number) (catch_numbers k))
@@ -122,9 +121,9 @@ flat_at item n c = map_at (flat_map (λ zs. zs)) (times_at item n) c
 
 -- what spells these values
 abbrev pub IsImmediate : Immediate → ℕ → List ℤ → List ℕ → Type 0
-IsImmediate (One s) = Seen (λ z. z ∷ []) (IsSingle s)
-IsImmediate (ListOf s) = Seen counted (Then IsU32 (Times (IsSingle s)))
-IsImmediate Catches = Seen counted_lists (Then IsU32 (Times IsCatch))
+IsImmediate (One s) = Seen (IsSingle s) (λ z. z ∷ [])
+IsImmediate (ListOf s) = Seen (Then IsU32 (Times (IsSingle s))) counted
+IsImmediate Catches = Seen (Then IsU32 (Times IsCatch)) counted_lists
 
 abbrev pub ImmediateFault : Immediate → ReadError → Cursor → Type 0
 ImmediateFault (One s) = SingleFault s
@@ -144,8 +143,8 @@ joined p = p.0 ++ p.1
 
 -- all immediates, in their order
 abbrev pub AreImmediates : List Immediate → ℕ → List ℤ → List ℕ → Type 0
-AreImmediates [] = Seen (λ _. []) IsNothing
-AreImmediates (i ∷ is) = Seen joined (Then (IsImmediate i) (λ _. AreImmediates is))
+AreImmediates [] = Seen IsNothing (λ _. [])
+AreImmediates (i ∷ is) = Seen (Then (IsImmediate i) (λ _. AreImmediates is)) joined
 
 -- the first of them that is at fault
 abbrev pub ImmediatesFault : List Immediate → ReadError → Cursor → Type 0

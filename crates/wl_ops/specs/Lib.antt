@@ -1,4 +1,4 @@
-pub mod Seen
+pub mod Front
 pub mod Table
 pub mod Immediates
 pub mod Operators

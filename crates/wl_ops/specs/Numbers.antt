@@ -9,11 +9,10 @@ use Rattle.wl_bytes.specs.Grammar.{Then, ThenFault, then_at, Items, map_at}
 use Rattle.wl_module.specs.declared.error.ReadError.{ReadError}
 use Rattle.wl_module.specs.Outcome.{Fails}
 use Rattle.wl_module.specs.Lists.{NumberFault, number_at}
-use Rattle.wl_module.specs.Checks.{When, WhenFault, when_at, measured_at}
+use Rattle.wl_module.specs.Checks.{When, WhenFault, when_at, measured_at, Seen}
 use Rattle.wl_ops.specs.declared.op.Op.{Op}
 use Rattle.wl_ops.specs.declared.op.DataIndexImm.{DataIndexImm}
 use Rattle.wl_ops.specs.declared.op.Marked.{Marked}
-use Rattle.wl_ops.specs.Seen.{Seen}
 use Rattle.wl_ops.specs.Operators.{IsHead, HeadFault, head_at, taken_shape, IsBehindTaken, BehindFault, behind_at}
 use Rattle.wl_ops.specs.Decoding.{AreLocals, is_ended, AreTaken, DecodeFault, ops_of, body_of}
 
@@ -56,8 +55,8 @@ without_number zs = (None, zs)
 
 -- what stands behind a first byte and its number
 abbrev pub IsMarkedBehind : Bool → ℕ × ℕ → ℕ → Option DataIndexImm × List ℤ → List ℕ → Type 0
-IsMarkedBehind true h = Seen with_number (IsSegment h.1)
-IsMarkedBehind false h = Seen without_number (IsBehindTaken (taken_shape h))
+IsMarkedBehind true h = Seen (IsSegment h.1) with_number
+IsMarkedBehind false h = Seen (IsBehindTaken (taken_shape h)) without_number
 
 abbrev pub MarkedBehindFault : Bool → ℕ × ℕ → ReadError → Cursor → Type 0
 MarkedBehindFault true h = SegmentFault h.1

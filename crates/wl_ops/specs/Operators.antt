@@ -10,10 +10,9 @@ use Rattle.wl_module.specs.declared.error.Form.TheVariants.{Operator, ElementOpe
 use Rattle.wl_module.specs.declared.error.ReadError.{ReadError}
 use Rattle.wl_module.specs.declared.error.ReadError.TheVariants.{Malformed, Unsupported}
 use Rattle.wl_module.specs.Lists.{NumberFault, number_at, ByteFault, one_byte_at}
-use Rattle.wl_module.specs.Checks.{Where, When, WhenFault, when_at}
+use Rattle.wl_module.specs.Checks.{Where, When, WhenFault, when_at, Seen}
 use Rattle.wl_ops.specs.declared.table.Shape.{Shape}
 use Rattle.wl_ops.specs.declared.op.Op.{Op}
-use Rattle.wl_ops.specs.Seen.{Seen}
 use Rattle.wl_ops.specs.Table.{immediates, is_prefix, is_untaken, is_element, shape_of}
 use Rattle.wl_ops.specs.Immediates.{AreImmediates, ImmediatesFault, immediates_at}
 
@@ -25,7 +24,7 @@ sub_of o = unwrap_or o 0
 
 -- the number behind a first byte
 abbrev pub IsSub : ℕ → ℕ → ℕ → List ℕ → Type 0
-IsSub code = Seen sub_of (When IsU32 (is_prefix code))
+IsSub code = Seen (When IsU32 (is_prefix code)) sub_of
 
 abbrev pub SubFault : ℕ → ReadError → Cursor → Type 0
 SubFault code = WhenFault NumberFault (is_prefix code)

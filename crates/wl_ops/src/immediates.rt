@@ -5,7 +5,7 @@ ghost use Rattle.wl_bytes.specs.Cursor.{end_of};
 ghost use Rattle.wl_bytes.specs.Grammar.{times_at};
 ghost use Rattle.wl_module.specs.Outcome.{Yields};
 ghost use Rattle.wl_module.specs.Lists.{number_at};
-ghost use Rattle.wl_ops.specs.Seen.{with_front};
+ghost use Rattle.wl_ops.specs.Front.{with_front};
 ghost use Rattle.wl_ops.specs.Immediates.{is_block_type, single_at, catch_numbers, kind_at, catch_at, flat_at, immediate_at, immediates_at};
 
 use crate::op::OpArgs;

@@ -1,6 +1,6 @@
 use Rattle.std.proofs.Common.{◌∙◌}
 use Rattle.std.proofs.lemmas.Result.{err_from_is_err_and}
-use Rattle.wl_ops.specs.Seen.{with_front}
+use Rattle.wl_ops.specs.Front.{with_front}
 use Rattle.wl_ops.specs.Immediates.{catch_at, flat_at}
 use Rattle.wl_ops.proofs.Pushing.{front_ok, front_fails, flat_goes_on, flat_ends, flat_done}
 use Rattle.wl_ops.proofs.immediates.read_catches.Goals as goal

@@ -1,6 +1,6 @@
 use Rattle.std.proofs.Common.{◌≡◌, ◌-◌}
 use Rattle.wl_bytes.specs.Cursor.{end_of}
-use Rattle.wl_ops.specs.Seen.{with_front}
+use Rattle.wl_ops.specs.Front.{with_front}
 use Rattle.wl_ops.specs.Immediates.{catch_at, flat_at}
 use Rattle.wl_ops.proofs.immediates.read_catches.Given as goal
 

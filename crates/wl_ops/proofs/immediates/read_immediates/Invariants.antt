@@ -1,6 +1,6 @@
 use Rattle.std.proofs.Common.{◌≡◌, drop}
 use Rattle.wl_bytes.specs.Cursor.{end_of}
-use Rattle.wl_ops.specs.Seen.{with_front}
+use Rattle.wl_ops.specs.Front.{with_front}
 use Rattle.wl_ops.specs.Immediates.{immediates_at}
 use Rattle.wl_ops.proofs.immediates.read_immediates.Given as goal
 

@@ -2,7 +2,7 @@ use Rattle.std.proofs.Common.{◌∙◌, rules, w64, SFits}
 use Rattle.std.proofs.lemmas.Int.{to_z-of_z}
 use Rattle.std.proofs.lemmas.Result.{err_from_is_err_and}
 use Rattle.wl_bytes.specs.Grammar.{times_at}
-use Rattle.wl_ops.specs.Seen.{with_front}
+use Rattle.wl_ops.specs.Front.{with_front}
 use Rattle.wl_ops.specs.Immediates.{single_at}
 use Rattle.wl_ops.proofs.Pushing.{goes_on, ends, is_done}
 use Rattle.wl_ops.proofs.immediates.read_singles.Goals as goal

@@ -1,7 +1,7 @@
 use Rattle.std.proofs.Common.{◌≡◌, ◌-◌}
 use Rattle.wl_bytes.specs.Cursor.{end_of}
 use Rattle.wl_bytes.specs.Grammar.{times_at}
-use Rattle.wl_ops.specs.Seen.{with_front}
+use Rattle.wl_ops.specs.Front.{with_front}
 use Rattle.wl_ops.specs.Immediates.{single_at}
 use Rattle.wl_ops.proofs.immediates.read_singles.Given as goal
 
