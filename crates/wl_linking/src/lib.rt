@@ -5,30 +5,47 @@
 //! why objects can't be linked.
 #![tactic(auto)]
 
+// The steps.
+mod object;
+
+// Sections.
+mod kinds;
+mod section;
+
+// What the linking section holds.
 mod base;
-mod contents;
-mod debug;
-mod error;
-mod features;
-mod file;
-mod file_list;
 mod flags;
 mod infos;
-mod items;
-mod kinds;
 mod linking;
-mod lists;
-mod object;
-mod parts;
-mod plain;
-mod raw_name;
+mod symbols;
+
+// Relocation sections.
 mod relocation_type;
 mod relocations;
-mod section;
+
+// The other custom sections that are kept.
+mod debug;
+mod features;
+
+// What all sections hold, put together.
+mod parts;
+mod plain;
+
+// What joins sections.
 mod sites;
 mod slots;
 mod spaces;
-mod symbols;
+
+// An object as crates above see it.
+mod contents;
+mod file;
+mod file_list;
+mod lists;
+
+// Refusals, and small types of lists and texts.
+mod error;
+mod items;
+mod raw_name;
 mod text;
 
 pub use debug::DebugSectionInput;
