@@ -6,11 +6,11 @@ ghost use Rattle.wl_symbols.specs.Adding.{firsts_in, repeat_in, AddsOne, AddsAll
 
 use crate::entry::{Firsts, Place, Strength, is_private, strength_of};
 use crate::names::CountedNames;
-use crate::steps::Steps;
 use std::alloc::AllocError;
 use std::marker::Model;
 use std::sync::ledger::Ledger;
 use wl_linking::{File, WasmSymbol};
+use wl_steps::Steps;
 
 /// Two strong symbols of one name.
 #[derive(Drop)]

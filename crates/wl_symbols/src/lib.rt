@@ -15,7 +15,6 @@ mod laws;
 mod linker_symbol;
 mod names;
 mod options;
-mod steps;
 mod table;
 mod texts;
 mod values;
@@ -28,7 +27,6 @@ pub use linker_symbol::{
     LINKER_MEMORY_BASE, LINKER_TABLE_BASE, STACK_ALIGNMENT, WASM_PAGE_SIZE, WasmLinkerSymbol,
 };
 pub use options::{Flag, MemoryOption, Setting, Takes};
-pub use steps::Steps;
 pub use table::SymbolTable;
 pub use texts::Texts;
 pub use values::MemoryName;

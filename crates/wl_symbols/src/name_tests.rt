@@ -9,6 +9,7 @@ use std::process::Abort;
 use std::sync::ledger::{Blank, Ledger};
 use std::test::Fail;
 use wl_linking::{File, FileList, LinkError, WasmSymbol, WasmSymbolKind, parse_wasm_module};
+use wl_steps::Steps;
 
 /// Two imports `()->()`, undefined functions without names of their own: `a` and `__tls_base`.
 const IMPORTS: &[u8; 58] = b"\0asm\x01\0\0\0\

@@ -4,10 +4,10 @@ ghost use Rattle.std.specs.Prelude.{◌≡◌, ℕ, ◌+◌, List, OnOk, if◌th
 ghost use Rattle.wl_symbols.specs.Adding.{no_firsts, firsts_in};
 
 use crate::entry::Firsts;
-use crate::steps::Steps;
 use std::alloc::{AllocError, Global};
 use std::collections::HashMap;
 use std::sync::ledger::Ledger;
+use wl_steps::Steps;
 
 /// For each name the first symbols that have it. Names are stretches of the objects' bytes. The map
 /// has a fixed seed, and nothing goes through it.

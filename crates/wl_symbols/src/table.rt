@@ -12,11 +12,11 @@ use crate::args::WasmArgs;
 use crate::entry::{Definition, is_private};
 use crate::linker_symbol::WasmLinkerSymbol;
 use crate::names::{CountedNames, NameMap};
-use crate::steps::Steps;
 use std::alloc::{AllocError, Global};
 use std::marker::{Brand, Model};
 use std::sync::ledger::{Blank, Ledger};
 use wl_linking::{FileList, LinkError, Text, WasmSymbol};
+use wl_steps::Steps;
 
 /// Which definition each name has that objects have in common. Clauses see it as what is linked:
 /// the objects and the options that it was built of.
