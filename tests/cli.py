@@ -15,6 +15,8 @@ EXAMPLES = ROOT / "examples"
 OBJECTS = ROOT / "tests" / "objects"
 ROWS = ROOT / "tests" / "rows.txt"
 FORMAT = ROOT / "docs" / "FORMAT.md"
+OPTIONS = ROOT / "docs" / "OPTIONS.md"
+README = ROOT / "README.md"
 FLAGS = ["--no-gc-sections", "--no-entry"]
 LARGEST = 1 << 30
 
@@ -169,14 +171,15 @@ def rows(folder):
                 check(f"{rule}: {row}", run([*words, *files]), int(status), out.encode(), err.encode())
 
 
-def table_of(title):
-    """The rows below the first one of a table in docs/FORMAT.md, each a list of its cells."""
-    lines = FORMAT.read_text().splitlines()
+def table_of(document, title):
+    """The rows below the first one of a table in a document, each a list of its cells."""
+    lines = document.read_text().splitlines()
     rows = []
     for line in lines[lines.index(title) + 2 :]:
         if not line.startswith("|"):
-            return rows
+            break
         rows.append([cell.strip() for cell in line.strip("|").split("|")])
+    return rows
 
 
 def note(title, sound):
@@ -184,7 +187,7 @@ def note(title, sound):
     global passed, failed
     passed, failed = (passed + 1, failed) if sound else (passed, failed + 1)
     if not sound:
-        print(f"docs/FORMAT.md: {title}")
+        print(f"the documents: {title}")
 
 
 def documented_names():
@@ -192,14 +195,27 @@ def documented_names():
     answers = re.findall(r"^.* = 1 (Malformed|Unsupported) \d+ (\w+)$", ROWS.read_text(), re.M)
     for fault, cause in [("Malformed", "likely cause"), ("Unsupported", "what it is")]:
         told = {name for kind, name in answers if kind == fault}
-        rows = table_of(f"| `{fault}` | {cause} |")
+        rows = table_of(FORMAT, f"| `{fault}` | {cause} |")
         explained = {name for names, text in rows if not text.startswith("not told yet") for name in names.split(", ")}
         note(f"the names of `{fault}`: {explained ^ told}", explained == told)
 
 
+def documented_options():
+    """The options of the README and of docs/OPTIONS.md are those of the program's table."""
+    code = (ROOT / "crates" / "wl_symbols" / "src" / "options.rt").read_text()
+    wanted = set(re.findall(r'name: "([\w-]+)"', code))
+    tables = [
+        (OPTIONS, "| option | value | field of `WasmArgs` | of several | without it |"),
+        (README, "| option | meaning | without it |"),
+    ]
+    for document, title in tables:
+        names = {name for row in table_of(document, title) for name in re.findall(r"`-{0,2}([\w-]+)", row[0])}
+        note(f"the options of {document.name}: {names ^ wanted}", names == wanted)
+
+
 def documented_relocations(folder):
     """A type of relocation that docs/FORMAT.md has is read, with an addend where it says so; others are refused."""
-    rows = table_of("| number | type | field | addend | index | stands in |")
+    rows = table_of(FORMAT, "| number | type | field | addend | index | stands in |")
     addends = {int(number): addend == "yes" for number, _, _, addend, _, _ in rows}
     sound = (EXAMPLES / "two_functions.o").read_bytes()
     made = folder / "relocation.o"
@@ -280,6 +296,7 @@ def main():
         sys.exit("the program isn't built yet, .ci/run does: 0 passed, 1 failed")
     objects_as_written()
     documented_names()
+    documented_options()
     listings()
     words()
     options()
