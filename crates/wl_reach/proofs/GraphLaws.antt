@@ -116,12 +116,12 @@ Filled-more starts edges i ends targets e room apart f lt at inside =
             | inr other ↦
                 let left : degree (take i edges) k ≤ degree edges k = degree-le edges k i in
                 let kept : take (degree (take i edges) k) (drop (get_or starts k 0) (set targets (get_or ends e.from 0) e.to)) ≡ take (degree (take i edges) k) (drop (get_or starts k 0) targets) =
-                    elim (cases_lt k e.from) [
-                      | inl before ↦ stretch_kept_behind targets (get_or starts k 0) (degree (take i edges) k) (get_or ends e.from 0) e.to (let gap = apart k e.from before inside in omega arith)
-                      | inr after ↦
-                          let above : e.from < k = omega arith in
-                          stretch_kept targets (get_or starts k 0) (degree (take i edges) k) (get_or ends e.from 0) e.to (let gap = apart e.from k above below in omega arith)
-                    ] in
+                elim (cases_lt k e.from) [
+                  | inl before ↦ stretch_kept_behind targets (get_or starts k 0) (degree (take i edges) k) (get_or ends e.from 0) e.to (let gap = apart k e.from before inside in omega arith)
+                  | inr after ↦
+                      let above : e.from < k = omega arith in
+                      stretch_kept targets (get_or starts k 0) (degree (take i edges) k) (get_or ends e.from 0) e.to (let gap = apart e.from k above below in omega arith)
+                ] in
                 rw (targets_of_other edges k i e lt at (λ g. other (sym g))) (kept ∙ f.laid_at k below)
           ];
     }
@@ -259,12 +259,12 @@ sum_by-graph_of n edges counts c =
     let whole : take (length edges) edges ≡ edges = take_all (length edges) edges (omega arith) in
     let size : length (map (λ (x : List ℕ). length x) (graph_of n edges)) ≡ n = length-map (graph_of n edges) (λ (x : List ℕ). length x) ∙ length-graph_of n edges in
     let same : map (λ (x : List ℕ). length x) (graph_of n edges) ≡ counts =
-        same_lists _ _ (size ∙ sym c.size)
-        (λ k d lt.
-        let below : k < n = rw size at lt in
-        get_or-map (λ (x : List ℕ). length x) (graph_of n edges) k [] d (rw length-graph_of below)
-        ∙ (ap (λ (x : List ℕ). length x) (get_or-graph_of n edges k [] below)
-        ∙ (sym (c.at k below ∙ ap (λ es. degree es k) whole) ∙ get_or_default counts k 0 d (rw c.size below)))) in
+    same_lists _ _ (size ∙ sym c.size)
+    (λ k d lt.
+    let below : k < n = rw size at lt in
+    get_or-map (λ (x : List ℕ). length x) (graph_of n edges) k [] d (rw length-graph_of below)
+    ∙ (ap (λ (x : List ℕ). length x) (get_or-graph_of n edges k [] below)
+    ∙ (sym (c.at k below ∙ ap (λ es. degree es k) whole) ∙ get_or_default counts k 0 d (rw c.size below)))) in
     sym (sum-map (λ (x : List ℕ). length x) (graph_of n edges)) ∙ (ap sum same ∙ c.all)
 
 -- where the stretches lie, by the counts of all edges

@@ -39,7 +39,7 @@ count_in n words w (suc k) fits small =
     let row : (w * 64 + k) / 64 ≡ w = div-mul-add w 64 k (omega arith) in
     let column : (w * 64 + k) % 64 ≡ k = mod-mul-add w 64 k (omega arith) in
     let bit : get_or (unpacked n words) (w * 64 + k) false ≡ (bit_at (get_or words w 0) k == 1) =
-        get_or-unpacked n words (w * 64 + k) false below ∙ (ap (λ r. bit_at (get_or words r 0) ((w * 64 + k) % 64) == 1) row ∙ ap (λ m. bit_at (get_or words w 0) m == 1) column) in
+    get_or-unpacked n words (w * 64 + k) false below ∙ (ap (λ r. bit_at (get_or words r 0) ((w * 64 + k) % 64) == 1) row ∙ ap (λ m. bit_at (get_or words w 0) m == 1) column) in
     let next = count_set_more (unpacked n words) (w * 64 + k) (rw length-unpacked below) in
     let turn : w * 64 + suc k ≡ w * 64 + k + 1 = omega arith in
     let one : suc k ≡ k + 1 = omega arith in

@@ -76,10 +76,7 @@ impl Marks {
         requires { place < length self.now }
         ensures { result ≡ slice_index_or self.now place false }
     {
-        has_bit(
-            self.words[place / WORD_BITS],
-            (place % WORD_BITS) as u32,
-        )
+        has_bit(self.words[place / WORD_BITS], (place % WORD_BITS) as u32)
     }
 
     /// Sets the mark of that number.
@@ -96,10 +93,7 @@ impl Marks {
         requires { place < length self.now }
         ensures { count_set (take (place / 64 * 64) self.now) + result ≡ count_set (take place self.now) }
     {
-        ones_below(
-            self.words[place / WORD_BITS],
-            (place % WORD_BITS) as u32,
-        )
+        ones_below(self.words[place / WORD_BITS], (place % WORD_BITS) as u32)
     }
 }
 

@@ -16,7 +16,7 @@ loop-word-preserved c =
       size = rw c.in_ok-push.ensures.items (length_push _ _ ∙ ap (λ n. n + 1) c.loop-word.invariant.size);
       total = words_more c.args.marks.now c.loop-word.word c.loop-word.total c.count_in_word.result c.from.result c.min-last.result lt last c.loop-word.invariant.total c.count_in_word.ensures mark;
       at = rw c.in_ok-push.ensures.items
-      (below_more (λ w. get_or _ w 0 ≡ count_set (take (w * 64) c.args.marks.now)) c.loop-word.word
-      (λ w below. get_or_append_left c.loop-word.before.items _ 0 w (omega (arith, c.loop-word.invariant.size)) ∙ c.loop-word.invariant.at w below)
-      (get_or_push c.loop-word.before.items c.loop-word.total 0 c.loop-word.word c.loop-word.invariant.size ∙ (c.loop-word.invariant.total ∙ ap (λ n. count_set (take n c.args.marks.now)) before)));
+          (below_more (λ w. get_or _ w 0 ≡ count_set (take (w * 64) c.args.marks.now)) c.loop-word.word
+          (λ w below. get_or_append_left c.loop-word.before.items _ 0 w (omega (arith, c.loop-word.invariant.size)) ∙ c.loop-word.invariant.at w below)
+          (get_or_push c.loop-word.before.items c.loop-word.total 0 c.loop-word.word c.loop-word.invariant.size ∙ (c.loop-word.invariant.total ∙ ap (λ n. count_set (take n c.args.marks.now)) before)));
     }

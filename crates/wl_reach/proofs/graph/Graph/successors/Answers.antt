@@ -41,7 +41,7 @@ returns-clause-are c =
     let start = get_or_read c.self.inside.starts.items c.args.node c.index-start.result.now lt c.index-start.ensures 0 in
     let end = get_or_read c.self.inside.ends.items c.args.node c.index-end.result.now (rw c.self.invariant.size lt) c.index-end.ensures 0 in
     let cut : c.split_at-2.result.0.now ≡ stretch c.self.inside.starts.items c.self.inside.ends.items c.self.inside.targets.items c.args.node =
-        c.split_at-2.ensures.front ∙ (ap (take (c.index-end.result.now - c.index-start.result.now)) (c.split_at.ensures.back ∙ ap (drop c.index-start.result.now) c.as_slice.ensures.value) ∙ rw (start, end) refl) in
+    c.split_at-2.ensures.front ∙ (ap (take (c.index-end.result.now - c.index-start.result.now)) (c.split_at.ensures.back ∙ ap (drop c.index-start.result.now) c.as_slice.ensures.value) ∙ rw (start, end) refl) in
     cut ∙ (sym (get_or-stretches c.self.inside.starts.items c.self.inside.ends.items c.self.inside.targets.items c.args.node [] lt) ∙ ap (λ g. get_or g c.args.node []) c.self.view_is)
 
 pub returns-clause-nodes : goal.returns-clause-nodes
@@ -50,6 +50,6 @@ returns-clause-nodes c =
     let start = get_or_read c.self.inside.starts.items c.args.node c.index-start.result.now lt c.index-start.ensures 0 in
     let end = get_or_read c.self.inside.ends.items c.args.node c.index-end.result.now (rw c.self.invariant.size lt) c.index-end.ensures 0 in
     let cut : c.split_at-2.result.0.now ≡ stretch c.self.inside.starts.items c.self.inside.ends.items c.self.inside.targets.items c.args.node =
-        c.split_at-2.ensures.front ∙ (ap (take (c.index-end.result.now - c.index-start.result.now)) (c.split_at.ensures.back ∙ ap (drop c.index-start.result.now) c.as_slice.ensures.value) ∙ rw (start, end) refl) in
+    c.split_at-2.ensures.front ∙ (ap (take (c.index-end.result.now - c.index-start.result.now)) (c.split_at.ensures.back ∙ ap (drop c.index-start.result.now) c.as_slice.ensures.value) ∙ rw (start, end) refl) in
     let size : length c.self.inside.starts.items ≡ length c.args.self.now = sym (length-stretches c.self.inside.starts.items c.self.inside.ends.items c.self.inside.targets.items) ∙ ap length c.self.view_is in
     rw (cut, ← size) (c.self.invariant.nodes c.args.node lt)
