@@ -1,0 +1,5 @@
+pub mod GraphLaws
+pub mod MarkLaws
+pub mod RankLaws
+pub mod ChainLaws
+pub mod SearchLaws
