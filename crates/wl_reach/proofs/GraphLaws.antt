@@ -1,8 +1,7 @@
 -- A table of edges by counts: what one more edge adds, and that each stretch holds the edges of its node.
-use Rattle.std.proofs.Common.{◌≡◌, ◌≢◌, ℕ, zero, suc, ◌+◌, ◌-◌, ◌<◌, ◌≤◌, ◌==◌, Bool, true, false, cond, List, [], ◌∷◌, ◌++◌, length, get_or, set, take, drop, map, filter, eqb, inl, inr, refl, ap, sym, ◌∙◌, arith, All, sum, sum_by, subst, ◌⊎◌, ◌↔◌, Contains, length-append, replicate}
-use Rattle.std.specs.List.{range_with_len, slice_range}
-use Rattle.std.proofs.lemmas.Bool.{cases_eq, cases_lt, cases_Bool, eq-eqb, ne_eqb, eqb-true}
-use Rattle.std.proofs.lemmas.List.{map-append, append-nil, length-set, length-map, length_push, get_or-set_same, get_or-set_other, get_or-replicate, get_or_past, get_or-map, get_or_default, drop-set-lt, drop-set-add, take-set-le, take_more_set, take-take, take_all, take-append-drop, same_lists, length-drop, length-take, length-replicate, take_more}
+use Rattle.std.proofs.Common.{◌≡◌, ◌≢◌, ℕ, zero, suc, ◌+◌, ◌-◌, ◌<◌, ◌≤◌, ◌==◌, cond, List, [], ◌∷◌, ◌++◌, length, get_or, set, take, drop, map, filter, inl, inr, refl, ap, sym, ◌∙◌, arith, All, sum, sum_by, subst, ◌⊎◌, ◌↔◌, Contains, length-append, replicate}
+use Rattle.std.proofs.lemmas.Bool.{cases_eq, cases_lt, eq-eqb, ne_eqb}
+use Rattle.std.proofs.lemmas.List.{map-append, append-nil, length-set, length-map, length_push, get_or-set_same, get_or-set_other, get_or-replicate, get_or_past, get_or-map, get_or_default, drop-set-lt, drop-set-add, take-set-le, take_more_set, take-take, take_all, take-append-drop, same_lists, length-drop, length-replicate}
 use Rattle.std.proofs.lemmas.List.Elements.{filter_more, filter-append, All-map, All-filter, All-same, All-contains}
 use Rattle.std.proofs.lemmas.List.Sums.{sum_by-set, sum_by_more, sum_by-take-le, sum_by_more_le, sum-map}
 use Rattle.std.proofs.lemmas.List.Folds.{sum_by-replicate}

@@ -1,11 +1,10 @@
 -- How many marks are set, by the ones of words.
-use Rattle.std.proofs.Common.{◌≡◌, ℕ, zero, suc, ◌+◌, ◌*◌, ◌/◌, ◌%◌, ◌^◌, ◌<◌, ◌≤◌, ◌==◌, Bool, true, false, cond, min, ◌-◌, List, length, get_or, take, refl, ap, sym, ◌∙◌, inl, inr, arith, count_by, sum_by, add-one, count_ones}
+use Rattle.std.proofs.Common.{◌≡◌, ℕ, zero, suc, ◌+◌, ◌*◌, ◌/◌, ◌%◌, ◌^◌, ◌<◌, ◌≤◌, ◌==◌, Bool, true, false, cond, min, ◌-◌, List, length, get_or, take, refl, ap, ◌∙◌, arith, count_ones}
 use Rattle.std.specs.Int.{bit_at, from_bool}
-use Rattle.std.proofs.lemmas.Bool.{cases_Bool}
-use Rattle.std.proofs.lemmas.List.Sums.{sum_by_more, count_by-le-length}
-use Rattle.std.proofs.lemmas.Nat.{mod-pow-add, ones_cat, mod_below, pow_pos, div-mul-add, mod-mul-add, div-add-mod'}
+use Rattle.std.proofs.lemmas.List.Sums.{sum_by_more}
+use Rattle.std.proofs.lemmas.Nat.{mod-pow-add, ones_cat, mod_below, pow_pos, div-mul-add, mod-mul-add}
 use Rattle.std.proofs.lemmas.Nat.Bits.{bit_at-lt}
-use Rattle.wl_reach.specs.Marks.{bit_of, unpacked, count_set}
+use Rattle.wl_reach.specs.Marks.{unpacked, count_set}
 use Rattle.wl_reach.proofs.MarkLaws.{length-unpacked, get_or-unpacked}
 
 pub count_set_more : (marks : List Bool) (k : ℕ) → k < length marks → count_set (take (k + 1) marks) ≡ count_set (take k marks) + cond (get_or marks k false) 1 0

@@ -1,9 +1,9 @@
 -- What a search knows: the marks, and the marked nodes in the order in which they were marked.
-use Rattle.std.proofs.Common.{◌≡◌, ℕ, zero, suc, ◌+◌, ◌<◌, ◌≤◌, ◌⊎◌, inl, inr, Bool, true, false, cond, List, [], ◌∷◌, ◌++◌, length, get_or, set, take, refl, ap, sym, ◌∙◌, arith, Contains, All, length-append, get_or-set_same, get_or-set_other, sum_by, below_more, replicate, subst}
+use Rattle.std.proofs.Common.{◌≡◌, ℕ, zero, suc, ◌+◌, ◌<◌, ◌≤◌, ◌⊎◌, inl, inr, Bool, true, false, List, [], ◌∷◌, ◌++◌, length, get_or, set, take, refl, ap, sym, ◌∙◌, arith, Contains, All, get_or-set_same, get_or-set_other, sum_by, below_more, replicate, subst}
 use Rattle.std.proofs.lemmas.Bool.{false≢true, cases_eq, cases_Bool, cases_lt}
 use Rattle.std.proofs.lemmas.List.{length-set, set-get_or, length-replicate, get_or-replicate, take-append-le, get_or_append_left, get_or_past, length_push}
 use Rattle.std.proofs.lemmas.List.Elements.{All-nil, All-push, All-weaker, All-contains, All-from_get_or, Contains-get_or, Contains-push, Contains-append_left}
-use Rattle.std.proofs.lemmas.List.Sums.{sum_by-cons, sum_by_push, sum_by_more, sum_by_more_le, sum_by-take-le}
+use Rattle.std.proofs.lemmas.List.Sums.{sum_by-cons, sum_by_push, sum_by_more, sum_by_more_le}
 use Rattle.std.proofs.lemmas.Grind.{common_steps}
 use Rattle.wl_reach.specs.Graph.{HasEdge}
 use Rattle.wl_reach.specs.Marks.{IsMarked}
@@ -202,9 +202,6 @@ Heads-all graph roots marks order done node heads n h le =
 
 pub Search-reached : (graph : List (List ℕ)) (roots : List ℕ) (marks : List Bool) (order : List ℕ) → Search graph roots marks order → (v : ℕ) → IsMarked marks v → IsReached (Contains roots) (HasEdge graph) v
 Search-reached graph roots marks order s v m = All-contains (IsReached (Contains roots) (HasEdge graph)) order v s.reached (s.noted v m)
-
-pub Heads-within : (graph : List (List ℕ)) (roots : List ℕ) (marks : List Bool) (order : List ℕ) (done : ℕ) → Progress graph roots marks order done → done < length order → get_or order done 0 < length graph
-Heads-within graph roots marks order done p lt = rw (← p.search.size) (IsMarked-within marks (get_or order done 0) (p.search.marked done 0 lt))
 
 -- at the end the marks are those of what is reached
 pub Progress-reached : (graph : List (List ℕ)) (roots : List ℕ) (marks : List Bool) (order : List ℕ) (done : ℕ) → Progress graph roots marks order done → length order ≤ done → MarksReached graph roots marks

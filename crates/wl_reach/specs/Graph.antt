@@ -64,4 +64,5 @@ pub record Filled (starts : List ℕ) (edges : List Edge) (i : ℕ) (ends target
   pub size : length ends ≡ length starts
   pub room : length targets ≡ length edges
   pub ends_at : (k : ℕ) → k < length starts → slice_index ends k ≡ slice_index starts k + degree (take i edges) k
-  pub laid_at : (k : ℕ) → k < length starts → take (degree (take i edges) k) (drop (slice_index starts k) targets) ≡ targets_of (take i edges) k
+  pub laid_at : (k : ℕ) → k < length starts
+      → take (degree (take i edges) k) (drop (slice_index starts k) targets) ≡ targets_of (take i edges) k

@@ -1,5 +1,5 @@
 -- Marks, as bits in words of 64.
-use Rattle.std.specs.Prelude.{◌≡◌, ℕ, ◌+◌, ◌*◌, ◌/◌, ◌%◌, ◌<◌, ◌≤◌, ◌==◌, Bool, true, false, List, length, map, take, count_by, slice_index, slice_index_or}
+use Rattle.std.specs.Prelude.{◌≡◌, ℕ, ◌*◌, ◌/◌, ◌%◌, ◌<◌, ◌≤◌, ◌==◌, Bool, true, false, List, length, map, take, count_by, slice_index, slice_index_or}
 use Rattle.std.specs.Int.{bit_at}
 use Rattle.std.specs.List.{range_with_len}
 
@@ -10,6 +10,10 @@ IsMarked marks place = slice_index_or marks place false ≡ true
 -- how many marks are set
 abbrev pub count_set : List Bool → ℕ
 count_set marks = count_by (λ (is_set : Bool). is_set) marks
+
+-- how many of the marks before that place are set
+abbrev pub count_before : List Bool → ℕ → ℕ
+count_before marks place = count_set (take place marks)
 
 -- the bit of that number is set
 abbrev pub bit_of : List ℕ → ℕ → Bool
@@ -22,4 +26,4 @@ unpacked n words = map (bit_of words) (range_with_len 0 n)
 -- how many of the marks before each word are set
 pub record IsRankTable (marks : List Bool) (before : List ℕ) : Type 0 where
   pub size : length marks ≤ 64 * length before
-  pub at : (word : ℕ) → word < length before → slice_index before word ≡ count_set (take (word * 64) marks)
+  pub at : (word : ℕ) → word < length before → slice_index before word ≡ count_before marks (word * 64)

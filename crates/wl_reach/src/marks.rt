@@ -1,8 +1,8 @@
 //! Marks in packed bits.
 
-ghost use Rattle.std.specs.Prelude.{◌≡◌, ◌≢◌, ◌<◌, ◌==◌, ◌+◌, ◌*◌, ◌/◌, ◌%◌, ◌^◌, take, count_ones, ℕ, IfOk, false, true, length, replicate, slice_index_or, slice_set};
+ghost use Rattle.std.specs.Prelude.{◌≡◌, ◌≢◌, ◌<◌, ◌==◌, ◌+◌, ◌*◌, ◌/◌, ◌%◌, ◌^◌, count_ones, ℕ, IfOk, false, true, length, replicate, slice_index_or, slice_set};
 ghost use Rattle.std.specs.Int.{bit_at};
-ghost use Rattle.wl_reach.specs.Marks.{unpacked, count_set, IsRankTable};
+ghost use Rattle.wl_reach.specs.Marks.{count_before, IsRankTable};
 
 use std::alloc::{AllocError, Global};
 use std::marker::Model;
@@ -91,7 +91,8 @@ impl Marks {
     /// How many of the marks of a place's word before that place are set.
     fn count_in_word(&self, place: usize) -> usize
         requires { place < length self.now }
-        ensures { count_set (take (place / 64 * 64) self.now) + result ≡ count_set (take place self.now) }
+        ensures { count_before self.now (place / 64 * 64) + result
+            ≡ count_before self.now place }
     {
         ones_below(self.words[place / WORD_BITS], (place % WORD_BITS) as u32)
     }
@@ -166,7 +167,7 @@ impl RankedMarks {
     /// How many of the marks before that one are set.
     pub fn count_before(&self, place: usize) -> usize
         requires { place < length self.now }
-        ensures { result ≡ count_set (take place self.now) }
+        ensures { result ≡ count_before self.now place }
     {
         self.before[place / WORD_BITS] + self.marks.count_in_word(place)
     }

@@ -23,8 +23,8 @@ fn mark(marks: &mut Marks, order: &mut Vec<usize>, node: usize) -> Result<(), Al
     Ok(())
 }
 
-/// Marks the nodes to which a chain of edges leads from a root. A step takes up a node or follows an
-/// edge.
+/// Marks the nodes to which a chain of edges leads from a root, in steps that are counted: one for
+/// each node that is marked, and one for each edge from it.
 pub fn reach_counted<L: Ledger>(
     alloc: Global,
     graph: &Graph,

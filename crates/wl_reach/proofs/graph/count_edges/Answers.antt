@@ -1,7 +1,6 @@
-use Rattle.std.proofs.Common.{◌≡◌, ◌<◌, ◌+◌, arith, rules, get_or, set, length, subst, sym, ℕ}
+use Rattle.std.proofs.Common.{◌≡◌, ◌<◌, rules, get_or, length}
 use Rattle.std.proofs.lemmas.List.{get_or_default, get_or_read}
 use Rattle.wl_reach.specs.declared.graph.Edge.{Edge}
-use Rattle.wl_reach.specs.Graph.{Counted}
 use Rattle.wl_reach.proofs.GraphLaws.{Counted-none, Counted-more}
 use Rattle.wl_reach.proofs.graph.count_edges.Goals as goal
 

@@ -1,7 +1,6 @@
-use Rattle.std.proofs.Common.{◌≡◌, ◌<◌, ◌≤◌, ◌+◌, ℕ, arith, rules, get_or, length, take}
+use Rattle.std.proofs.Common.{◌≡◌, ◌<◌, arith, get_or, length}
 use Rattle.std.proofs.lemmas.List.{get_or_default, get_or_read}
 use Rattle.wl_reach.specs.declared.graph.Edge.{Edge}
-use Rattle.wl_reach.specs.Graph.{degree}
 use Rattle.wl_reach.proofs.GraphLaws.{Filled-none, Filled-more, Filled-free, Filled-whole, IsLaid-from, stretches-are}
 use Rattle.wl_reach.proofs.graph.fill.Goals as goal
 

@@ -1,6 +1,6 @@
-use Rattle.std.proofs.Common.{◌≡◌, ◌<◌, ◌*◌, ◌-◌, ◌+◌, ◌∙◌, ap, sym, min, length, take, false, get_or, arith, below_more}
+use Rattle.std.proofs.Common.{◌≡◌, ◌<◌, ◌*◌, ◌-◌, ◌+◌, ◌∙◌, ap, min, length, take, false, get_or, arith, below_more}
 use Rattle.std.specs.Int.{from_bool}
-use Rattle.std.proofs.lemmas.Grind.{div_ceil_times, common_steps}
+use Rattle.std.proofs.lemmas.Grind.{div_ceil_times}
 use Rattle.std.proofs.lemmas.List.{length_push, get_or_push, get_or_append_left}
 use Rattle.wl_reach.specs.Marks.{count_set}
 use Rattle.wl_reach.proofs.RankLaws.{words_more}

@@ -1,4 +1,4 @@
-use Rattle.std.proofs.Common.{◌≡◌, ◌≤◌, ◌*◌, ◌<◌, ℕ, min, length, take, get_or}
+use Rattle.std.proofs.Common.{◌≡◌, ◌*◌, ◌<◌, ℕ, min, length, take, get_or}
 use Rattle.wl_reach.specs.Marks.{count_set}
 use Rattle.wl_reach.proofs.marks.count_before_words.Given as goal
 

@@ -1,4 +1,4 @@
-use Rattle.std.proofs.Common.{◌≡◌, ◌<◌, ◌∙◌, ap, arith, length, replicate, false, take, sum_by, ◌+◌}
+use Rattle.std.proofs.Common.{◌≡◌, ◌∙◌, ap, arith, replicate, false, take, sum_by}
 use Rattle.std.proofs.lemmas.List.{take_all}
 use Rattle.std.proofs.lemmas.List.Sums.{sum_by-take-le}
 use Rattle.wl_reach.proofs.SearchLaws.{Rooted-none, Rooted-more, Rooted-all, Heads-more, Heads-all, Progress-reached, Search-bound, Search-spent, take-with_mark, steps_within, steps_more, cost}
@@ -15,14 +15,14 @@ loop-done-init g c = record { progress = Rooted-all _ _ _ _ _ c.loop-root.invari
 
 pub returns-in_err-mark-2-clause-cost : goal.returns-in_err-mark-2-clause-cost
 returns-in_err-mark-2-clause-cost g c =
-    omega (arith, c.tick-in-loop-next.ensures, c.loop-next.invariant.steps, steps_within _ _ _ _ _ _ _ _ c.loop-next.invariant.heads c.loop-next-test.true)
+    omega (arith, c.loop-next.invariant.steps, steps_within _ _ _ _ _ _ _ _ c.loop-next.invariant.heads c.loop-next-test.true)
 
 pub loop-next-preserved : goal.loop-next-preserved
 loop-next-preserved g c = record {
   heads = rw (c.in_ok-mark-2.ensures.marked, c.in_ok-mark-2.ensures.noted) (Heads-more _ _ _ _ _ _ _ _ c.loop-next.invariant.heads c.loop-next-test.true);
   steps =
       rw (c.in_ok-mark-2.ensures.noted, take-with_mark c.loop-next.marks c.loop-next.order.items _ c.loop-done.done (omega (arith, c.loop-next.invariant.heads.here)))
-      (omega (arith, c.tick-in-loop-next.ensures, c.loop-next.invariant.steps));
+      (omega (arith, c.loop-next.invariant.steps));
 }
 
 pub loop-done-smaller : goal.loop-done-smaller

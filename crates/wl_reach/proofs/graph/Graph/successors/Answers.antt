@@ -1,4 +1,4 @@
-use Rattle.std.proofs.Common.{◌≡◌, ◌<◌, ◌≤◌, ◌-◌, ◌∙◌, ap, sym, refl, arith, length, get_or, take, drop, [], All}
+use Rattle.std.proofs.Common.{◌≡◌, ◌<◌, ◌-◌, ◌∙◌, ap, sym, refl, arith, length, get_or, take, drop, []}
 use Rattle.std.proofs.lemmas.List.{get_or_read}
 use Rattle.wl_reach.specs.Graph.{stretch}
 use Rattle.wl_reach.proofs.GraphLaws.{node_within, length-stretches, get_or-stretches}

@@ -1,4 +1,4 @@
-use Rattle.std.proofs.Common.{◌≡◌, ◌+◌, ◌*◌, ◌<◌, ◌%◌, ◌/◌, ◌^◌, ◌∙◌, sym, ap, subst, false, get_or, length, take, count_ones, List, Bool, arith}
+use Rattle.std.proofs.Common.{◌≡◌, ◌+◌, ◌*◌, ◌<◌, ◌%◌, ◌/◌, ◌^◌, ◌∙◌, ap, subst, get_or, length, take, count_ones, List, Bool, arith}
 use Rattle.std.proofs.lemmas.List.{get_or_read}
 use Rattle.std.proofs.lemmas.Nat.{div-add-mod'}
 use Rattle.wl_reach.specs.Marks.{count_set, unpacked}

@@ -1,4 +1,4 @@
-use Rattle.std.proofs.Common.{◌≡◌, ◌≢◌, ℕ, ◌<◌, ◌%◌, ◌/◌, ◌∙◌, sym, ap, true, get_or, set, length, arith}
+use Rattle.std.proofs.Common.{◌≡◌, ◌≢◌, ℕ, ◌<◌, ◌%◌, ◌/◌, ◌∙◌, ap, true, get_or, set, length, arith}
 use Rattle.std.specs.Int.{bit_at}
 use Rattle.std.proofs.lemmas.List.{get_or_read}
 use Rattle.wl_reach.proofs.MarkLaws.{length-unpacked, word_within, unpacked-set}
