@@ -4,7 +4,7 @@ use crate::refusal::error_text;
 use std::alloc::{AllocError, Global};
 use std::process::Abort;
 use std::test::Fail;
-use wl_linking::{Items, LinkError, Text, UndefinedSymbol};
+use wl_linking::{ItemList, LinkError, Text, UndefinedSymbol};
 
 // The line of a refusal is this one.
 fn assert_line(
@@ -48,7 +48,7 @@ fn undefined_names_have_one_line(rt: HostRuntime) -> Result<(), Fail> {
         let name = Text::new(String::from_str(rt.alloc(), text)?);
         symbols.push(UndefinedSymbol { object, name })?;
     }
-    let error = LinkError::UndefinedSymbols(Items::new(symbols));
+    let error = LinkError::UndefinedSymbols(ItemList::new(symbols));
     let line = "error: UndefinedSymbols 0 \"a\" 1 \"b\"\n";
     assert_line(&rt, rt.alloc(), &error, line)?;
     Ok(())

@@ -11,7 +11,7 @@ use Rattle.wl_module.specs.declared.error.ReadError.{ReadError}
 use Rattle.wl_module.specs.declared.error.ReadError.TheVariants.{Malformed}
 use Rattle.wl_module.specs.Sections.{Section, headers_of, IsModule, FrameFault}
 use Rattle.wl_module.proofs.SectionLaws.{module_alternatives}
-use Rattle.wl_linking.specs.RelocationTypes.{form_of}
+use Rattle.wl_linking.specs.RelocationTypes.{field_form}
 use Rattle.wl_linking.specs.Symbols.{Symbol}
 use Rattle.wl_linking.specs.Sections.{AreSound}
 use Rattle.wl_linking.specs.Object.{Object}
@@ -19,8 +19,8 @@ use Rattle.wl_linking.specs.Parts.{no_parts}
 use Rattle.wl_linking.specs.Placing.{Ascend}
 use Rattle.wl_linking.specs.Spaces.{NamesExist, NamesFault, spaces_of, counts_hold, core_names_exist, linked_names_exist}
 use Rattle.wl_linking.specs.Slots.{claims, SharesSlot, HasOneName, HasTwoNames, AgreeOnNames, SlotFault}
-use Rattle.wl_linking.specs.Sites.{PieceOf, AreInOrder, IsSite, AreSites, IsBefore, AreApart, HasNoSite, HasOverlap, LieApart, FieldsFault, field_len, body_piece, segment_piece}
-use Rattle.wl_linking.specs.Fitting.{named_symbols, HasItems, IsFitting, PartsFault, IsObject, SectionFault, ObjectFault}
+use Rattle.wl_linking.specs.Sites.{PieceOf, AreInOrder, IsSite, AreSites, LiesBefore, AreApart, HasNoSite, HasOverlap, LieApart, FieldsFault, field_len, body_piece, segment_piece}
+use Rattle.wl_linking.specs.Fitting.{named_symbols, HasItems, IsFitting, PartsFault, IsObject, FirstItemsFault, ObjectFault}
 use Rattle.wl_linking.specs.declared.parts.Parts.{Parts}
 use Rattle.wl_linking.specs.declared.relocations.WasmRelocation.{WasmRelocation}
 use Rattle.wl_linking.specs.declared.sites.Site.{Site}
@@ -130,25 +130,25 @@ sites_or_none pieces (r ∷ rs) up = by_rest (site_or_none pieces r up) (sites_o
     by_rest (inl site) (inr found) = inr (suc found.0, found.1, found.2, found.3)
     by_rest (inl site) (inl sites) = inl (site.0 ∷ sites.0, (site.1, sites.1))
 
-before_or_not : (r q : WasmRelocation) → IsBefore r q ⊎ (IsBefore r q → ⊥)
-before_or_not r q = elim (cases_lt q.offset (r.offset + field_len (form_of r.ty))) [
+before_or_not : (r q : WasmRelocation) → LiesBefore r q ⊎ (LiesBefore r q → ⊥)
+before_or_not r q = elim (cases_lt q.offset (r.offset + field_len (field_form r.ty))) [
   | inl lt ↦ inr (λ before. omega arith)
   | inr le ↦ inl le
 ]
 
 apart_or_overlap : (rs : List WasmRelocation) → AreApart rs ⊎ HasOverlap rs
 apart_or_overlap [] = inl (λ i j d lt within. absurd (omega arith))
-apart_or_overlap (r ∷ rs) = by_rest (each_or_one (IsBefore r) (λ q. IsBefore r q → ⊥) (before_or_not r) rs) (apart_or_overlap rs)
+apart_or_overlap (r ∷ rs) = by_rest (each_or_one (LiesBefore r) (λ q. LiesBefore r q → ⊥) (before_or_not r) rs) (apart_or_overlap rs)
   where
-    apart : ((j : ℕ) (q : WasmRelocation) → slice_get rs j ≡ Some q → IsBefore r q) → AreApart rs → AreApart (r ∷ rs)
+    apart : ((j : ℕ) (q : WasmRelocation) → slice_get rs j ≡ Some q → LiesBefore r q) → AreApart rs → AreApart (r ∷ rs)
     apart first rest i zero d lt within = absurd (omega arith)
     apart first rest zero (suc j) d lt within = first j (get_or rs j d) (slice_get-get_or rs j d (omega arith))
     apart first rest (suc i) (suc j) d lt within = rest i j d (omega arith) (omega arith)
 
-    overlap : (j : ℕ) (q : WasmRelocation) → slice_get rs j ≡ Some q → (IsBefore r q → ⊥) → HasOverlap (r ∷ rs)
-    overlap j q here late = (zero, suc j, q, omega arith, omega (arith, slice_get_within rs j q here), subst (λ (x : WasmRelocation). IsBefore r x → ⊥) (sym (get_or_from_slice_get rs j q q here)) late)
+    overlap : (j : ℕ) (q : WasmRelocation) → slice_get rs j ≡ Some q → (LiesBefore r q → ⊥) → HasOverlap (r ∷ rs)
+    overlap j q here late = (zero, suc j, q, omega arith, omega (arith, slice_get_within rs j q here), subst (λ (x : WasmRelocation). LiesBefore r x → ⊥) (sym (get_or_from_slice_get rs j q q here)) late)
 
-    by_rest : ((j : ℕ) (q : WasmRelocation) → slice_get rs j ≡ Some q → IsBefore r q) ⊎ ((j : ℕ) × (q : WasmRelocation) × (slice_get rs j ≡ Some q) × (IsBefore r q → ⊥)) → AreApart rs ⊎ HasOverlap rs → AreApart (r ∷ rs) ⊎ HasOverlap (r ∷ rs)
+    by_rest : ((j : ℕ) (q : WasmRelocation) → slice_get rs j ≡ Some q → LiesBefore r q) ⊎ ((j : ℕ) × (q : WasmRelocation) × (slice_get rs j ≡ Some q) × (LiesBefore r q → ⊥)) → AreApart rs ⊎ HasOverlap rs → AreApart (r ∷ rs) ⊎ HasOverlap (r ∷ rs)
     by_rest (inr found) rest = inr (overlap found.0 found.1 found.2 found.3)
     by_rest (inl first) (inr (i, j, d, lt, within, late)) = inr (suc i, suc j, d, omega arith, omega arith, late)
     by_rest (inl first) (inl rest) = inl (apart first rest)
@@ -240,7 +240,7 @@ object_some bytes = by_frame (module_alternatives.some bytes)
     by_fit sections parts framed sound (inl (o, items, fitting)) = inl (o, record { sections = sections; framed = framed; parts = parts; sound = sound; items = items; fitting = fitting })
     by_fit sections parts framed sound (inr (e, f)) = inr (e, inr (sections, framed, inr (record { parts = parts; sound = sound; fault = f })))
 
-    by_sections : (sections : List Section) → IsModule sections bytes → ((parts : Parts) × AreSound sections no_parts sections parts) ⊎ ((e : ReadError) × SectionFault sections e) → ObjectOrFault bytes
+    by_sections : (sections : List Section) → IsModule sections bytes → ((parts : Parts) × AreSound sections no_parts sections parts) ⊎ ((e : ReadError) × FirstItemsFault sections e) → ObjectOrFault bytes
     by_sections sections framed (inr (e, f)) = inr (e, inr (sections, framed, inl f))
     by_sections sections framed (inl (parts, sound)) =
         by_fit sections parts framed sound (fits_or_fault bytes (headers_of sections) parts (code_ascends bytes sections parts framed sound) (data_ascends bytes sections parts framed sound))

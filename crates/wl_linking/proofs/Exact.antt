@@ -9,10 +9,10 @@ use Rattle.wl_bytes.specs.Grammar.{map_at}
 use Rattle.wl_bytes.proofs.GrammarLaws.{cursor_is, seen_reading}
 use Rattle.wl_module.specs.declared.error.ReadError.{ReadError}
 use Rattle.wl_module.specs.declared.error.ReadError.TheVariants.{OutOfMemory, Malformed, Unsupported}
-use Rattle.wl_module.specs.Outcome.{Fails, IsFault}
+use Rattle.wl_module.specs.Outcome.{Fails, HasCause}
 use Rattle.wl_module.specs.Checks.{NoFault, Seen}
 use Rattle.wl_module.proofs.ListLaws.{IsWholeReading}
-use Rattle.wl_linking.specs.Verdict.{HasCause, Judged, JudgedFault, judged_at, Inside, InsideFault, IsHere, here_at}
+use Rattle.wl_linking.specs.Verdict.{Judged, JudgedFault, judged_at, Inside, InsideFault, IsHere, here_at}
 
 -- what has a cause has another that follows from it
 pub cause_follows : (P Q : ReadError → Type 0) → ((e : ReadError) → P e → Q e) → (e : ReadError) → HasCause P e → HasCause Q e
@@ -25,12 +25,6 @@ pub answer_follows : {X : Type 0} (P Q : X → Type 0) (Cause Other : ReadError 
     → (r : Result X ReadError) → MatchResult r P (HasCause Cause) → MatchResult r Q (HasCause Other)
 answer_follows P Q Cause Other step other (Ok x) h = step x h
 answer_follows P Q Cause Other step other (Err e) h = cause_follows Cause Other other e h
-
--- the fault of a payload is a cause
-pub fault_causes : (faults : ReadError → List ℕ → Type 0) (payload : List ℕ) (e : ReadError) → IsFault faults payload e → HasCause (λ d. faults d payload) e
-fault_causes faults payload OutOfMemory h = tt
-fault_causes faults payload (Malformed why) h = h
-fault_causes faults payload (Unsupported form) h = h
 
 -- a reading that fails has its cause
 pub failed : {Y : Type 0} (P : ReadError → Type 0) (read : Result Y ReadError) → ((e : ReadError) → read ≡ Err e → P e) → (e : ReadError) → Fails e read → HasCause P e

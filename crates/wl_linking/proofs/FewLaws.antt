@@ -9,19 +9,19 @@ use Rattle.wl_bytes.specs.Parse.{Takes}
 use Rattle.wl_module.specs.declared.section_kind.SectionKind.{SectionKind}
 use Rattle.wl_module.specs.Lists.{Listed}
 use Rattle.wl_module.specs.Chains.{Chain}
-use Rattle.wl_module.specs.Sections.{Section, IsContentOf, IsSection, next, magic}
+use Rattle.wl_module.specs.Sections.{Section, IsContentOf, IsSection, next, magic, sections_in_turn}
 use Rattle.wl_module.specs.SectionKinds.{is_custom}
 use Rattle.wl_module.proofs.CountLaws.{number_bytes, name_bytes, items_few, listed_few, modules_few, types_few, placed_imports_few, indices_few, memories_few, globals_few, exports_few, bodies_few, targeted_few}
 use Rattle.wl_linking.specs.Infos.{IsInfo, AreInfos, IsInit, AreInits}
 use Rattle.wl_linking.specs.Symbols.{Symbol, IsSymbol, AreSymbols}
 use Rattle.wl_linking.specs.Features.{IsFeature, AreFeatures}
-use Rattle.wl_linking.specs.Linking.{IsHeld, IsSubsection, seen_after, subsection_kind, linking_of, IsLinking, infos_in as infos_of_one, inits_in as inits_of_one, table_in}
-use Rattle.wl_linking.specs.Relocations.{IsEntry, Holds, IsRelocSection}
+use Rattle.wl_linking.specs.Linking.{IsHeld, IsSubsection, seen_after, subsection_kind, linking_of, IsLinking, infos_in as infos_of_one, inits_in as inits_of_one, table_in, subsections_in_turn}
+use Rattle.wl_linking.specs.Relocations.{IsEntry, HoldsEntries, IsRelocSection}
 use Rattle.wl_linking.specs.Parts.{no_parts, join, code_of, data_of, part_of}
-use Rattle.wl_linking.specs.Sections.{base_of, AreSound}
+use Rattle.wl_linking.specs.Sections.{base_of, AreSound, section_context}
 use Rattle.wl_module.specs.Imports.{Imported}
 use Rattle.wl_module.specs.declared.imports.ExternalKind.{ExternalKind}
-use Rattle.wl_linking.specs.Spaces.{is_of, count_imports}
+use Rattle.wl_linking.specs.Spaces.{is_of_kind, count_imports}
 use Rattle.wl_linking.specs.Object.{Object}
 use Rattle.wl_linking.specs.Slots.{with_import_name}
 use Rattle.wl_linking.specs.Sites.{AreInOrder}
@@ -92,7 +92,7 @@ one_more (held.InitFuncs functions) = omega arith
 one_more (held.SymbolTable symbols) = omega arith
 one_more held.Skipped = omega arith
 
-subsections_few : (base : ℕ) (seen : SeenSubsections) (place : ℕ) (ss : List Subsection) (text : List ℕ) → Chain (IsSubsection base) seen_after seen place ss text → count_of (linking_of ss) ≤ length text
+subsections_few : (base : ℕ) (seen : SeenSubsections) (place : ℕ) (ss : List Subsection) (text : List ℕ) → Chain (subsections_in_turn base) seen place ss text → count_of (linking_of ss) ≤ length text
 subsections_few base seen place [] text h = omega arith
 subsections_few base seen place (s ∷ ss) text (front, back, parts, here, rest) =
     let first = subsection_few base seen place s front here in
@@ -116,7 +116,7 @@ entries_few at entries from to t =
     let few = items_few (IsEntry at) (λ place r text h. omega (arith, ap length h.1.3, ap length h.1.2, length-append h.1.0 h.1.1)) _ entries t.spelled.1 t.spelled.4 in
     omega (arith, few, ap length t.spelled.2, length-append t.spelled.0 t.spelled.1, ap length t.parts, length-append t.text to.rest)
 
-holds_few : (at : Target) (entries : List WasmRelocation) (from : Cursor) → Holds at entries from → length entries ≤ length from.rest
+holds_few : (at : Target) (entries : List WasmRelocation) (from : Cursor) → HoldsEntries at entries from → length entries ≤ length from.rest
 holds_few target.Code entries from (to, t, end) = entries_few target.Code entries from to t
 holds_few target.Data entries from (to, t, end) = entries_few target.Data entries from to t
 holds_few target.Debug entries from none = rw none (omega arith)
@@ -183,11 +183,11 @@ pub record Measures (measure : Parts → ℕ) : Type 0 where
   pub within : (k : SectionKind) (s : Section) (items : SectionItems) → Spelled k s items s.payload → measure (part_of items) ≤ suc (length s.payload)
 
 -- is no more than all bytes
-all_few : (measure : Parts → ℕ) → Measures measure → (sections : List Section) (before : Parts) (last place : ℕ) (ss : List Section) (text : List ℕ) (after : Parts) → Chain IsSection next last place ss text → AreSound sections before ss after
+all_few : (measure : Parts → ℕ) → Measures measure → (sections : List Section) (before : Parts) (last place : ℕ) (ss : List Section) (text : List ℕ) (after : Parts) → Chain sections_in_turn last place ss text → AreSound sections before ss after
     → measure after ≤ measure before + length text
 all_few measure law sections before last place [] text after chain is = rw (← is) (omega arith)
 all_few measure law sections before last place (s ∷ ss) text after (front, back, parts, here, rest) (items, sound, more) =
-    let first = law.within s.kind s items (spelled s.kind sections before s items s.payload sound) in
+    let first = law.within s.kind s items (spelled s.kind (section_context sections before) s items s.payload sound) in
     let others = all_few measure law sections (join before (part_of items)) (next last s) (place + length front) ss back after rest more in
     omega (arith, first, others, law.adds before (part_of items), payload_within last place s front here, ap length parts, length-append front back)
 
@@ -254,4 +254,4 @@ whole_few o w = few_items MAX_LEN o.bytes o w.object w.within
 
 -- and so has what it imports of a kind
 pub few_imports : (o : Object) (k : ExternalKind) → IsWhole o → count_imports k o.imports ≤ MAX_LEN
-few_imports o k w = omega (arith, (whole_few o w).imports, count_by-le-length (λ (i : Imported). is_of k i.entity) o.imports)
+few_imports o k w = omega (arith, (whole_few o w).imports, count_by-le-length (λ (i : Imported). is_of_kind k i.entity) o.imports)

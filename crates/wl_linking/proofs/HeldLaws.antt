@@ -17,7 +17,7 @@ use Rattle.wl_linking.specs.Linking.{IsLinking}
 use Rattle.wl_linking.specs.Parts.{join, part_of}
 use Rattle.wl_linking.specs.Relocations.{IsRelocSection}
 use Rattle.wl_linking.specs.Targets.{custom_kind, numbered_verdict}
-use Rattle.wl_linking.specs.Sections.{has_memory, base_of, LinkingItems, Holding, imports_at, HoldsCustom, HoldsItems, AreSound}
+use Rattle.wl_linking.specs.Sections.{SectionContext, section_context, has_memory, base_of, LinkingItems, Holding, imports_at, HoldsCustom, HoldsItems, AreSound}
 use Rattle.wl_linking.specs.declared.kinds.CustomKind.{CustomKind}
 use Rattle.wl_linking.specs.declared.kinds.CustomKind.TheVariants as custom
 use Rattle.wl_linking.specs.declared.parts.Parts.{Parts}
@@ -49,29 +49,29 @@ spelled_as : {X : Type 0} (k : SectionKind) (s : Section) (make : X → SectionI
     → ((x : X) → spells x payload → Spelled k s (make x) payload) → Holding make spells items payload → Spelled k s items payload
 spelled_as k s make spells items payload step (x, is, h) = subst (λ (y : SectionItems). Spelled k s y payload) (sym is) (step x h)
 
-spelled_custom : (c : CustomKind) (sections : List Section) (before : Parts) (s : Section) (items : SectionItems) (payload : List ℕ) → HoldsCustom c sections before s items payload → Spelled kind.Custom s items payload
-spelled_custom custom.Linking sections before s items payload h = spelled_as kind.Custom s Linking (LinkingItems before s) items payload (λ x is. (refl, is.1)) h
-spelled_custom custom.Reloc sections before s items payload h = let verdict = numbered_verdict sections before in spelled_as kind.Custom s Reloc (IsRelocSection verdict) items payload (λ x is. (refl, verdict, is)) h
-spelled_custom custom.Features sections before s items payload h = spelled_as kind.Custom s Features AreFeatures items payload (λ x is. (refl, is)) h
-spelled_custom custom.Debug sections before s items payload is = subst (λ (y : SectionItems). Spelled kind.Custom s y payload) (sym is) refl
-spelled_custom custom.Other sections before s items payload is = subst (λ (y : SectionItems). Spelled kind.Custom s y payload) (sym is) tt
+spelled_custom : (c : CustomKind) (context : SectionContext) (s : Section) (items : SectionItems) (payload : List ℕ) → HoldsCustom c context s items payload → Spelled kind.Custom s items payload
+spelled_custom custom.Linking context s items payload h = spelled_as kind.Custom s Linking (LinkingItems context.before s) items payload (λ x is. (refl, is.1)) h
+spelled_custom custom.Reloc context s items payload h = let verdict = numbered_verdict context.sections context.before in spelled_as kind.Custom s Reloc (IsRelocSection verdict) items payload (λ x is. (refl, verdict, is)) h
+spelled_custom custom.Features context s items payload h = spelled_as kind.Custom s Features AreFeatures items payload (λ x is. (refl, is)) h
+spelled_custom custom.Debug context s items payload is = subst (λ (y : SectionItems). Spelled kind.Custom s y payload) (sym is) refl
+spelled_custom custom.Other context s items payload is = subst (λ (y : SectionItems). Spelled kind.Custom s y payload) (sym is) tt
 
 -- what a section holds is spelled
-pub spelled : (k : SectionKind) (sections : List Section) (before : Parts) (s : Section) (items : SectionItems) (payload : List ℕ) → HoldsItems k sections before s items payload → Spelled k s items payload
-spelled kind.Custom sections before s items payload h = spelled_custom (custom_kind s.name) sections before s items payload h
-spelled kind.Type sections before s items payload h = spelled_as kind.Type s Types AreTypes items payload (λ x is. (refl, is)) h
-spelled kind.Import sections before s items payload h = spelled_as kind.Import s (imports_at s) ArePlacedImports items payload (λ x is. (refl, refl, is)) h
-spelled kind.Function sections before s items payload h = spelled_as kind.Function s Functions AreIndices items payload (λ x is. (refl, is)) h
-spelled kind.Table sections before s items payload h = absurd h
-spelled kind.Memory sections before s items payload h = let imported = has_memory before.imports in spelled_as kind.Memory s Memories (AreMemories imported) items payload (λ x is. (refl, imported, is)) h
-spelled kind.Global sections before s items payload h = spelled_as kind.Global s Globals AreGlobals items payload (λ x is. (refl, is)) h
-spelled kind.Export sections before s items payload h = spelled_as kind.Export s Exports AreExports items payload (λ x is. (refl, is)) h
-spelled kind.Start sections before s items payload h = absurd h
-spelled kind.Element sections before s items payload is = subst (λ (y : SectionItems). Spelled kind.Element s y payload) (sym is) tt
-spelled kind.Code sections before s items payload h = spelled_as kind.Code s Code AreBodies items payload (λ x is. (refl, is)) h
-spelled kind.Data sections before s items payload h = spelled_as kind.Data s Data AreTargeted items payload (λ x is. (refl, is)) h
-spelled kind.DataCount sections before s items payload h = spelled_as kind.DataCount s DataCount IsDataCount items payload (λ x is. (refl, is)) h
-spelled kind.Tag sections before s items payload h = absurd h
+pub spelled : (k : SectionKind) (context : SectionContext) (s : Section) (items : SectionItems) (payload : List ℕ) → HoldsItems k context s items payload → Spelled k s items payload
+spelled kind.Custom context s items payload h = spelled_custom (custom_kind s.name) context s items payload h
+spelled kind.Type context s items payload h = spelled_as kind.Type s Types AreTypes items payload (λ x is. (refl, is)) h
+spelled kind.Import context s items payload h = spelled_as kind.Import s (imports_at s) ArePlacedImports items payload (λ x is. (refl, refl, is)) h
+spelled kind.Function context s items payload h = spelled_as kind.Function s Functions AreIndices items payload (λ x is. (refl, is)) h
+spelled kind.Table context s items payload h = absurd h
+spelled kind.Memory context s items payload h = let imported = has_memory context.before.imports in spelled_as kind.Memory s Memories (AreMemories imported) items payload (λ x is. (refl, imported, is)) h
+spelled kind.Global context s items payload h = spelled_as kind.Global s Globals AreGlobals items payload (λ x is. (refl, is)) h
+spelled kind.Export context s items payload h = spelled_as kind.Export s Exports AreExports items payload (λ x is. (refl, is)) h
+spelled kind.Start context s items payload h = absurd h
+spelled kind.Element context s items payload is = subst (λ (y : SectionItems). Spelled kind.Element s y payload) (sym is) tt
+spelled kind.Code context s items payload h = spelled_as kind.Code s Code AreBodies items payload (λ x is. (refl, is)) h
+spelled kind.Data context s items payload h = spelled_as kind.Data s Data AreTargeted items payload (λ x is. (refl, is)) h
+spelled kind.DataCount context s items payload h = spelled_as kind.DataCount s DataCount IsDataCount items payload (λ x is. (refl, is)) h
+spelled kind.Tag context s items payload h = absurd h
 
 -- ---- all sections
 
@@ -89,7 +89,7 @@ pub all_held : {X : Type 0} (list : Parts → List X) (P : X → Type 0) (bytes 
     → (sections : List Section) (before : Parts) (ss : List Section) (after : Parts) → AllByRecursion (SectionStands bytes) ss → AreSound sections before ss after → AllByRecursion P (list before) → AllByRecursion P (list after)
 all_held {X} list P bytes joins each sections before [] after placed is h = subst (λ (p : Parts). AllByRecursion P (list p)) is h
 all_held {X} list P bytes joins each sections before (s ∷ ss) after placed (items, sound, rest) h =
-    let more = all_append P (list before) (list (part_of items)) h (each s.kind s items placed.0 (spelled s.kind sections before s items s.payload sound)) in
+    let more = all_append P (list before) (list (part_of items)) h (each s.kind s items placed.0 (spelled s.kind (section_context sections before) s items s.payload sound)) in
     all_held list P bytes joins each sections (join before (part_of items)) ss after placed.1 rest (subst (λ (xs : List X). AllByRecursion P xs) (sym (joins before (part_of items))) more)
 
 -- what follows from a property that all have is one that all have

@@ -9,9 +9,9 @@ use Rattle.wl_module.specs.Sections.{Section, IsModule, SectionStands}
 use Rattle.wl_module.specs.declared.imports.ExternalKind.{ExternalKind}
 use Rattle.wl_module.specs.declared.imports.ExternalKind.TheVariants.{Func as FuncImport, Global as GlobalImport}
 use Rattle.wl_linking.specs.Symbols.{Symbol, is_undefined, has_name, range_of}
-use Rattle.wl_linking.specs.Spaces.{is_of}
+use Rattle.wl_linking.specs.Spaces.{is_of_kind}
 use Rattle.wl_linking.specs.Slots.{Slot, slot_of, slots_of, with_slot, with_name_of, with_import_name}
-use Rattle.wl_linking.specs.Targets.{stretch}
+use Rattle.wl_linking.specs.Targets.{bytes_between}
 use Rattle.wl_linking.specs.Parts.{no_parts}
 use Rattle.wl_linking.specs.Sections.{base_of, AreSound}
 use Rattle.wl_linking.specs.Object.{Object}
@@ -44,9 +44,9 @@ imports_stand bytes s imports base there is h =
 
 slots_stand : (bytes : List ℕ) (kind : ExternalKind) (base : ℕ) (xs : List PlacedImported) → AllByRecursion (InObject bytes base) xs → AllByRecursion (SlotStands bytes) (slots_of kind base xs)
 slots_stand bytes kind base [] h = tt
-slots_stand bytes kind base (x ∷ xs) h = by_kind (is_of kind x.import.entity) (slots_stand bytes kind base xs h.1)
+slots_stand bytes kind base (x ∷ xs) h = by_kind (is_of_kind kind x.import.entity) (slots_stand bytes kind base xs h.1)
   where
-    by_kind : (b : Bool) → AllByRecursion (SlotStands bytes) (slots_of kind base xs) → AllByRecursion (SlotStands bytes) (map (slot_of base) (cond b (x ∷ filter (λ (i : PlacedImported). is_of kind i.import.entity) xs) (filter (λ (i : PlacedImported). is_of kind i.import.entity) xs)))
+    by_kind : (b : Bool) → AllByRecursion (SlotStands bytes) (slots_of kind base xs) → AllByRecursion (SlotStands bytes) (map (slot_of base) (cond b (x ∷ filter (λ (i : PlacedImported). is_of_kind kind i.import.entity) xs) (filter (λ (i : PlacedImported). is_of_kind kind i.import.entity) xs)))
     by_kind true rest = (h.0, rest)
     by_kind false rest = rest
 
@@ -109,7 +109,7 @@ pub named_by_range : (bytes : List ℕ) (symbols : List Symbol) → AllByRecursi
 named_by_range bytes symbols h i j s t here there same =
     let one = stands_at symbols i s h here in
     let other = stands_at symbols j t h there in
-    sym one ∙ ap (stretch bytes) same ∙ other
+    sym one ∙ ap (bytes_between bytes) same ∙ other
   where
     stands_at : (xs : List Symbol) (k : ℕ) (x : Symbol) → AllByRecursion (NameStands bytes) xs → slice_get xs k ≡ Some x → NameStands bytes x
     stands_at [] k x h is = absurd cc

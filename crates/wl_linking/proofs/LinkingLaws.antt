@@ -19,15 +19,15 @@ use Rattle.wl_module.specs.Bodies.{StretchFault}
 use Rattle.wl_module.specs.Bodies.{stretch_at}
 use Rattle.wl_module.specs.Chains.{Chain, after}
 use Rattle.wl_module.specs.Checks.{NoFault}
-use Rattle.wl_module.specs.Outcome.{Fails, AreAlternatives}
+use Rattle.wl_module.specs.Outcome.{Fails, AreAlternatives, HasCause}
 use Rattle.wl_module.specs.declared.error.ReadError.{ReadError}
 use Rattle.wl_module.proofs.ListLaws.{number_reading, one_byte_reading, IsWholeReading}
 use Rattle.wl_module.proofs.ChainLaws.{AreReadings, Stops, chains_agree, chain_stops, chain_goes_on, chain_begins, after-push, item_shortens}
-use Rattle.wl_linking.specs.Verdict.{HasCause, Judged, JudgedFault, judged_at, Inside, InsideFault, IsHere, here_at}
+use Rattle.wl_linking.specs.Verdict.{Judged, JudgedFault, judged_at, Inside, InsideFault, IsHere, here_at}
 use Rattle.wl_linking.specs.Infos.{AreInfos, InfosFault, infos_of, AreInits, InitsFault, inits_of}
 use Rattle.wl_linking.specs.Symbols.{AreSymbols, SymbolsFault}
 use Rattle.wl_linking.specs.SymbolsReading.{symbols_of}
-use Rattle.wl_linking.specs.Linking.{subsection_kind, subsection_verdict, HoldsAll, IsHeld, HeldFault, held_of, AreSubsectionParts, IsSubsection, SubsectionFault, subsection_parts_at, subsection_at, version_verdict, IsVersion, VersionFault, version_at, nothing_seen, seen_after, infos_in, inits_in, table_in, linking_of, with_subsection, AreSubsections, SubsectionsFault, HaveSubsections, IsLinking, LinkingFault}
+use Rattle.wl_linking.specs.Linking.{subsection_kind, subsection_verdict, HoldsAll, IsHeld, HeldFault, held_of, AreSubsectionParts, IsSubsection, SubsectionFault, subsection_parts_at, subsection_at, version_verdict, IsVersion, VersionFault, version_at, nothing_seen, seen_after, infos_in, inits_in, table_in, linking_of, with_subsection, AreSubsections, SubsectionsFault, HaveSubsections, IsLinking, LinkingFault, subsections_in_turn}
 use Rattle.wl_linking.specs.declared.linking.Linking.{Linking}
 use Rattle.wl_linking.specs.declared.linking.SeenSubsections.{SeenSubsections}
 use Rattle.wl_linking.specs.declared.linking.Subsection.{Subsection}
@@ -102,7 +102,7 @@ version_reading = then_reading IsU32 (λ version. Judged (version_verdict versio
 
 -- some subsections, one behind the other
 abbrev AreBehind : ℕ → List Subsection → Cursor → Cursor → Type 0
-AreBehind base = Takes (Chain (IsSubsection base) seen_after nothing_seen)
+AreBehind base = Takes (Chain (subsections_in_turn base) nothing_seen)
 
 -- what comes behind them
 abbrev IsBehind : ℕ → List Subsection → Cursor → Option ReadError → Type 0
@@ -118,7 +118,7 @@ one_is : (e d : ReadError) → one e ≡ one d → e ≡ d
 one_is e d h = cc
 
 agree : (base : ℕ) (xs ys : List Subsection) (a b c : Cursor) (o o' : Option ReadError) → AreBehind base xs a b → IsBehind base xs b o → AreBehind base ys a c → IsBehind base ys c o' → (xs ≡ ys) × (o ≡ o')
-agree base xs ys a b c o o' t p u q = chains_agree (IsSubsection base) seen_after (SubsectionFault base) (subsection_at base) (subsections_read base) nothing_seen xs ys a b c o o' t p u q
+agree base xs ys a b c o o' t p u q = chains_agree (subsections_in_turn base) (SubsectionFault base) (subsection_at base) (subsections_read base) nothing_seen xs ys a b c o o' t p u q
 
 -- the version stands at one place
 behind_is : (payload : List ℕ) (v w : ℕ × Unit {0}) (a b : Cursor) → Takes IsVersion v (start payload) a → Takes IsVersion w (start payload) b → a ≡ b
@@ -162,7 +162,7 @@ linking_some base payload = by_version (version_at (start payload)) refl
     by_version : (r : Result ((ℕ × Unit {0}) × Cursor) ReadError) → version_at (start payload) ≡ r → ((linking : Linking) × IsLinking base linking payload) ⊎ ((e : ReadError) × LinkingFault base e payload)
     by_version (Err e) is = inr (e, inl (version_reading.fault (start payload) e is))
     by_version (Ok (v, behind)) is =
-        let h = chain_stops (IsSubsection base) seen_after (SubsectionFault base) (subsection_at base) (subsections_read base) (length behind.rest) nothing_seen behind (omega arith) in
+        let h = chain_stops (subsections_in_turn base) (SubsectionFault base) (subsection_at base) (subsections_read base) (length behind.rest) nothing_seen behind (omega arith) in
         by_end v behind (version_reading.found (start payload) v behind is) h.0 h.1 h.2 h.3 h.4
 
 pub linking_exact : (base : ℕ) → AreAlternatives (IsLinking base) (LinkingFault base)
@@ -173,12 +173,12 @@ linking_exact base = record { some = linking_some base; one_value = linking_one 
 -- the subsections that were read so far, what they leave seen, and what they hold
 pub record ReadsOn (base : ℕ) (from now : Cursor) (seen : SeenSubsections) (linking : Linking) : Type 0 where
   pub subsections : List Subsection
-  pub stand : Takes (Chain (IsSubsection base) seen_after nothing_seen) subsections from now
+  pub stand : Takes (Chain (subsections_in_turn base) nothing_seen) subsections from now
   pub seen_is : after seen_after nothing_seen subsections ≡ seen
   pub holds : linking ≡ linking_of subsections
 
 pub reads_at_start : (base : ℕ) (from : Cursor) → ReadsOn base from from nothing_seen (linking_of [])
-reads_at_start base from = record { subsections = []; stand = chain_begins (IsSubsection base) seen_after nothing_seen from; seen_is = refl; holds = refl }
+reads_at_start base from = record { subsections = []; stand = chain_begins (subsections_in_turn base) nothing_seen from; seen_is = refl; holds = refl }
 
 pub not_empty : (xs : List ℕ) → eqb (length xs) 0 ≡ false → xs ≢ []
 not_empty [] h e = absurd cc
@@ -199,7 +199,7 @@ reads_more base from now to seen linking s h e =
     let t = (subsection_reading base seen).found now s to e in
     record {
       subsections = h.subsections ++ s ∷ [];
-      stand = chain_goes_on (IsSubsection base) seen_after nothing_seen h.subsections s from now to h.stand (subst (λ (b : SeenSubsections). Takes (IsSubsection base b) s now to) (sym h.seen_is) t);
+      stand = chain_goes_on (subsections_in_turn base) nothing_seen h.subsections s from now to h.stand (subst (λ (b : SeenSubsections). Takes (IsSubsection base b) s now to) (sym h.seen_is) t);
       seen_is = after-push seen_after nothing_seen h.subsections s ∙ ap (λ (b : SeenSubsections). seen_after b s) h.seen_is;
       holds = ap (λ (l : Linking). with_subsection l s) h.holds ∙ holds_more h.subsections s;
     }

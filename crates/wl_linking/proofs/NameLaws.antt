@@ -7,9 +7,9 @@ use Rattle.wl_bytes.specs.Grammar.{Items}
 use Rattle.wl_module.specs.Chains.{Chain}
 use Rattle.wl_module.specs.Checks.{When}
 use Rattle.wl_module.specs.Sections.{Section, IsModule}
-use Rattle.wl_linking.specs.Symbols.{Symbol, SymbolDetails, range_of, IsBasedName, name_or_none, IsNameWhere, is_named, IsNumbered, IsLocated, IsDetails, IsSymbol, AreSymbols}
-use Rattle.wl_linking.specs.Linking.{subsection_kind, IsHeld, IsSubsection, seen_after, nothing_seen as no_subsection_seen, table_in, linking_of, IsLinking}
-use Rattle.wl_linking.specs.Targets.{stretch}
+use Rattle.wl_linking.specs.Symbols.{Symbol, SymbolDetails, range_of, IsBasedName, name_or_none, IsNameWhere, is_named, IsNumbered, IsLocated, SymbolContext, symbol_context, IsDetails, IsSymbol, AreSymbols}
+use Rattle.wl_linking.specs.Linking.{subsection_kind, IsHeld, IsSubsection, seen_after, nothing_seen as no_subsection_seen, table_in, linking_of, IsLinking, subsections_in_turn}
+use Rattle.wl_linking.specs.Targets.{bytes_between}
 use Rattle.wl_linking.specs.Parts.{no_parts}
 use Rattle.wl_linking.specs.Sections.{base_of, AreSound}
 use Rattle.wl_linking.specs.declared.parts.Parts.{Parts}
@@ -55,10 +55,10 @@ outer_stands bytes text name base range h s =
     let none : 0 + (base + s.at) ≡ base + s.at = omega arith in
     record { at = base + s.at; there = inside_stands bytes text name base s.at h s.there; range_is = s.range_is ∙ rw none refl }
 
-pub name_stands : (bytes name : List ℕ) (range : ℕ × ℕ) → Stands bytes 0 name range → stretch bytes range ≡ name
+pub name_stands : (bytes name : List ℕ) (range : ℕ × ℕ) → Stands bytes 0 name range → bytes_between bytes range ≡ name
 name_stands bytes name range s = by_length (eqb (length name) 0) refl (subst (λ (r : ℕ × ℕ). r ≡ range) s.range_is refl)
   where
-    by_length : (b : Bool) → eqb (length name) 0 ≡ b → range_of 0 s.at (length name) ≡ range → stretch bytes range ≡ name
+    by_length : (b : Bool) → eqb (length name) 0 ≡ b → range_of 0 s.at (length name) ≡ range → bytes_between bytes range ≡ name
     by_length true is e =
         let none : name ≡ [] = nil_from_length name (eqb-true (length name) 0 is) in
         rw (← e, is, none) refl
@@ -92,20 +92,20 @@ located_stands : (bytes : List ℕ) (base place flags : ℕ) (d : SymbolDetails)
 located_stands bytes base place flags d text h (q, (front, back, parts, named, extent), is) =
     subst (λ (x : SymbolDetails). Stands bytes base x.name x.name_range) is (based_stands bytes base place q.0 front (before_stands bytes text front back place parts h) named)
 
-details_stand : (bytes : List ℕ) (base place : ℕ) (k : WasmSymbolKind) (flags : ℕ) (d : SymbolDetails) (text : List ℕ) → StandsAt bytes text place → IsDetails base k flags place d text → Stands bytes base d.name d.name_range
-details_stand bytes base place Func flags d text h s = numbered_stands bytes base place flags d text h s
-details_stand bytes base place Data flags d text h s = located_stands bytes base place flags d text h s
-details_stand bytes base place Global flags d text h s = numbered_stands bytes base place flags d text h s
-details_stand bytes base place SectionSymbol flags d text h s = subst (λ (x : SymbolDetails). Stands bytes base x.name x.name_range) s.2 (no_name_stands bytes base)
-details_stand bytes base place Event flags d text h s = subst (λ (x : SymbolDetails). Stands bytes base x.name x.name_range) s.2 (no_name_stands bytes base)
-details_stand bytes base place Table flags d text h s = numbered_stands bytes base place flags d text h s
+details_stand : (bytes : List ℕ) (place : ℕ) (k : WasmSymbolKind) (context : SymbolContext) (d : SymbolDetails) (text : List ℕ) → StandsAt bytes text place → IsDetails k context place d text → Stands bytes context.base d.name d.name_range
+details_stand bytes place Func context d text h s = numbered_stands bytes context.base place context.flags d text h s
+details_stand bytes place Data context d text h s = located_stands bytes context.base place context.flags d text h s
+details_stand bytes place Global context d text h s = numbered_stands bytes context.base place context.flags d text h s
+details_stand bytes place SectionSymbol context d text h s = subst (λ (x : SymbolDetails). Stands bytes context.base x.name x.name_range) s.2 (no_name_stands bytes context.base)
+details_stand bytes place Event context d text h s = subst (λ (x : SymbolDetails). Stands bytes context.base x.name x.name_range) s.2 (no_name_stands bytes context.base)
+details_stand bytes place Table context d text h s = numbered_stands bytes context.base place context.flags d text h s
 
 symbol_stands : (bytes : List ℕ) (base place : ℕ) (s : Symbol) (text : List ℕ) → StandsAt bytes text place → IsSymbol base place s text → SymbolStands bytes base s
 symbol_stands bytes base place s text h (p, (f1, b1, e1, byte, (f2, b2, e2, judged, (f3, b3, e3, number, details))), is) =
     let h1 = behind_stands bytes text f1 b1 place e1 h in
     let h2 = behind_stands bytes b1 f2 b2 (place + length f1) e2 h1 in
     let h3 = behind_stands bytes b2 f3 b3 (place + length f1 + length f2) e3 h2 in
-    subst (λ (x : Symbol). SymbolStands bytes base x) is (details_stand bytes base (place + length f1 + length f2 + length f3) p.1.0 p.1.1.0 p.1.1.1 b3 h3 details)
+    subst (λ (x : Symbol). SymbolStands bytes base x) is (details_stand bytes (place + length f1 + length f2 + length f3) p.1.0 (symbol_context base p.1.1.0) p.1.1.1 b3 h3 details)
 
 items_stand : (bytes : List ℕ) (base place : ℕ) (symbols : List Symbol) (text : List ℕ) → StandsAt bytes text place → Items (IsSymbol base) place symbols text → AllByRecursion (SymbolStands bytes base) symbols
 items_stand bytes base place [] text h s = tt
@@ -150,7 +150,7 @@ subsection_has items_in P bytes each linking base seen place s text outer h (p, 
     (each (base + p.1.1.1.0) (subsection_kind p.0) p.1.1.1.1.1 payload (inside_stands bytes linking payload base p.1.1.1.0 outer there) inside.1)
 
 chain_has : {X : Type 0} (items_in : Subsection → List X) (P : X → Type 0) (bytes : List ℕ) → HaveInEachPart items_in P bytes
-    → (linking : List ℕ) (base : ℕ) (seen : SeenSubsections) (place : ℕ) (xs : List Subsection) (text : List ℕ) → StandsAt bytes linking base → StandsAt linking text place → Chain (IsSubsection base) seen_after seen place xs text → AllByRecursion P (flat_map items_in xs)
+    → (linking : List ℕ) (base : ℕ) (seen : SeenSubsections) (place : ℕ) (xs : List Subsection) (text : List ℕ) → StandsAt bytes linking base → StandsAt linking text place → Chain (subsections_in_turn base) seen place xs text → AllByRecursion P (flat_map items_in xs)
 chain_has items_in P bytes each linking base seen place [] text outer h s = tt
 chain_has items_in P bytes each linking base seen place (x ∷ xs) text outer h (front, back, parts, here, rest) =
     all_append P (items_in x) (flat_map items_in xs)

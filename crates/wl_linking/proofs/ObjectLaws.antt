@@ -7,7 +7,7 @@ use Rattle.wl_module.specs.declared.error.ReadError.{ReadError}
 use Rattle.wl_module.specs.declared.error.ReadError.TheVariants.{OutOfMemory, Malformed, Unsupported}
 use Rattle.wl_module.specs.Sections.{Section, headers_of, IsModule, FrameFault}
 use Rattle.wl_module.proofs.SectionLaws.{module_alternatives}
-use Rattle.wl_linking.specs.Verdict.{HasCause}
+use Rattle.wl_module.specs.Outcome.{HasCause}
 use Rattle.wl_linking.specs.Symbols.{Symbol}
 use Rattle.wl_linking.specs.Sections.{AreSound}
 use Rattle.wl_linking.specs.Object.{Object}
@@ -16,7 +16,7 @@ use Rattle.wl_linking.specs.Placing.{Ascend}
 use Rattle.wl_linking.specs.Spaces.{NamesExist, NamesFault, spaces_of, counts_hold, core_names_exist, linked_names_exist}
 use Rattle.wl_linking.specs.Slots.{AgreeOnNames, SlotFault, HasOneName, HasTwoNames}
 use Rattle.wl_linking.specs.Sites.{LieApart}
-use Rattle.wl_linking.specs.Fitting.{HasItems, IsFitting, CrossFault, PartsFault, IsPlacedObject, IsNamed, NamingFault, IsObject, IsUnfitting, SectionFault, ObjectFault, ParsesObject, code_pieces, data_pieces}
+use Rattle.wl_linking.specs.Fitting.{HasItems, IsFitting, CrossFault, PartsFault, IsPlacedObject, IsNamed, NamingFault, IsObject, IsUnfitting, FirstItemsFault, ObjectFault, ParsesObject, code_pieces, data_pieces}
 use Rattle.wl_linking.specs.declared.parts.Parts.{Parts}
 use Rattle.wl_linking.specs.declared.sites.Site.{Site}
 use Rattle.wl_linking.specs.declared.spaces.Counts.{Counts}
@@ -118,7 +118,7 @@ pub object_either : (bytes : List ℕ) (o : Object) (e : ReadError) → IsObject
 object_either bytes o e h (inl f) = module_alternatives.no_fault bytes h.sections e h.framed f
 object_either bytes o e h (inr (sections, framed, inl f)) =
     let same = module_alternatives.one_value bytes h.sections sections h.framed framed in
-    sections_either h.sections no_parts h.sections h.parts e h.sound (subst (λ (ss : List Section). SectionFault ss e) (sym same) f)
+    sections_either h.sections no_parts h.sections h.parts e h.sound (subst (λ (ss : List Section). FirstItemsFault ss e) (sym same) f)
 object_either bytes o e h (inr (sections, framed, inr f)) = fits_or_not bytes o sections e h framed f
 
 -- a fault of the frame is the only one
@@ -127,11 +127,11 @@ frame_first bytes e d f (inl g) = module_alternatives.one_fault bytes d e g f
 frame_first bytes e d f (inr (sections, framed, g)) = absurd (module_alternatives.no_fault bytes sections e framed f)
 
 -- a section at fault in a sound frame is the only one
-pub section_first : (bytes : List ℕ) (e d : ReadError) (sections : List Section) → IsModule sections bytes → SectionFault sections e → ObjectFault d bytes → d ≡ e
+pub section_first : (bytes : List ℕ) (e d : ReadError) (sections : List Section) → IsModule sections bytes → FirstItemsFault sections e → ObjectFault d bytes → d ≡ e
 section_first bytes e d sections framed f (inl g) = absurd (module_alternatives.no_fault bytes sections d framed g)
 section_first bytes e d sections framed f (inr (others, framed', inl g)) =
     let same = module_alternatives.one_value bytes others sections framed' framed in
-    sections_one_fault sections no_parts sections d e (subst (λ (ss : List Section). SectionFault ss d) same g) f
+    sections_one_fault sections no_parts sections d e (subst (λ (ss : List Section). FirstItemsFault ss d) same g) f
 section_first bytes e d sections framed f (inr (others, framed', inr g)) =
     let same = module_alternatives.one_value bytes others sections framed' framed in
     absurd (sections_either sections no_parts sections g.parts e (subst (λ (ss : List Section). AreSound ss no_parts ss g.parts) same g.sound) f)

@@ -8,14 +8,14 @@ use Rattle.wl_module.specs.Bodies.{Body, IsBody, AreBodies}
 use Rattle.wl_module.specs.Segments.{Segment, Targeted, IsSegment, AreTargeted, plain_segments}
 use Rattle.wl_module.specs.Chains.{Chain}
 use Rattle.wl_module.specs.SectionKinds.{place_of}
-use Rattle.wl_module.specs.Sections.{Section, MayCome, IsSection, next, next_place, IsModule}
+use Rattle.wl_module.specs.Sections.{Section, MayFollow, IsSection, next, next_place, IsModule, sections_in_turn}
 use Rattle.wl_module.specs.declared.section_kind.SectionKind.{SectionKind}
 use Rattle.wl_module.specs.declared.section_kind.SectionKind.TheVariants as kind
 use Rattle.wl_module.proofs.SectionLaws.{section_comes}
 use Rattle.wl_linking.specs.Parts.{no_parts, join, part_of}
 use Rattle.wl_linking.specs.Sites.{PieceOf, body_piece, segment_piece}
 use Rattle.wl_linking.specs.Placing.{Ascend, piece_end}
-use Rattle.wl_linking.specs.Sections.{AreSound}
+use Rattle.wl_linking.specs.Sections.{AreSound, section_context}
 use Rattle.wl_linking.specs.declared.parts.Parts.{Parts}
 use Rattle.wl_linking.specs.declared.section.SectionItems.{SectionItems}
 use Rattle.wl_linking.specs.declared.section.SectionItems.TheVariants.{Code, Data}
@@ -34,7 +34,7 @@ pub record ComesOnce {X : Type 0} (k : SectionKind) (list : Parts → List X) (G
 abbrev SoFar : {X : Type 0} → SectionKind → (List X → Type 0) → ℕ → List X → Type 0
 SoFar k Good last xs = (xs ≡ []) ⊎ ((place_of k ≤ last) × Good xs)
 
-place_stays : (place last : ℕ) (j : SectionKind) → place ≤ last → MayCome last j → place ≤ next_place last j
+place_stays : (place last : ℕ) (j : SectionKind) → place ≤ last → MayFollow last j → place ≤ next_place last j
 place_stays place last j past (inl free) = rw free past
 place_stays place last j past (inr after) =
     elim (chosen (eqb (place_of j) 0) last (place_of j) (next_place last j) refl) [
@@ -50,7 +50,7 @@ place_reached last k some =
     ]
 
 all_good : {X : Type 0} (k : SectionKind) (list : Parts → List X) (Good : List X → Type 0) → ComesOnce k list Good
-    → (sections : List Section) (before : Parts) (last place : ℕ) (ss : List Section) (text : List ℕ) (after : Parts) → Chain IsSection next last place ss text → AreSound sections before ss after → SoFar k Good last (list before) → Good (list after)
+    → (sections : List Section) (before : Parts) (last place : ℕ) (ss : List Section) (text : List ℕ) (after : Parts) → Chain sections_in_turn last place ss text → AreSound sections before ss after → SoFar k Good last (list before) → Good (list after)
 all_good {X} k list Good law sections before last place [] text after chain is so_far = subst (λ (p : Parts). Good (list p)) is (at_end so_far)
   where
     at_end : SoFar k Good last (list before) → Good (list before)
@@ -58,9 +58,9 @@ all_good {X} k list Good law sections before last place [] text after chain is s
     at_end (inr h) = h.1
 all_good {X} k list Good law sections before last place (s ∷ ss) text after (front, back, parts, here, rest) (items, sound, more) so_far =
     all_good k list Good law sections (join before (part_of items)) (next last s) (place + length front) ss back after rest more
-    (subst (SoFar k Good (next last s)) (sym (law.joins before (part_of items))) (step (section_comes last place s front here) (law.others s.kind s items (spelled s.kind sections before s items s.payload sound)) so_far))
+    (subst (SoFar k Good (next last s)) (sym (law.joins before (part_of items))) (step (section_comes last place s front here) (law.others s.kind s items (spelled s.kind (section_context sections before) s items s.payload sound)) so_far))
   where
-    step : MayCome last s.kind → (list (part_of items) ≡ []) ⊎ ((s.kind ≡ k) × Good (list (part_of items))) → SoFar k Good last (list before) → SoFar k Good (next last s) (list before ++ list (part_of items))
+    step : MayFollow last s.kind → (list (part_of items) ≡ []) ⊎ ((s.kind ≡ k) × Good (list (part_of items))) → SoFar k Good last (list before) → SoFar k Good (next last s) (list before ++ list (part_of items))
     step may (inl none) (inl nothing) = inl (rw (none, nothing) refl)
     step may (inl none) (inr h) = inr (place_stays (place_of k) last s.kind h.0 may, rw (none, append-nil (list before)) h.1)
     step may (inr h) (inl nothing) = inr (rw h.0 (place_reached last k law.ranked), rw nothing h.1)

@@ -5,7 +5,7 @@ use Rattle.std.proofs.lemmas.List.{take-append-drop}
 use Rattle.std.specs.List.{AllByRecursion}
 use Rattle.wl_module.specs.Sections.{Section}
 use Rattle.wl_module.specs.declared.error.ReadError.{ReadError}
-use Rattle.wl_linking.specs.Verdict.{HasCause}
+use Rattle.wl_module.specs.Outcome.{HasCause}
 use Rattle.wl_linking.specs.Parts.{no_parts, join, part_of}
 use Rattle.wl_linking.specs.Sections.{IsSound, IsFaulty, AreSound, AreFaulty}
 use Rattle.wl_linking.specs.declared.parts.Parts.{Parts}

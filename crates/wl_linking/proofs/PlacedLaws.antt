@@ -6,12 +6,12 @@ use Rattle.std.proofs.lemmas.List.{drop_at, take_at}
 use Rattle.wl_module.specs.Places.{StandsAt}
 use Rattle.wl_module.specs.Sections.{Section, IsModule, SectionStands}
 use Rattle.wl_module.proofs.SectionLaws.{module_stands}
-use Rattle.wl_linking.specs.Targets.{stretch}
+use Rattle.wl_linking.specs.Targets.{bytes_between}
 use Rattle.wl_linking.specs.Sections.{EndsWithin}
 use Rattle.wl_linking.proofs.HeldLaws.{all_follow}
 
 -- the stretch of so many bytes from a place is the text that stands there
-pub stretch_is : (bytes text : List ℕ) (place : ℕ) → StandsAt bytes text place → stretch bytes (place, place + length text) ≡ text
+pub stretch_is : (bytes text : List ℕ) (place : ℕ) → StandsAt bytes text place → bytes_between bytes (place, place + length text) ≡ text
 stretch_is bytes text place h =
     let many : place + length text - place ≡ length text = omega arith in
     rw (many, h.whole, drop_at h.front (text ++ h.back) place h.len, take_at text h.back (length text) refl) refl

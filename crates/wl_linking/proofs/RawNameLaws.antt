@@ -12,7 +12,7 @@ use Rattle.hex.specs.Hex.{lower_digits, encode_lower, encode_with}
 use Rattle.hex.proofs.Pairs.{encode_with-drop}
 use Rattle.wl_bytes.proofs.Steps.{false_from_not}
 use Rattle.wl_linking.specs.Symbols.{Symbol, has_name}
-use Rattle.wl_linking.specs.Targets.{stretch}
+use Rattle.wl_linking.specs.Targets.{bytes_between}
 use Rattle.wl_linking.specs.RawNames.{named_text, shown_name, text_of}
 
 -- UTF-8 is text
@@ -29,12 +29,12 @@ shown_raw name other = rw (false_from_not (is_utf8 name) (λ t. other (IsUtf8-fr
 
 -- the text of a name that lies within the bytes
 named_within : (bytes : List ℕ) (symbol : Symbol) → has_name symbol ≡ true → symbol.name_range.0 ≤ symbol.name_range.1 → symbol.name_range.1 ≤ length bytes
-    → named_text bytes symbol ≡ text_of (stretch bytes symbol.name_range)
+    → named_text bytes symbol ≡ text_of (bytes_between bytes symbol.name_range)
 named_within bytes symbol named ordered within = rw (named, le-leb _ _ ordered, le-leb _ _ within) refl
 
 -- what was read there is the text of the name
 pub named_read : {T E : Type 0} (seen : T → List ℕ) (Fault : E → Type 0) (bytes name : List ℕ) (symbol : Symbol) (r : Result T E)
-    → has_name symbol ≡ true → symbol.name_range.0 ≤ symbol.name_range.1 → symbol.name_range.1 ≤ length bytes → name ≡ stretch bytes symbol.name_range
+    → has_name symbol ≡ true → symbol.name_range.0 ≤ symbol.name_range.1 → symbol.name_range.1 ≤ length bytes → name ≡ bytes_between bytes symbol.name_range
     → MatchResult r (λ t. (seen t ≡ name) × IsUtf8 name) (λ e. ¬ IsUtf8 name × Fault e)
     → MatchOption (result_ok r) (named_text bytes symbol ≡ None) (λ t. named_text bytes symbol ≡ Some (seen t))
 named_read seen Fault bytes name symbol (Ok t) named ordered within is read =

@@ -18,7 +18,7 @@ use Rattle.wl_module.proofs.ReadingLaws.{either, both, seen}
 use Rattle.wl_module.proofs.ListLaws.{number_reading, one_byte_reading, list_reading, IsReadingFrom, IsWholeReading, reading_from, outcome, to_end_reading}
 use Rattle.wl_module.proofs.CheckLaws.{when_reading}
 use Rattle.wl_linking.specs.RelocationTypes.{has_addend}
-use Rattle.wl_linking.specs.Relocations.{type_verdict, addend_or_zero, IsAddendWhere, addend_where_at, AreEntryParts, relocation_of, IsEntry, EntryFault, entry_parts_at, entry_at, AreEntries, EntriesFault, entries_of, Holds, HoldsFault, held_at, IsRelocSection, RelocSectionFault, reloc_section_of}
+use Rattle.wl_linking.specs.Relocations.{type_verdict, addend_or_zero, IsAddendWhere, addend_where_at, AreEntryParts, relocation_of, IsEntry, EntryFault, entry_parts_at, entry_at, AreEntries, EntriesFault, entries_to_end_at, HoldsEntries, HoldsEntriesFault, held_entries_at, IsRelocSection, RelocSectionFault, reloc_section_of}
 use Rattle.wl_linking.specs.declared.relocations.RelocHeld.{RelocHeld}
 use Rattle.wl_linking.specs.declared.relocations.Target.{Target}
 use Rattle.wl_linking.specs.declared.relocations.Target.TheVariants as target
@@ -43,12 +43,12 @@ entry_reading at = seen relocation_of (entry_parts_reading at)
 list_law : (at : Target) → IsReading (Listed (IsEntry at)) (ListedFault (IsEntry at) (EntryFault at)) (list_at (entry_at at))
 list_law at = list_reading (IsEntry at) (EntryFault at) (entry_at at) (entry_reading at)
 
-entries_reading : (at : Target) → IsReadingFrom (AreEntries at) (EntriesFault at) (entries_of at)
+entries_reading : (at : Target) → IsReadingFrom (AreEntries at) (EntriesFault at) (entries_to_end_at at)
 entries_reading at = to_end_reading (list_law at)
 
 -- ---- what a target holds
 
-held_reading : (at : Target) → IsReadingFrom (Holds at) (HoldsFault at) (held_at at)
+held_reading : (at : Target) → IsReadingFrom (HoldsEntries at) (HoldsEntriesFault at) (held_entries_at at)
 held_reading target.Code = entries_reading target.Code
 held_reading target.Data = entries_reading target.Data
 held_reading target.Debug = record {

@@ -27,17 +27,16 @@ use Rattle.wl_linking.specs.Linking.{IsLinking, LinkingFault}
 use Rattle.wl_linking.specs.Relocations.{IsRelocSection, RelocSectionFault, reloc_section_of}
 use Rattle.wl_linking.specs.Parts.{join, part_of}
 use Rattle.wl_linking.specs.Targets.{custom_kind, numbered_verdict}
-use Rattle.wl_linking.specs.Sections.{has_memory, base_of, LinkingItems, LinkingItemsFault, Holding, imports_at, HoldsCustom, CustomFault, HoldsItems, ItemsFault, IsSoundCustom, IsFaultyCustom, IsSound, IsFaulty, AreSound, AreFaulty}
+use Rattle.wl_linking.specs.Sections.{SectionContext, section_context, has_memory, base_of, LinkingItems, LinkingItemsFault, Holding, imports_at, HoldsCustom, CustomFault, HoldsItems, ItemsFault, IsSoundCustom, IsFaultyCustom, IsSound, IsFaulty, AreSound, AreFaulty}
 use Rattle.wl_linking.specs.declared.kinds.CustomKind.{CustomKind}
 use Rattle.wl_linking.specs.declared.kinds.CustomKind.TheVariants as custom
-use Rattle.wl_linking.specs.Verdict.{HasCause}
+use Rattle.wl_module.specs.Outcome.{HasCause, Fails, AreAlternatives}
 use Rattle.wl_linking.specs.declared.parts.Parts.{Parts}
 use Rattle.wl_linking.specs.declared.relocations.RelocHeld.{RelocHeld}
 use Rattle.wl_linking.proofs.Exact.{failed}
 use Rattle.wl_linking.specs.declared.linking.Linking.{Linking as LinkingHeld}
 use Rattle.wl_linking.specs.declared.section.SectionItems.{SectionItems}
 use Rattle.wl_linking.specs.declared.section.SectionItems.TheVariants.{Types, Functions, Memories, Globals, Exports, DataCount, Code, Data, Linking, Reloc, Features, Debug, Nothing}
-use Rattle.wl_module.specs.Outcome.{Fails, AreAlternatives}
 use Rattle.wl_module.proofs.ListLaws.{whole_alternatives}
 use Rattle.wl_linking.proofs.FeatureLaws.{features_reading}
 use Rattle.wl_linking.proofs.LinkingLaws.{linking_exact}
@@ -100,39 +99,39 @@ foreign_exact known = record { some = λ payload. inr (known, refl); one_value =
 fixed_exact : (items_of : List ℕ → SectionItems) → AreAlternatives (λ items payload. items ≡ items_of payload) NoneAtFault
 fixed_exact items_of = record { some = λ payload. inl (items_of payload, refl); one_value = λ payload x y s t. s ∙ sym t; no_fault = λ payload x e s f. f; one_fault = λ payload e d f g. absurd f }
 
-custom_exact : (c : CustomKind) (sections : List Section) (before : Parts) (s : Section) → AreAlternatives (HoldsCustom c sections before s) (CustomFault c sections before s)
-custom_exact custom.Linking sections before s = holding_exact Linking (LinkingItems before s) (LinkingItemsFault before s) (first_exact before s)
-custom_exact custom.Reloc sections before s =
-    let verdict = numbered_verdict sections before in
+custom_exact : (c : CustomKind) (context : SectionContext) (s : Section) → AreAlternatives (HoldsCustom c context s) (CustomFault c context s)
+custom_exact custom.Linking context s = holding_exact Linking (LinkingItems context.before s) (LinkingItemsFault context.before s) (first_exact context.before s)
+custom_exact custom.Reloc context s =
+    let verdict = numbered_verdict context.sections context.before in
     holding_exact Reloc (IsRelocSection verdict) (RelocSectionFault verdict) (whole_alternatives (IsRelocSection verdict) (RelocSectionFault verdict) (reloc_section_of verdict) (reloc_section_reading verdict))
-custom_exact custom.Features sections before s = holding_exact Features AreFeatures FeaturesFault (whole_alternatives AreFeatures FeaturesFault features_of features_reading)
-custom_exact custom.Debug sections before s = fixed_exact (λ payload. Debug (debug_of s.name payload))
-custom_exact custom.Other sections before s = fixed_exact (λ payload. Nothing)
+custom_exact custom.Features context s = holding_exact Features AreFeatures FeaturesFault (whole_alternatives AreFeatures FeaturesFault features_of features_reading)
+custom_exact custom.Debug context s = fixed_exact (λ payload. Debug (debug_of s.name payload))
+custom_exact custom.Other context s = fixed_exact (λ payload. Nothing)
 
-items_exact : (k : SectionKind) (sections : List Section) (before : Parts) (s : Section) → AreAlternatives (HoldsItems k sections before s) (ItemsFault k sections before s)
-items_exact kind.Custom sections before s = custom_exact (custom_kind s.name) sections before s
-items_exact kind.Type sections before s = holding_exact Types AreTypes TypesFault (whole_alternatives AreTypes TypesFault types_of types_reading)
-items_exact kind.Import sections before s = holding_exact (imports_at s) ArePlacedImports ImportsFault (whole_alternatives ArePlacedImports ImportsFault placed_imports_of placed_imports_reading)
-items_exact kind.Function sections before s = holding_exact Functions AreIndices IndicesFault (whole_alternatives AreIndices IndicesFault indices_of indices_reading)
-items_exact kind.Table sections before s = foreign_exact (Unsupported form.TableDef)
-items_exact kind.Memory sections before s =
-    let imported = has_memory before.imports in
+items_exact : (k : SectionKind) (context : SectionContext) (s : Section) → AreAlternatives (HoldsItems k context s) (ItemsFault k context s)
+items_exact kind.Custom context s = custom_exact (custom_kind s.name) context s
+items_exact kind.Type context s = holding_exact Types AreTypes TypesFault (whole_alternatives AreTypes TypesFault types_of types_reading)
+items_exact kind.Import context s = holding_exact (imports_at s) ArePlacedImports ImportsFault (whole_alternatives ArePlacedImports ImportsFault placed_imports_of placed_imports_reading)
+items_exact kind.Function context s = holding_exact Functions AreIndices IndicesFault (whole_alternatives AreIndices IndicesFault indices_of indices_reading)
+items_exact kind.Table context s = foreign_exact (Unsupported form.TableDef)
+items_exact kind.Memory context s =
+    let imported = has_memory context.before.imports in
     holding_exact Memories (AreMemories imported) (MemoriesFault imported) (whole_alternatives (AreMemories imported) (MemoriesFault imported) (memories_of imported) (memories_reading imported))
-items_exact kind.Global sections before s = holding_exact Globals AreGlobals GlobalsFault (whole_alternatives AreGlobals GlobalsFault globals_of globals_reading)
-items_exact kind.Export sections before s = holding_exact Exports AreExports ExportsFault (whole_alternatives AreExports ExportsFault exports_of exports_reading)
-items_exact kind.Start sections before s = foreign_exact (Unsupported form.Start)
-items_exact kind.Element sections before s = fixed_exact (λ payload. Nothing)
-items_exact kind.Code sections before s = holding_exact Code AreBodies BodiesFault (whole_alternatives AreBodies BodiesFault bodies_of bodies_reading)
-items_exact kind.Data sections before s = holding_exact Data AreTargeted SegmentsFault (whole_alternatives AreTargeted SegmentsFault targeted_of targeted_reading)
-items_exact kind.DataCount sections before s = holding_exact DataCount IsDataCount DataCountFault (whole_alternatives IsDataCount DataCountFault data_count_of data_count_reading)
-items_exact kind.Tag sections before s = foreign_exact (Unsupported form.Tag)
+items_exact kind.Global context s = holding_exact Globals AreGlobals GlobalsFault (whole_alternatives AreGlobals GlobalsFault globals_of globals_reading)
+items_exact kind.Export context s = holding_exact Exports AreExports ExportsFault (whole_alternatives AreExports ExportsFault exports_of exports_reading)
+items_exact kind.Start context s = foreign_exact (Unsupported form.Start)
+items_exact kind.Element context s = fixed_exact (λ payload. Nothing)
+items_exact kind.Code context s = holding_exact Code AreBodies BodiesFault (whole_alternatives AreBodies BodiesFault bodies_of bodies_reading)
+items_exact kind.Data context s = holding_exact Data AreTargeted SegmentsFault (whole_alternatives AreTargeted SegmentsFault targeted_of targeted_reading)
+items_exact kind.DataCount context s = holding_exact DataCount IsDataCount DataCountFault (whole_alternatives IsDataCount DataCountFault data_count_of data_count_reading)
+items_exact kind.Tag context s = foreign_exact (Unsupported form.Tag)
 
 -- ---- all sections
 
 -- all are sound, or one is at fault
 pub sections_some : (sections : List Section) (before : Parts) (ss : List Section) → ((after : Parts) × AreSound sections before ss after) ⊎ ((e : ReadError) × AreFaulty sections before ss e)
 sections_some sections before [] = inl (before, refl)
-sections_some sections before (s ∷ ss) = by_first ((items_exact s.kind sections before s).some s.payload) (λ items. sections_some sections (join before (part_of items)) ss)
+sections_some sections before (s ∷ ss) = by_first ((items_exact s.kind (section_context sections before) s).some s.payload) (λ items. sections_some sections (join before (part_of items)) ss)
   where
     by_rest : (items : SectionItems) → IsSound sections before s items → ((after : Parts) × AreSound sections (join before (part_of items)) ss after) ⊎ ((e : ReadError) × AreFaulty sections (join before (part_of items)) ss e)
         → ((after : Parts) × AreSound sections before (s ∷ ss) after) ⊎ ((e : ReadError) × AreFaulty sections before (s ∷ ss) e)
@@ -148,23 +147,23 @@ sections_some sections before (s ∷ ss) = by_first ((items_exact s.kind section
 pub sections_one : (sections : List Section) (before : Parts) (ss : List Section) (a b : Parts) → AreSound sections before ss a → AreSound sections before ss b → a ≡ b
 sections_one sections before [] a b h k = sym h ∙ k
 sections_one sections before (s ∷ ss) a b (x, here, h) (y, here', k) =
-    let first = (items_exact s.kind sections before s).one_value s.payload x y here here' in
+    let first = (items_exact s.kind (section_context sections before) s).one_value s.payload x y here here' in
     sections_one sections (join before (part_of x)) ss a b h (subst (λ (z : SectionItems). AreSound sections (join before (part_of z)) ss b) (sym first) k)
 
 pub sections_either : (sections : List Section) (before : Parts) (ss : List Section) (after : Parts) (e : ReadError) → AreSound sections before ss after → AreFaulty sections before ss e → ⊥
 sections_either sections before [] after e h f = f
-sections_either sections before (s ∷ ss) after e (x, here, h) (inl f) = (items_exact s.kind sections before s).no_fault s.payload x e here f
+sections_either sections before (s ∷ ss) after e (x, here, h) (inl f) = (items_exact s.kind (section_context sections before) s).no_fault s.payload x e here f
 sections_either sections before (s ∷ ss) after e (x, here, h) (inr (y, here', f)) =
-    let first = (items_exact s.kind sections before s).one_value s.payload x y here here' in
+    let first = (items_exact s.kind (section_context sections before) s).one_value s.payload x y here here' in
     sections_either sections (join before (part_of x)) ss after e h (subst (λ (z : SectionItems). AreFaulty sections (join before (part_of z)) ss e) (sym first) f)
 
 pub sections_one_fault : (sections : List Section) (before : Parts) (ss : List Section) (e d : ReadError) → AreFaulty sections before ss e → AreFaulty sections before ss d → e ≡ d
 sections_one_fault sections before [] e d f g = absurd f
-sections_one_fault sections before (s ∷ ss) e d (inl f) (inl g) = (items_exact s.kind sections before s).one_fault s.payload e d f g
-sections_one_fault sections before (s ∷ ss) e d (inl f) (inr (y, here, g)) = absurd ((items_exact s.kind sections before s).no_fault s.payload y e here f)
-sections_one_fault sections before (s ∷ ss) e d (inr (x, here, f)) (inl g) = absurd ((items_exact s.kind sections before s).no_fault s.payload x d here g)
+sections_one_fault sections before (s ∷ ss) e d (inl f) (inl g) = (items_exact s.kind (section_context sections before) s).one_fault s.payload e d f g
+sections_one_fault sections before (s ∷ ss) e d (inl f) (inr (y, here, g)) = absurd ((items_exact s.kind (section_context sections before) s).no_fault s.payload y e here f)
+sections_one_fault sections before (s ∷ ss) e d (inr (x, here, f)) (inl g) = absurd ((items_exact s.kind (section_context sections before) s).no_fault s.payload x d here g)
 sections_one_fault sections before (s ∷ ss) e d (inr (x, here, f)) (inr (y, here', g)) =
-    let first = (items_exact s.kind sections before s).one_value s.payload x y here here' in
+    let first = (items_exact s.kind (section_context sections before) s).one_value s.payload x y here here' in
     sections_one_fault sections (join before (part_of x)) ss e d f (subst (λ (z : SectionItems). AreFaulty sections (join before (part_of z)) ss d) (sym first) g)
 
 -- ---- a relocation section

@@ -6,8 +6,8 @@ use Rattle.std.proofs.lemmas.List.{length-take, length-drop, get_or_default}
 use Rattle.std.specs.List.Sorted.{IsNonDecreasingBy}
 use Rattle.std.proofs.lemmas.Option.{slice_get-get_or}
 use Rattle.wl_bytes.proofs.Steps.{chosen}
-use Rattle.wl_linking.specs.RelocationTypes.{form_of}
-use Rattle.wl_linking.specs.Sites.{PieceOf, IsSite, AreSites, AreApart, IsBefore, HasNoSite, is_padded, has_form, field_len, offset_of}
+use Rattle.wl_linking.specs.RelocationTypes.{field_form}
+use Rattle.wl_linking.specs.Sites.{PieceOf, IsSite, AreSites, AreApart, LiesBefore, HasNoSite, is_padded, has_form, field_len, offset_of}
 use Rattle.wl_linking.specs.Placing.{piece_end, Ascend, position_of, site_in, site_of}
 use Rattle.wl_linking.specs.declared.relocation_type.FieldForm.{FieldForm}
 use Rattle.wl_linking.specs.declared.relocation_type.FieldForm.TheVariants.{PaddedUnsigned, PaddedSigned, Word}
@@ -17,9 +17,9 @@ use Rattle.wl_linking.specs.declared.sites.Site.{Site}
 -- ---- fields that don't overlap
 
 pub apart_from_neighbours : (rs : List WasmRelocation) (end : ℕ) → IsNonDecreasingBy offset_of rs → length rs ≤ end
-    → ((k : ℕ) (d : WasmRelocation) → k + 1 < end → IsBefore (get_or rs k d) (get_or rs (k + 1) d)) → AreApart rs
+    → ((k : ℕ) (d : WasmRelocation) → k + 1 < end → LiesBefore (get_or rs k d) (get_or rs (k + 1) d)) → AreApart rs
 apart_from_neighbours rs end order all near i j d lt in_range =
-    let next : IsBefore (get_or rs i d) (get_or rs (i + 1) d) = near i d (omega arith) in
+    let next : LiesBefore (get_or rs i d) (get_or rs (i + 1) d) = near i d (omega arith) in
     let after : (get_or rs (i + 1) d).offset ≤ (get_or rs j d).offset = order (i + 1) j d (omega arith) in_range in
     omega (arith, next, after)
 
@@ -176,11 +176,11 @@ sites_push pieces (q ∷ rs) (x ∷ ss) r s h i = (h.0, sites_push pieces rs ss 
 
 -- where the search from a piece on finds the field of r
 abbrev pub site_from : ℕ → List PieceOf → WasmRelocation → Option Site
-site_from unit pieces r = site_of unit (drop unit pieces) (form_of r.ty) r.offset
+site_from unit pieces r = site_of unit (drop unit pieces) (field_form r.ty) r.offset
 
 -- where the search among all pieces finds it
 abbrev pub site_among : List PieceOf → WasmRelocation → Option Site
-site_among pieces r = site_of 0 pieces (form_of r.ty) r.offset
+site_among pieces r = site_of 0 pieces (field_form r.ty) r.offset
 
 -- the relocations that have their sites, and where the search for the next one begins
 pub record PlacesOn (pieces : List PieceOf) (rs : List WasmRelocation) (i unit : ℕ) (sites : List Site) : Type 0 where
@@ -190,7 +190,7 @@ pub record PlacesOn (pieces : List PieceOf) (rs : List WasmRelocation) (i unit :
 -- a site that is found is one
 pub site_is : (pieces : List PieceOf) (r : WasmRelocation) (s : Site) → site_among pieces r ≡ Some s → IsSite pieces r s
 site_is pieces r s e =
-    let t = site_found 0 pieces (form_of r.ty) r.offset s e in
+    let t = site_found 0 pieces (field_form r.ty) r.offset s e in
     let number : s.unit ≡ t.k = omega (arith, t.number) in
     record { piece = t.piece; here = subst (λ (n : ℕ). slice_get pieces n ≡ Some t.piece) (sym number) t.here; place = t.place; field = t.field }
 
@@ -198,14 +198,14 @@ site_is pieces r s e =
 pub site_is_found : (pieces : List PieceOf) (r : WasmRelocation) (s : Site) → Ascend 0 pieces → IsSite pieces r s → site_among pieces r ≡ Some s
 site_is_found pieces r s ascend h =
     let number : 0 + s.unit ≡ s.unit = omega arith in
-    site_again 0 0 pieces (form_of r.ty) r.offset s.unit s.position h.piece ascend h.here h.place h.field ∙ rw number refl
+    site_again 0 0 pieces (field_form r.ty) r.offset s.unit s.position h.piece ascend h.here h.place h.field ∙ rw number refl
 
 -- what the search for a field of the form of r finds
-of_its_form : (unit : ℕ) (pieces : List PieceOf) (r : WasmRelocation) (form : FieldForm) (o : Option Site) → form ≡ form_of r.ty → site_of unit (drop unit pieces) form r.offset ≡ o → site_from unit pieces r ≡ o
+of_its_form : (unit : ℕ) (pieces : List PieceOf) (r : WasmRelocation) (form : FieldForm) (o : Option Site) → form ≡ field_form r.ty → site_of unit (drop unit pieces) form r.offset ≡ o → site_from unit pieces r ≡ o
 of_its_form unit pieces r form o is e = subst (λ (f : FieldForm). site_of unit (drop unit pieces) f r.offset ≡ o) is e
 
 pub places_more : (pieces : List PieceOf) (rs : List WasmRelocation) (i unit : ℕ) (d : WasmRelocation) (sites : List Site) (s : Site) (form : FieldForm) → IsNonDecreasingBy offset_of rs → i < length rs
-    → PlacesOn pieces rs i unit sites → form ≡ form_of (get_or rs i d).ty → site_of unit (drop unit pieces) form (get_or rs i d).offset ≡ Some s → PlacesOn pieces rs (i + 1) s.unit (sites ++ s ∷ [])
+    → PlacesOn pieces rs i unit sites → form ≡ field_form (get_or rs i d).ty → site_of unit (drop unit pieces) form (get_or rs i d).offset ≡ Some s → PlacesOn pieces rs (i + 1) s.unit (sites ++ s ∷ [])
 places_more pieces rs i unit d sites s form order lt h is e =
     let r : WasmRelocation = get_or rs i d in
     let from_start : site_among pieces r ≡ Some s = sym (h.later i d (omega arith) lt) ∙ of_its_form unit pieces r form (Some s) is e in
@@ -215,13 +215,13 @@ places_more pieces rs i unit d sites s form order lt h is e =
           let same : get_or rs j f ≡ get_or rs j d = get_or_default rs j f d in_range in
           let q : WasmRelocation = get_or rs j d in
           let rises : r.offset ≤ q.offset = order i j d (omega arith) in_range in
-          let later = site_later 0 pieces (form_of r.ty) (form_of q.ty) r.offset q.offset s from_start rises in
+          let later = site_later 0 pieces (field_form r.ty) (field_form q.ty) r.offset q.offset s from_start rises in
           let all : s.unit - 0 ≡ s.unit = omega arith in
           rw same (sym (later.1 ∙ rw all refl));
     }
 
 pub no_site : (pieces : List PieceOf) (rs : List WasmRelocation) (i unit : ℕ) (d : WasmRelocation) (sites : List Site) (form : FieldForm) → Ascend 0 pieces → i < length rs
-    → PlacesOn pieces rs i unit sites → form ≡ form_of (get_or rs i d).ty → site_of unit (drop unit pieces) form (get_or rs i d).offset ≡ None → HasNoSite pieces rs
+    → PlacesOn pieces rs i unit sites → form ≡ field_form (get_or rs i d).ty → site_of unit (drop unit pieces) form (get_or rs i d).offset ≡ None → HasNoSite pieces rs
 no_site pieces rs i unit d sites form ascend lt h is e =
     let r : WasmRelocation = get_or rs i d in
     let none : site_among pieces r ≡ None = sym (h.later i d (omega arith) lt) ∙ of_its_form unit pieces r form None is e in

@@ -5,10 +5,9 @@ use Rattle.wl_bytes.specs.declared.reader.TheConstants.{MAX_LEN}
 use Rattle.wl_module.specs.declared.sections.SectionHeader.{SectionHeader}
 use Rattle.wl_module.specs.declared.error.ReadError.{ReadError}
 use Rattle.wl_module.specs.Sections.{Section, headers_of, IsModule, FrameFault}
-use Rattle.wl_module.specs.Outcome.{Gives}
-use Rattle.wl_linking.specs.Verdict.{HasCause}
+use Rattle.wl_module.specs.Outcome.{Gives, HasCause}
 use Rattle.wl_linking.specs.Symbols.{Symbol}
-use Rattle.wl_linking.specs.Targets.{stretch}
+use Rattle.wl_linking.specs.Targets.{bytes_between}
 use Rattle.wl_linking.specs.Object.{Object}
 use Rattle.wl_linking.specs.Parts.{no_parts}
 use Rattle.wl_linking.specs.Sections.{AreSound, AreFaulty}
@@ -87,7 +86,7 @@ PartsFault bytes headers parts e = (o : Object) × HasItems bytes headers parts 
 
 -- the name of a symbol is what stands at its range of the bytes
 abbrev pub NameStands : List ℕ → Symbol → Type 0
-NameStands bytes s = stretch bytes s.name_range ≡ s.name
+NameStands bytes s = bytes_between bytes s.name_range ≡ s.name
 
 -- ---- the same in steps
 
@@ -158,13 +157,13 @@ pub record IsUnfitting (sections : List Section) (bytes : List ℕ) (e : ReadErr
   pub fault : PartsFault bytes (headers_of sections) parts e
 
 -- the first section that isn't sound is at fault
-abbrev pub SectionFault : List Section → ReadError → Type 0
-SectionFault sections = AreFaulty sections no_parts sections
+abbrev pub FirstItemsFault : List Section → ReadError → Type 0
+FirstItemsFault sections = AreFaulty sections no_parts sections
 
 -- the frame is at fault, or the first section that isn't sound, or what must hold across sections
 abbrev pub ObjectFault : ReadError → List ℕ → Type 0
 ObjectFault e bytes = FrameFault e bytes
-    ⊎ ((sections : List Section) × IsModule sections bytes × (SectionFault sections e ⊎ IsUnfitting sections bytes e))
+    ⊎ ((sections : List Section) × IsModule sections bytes × (FirstItemsFault sections e ⊎ IsUnfitting sections bytes e))
 
 -- What a call on an object's bytes has answered, memory apart: the object exactly where they are one, and else what is wrong;
 -- the frame and the sections are judged before what must hold across them. No list of the object has more items than there are
@@ -175,5 +174,5 @@ pub record ParsesObject (bytes : List ℕ) (result : Result Object ReadError) : 
   pub only : (o : Object) → IsObject o bytes → Gives (λ f. f) result (Ok o)
   pub fault : IfErr result (HasCause (λ e. ObjectFault e bytes))
   pub frame : (e : ReadError) → FrameFault e bytes → Gives (λ f. f) result (Err e)
-  pub section : (e : ReadError) (sections : List Section) → IsModule sections bytes → SectionFault sections e
+  pub section : (e : ReadError) (sections : List Section) → IsModule sections bytes → FirstItemsFault sections e
       → Gives (λ f. f) result (Err e)

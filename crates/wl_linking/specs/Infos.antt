@@ -6,7 +6,7 @@ use Rattle.wl_bytes.specs.Leb.{IsU32}
 use Rattle.wl_bytes.specs.Items.{IsName}
 use Rattle.wl_bytes.specs.Grammar.{Then, ThenFault, then_at, map_at}
 use Rattle.wl_module.specs.Lists.{NumberFault, number_at, WordFault, word_at, Listed, ListedFault, list_at, Whole, WholeFault, whole_of}
-use Rattle.wl_module.specs.Checks.{Where, WhereFault, where_at, Seen}
+use Rattle.wl_module.specs.Checks.{Where, WhereFault, unless, where_at, Seen}
 use Rattle.wl_module.specs.declared.error.Why.TheVariants.{BadAlignment}
 use Rattle.wl_module.specs.declared.error.ReadError.{ReadError}
 use Rattle.wl_module.specs.declared.error.ReadError.TheVariants.{Malformed}
@@ -38,7 +38,7 @@ IsAlignment = Seen (Where IsU32 is_exponent) two_to
 
 -- no exponent stands there, or one that is too great
 abbrev pub AlignmentFault : ReadError → Cursor → Type 0
-AlignmentFault = WhereFault IsU32 NumberFault is_exponent (Malformed BadAlignment)
+AlignmentFault = WhereFault IsU32 NumberFault (unless is_exponent (Malformed BadAlignment))
 
 -- the alignment in front
 unfoldable pub alignment_at : Cursor → Result (ℕ × Cursor) ReadError

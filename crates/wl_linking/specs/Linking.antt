@@ -9,7 +9,7 @@ use Rattle.wl_bytes.specs.Grammar.{Then, ThenFault, then_at, map_at}
 use Rattle.wl_module.specs.Lists.{NumberFault, ByteFault, number_at, one_byte_at, start}
 use Rattle.wl_module.specs.Bodies.{StretchFault}
 use Rattle.wl_module.specs.Bodies.{stretch_at}
-use Rattle.wl_module.specs.Chains.{Chain, ChainFault}
+use Rattle.wl_module.specs.Chains.{Turns, Chain, ChainFault}
 use Rattle.wl_module.specs.Checks.{NoFault, Seen}
 use Rattle.wl_module.specs.declared.error.ReadError.{ReadError}
 use Rattle.wl_module.specs.declared.error.ReadError.TheVariants.{Malformed, Unsupported}
@@ -162,14 +162,18 @@ with_subsection linking s = record {
   symbols = linking.symbols ++ table_in s;
 }
 
+-- subsections in turn, each after those before it
+abbrev pub subsections_in_turn : ℕ → Turns SeenSubsections Subsection
+subsections_in_turn base = record { item = IsSubsection base; next = seen_after }
+
 -- subsections to the end of the bytes
 abbrev pub AreSubsections : ℕ → List Subsection → Cursor → Cursor → Type 0
 AreSubsections base subsections from to =
-    Takes (Chain (IsSubsection base) seen_after nothing_seen) subsections from to × (to.rest ≡ [])
+    Takes (Chain (subsections_in_turn base) nothing_seen) subsections from to × (to.rest ≡ [])
 
 -- some subsections, and then one at fault
 abbrev pub SubsectionsFault : ℕ → ReadError → Cursor → Type 0
-SubsectionsFault base = ChainFault (IsSubsection base) seen_after (SubsectionFault base) nothing_seen
+SubsectionsFault base = ChainFault (subsections_in_turn base) (SubsectionFault base) nothing_seen
 
 -- subsections to the end of the bytes hold this
 abbrev pub HaveSubsections : ℕ → Cursor → Linking → Type 0

@@ -71,8 +71,8 @@ join a b = record {
 }
 
 -- the memory that each segment goes into when the module starts, if it does
-abbrev pub memories_of : List Targeted → List (Option ℕ)
-memories_of = map (λ (t : Targeted). t.memory_index)
+abbrev pub segment_memories_of : List Targeted → List (Option ℕ)
+segment_memories_of = map (λ (t : Targeted). t.memory_index)
 
 -- an import section, where so many bytes of the object lie before its payload: the imports, and the names that symbols may take
 abbrev pub imports_part : List PlacedImported → ℕ → Parts
@@ -95,16 +95,16 @@ data_of target.Data xs = xs
 data_of target.Debug xs = []
 
 -- relocations of code
-abbrev pub is_code : Target → Bool
-is_code target.Code = true
-is_code target.Data = false
-is_code target.Debug = false
+abbrev pub is_code_target : Target → Bool
+is_code_target target.Code = true
+is_code_target target.Data = false
+is_code_target target.Debug = false
 
 -- relocations of data
-abbrev pub is_data : Target → Bool
-is_data target.Code = false
-is_data target.Data = true
-is_data target.Debug = false
+abbrev pub is_data_target : Target → Bool
+is_data_target target.Code = false
+is_data_target target.Data = true
+is_data_target target.Debug = false
 
 -- a relocation section, by what it is for
 abbrev pub reloc_part : RelocHeld → Parts
@@ -112,8 +112,8 @@ reloc_part held = record no_parts {
   reloc_sections = held.section ∷ [];
   code_relocations = code_of held.target held.section.relocations;
   data_relocations = data_of held.target held.section.relocations;
-  has_code_relocations = is_code held.target;
-  has_data_relocations = is_data held.target;
+  has_code_relocations = is_code_target held.target;
+  has_data_relocations = is_data_target held.target;
 }
 
 -- what one section holds
@@ -126,7 +126,7 @@ part_of (Globals globals) = record no_parts { globals = globals }
 part_of (Exports exports) = record no_parts { exports = exports }
 part_of (DataCount count) = record no_parts { data_counts = count ∷ [] }
 part_of (Code bodies) = record no_parts { bodies = bodies }
-part_of (Data segments) = record no_parts { segments = plain_segments segments; segment_memories = memories_of segments }
+part_of (Data segments) = record no_parts { segments = plain_segments segments; segment_memories = segment_memories_of segments }
 part_of (Linking linking) = record no_parts {
   segment_infos = linking.segment_infos;
   init_funcs = linking.init_funcs;

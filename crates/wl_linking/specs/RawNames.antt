@@ -3,7 +3,7 @@ use Rattle.std.specs.Prelude.{ℕ, ◌++◌, ◌&&◌, nat_le, Bool, if◌then�
 use Rattle.std.specs.Str.{is_utf8}
 use Rattle.hex.specs.Hex.{encode_lower}
 use Rattle.wl_linking.specs.Symbols.{Symbol, has_name}
-use Rattle.wl_linking.specs.Targets.{stretch}
+use Rattle.wl_linking.specs.Targets.{bytes_between}
 
 -- a range lies within the bytes: it doesn't end before it begins, nor behind the last of them
 abbrev pub is_within : List ℕ → ℕ × ℕ → Bool
@@ -15,7 +15,7 @@ text_of bytes = if is_utf8 bytes then Some bytes else None
 
 -- the text at a range of the bytes, where it lies within them and they are UTF-8 there
 abbrev pub text_in : List ℕ → ℕ × ℕ → Option (List ℕ)
-text_in bytes range = if is_within bytes range then text_of (stretch bytes range) else None
+text_in bytes range = if is_within bytes range then text_of (bytes_between bytes range) else None
 
 -- the text at the range of a symbol's name, where the symbol has a name
 abbrev pub named_text : List ℕ → Symbol → Option (List ℕ)

@@ -8,7 +8,7 @@ use Rattle.wl_linking.specs.declared.relocation_type.Allowed.{Allowed}
 use Rattle.wl_linking.specs.declared.relocation_type.Allowed.TheVariants.{Anywhere, InCode}
 
 -- what the conventions say of a type of relocation
-pub record Row : Type 0 where
+pub record RelocationRow : Type 0 where
   pub ty : RelocationType
   pub number : ℕ
   pub name : List ℕ

@@ -91,42 +91,42 @@ abbrev pub EntriesFault : Target → ReadError → Cursor → Type 0
 EntriesFault at = ToEndFault (Listed (IsEntry at)) (ListedFault (IsEntry at) (EntryFault at))
 
 -- the entries to the end, read from a place
-abbrev pub entries_of : Target → Cursor → Result (List WasmRelocation) ReadError
-entries_of at c = to_end_at (list_at (entry_at at)) c
+abbrev pub entries_to_end_at : Target → Cursor → Result (List WasmRelocation) ReadError
+entries_to_end_at at c = to_end_at (list_at (entry_at at)) c
 
 -- ---- the section
 
 -- what stands behind the number of the section that it is for: nothing is read for a debug section
-abbrev pub Holds : Target → List WasmRelocation → Cursor → Type 0
-Holds target.Code entries from = AreEntries target.Code entries from
-Holds target.Data entries from = AreEntries target.Data entries from
-Holds target.Debug entries from = entries ≡ []
+abbrev pub HoldsEntries : Target → List WasmRelocation → Cursor → Type 0
+HoldsEntries target.Code entries from = AreEntries target.Code entries from
+HoldsEntries target.Data entries from = AreEntries target.Data entries from
+HoldsEntries target.Debug entries from = entries ≡ []
 
 -- what stands behind the number is at fault
-abbrev pub HoldsFault : Target → ReadError → Cursor → Type 0
-HoldsFault target.Code e from = EntriesFault target.Code e from
-HoldsFault target.Data e from = EntriesFault target.Data e from
-HoldsFault target.Debug e from = ⊥
+abbrev pub HoldsEntriesFault : Target → ReadError → Cursor → Type 0
+HoldsEntriesFault target.Code e from = EntriesFault target.Code e from
+HoldsEntriesFault target.Data e from = EntriesFault target.Data e from
+HoldsEntriesFault target.Debug e from = ⊥
 
 -- what stands behind the number, read from a place
-abbrev pub held_at : Target → Cursor → Result (List WasmRelocation) ReadError
-held_at target.Code c = entries_of target.Code c
-held_at target.Data c = entries_of target.Data c
-held_at target.Debug c = Ok []
+abbrev pub held_entries_at : Target → Cursor → Result (List WasmRelocation) ReadError
+held_entries_at target.Code c = entries_to_end_at target.Code c
+held_entries_at target.Data c = entries_to_end_at target.Data c
+held_entries_at target.Debug c = Ok []
 
 -- a relocation section, where this is the verdict on each section that it may be for
 pub record IsRelocSection (verdict : ℕ → Result Target ReadError) (held : RelocHeld) (payload : List ℕ) : Type 0 where
   pub behind : Cursor
   pub number : Takes IsU32 held.section.target_section (start payload) behind
   pub target : verdict held.section.target_section ≡ Ok held.target
-  pub entries : Holds held.target held.section.relocations behind
+  pub entries : HoldsEntries held.target held.section.relocations behind
 
 -- the number is at fault, or the section of that number, or what stands behind
 abbrev pub RelocSectionFault : (ℕ → Result Target ReadError) → ReadError → List ℕ → Type 0
 RelocSectionFault verdict e payload = NumberFault e (start payload)
     ⊎ ((number : ℕ) × (behind : Cursor) × Takes IsU32 number (start payload) behind
-    × ((verdict number ≡ Err e) ⊎ ((at : Target) × (verdict number ≡ Ok at) × HoldsFault at e behind)))
+    × ((verdict number ≡ Err e) ⊎ ((at : Target) × (verdict number ≡ Ok at) × HoldsEntriesFault at e behind)))
 
 -- a relocation section, read from its payload
 abbrev pub reloc_section_of : (ℕ → Result Target ReadError) → List ℕ → Result RelocHeld ReadError
-reloc_section_of verdict payload = number_at (start payload) >>= λ p. verdict p.0 >>= λ at. held_at at p.1 >>= λ entries. Ok (record { target = at; section = record { target_section = p.0; relocations = entries } })
+reloc_section_of verdict payload = number_at (start payload) >>= λ p. verdict p.0 >>= λ at. held_entries_at at p.1 >>= λ entries. Ok (record { target = at; section = record { target_section = p.0; relocations = entries } })

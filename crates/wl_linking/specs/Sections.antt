@@ -58,71 +58,80 @@ Holding {X} make spells items payload = (x : X) × (items ≡ make x) × spells 
 abbrev pub imports_at : Section → List PlacedImported → SectionItems
 imports_at s imports = Imports imports (base_of s)
 
+-- what a section is read under: all sections, and what those before it hold
+pub record SectionContext : Type 0 where
+  pub sections : List Section
+  pub before : Parts
+
+-- the two together
+abbrev pub section_context : List Section → Parts → SectionContext
+section_context sections before = record { sections = sections; before = before }
+
 -- what a custom section holds
-abbrev pub HoldsCustom : CustomKind → List Section → Parts → Section → SectionItems → List ℕ → Type 0
-HoldsCustom custom.Linking sections before s = Holding Linking (LinkingItems before s)
-HoldsCustom custom.Reloc sections before s = Holding Reloc (IsRelocSection (numbered_verdict sections before))
-HoldsCustom custom.Features sections before s = Holding Features AreFeatures
-HoldsCustom custom.Debug sections before s = λ items payload. items ≡ Debug (debug_of s.name payload)
-HoldsCustom custom.Other sections before s = λ items payload. items ≡ Nothing
+abbrev pub HoldsCustom : CustomKind → SectionContext → Section → SectionItems → List ℕ → Type 0
+HoldsCustom custom.Linking context s = Holding Linking (LinkingItems context.before s)
+HoldsCustom custom.Reloc context s = Holding Reloc (IsRelocSection (numbered_verdict context.sections context.before))
+HoldsCustom custom.Features context s = Holding Features AreFeatures
+HoldsCustom custom.Debug context s = λ items payload. items ≡ Debug (debug_of s.name payload)
+HoldsCustom custom.Other context s = λ items payload. items ≡ Nothing
 
 -- what a section of this kind holds; elements are skipped
-abbrev pub HoldsItems : SectionKind → List Section → Parts → Section → SectionItems → List ℕ → Type 0
-HoldsItems kind.Custom sections before s = HoldsCustom (custom_kind s.name) sections before s
-HoldsItems kind.Type sections before s = Holding Types AreTypes
-HoldsItems kind.Import sections before s = Holding (imports_at s) ArePlacedImports
-HoldsItems kind.Function sections before s = Holding Functions AreIndices
-HoldsItems kind.Table sections before s = λ items payload. ⊥
-HoldsItems kind.Memory sections before s = Holding Memories (AreMemories (has_memory before.imports))
-HoldsItems kind.Global sections before s = Holding Globals AreGlobals
-HoldsItems kind.Export sections before s = Holding Exports AreExports
-HoldsItems kind.Start sections before s = λ items payload. ⊥
-HoldsItems kind.Element sections before s = λ items payload. items ≡ Nothing
-HoldsItems kind.Code sections before s = Holding Code AreBodies
-HoldsItems kind.Data sections before s = Holding Data AreTargeted
-HoldsItems kind.DataCount sections before s = Holding DataCount IsDataCount
-HoldsItems kind.Tag sections before s = λ items payload. ⊥
+abbrev pub HoldsItems : SectionKind → SectionContext → Section → SectionItems → List ℕ → Type 0
+HoldsItems kind.Custom context s = HoldsCustom (custom_kind s.name) context s
+HoldsItems kind.Type context s = Holding Types AreTypes
+HoldsItems kind.Import context s = Holding (imports_at s) ArePlacedImports
+HoldsItems kind.Function context s = Holding Functions AreIndices
+HoldsItems kind.Table context s = λ items payload. ⊥
+HoldsItems kind.Memory context s = Holding Memories (AreMemories (has_memory context.before.imports))
+HoldsItems kind.Global context s = Holding Globals AreGlobals
+HoldsItems kind.Export context s = Holding Exports AreExports
+HoldsItems kind.Start context s = λ items payload. ⊥
+HoldsItems kind.Element context s = λ items payload. items ≡ Nothing
+HoldsItems kind.Code context s = Holding Code AreBodies
+HoldsItems kind.Data context s = Holding Data AreTargeted
+HoldsItems kind.DataCount context s = Holding DataCount IsDataCount
+HoldsItems kind.Tag context s = λ items payload. ⊥
 
 -- what is wrong with a custom section
-abbrev pub CustomFault : CustomKind → List Section → Parts → Section → ReadError → List ℕ → Type 0
-CustomFault custom.Linking sections before s = LinkingItemsFault before s
-CustomFault custom.Reloc sections before s = RelocSectionFault (numbered_verdict sections before)
-CustomFault custom.Features sections before s = FeaturesFault
-CustomFault custom.Debug sections before s = λ e payload. ⊥
-CustomFault custom.Other sections before s = λ e payload. ⊥
+abbrev pub CustomFault : CustomKind → SectionContext → Section → ReadError → List ℕ → Type 0
+CustomFault custom.Linking context s = LinkingItemsFault context.before s
+CustomFault custom.Reloc context s = RelocSectionFault (numbered_verdict context.sections context.before)
+CustomFault custom.Features context s = FeaturesFault
+CustomFault custom.Debug context s = λ e payload. ⊥
+CustomFault custom.Other context s = λ e payload. ⊥
 
 -- what is wrong with a section of this kind
-abbrev pub ItemsFault : SectionKind → List Section → Parts → Section → ReadError → List ℕ → Type 0
-ItemsFault kind.Custom sections before s = CustomFault (custom_kind s.name) sections before s
-ItemsFault kind.Type sections before s = TypesFault
-ItemsFault kind.Import sections before s = ImportsFault
-ItemsFault kind.Function sections before s = IndicesFault
-ItemsFault kind.Table sections before s = λ e payload. e ≡ Unsupported form.TableDef
-ItemsFault kind.Memory sections before s = MemoriesFault (has_memory before.imports)
-ItemsFault kind.Global sections before s = GlobalsFault
-ItemsFault kind.Export sections before s = ExportsFault
-ItemsFault kind.Start sections before s = λ e payload. e ≡ Unsupported form.Start
-ItemsFault kind.Element sections before s = λ e payload. ⊥
-ItemsFault kind.Code sections before s = BodiesFault
-ItemsFault kind.Data sections before s = SegmentsFault
-ItemsFault kind.DataCount sections before s = DataCountFault
-ItemsFault kind.Tag sections before s = λ e payload. e ≡ Unsupported form.Tag
+abbrev pub ItemsFault : SectionKind → SectionContext → Section → ReadError → List ℕ → Type 0
+ItemsFault kind.Custom context s = CustomFault (custom_kind s.name) context s
+ItemsFault kind.Type context s = TypesFault
+ItemsFault kind.Import context s = ImportsFault
+ItemsFault kind.Function context s = IndicesFault
+ItemsFault kind.Table context s = λ e payload. e ≡ Unsupported form.TableDef
+ItemsFault kind.Memory context s = MemoriesFault (has_memory context.before.imports)
+ItemsFault kind.Global context s = GlobalsFault
+ItemsFault kind.Export context s = ExportsFault
+ItemsFault kind.Start context s = λ e payload. e ≡ Unsupported form.Start
+ItemsFault kind.Element context s = λ e payload. ⊥
+ItemsFault kind.Code context s = BodiesFault
+ItemsFault kind.Data context s = SegmentsFault
+ItemsFault kind.DataCount context s = DataCountFault
+ItemsFault kind.Tag context s = λ e payload. e ≡ Unsupported form.Tag
 
 -- a sound custom section
 abbrev pub IsSoundCustom : List Section → Parts → Section → SectionItems → Type 0
-IsSoundCustom sections before s items = HoldsCustom (custom_kind s.name) sections before s items s.payload
+IsSoundCustom sections before s items = HoldsCustom (custom_kind s.name) (section_context sections before) s items s.payload
 
 -- a custom section at fault
 abbrev pub IsFaultyCustom : List Section → Parts → Section → ReadError → Type 0
-IsFaultyCustom sections before s e = CustomFault (custom_kind s.name) sections before s e s.payload
+IsFaultyCustom sections before s e = CustomFault (custom_kind s.name) (section_context sections before) s e s.payload
 
 -- a sound section
 abbrev pub IsSound : List Section → Parts → Section → SectionItems → Type 0
-IsSound sections before s items = HoldsItems s.kind sections before s items s.payload
+IsSound sections before s items = HoldsItems s.kind (section_context sections before) s items s.payload
 
 -- a section at fault
 abbrev pub IsFaulty : List Section → Parts → Section → ReadError → Type 0
-IsFaulty sections before s e = ItemsFault s.kind sections before s e s.payload
+IsFaulty sections before s e = ItemsFault s.kind (section_context sections before) s e s.payload
 
 -- the payload lies within the limit
 abbrev pub EndsWithin : Section → Type 0

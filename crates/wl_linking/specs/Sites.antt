@@ -7,7 +7,7 @@ use Rattle.wl_module.specs.declared.error.ReadError.TheVariants.{Malformed}
 use Rattle.wl_module.specs.declared.error.Why.TheVariants as why
 use Rattle.wl_module.specs.Bodies.{Body}
 use Rattle.wl_module.specs.Segments.{Segment}
-use Rattle.wl_linking.specs.RelocationTypes.{form_of}
+use Rattle.wl_linking.specs.RelocationTypes.{field_form}
 use Rattle.wl_linking.specs.declared.relocation_type.FieldForm.{FieldForm}
 use Rattle.wl_linking.specs.declared.relocation_type.FieldForm.TheVariants.{PaddedUnsigned, PaddedSigned, Word}
 use Rattle.wl_linking.specs.declared.relocations.WasmRelocation.{WasmRelocation}
@@ -54,7 +54,7 @@ pub record IsSite (pieces : List PieceOf) (r : WasmRelocation) (s : Site) : Type
   pub piece : PieceOf
   pub here : slice_get pieces s.unit ≡ Some piece
   pub place : piece.place + s.position ≡ r.offset
-  pub field : has_form (form_of r.ty) (take (field_len (form_of r.ty)) (drop s.position piece.bytes)) ≡ true
+  pub field : has_form (field_form r.ty) (take (field_len (field_form r.ty)) (drop s.position piece.bytes)) ≡ true
 
 -- each relocation has its site
 abbrev pub AreSites : List PieceOf → List WasmRelocation → List Site → Type 0
@@ -68,12 +68,12 @@ abbrev pub offset_of : WasmRelocation → ℕ
 offset_of r = r.offset
 
 -- the field of r ends before that of q begins
-abbrev pub IsBefore : WasmRelocation → WasmRelocation → Type 0
-IsBefore r q = r.offset + field_len (form_of r.ty) ≤ q.offset
+abbrev pub LiesBefore : WasmRelocation → WasmRelocation → Type 0
+LiesBefore r q = r.offset + field_len (field_form r.ty) ≤ q.offset
 
 -- each field ends before any later one begins, so no two share a byte
 abbrev pub AreApart : List WasmRelocation → Type 0
-AreApart rs = (i j : ℕ) (d : WasmRelocation) → i < j → j < length rs → IsBefore (slice_index_or rs i d) (slice_index_or rs j d)
+AreApart rs = (i j : ℕ) (d : WasmRelocation) → i < j → j < length rs → LiesBefore (slice_index_or rs i d) (slice_index_or rs j d)
 
 -- a relocation whose field lies in no piece, or isn't of its form
 abbrev pub HasNoSite : List PieceOf → List WasmRelocation → Type 0
@@ -82,7 +82,7 @@ HasNoSite pieces rs = (i : ℕ) × (r : WasmRelocation) × (slice_get rs i ≡ S
 -- a field that begins before an earlier one ends
 abbrev pub HasOverlap : List WasmRelocation → Type 0
 HasOverlap rs =
-    (i : ℕ) × (j : ℕ) × (d : WasmRelocation) × (i < j) × (j < length rs) × (IsBefore (slice_index_or rs i d) (slice_index_or rs j d) → ⊥)
+    (i : ℕ) × (j : ℕ) × (d : WasmRelocation) × (i < j) × (j < length rs) × (LiesBefore (slice_index_or rs i d) (slice_index_or rs j d) → ⊥)
 
 -- in ascending order of offset, and in file order where offsets are the same
 pub record AreInOrder (entries relocations : List WasmRelocation) : Type 0 where

@@ -6,8 +6,8 @@ use Rattle.wl_module.specs.declared.error.ReadError.{ReadError}
 use Rattle.wl_module.specs.declared.error.ReadError.TheVariants.{Malformed}
 use Rattle.wl_module.specs.declared.error.Why.TheVariants.{SlotNames}
 use Rattle.wl_module.specs.Imports.{PlacedImported}
-use Rattle.wl_linking.specs.Spaces.{is_of}
-use Rattle.wl_linking.specs.Symbols.{Symbol, is_undefined, has_name, named, range_of}
+use Rattle.wl_linking.specs.Spaces.{is_of_kind}
+use Rattle.wl_linking.specs.Symbols.{Symbol, is_undefined, has_name, with_name, range_of}
 use Rattle.wl_linking.specs.declared.spaces.Counts.{Counts}
 use Rattle.wl_linking.specs.declared.symbols.WasmSymbolKind.{WasmSymbolKind}
 use Rattle.wl_linking.specs.declared.symbols.WasmSymbolKind.TheVariants.{Func, Data, Global, Section, Event, Table}
@@ -25,14 +25,14 @@ slot_of base i = record { name = i.import.name; range = range_of base i.name_off
 
 -- the field names of the imports of a kind, in order
 abbrev pub slots_of : ExternalKind → ℕ → List PlacedImported → List Slot
-slots_of kind base imports = map (slot_of base) (filter (λ (i : PlacedImported). is_of kind i.import.entity) imports)
+slots_of kind base imports = map (slot_of base) (filter (λ (i : PlacedImported). is_of_kind kind i.import.entity) imports)
 
 -- ---- symbols that take them
 
 -- the same symbol with the name of a slot, if there is one
 abbrev pub with_slot : Symbol → Option Slot → Symbol
 with_slot s None = s
-with_slot s (Some slot) = named s slot.name slot.range
+with_slot s (Some slot) = with_name s slot.name slot.range
 
 -- the same symbol with the name of its import: functions and globals take it
 abbrev pub with_name_of : List Slot → List Slot → WasmSymbolKind → Symbol → Symbol

@@ -4,7 +4,7 @@ use Rattle.wl_bytes.specs.declared.reader.TheConstants.{MAX_LEN}
 use Rattle.std.specs.Str.{bytes_eq}
 use Rattle.wl_module.specs.declared.imports.ExternalKind.{ExternalKind}
 use Rattle.wl_module.specs.Imports.{PlacedImported}
-use Rattle.wl_linking.specs.Spaces.{is_of}
+use Rattle.wl_linking.specs.Spaces.{is_of_kind}
 use Rattle.wl_linking.specs.Slots.{Slot, slot_of}
 use Rattle.wl_linking.specs.Symbols.{Symbol}
 
@@ -12,7 +12,7 @@ use Rattle.wl_linking.specs.Symbols.{Symbol}
 
 -- the field name of one import, if it is of that kind
 abbrev pub slots_from : ExternalKind → ℕ → PlacedImported → List Slot
-slots_from kind base i = if is_of kind i.import.entity then slot_of base i ∷ [] else []
+slots_from kind base i = if is_of_kind kind i.import.entity then slot_of base i ∷ [] else []
 
 -- the field name stands within the limit
 abbrev pub IsNamedWithin : PlacedImported → Type 0

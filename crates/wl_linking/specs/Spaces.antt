@@ -22,27 +22,27 @@ use Rattle.wl_linking.specs.declared.symbols.WasmSymbolKind.TheVariants as symbo
 -- ---- how many there are
 
 -- what is imported is of that kind
-abbrev pub is_of : ExternalKind → ImportEntity → Bool
-is_of Func (entity.Func n) = true
-is_of Func (entity.Table t) = false
-is_of Func (entity.Memory m) = false
-is_of Func (entity.Global g) = false
-is_of Table (entity.Func n) = false
-is_of Table (entity.Table t) = true
-is_of Table (entity.Memory m) = false
-is_of Table (entity.Global g) = false
-is_of Memory (entity.Func n) = false
-is_of Memory (entity.Table t) = false
-is_of Memory (entity.Memory m) = true
-is_of Memory (entity.Global g) = false
-is_of Global (entity.Func n) = false
-is_of Global (entity.Table t) = false
-is_of Global (entity.Memory m) = false
-is_of Global (entity.Global g) = true
+abbrev pub is_of_kind : ExternalKind → ImportEntity → Bool
+is_of_kind Func (entity.Func n) = true
+is_of_kind Func (entity.Table t) = false
+is_of_kind Func (entity.Memory m) = false
+is_of_kind Func (entity.Global g) = false
+is_of_kind Table (entity.Func n) = false
+is_of_kind Table (entity.Table t) = true
+is_of_kind Table (entity.Memory m) = false
+is_of_kind Table (entity.Global g) = false
+is_of_kind Memory (entity.Func n) = false
+is_of_kind Memory (entity.Table t) = false
+is_of_kind Memory (entity.Memory m) = true
+is_of_kind Memory (entity.Global g) = false
+is_of_kind Global (entity.Func n) = false
+is_of_kind Global (entity.Table t) = false
+is_of_kind Global (entity.Memory m) = false
+is_of_kind Global (entity.Global g) = true
 
 -- how many imports of that kind there are
 abbrev pub count_imports : ExternalKind → List Imported → ℕ
-count_imports kind imports = count_by (λ (i : Imported). is_of kind i.entity) imports
+count_imports kind imports = count_by (λ (i : Imported). is_of_kind kind i.entity) imports
 
 -- how many things of each kind there are
 abbrev pub spaces_of : Object → Counts

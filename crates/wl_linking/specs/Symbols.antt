@@ -59,14 +59,14 @@ abbrev pub has_name : Symbol → Bool
 has_name s = not (length s.name == 0)
 
 -- the same symbol under a name that stands there
-abbrev pub named : Symbol → List ℕ → ℕ × ℕ → Symbol
-named s name range = record s { name = name; name_range = range }
+abbrev pub with_name : Symbol → List ℕ → ℕ × ℕ → Symbol
+with_name s name range = record s { name = name; name_range = range }
 
 -- ---- the parts of a symbol
 
 -- the kind of that number; a tag, 4, isn't taken, and 5 is the last
-abbrev pub kind_verdict : ℕ → Result WasmSymbolKind ReadError
-kind_verdict kind =
+abbrev pub symbol_kind_verdict : ℕ → Result WasmSymbolKind ReadError
+symbol_kind_verdict kind =
     if kind == 0 then Ok Func
     else if kind == 1 then Ok Data
     else if kind == 2 then Ok Global
@@ -114,20 +114,20 @@ abbrev pub is_defined : ℕ → Bool
 is_defined flags = not (has_flag flags 0x10)
 
 -- a number and a name
-abbrev pub numbered : ℕ × (List ℕ × (ℕ × ℕ)) → SymbolDetails
-numbered p = record { index = p.0; offset = 0; size = 0; name = p.1.0; name_range = p.1.1 }
+abbrev pub numbered_from : ℕ × (List ℕ × (ℕ × ℕ)) → SymbolDetails
+numbered_from p = record { index = p.0; offset = 0; size = 0; name = p.1.0; name_range = p.1.1 }
 
 -- a name and where data lies: segment, offset and size
-abbrev pub located : (List ℕ × (ℕ × ℕ)) × (ℕ × (ℕ × ℕ)) → SymbolDetails
-located p = record { index = p.1.0; offset = p.1.1.0; size = p.1.1.1; name = p.0.0; name_range = p.0.1 }
+abbrev pub located_from : (List ℕ × (ℕ × ℕ)) × (ℕ × (ℕ × ℕ)) → SymbolDetails
+located_from p = record { index = p.1.0; offset = p.1.1.0; size = p.1.1.1; name = p.0.0; name_range = p.0.1 }
 
 -- the number of a section
-abbrev pub sectioned : ℕ → SymbolDetails
-sectioned n = record { index = n; offset = 0; size = 0; name = []; name_range = (0, 0) }
+abbrev pub sectioned_from : ℕ → SymbolDetails
+sectioned_from n = record { index = n; offset = 0; size = 0; name = []; name_range = (0, 0) }
 
 -- a name where there is to be one
 abbrev pub IsNameWhere : ℕ → Bool → ℕ → List ℕ × (ℕ × ℕ) → List ℕ → Type 0
-IsNameWhere base named = Seen (When (IsBasedName base) named) name_or_none
+IsNameWhere base with_name = Seen (When (IsBasedName base) with_name) name_or_none
 
 -- three numbers: a segment, an offset and a size
 abbrev pub IsExtent : ℕ → ℕ × (ℕ × ℕ) → List ℕ → Type 0
@@ -143,20 +143,29 @@ IsExtentWhere defined = Seen (When IsExtent defined) extent_or_none
 
 -- an index, and a name where the symbol has one
 abbrev pub IsNumbered : ℕ → ℕ → ℕ → SymbolDetails → List ℕ → Type 0
-IsNumbered base flags = Seen (Then IsU32 (λ _. IsNameWhere base (is_named flags))) numbered
+IsNumbered base flags = Seen (Then IsU32 (λ _. IsNameWhere base (is_named flags))) numbered_from
 
 -- a name, and where the data lies where the object defines it
 abbrev pub IsLocated : ℕ → ℕ → ℕ → SymbolDetails → List ℕ → Type 0
-IsLocated base flags = Seen (Then (IsBasedName base) (λ _. IsExtentWhere (is_defined flags))) located
+IsLocated base flags = Seen (Then (IsBasedName base) (λ _. IsExtentWhere (is_defined flags))) located_from
+
+-- what stands behind the flags is read under: how many bytes of the object lie before those of the table, and the flags
+pub record SymbolContext : Type 0 where
+  pub base : ℕ
+  pub flags : ℕ
+
+-- the two together
+abbrev pub symbol_context : ℕ → ℕ → SymbolContext
+symbol_context base flags = record { base = base; flags = flags }
 
 -- what stands behind the flags of a symbol of that kind
-abbrev pub IsDetails : ℕ → WasmSymbolKind → ℕ → ℕ → SymbolDetails → List ℕ → Type 0
-IsDetails base Func flags = IsNumbered base flags
-IsDetails base Data flags = IsLocated base flags
-IsDetails base Global flags = IsNumbered base flags
-IsDetails base Section flags = Seen IsU32 sectioned
-IsDetails base Event flags = Seen IsU32 sectioned
-IsDetails base Table flags = IsNumbered base flags
+abbrev pub IsDetails : WasmSymbolKind → SymbolContext → ℕ → SymbolDetails → List ℕ → Type 0
+IsDetails Func context = IsNumbered context.base context.flags
+IsDetails Data context = IsLocated context.base context.flags
+IsDetails Global context = IsNumbered context.base context.flags
+IsDetails Section context = Seen IsU32 sectioned_from
+IsDetails Event context = Seen IsU32 sectioned_from
+IsDetails Table context = IsNumbered context.base context.flags
 
 -- the index is at fault, or the name
 abbrev pub NumberedFault : ℕ → ReadError → Cursor → Type 0
@@ -167,13 +176,13 @@ abbrev pub LocatedFault : ℕ → ℕ → ReadError → Cursor → Type 0
 LocatedFault base flags = ThenFault (IsBasedName base) WordFault (λ _. WhenFault ExtentFault (is_defined flags))
 
 -- the first of them at fault
-abbrev pub DetailsFault : ℕ → WasmSymbolKind → ℕ → ReadError → Cursor → Type 0
-DetailsFault base Func flags = NumberedFault flags
-DetailsFault base Data flags = LocatedFault base flags
-DetailsFault base Global flags = NumberedFault flags
-DetailsFault base Section flags = NumberFault
-DetailsFault base Event flags = NumberFault
-DetailsFault base Table flags = NumberedFault flags
+abbrev pub DetailsFault : WasmSymbolKind → SymbolContext → ReadError → Cursor → Type 0
+DetailsFault Func context = NumberedFault context.flags
+DetailsFault Data context = LocatedFault context.base context.flags
+DetailsFault Global context = NumberedFault context.flags
+DetailsFault Section context = NumberFault
+DetailsFault Event context = NumberFault
+DetailsFault Table context = NumberedFault context.flags
 
 -- ---- symbols
 
@@ -195,7 +204,7 @@ symbol_of (byte, (kind, (flags, details))) = record {
 
 -- a kind byte, flags, and what that kind has with these flags
 abbrev pub AreParts : ℕ → ℕ → SymbolParts → List ℕ → Type 0
-AreParts base = Then IsByte (λ byte. Then (Judged (kind_verdict byte)) (λ kind. Then IsU32 (λ flags. IsDetails base kind flags)))
+AreParts base = Then IsByte (λ byte. Then (Judged (symbol_kind_verdict byte)) (λ kind. Then IsU32 (λ flags. IsDetails kind (symbol_context base flags))))
 
 -- a symbol, where so many bytes of the object lie before those of the table
 abbrev pub IsSymbol : ℕ → ℕ → Symbol → List ℕ → Type 0
@@ -204,8 +213,8 @@ IsSymbol base = Seen (AreParts base) symbol_of
 -- the first part at fault
 abbrev pub SymbolFault : ℕ → ReadError → Cursor → Type 0
 SymbolFault base = ThenFault IsByte ByteFault (λ byte.
-    ThenFault (Judged (kind_verdict byte)) (JudgedFault (kind_verdict byte)) (λ kind.
-    ThenFault IsU32 NumberFault (λ flags. DetailsFault base kind flags)))
+    ThenFault (Judged (symbol_kind_verdict byte)) (JudgedFault (symbol_kind_verdict byte)) (λ kind.
+    ThenFault IsU32 NumberFault (λ flags. DetailsFault kind (symbol_context base flags))))
 
 -- a whole symbol table
 abbrev pub AreSymbols : ℕ → List Symbol → List ℕ → Type 0

@@ -17,8 +17,8 @@ use Rattle.wl_linking.specs.declared.relocations.Target.{Target}
 use Rattle.wl_linking.specs.declared.relocations.Target.TheVariants as target
 
 -- the bytes from one place to another, as far as there are any
-abbrev pub stretch : List ℕ → ℕ × ℕ → List ℕ
-stretch bytes range = take (range.1 - range.0) (drop range.0 bytes)
+abbrev pub bytes_between : List ℕ → ℕ × ℕ → List ℕ
+bytes_between bytes range = take (range.1 - range.0) (drop range.0 bytes)
 
 -- what a custom section is, by its name
 abbrev pub custom_kind : List ℕ → CustomKind
@@ -66,7 +66,7 @@ is_debug_kind _ = false
 -- a custom section with such a name
 abbrev pub is_debug_in : List ℕ → Option (ℕ × ℕ) → Bool
 is_debug_in bytes None = false
-is_debug_in bytes (Some range) = is_debug_kind (custom_kind (stretch bytes range))
+is_debug_in bytes (Some range) = is_debug_kind (custom_kind (bytes_between bytes range))
 
 -- the section of a header is a debug section
 abbrev pub is_debug : List ℕ → SectionHeader → Bool

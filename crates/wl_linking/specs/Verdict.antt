@@ -3,7 +3,6 @@ use Rattle.std.specs.Prelude.{◌≡◌, ℕ, List, [], Result, Ok, Err}
 use Rattle.wl_bytes.specs.Cursor.{Cursor}
 use Rattle.wl_bytes.specs.Parse.{◌>>=◌}
 use Rattle.wl_module.specs.declared.error.ReadError.{ReadError}
-use Rattle.wl_module.specs.declared.error.ReadError.TheVariants.{OutOfMemory, Malformed, Unsupported}
 
 -- no byte, where the verdict is this value
 abbrev pub Judged : {X : Type 0} → Result X ReadError → ℕ → X → List ℕ → Type 0
@@ -24,12 +23,6 @@ Inside spells payload place x text = (text ≡ []) × spells x payload
 -- those read before are at fault
 abbrev pub InsideFault : (ReadError → List ℕ → Type 0) → List ℕ → ReadError → Cursor → Type 0
 InsideFault faults payload e from = faults e payload
-
--- an error has its cause, unless memory ran out
-abbrev pub HasCause : (ReadError → Type 0) → ReadError → Type 0
-HasCause Cause OutOfMemory = Unit {0}
-HasCause Cause (Malformed why) = Cause (Malformed why)
-HasCause Cause (Unsupported form) = Cause (Unsupported form)
 
 -- ---- places
 

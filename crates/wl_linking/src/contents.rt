@@ -1,6 +1,6 @@
 //! What the sections of an object hold.
 
-use crate::items::Items;
+use crate::items::ItemList;
 use crate::parts::Parts;
 use crate::sites::Site;
 use std::marker::Model;
@@ -12,10 +12,10 @@ use wl_module::SectionHeader;
 #[derive(Drop)]
 pub(crate) struct Contents<'a> {
     pub bytes: &'a [u8],
-    pub sections: Items<SectionHeader>,
+    pub sections: ItemList<SectionHeader>,
     pub parts: Parts<'a>,
-    pub code_sites: Items<Site>,
-    pub data_sites: Items<Site>,
+    pub code_sites: ItemList<Site>,
+    pub data_sites: ItemList<Site>,
 }
 
 impl<'a> Model for Contents<'a> {

@@ -1,6 +1,6 @@
 //! Why there is no plan.
 
-use crate::items::Items;
+use crate::items::ItemList;
 use crate::text::Text;
 use std::alloc::{AllocError, AllocFailed};
 use wl_module::{Form, Why};
@@ -98,7 +98,7 @@ pub enum LinkError {
         symbol: u32,
     },
     /// Nothing defines these names.
-    UndefinedSymbols(Items<UndefinedSymbol>),
+    UndefinedSymbols(ItemList<UndefinedSymbol>),
     /// Two imports of one name have different types.
     ConflictingTypes {
         name: Text,

@@ -7,11 +7,11 @@ use std::marker::Model;
 
 /// A list of things, in order. Clauses see it as a list.
 #[derive(Drop)]
-pub struct Items<T: Drop> {
+pub struct ItemList<T: Drop> {
     list: Vec<T>,
 }
 
-impl<T: Drop> Model for Items<T> {
+impl<T: Drop> Model for ItemList<T> {
     ghost use Rattle.std.specs.Prelude.{List};
 
     ghost Value = { List T };
@@ -19,12 +19,12 @@ impl<T: Drop> Model for Items<T> {
     ghost view = { λ items. items.list.items };
 }
 
-impl<T: Drop> Items<T> {
+impl<T: Drop> ItemList<T> {
     /// The things of a vector.
     pub fn new(list: Vec<T>) -> Self
         ensures { result ≡ list.items }
     {
-        Items { list }
+        ItemList { list }
     }
 
     /// The things as a slice.
@@ -38,7 +38,7 @@ impl<T: Drop> Items<T> {
     pub fn empty(alloc: Global) -> Self
         ensures { result ≡ [] }
     {
-        Items {
+        ItemList {
             list: Vec::new(alloc),
         }
     }
@@ -47,7 +47,7 @@ impl<T: Drop> Items<T> {
     ///
     /// # Errors
     /// `AllocError` where memory runs out. The list is as it was then.
-    pub fn append(&mut self, more: Items<T>) -> Result<(), AllocError>
+    pub fn append(&mut self, more: ItemList<T>) -> Result<(), AllocError>
         ensures ok { OnOk result (self.new ≡ self.old ++ more) }
         ensures err { OnErr result (self.new ≡ self.old) }
     {
@@ -75,7 +75,7 @@ impl<T: Drop> Items<T> {
     }
 }
 
-impl<T: Copy + Drop> Items<T> {
+impl<T: Copy + Drop> ItemList<T> {
     /// Puts copies of these things at the end.
     ///
     /// # Errors

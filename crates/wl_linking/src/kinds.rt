@@ -3,7 +3,7 @@
 
 ghost use Rattle.std.specs.Prelude.{◌≡◌};
 ghost use Rattle.wl_module.specs.Outcome.{Gives};
-ghost use Rattle.wl_linking.specs.Targets.{stretch, custom_kind, target_verdict, numbered_verdict, is_debug};
+ghost use Rattle.wl_linking.specs.Targets.{bytes_between, custom_kind, target_verdict, numbered_verdict, is_debug};
 
 use crate::parts::Parts;
 use crate::relocations::Target;
@@ -85,8 +85,8 @@ pub(crate) fn target_of(
 }
 
 /// The bytes from one place to another, as far as there are any.
-fn stretch(bytes: &[u8], range: (u32, u32)) -> &[u8]
-    ensures { result.now ≡ stretch bytes.now range }
+fn bytes_between(bytes: &[u8], range: (u32, u32)) -> &[u8]
+    ensures { result.now ≡ bytes_between bytes.now range }
 {
     let from = bytes.len().min(range.0 as usize);
     let rest = bytes.split_at(from).1;
@@ -100,6 +100,6 @@ pub(crate) fn is_debug(bytes: &[u8], header: &SectionHeader) -> bool
 {
     match header.name_range {
         None => false,
-        Some(range) => custom_kind(stretch(bytes, range)) == CustomKind::Debug,
+        Some(range) => custom_kind(bytes_between(bytes, range)) == CustomKind::Debug,
     }
 }

@@ -58,10 +58,10 @@ pub use file::File;
 pub use file_list::FileList;
 pub use flags::SymbolFlags;
 pub use infos::{WasmInitFunc, WasmSegmentInfo};
-pub use items::Items;
+pub use items::ItemList;
 pub use kinds::{LINKING_SECTION_NAME, RELOC_SECTION_PREFIX, TARGET_FEATURES_SECTION_NAME};
 pub use object::{
-    lists_are_few, names_stand, object_or_fault, parse_wasm_module, parts_of_objects_stand,
+    names_stand, object_lists_are_few, object_or_fault, parse_wasm_module, parts_of_objects_stand,
     whole_objects,
 };
 pub use raw_name::{RawSymbolName, wasm_symbol_name_str};

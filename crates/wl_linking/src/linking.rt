@@ -2,12 +2,11 @@
 
 ghost use Rattle.std.specs.Prelude.{◌≡◌, ◌+◌, ◌<◌, ◌≤◌, ◌^◌, OnOk, [], length, MatchResult};
 ghost use Rattle.wl_bytes.specs.declared.reader.TheConstants.{MAX_LEN};
-ghost use Rattle.wl_module.specs.Outcome.{Yields, Gives};
-ghost use Rattle.wl_linking.specs.Verdict.{HasCause};
+ghost use Rattle.wl_module.specs.Outcome.{Yields, Gives, HasCause};
 ghost use Rattle.wl_linking.specs.Linking.{subsection_kind, subsection_verdict, held_of, subsection_at, version_at, nothing_seen, seen_after, linking_of, with_subsection, HaveSubsections, SubsectionsFault, IsLinking, LinkingFault};
 
 use crate::infos::{WasmInitFunc, WasmSegmentInfo};
-use crate::items::Items;
+use crate::items::ItemList;
 use crate::symbols::{WasmSymbol, read_symbols};
 use std::alloc::{AllocError, Global};
 use wl_bytes::Reader;
@@ -26,9 +25,9 @@ pub(crate) enum SubsectionKind {
 /// What a subsection of a linking section holds.
 #[derive(Drop)]
 pub(crate) enum Subsection<'a> {
-    SegmentInfo(Items<WasmSegmentInfo<'a>>),
-    InitFuncs(Items<WasmInitFunc>),
-    SymbolTable(Items<WasmSymbol<'a>>),
+    SegmentInfo(ItemList<WasmSegmentInfo<'a>>),
+    InitFuncs(ItemList<WasmInitFunc>),
+    SymbolTable(ItemList<WasmSymbol<'a>>),
     Skipped,
 }
 
@@ -43,9 +42,9 @@ pub(crate) struct SeenSubsections {
 /// What a linking section holds.
 #[derive(Drop)]
 pub(crate) struct Linking<'a> {
-    pub segment_infos: Items<WasmSegmentInfo<'a>>,
-    pub init_funcs: Items<WasmInitFunc>,
-    pub symbols: Items<WasmSymbol<'a>>,
+    pub segment_infos: ItemList<WasmSegmentInfo<'a>>,
+    pub init_funcs: ItemList<WasmInitFunc>,
+    pub symbols: ItemList<WasmSymbol<'a>>,
 }
 
 impl<'a> Linking<'a> {
@@ -54,9 +53,9 @@ impl<'a> Linking<'a> {
         ensures { result ≡ linking_of [] }
     {
         Linking {
-            segment_infos: Items::empty(alloc),
-            init_funcs: Items::empty(alloc),
-            symbols: Items::empty(alloc),
+            segment_infos: ItemList::empty(alloc),
+            init_funcs: ItemList::empty(alloc),
+            symbols: ItemList::empty(alloc),
         }
     }
 
@@ -118,12 +117,12 @@ fn read_held(
     ensures { Gives (λ s. s) result (held_of base kind payload.now) }
 {
     match kind {
-        SubsectionKind::SegmentInfo => Ok(Subsection::SegmentInfo(Items::new(read_payload(
+        SubsectionKind::SegmentInfo => Ok(Subsection::SegmentInfo(ItemList::new(read_payload(
             alloc,
             (),
             payload,
         )?))),
-        SubsectionKind::InitFuncs => Ok(Subsection::InitFuncs(Items::new(read_payload(
+        SubsectionKind::InitFuncs => Ok(Subsection::InitFuncs(ItemList::new(read_payload(
             alloc,
             (),
             payload,

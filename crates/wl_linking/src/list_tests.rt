@@ -1,6 +1,6 @@
 //! Lists of objects, and lists in records.
 
-use crate::{FileList, Items, parse_wasm_module};
+use crate::{FileList, ItemList, parse_wasm_module};
 use std::test::Fail;
 
 /// An object without sections.
@@ -30,10 +30,10 @@ fn objects_are_numbered_from_0(rt: HostRuntime) -> Result<(), Fail> {
 
 #[test]
 fn items_stay_in_order(rt: HostRuntime) -> Result<(), Fail> {
-    let mut items = Items::new(Vec::from_slice(rt.alloc(), &[3u32, 1])?);
+    let mut items = ItemList::new(Vec::from_slice(rt.alloc(), &[3u32, 1])?);
     items.push(2)?;
-    items.append(Items::new(Vec::from_slice(rt.alloc(), &[9u32])?))?;
-    items.append(Items::empty(rt.alloc()))?;
+    items.append(ItemList::new(Vec::from_slice(rt.alloc(), &[9u32])?))?;
+    items.append(ItemList::empty(rt.alloc()))?;
     items.extend(&[7, 7])?;
     assert_eq!(rt; items.as_slice(), [3, 1, 2, 9, 7, 7].as_slice());
     assert_eq!(rt; items.into_vec().as_slice(), [3, 1, 2, 9, 7, 7].as_slice());

@@ -7,17 +7,17 @@ ghost use Rattle.wl_module.specs.Sections.{Section, IsModule, FrameFault};
 ghost use Rattle.wl_module.specs.declared.error.ReadError.{ReadError as Fault};
 ghost use Rattle.wl_linking.specs.Object.{Object};
 ghost use Rattle.wl_linking.specs.Sites.{body_piece, segment_piece};
-ghost use Rattle.wl_linking.specs.Fitting.{NameStands, IsPlacedObject, IsNamed, NamingFault, PartsFault, SectionFault, HasFewItems, IsFitting, IsObject, IsWhole, ObjectFault, ParsesObject};
+ghost use Rattle.wl_linking.specs.Fitting.{NameStands, IsPlacedObject, IsNamed, NamingFault, PartsFault, FirstItemsFault, HasFewItems, IsFitting, IsObject, IsWhole, ObjectFault, ParsesObject};
 ghost use Rattle.wl_linking.specs.Spaces.{count_imports};
 ghost use Rattle.wl_module.specs.declared.imports.ExternalKind.{ExternalKind as Kind};
 ghost use Rattle.wl_linking.specs.declared.sites.Site.{Site as PlacedSite};
 ghost use Rattle.wl_linking.specs.Stretches.{PartsStandIn};
 ghost use Rattle.wl_linking.specs.Placing.{IsSpanned, Ascend};
-ghost use Rattle.wl_linking.specs.Verdict.{HasCause};
+ghost use Rattle.wl_module.specs.Outcome.{HasCause};
 
 use crate::contents::Contents;
 use crate::file::File;
-use crate::items::Items;
+use crate::items::ItemList;
 use crate::parts::{Parts, read_parts};
 use crate::sites::{code_sites, data_sites, in_order};
 use crate::slots::{check_slots, name_symbols};
@@ -30,7 +30,7 @@ use wl_module::{ReadError, SectionHeader, read_sections, section_headers};
 fn place<'a>(
     alloc: Global,
     bytes: &'a [u8],
-    sections: Items<SectionHeader>,
+    sections: ItemList<SectionHeader>,
     parts: Parts<'a>,
 ) -> Result<Contents<'a>, ReadError>
     requires bodies { Ascend 0 (map body_piece parts.bodies) }
@@ -88,7 +88,7 @@ fn read_contents(alloc: Global, bytes: &[u8]) -> Result<Contents<'_>, ReadError>
     let sections = read_sections(alloc, bytes)?;
     let parts = read_parts(alloc, &sections)?;
     let headers = section_headers(alloc, &sections)?;
-    let contents = place(alloc, bytes, Items::new(headers), parts)?;
+    let contents = place(alloc, bytes, ItemList::new(headers), parts)?;
     check_names(alloc, &contents)?;
     Ok(contents)
 }
@@ -120,7 +120,7 @@ pub fn object_or_fault()
     ensures frame_first { (bytes : List ℕ) (e d : Fault)
         → FrameFault e bytes → ObjectFault d bytes → d ≡ e }
     ensures section_first { (bytes : List ℕ) (e d : Fault) (sections : List Section)
-        → IsModule sections bytes → SectionFault sections e → ObjectFault d bytes → d ≡ e }
+        → IsModule sections bytes → FirstItemsFault sections e → ObjectFault d bytes → d ≡ e }
 {}
 
 /// The name of each symbol is what stands at its range of the object's bytes.
@@ -136,7 +136,7 @@ pub fn parts_of_objects_stand()
 {}
 
 /// Each list of an object has at most as many items as the object has bytes.
-pub fn lists_are_few()
+pub fn object_lists_are_few()
     ensures { (bytes : List ℕ) (o : Object) → IsObject o bytes → HasFewItems (length bytes) o }
 {}
 

@@ -5,16 +5,16 @@ ghost use Rattle.std.specs.List.{AllByRecursion};
 ghost use Rattle.wl_linking.specs.Parts.{no_parts, join, imports_part, reloc_part, part_of, AreNamedWithin};
 ghost use Rattle.wl_linking.specs.declared.section.SectionItems.TheVariants.{Imports, Data, Linking as LinkingSection};
 ghost use Rattle.wl_linking.specs.Sections.{AreSound, AreFaulty, EndsWithin};
-ghost use Rattle.wl_linking.specs.Verdict.{HasCause};
+ghost use Rattle.wl_module.specs.Outcome.{HasCause};
 
 use crate::debug::DebugSectionInput;
 use crate::features::WasmTargetFeature;
 use crate::infos::{WasmInitFunc, WasmSegmentInfo};
-use crate::items::Items;
+use crate::items::ItemList;
 use crate::linking::Linking;
-use crate::plain::{memories_of, plain_imports, plain_segments};
+use crate::plain::{plain_imports, plain_segments, segment_memories_of};
 use crate::relocations::{RelocHeld, Target, WasmRelocSection, WasmRelocation};
-use crate::section::{SectionItems, read_section};
+use crate::section::{SectionItems, read_section_items};
 use crate::slots::{SlotName, slots_of};
 use crate::symbols::WasmSymbol;
 use std::alloc::{AllocError, Global};
@@ -26,29 +26,29 @@ use wl_module::{
 /// What the sections of an object hold, in file order.
 #[derive(Drop)]
 pub(crate) struct Parts<'a> {
-    pub types: Items<FuncType>,
-    pub imports: Items<Import<'a>>,
+    pub types: ItemList<FuncType>,
+    pub imports: ItemList<Import<'a>>,
     /// The field names of imported functions, which symbols may take.
-    pub function_names: Items<SlotName<'a>>,
+    pub function_names: ItemList<SlotName<'a>>,
     /// Those of imported globals.
-    pub global_names: Items<SlotName<'a>>,
-    pub functions: Items<u32>,
-    pub memories: Items<MemoryType>,
-    pub globals: Items<OutputGlobal<'a>>,
-    pub exports: Items<OutputExport<'a>>,
-    pub data_counts: Items<u32>,
-    pub bodies: Items<WasmFunctionBody<'a>>,
-    pub segments: Items<WasmDataSegment<'a>>,
+    pub global_names: ItemList<SlotName<'a>>,
+    pub functions: ItemList<u32>,
+    pub memories: ItemList<MemoryType>,
+    pub globals: ItemList<OutputGlobal<'a>>,
+    pub exports: ItemList<OutputExport<'a>>,
+    pub data_counts: ItemList<u32>,
+    pub bodies: ItemList<WasmFunctionBody<'a>>,
+    pub segments: ItemList<WasmDataSegment<'a>>,
     /// Of each segment the memory that it goes into when the module starts, if it does.
-    pub segment_memories: Items<Option<u32>>,
-    pub segment_infos: Items<WasmSegmentInfo<'a>>,
-    pub init_funcs: Items<WasmInitFunc>,
-    pub symbols: Items<WasmSymbol<'a>>,
-    pub reloc_sections: Items<WasmRelocSection>,
-    pub code_relocations: Items<WasmRelocation>,
-    pub data_relocations: Items<WasmRelocation>,
-    pub features: Items<WasmTargetFeature<'a>>,
-    pub debug_sections: Items<DebugSectionInput<'a>>,
+    pub segment_memories: ItemList<Option<u32>>,
+    pub segment_infos: ItemList<WasmSegmentInfo<'a>>,
+    pub init_funcs: ItemList<WasmInitFunc>,
+    pub symbols: ItemList<WasmSymbol<'a>>,
+    pub reloc_sections: ItemList<WasmRelocSection>,
+    pub code_relocations: ItemList<WasmRelocation>,
+    pub data_relocations: ItemList<WasmRelocation>,
+    pub features: ItemList<WasmTargetFeature<'a>>,
+    pub debug_sections: ItemList<DebugSectionInput<'a>>,
     pub has_linking: bool,
     pub has_code_relocations: bool,
     pub has_data_relocations: bool,
@@ -60,26 +60,26 @@ impl<'a> Parts<'a> {
         ensures { result ≡ no_parts }
     {
         Parts {
-            types: Items::empty(alloc),
-            imports: Items::empty(alloc),
-            function_names: Items::empty(alloc),
-            global_names: Items::empty(alloc),
-            functions: Items::empty(alloc),
-            memories: Items::empty(alloc),
-            globals: Items::empty(alloc),
-            exports: Items::empty(alloc),
-            data_counts: Items::empty(alloc),
-            bodies: Items::empty(alloc),
-            segments: Items::empty(alloc),
-            segment_memories: Items::empty(alloc),
-            segment_infos: Items::empty(alloc),
-            init_funcs: Items::empty(alloc),
-            symbols: Items::empty(alloc),
-            reloc_sections: Items::empty(alloc),
-            code_relocations: Items::empty(alloc),
-            data_relocations: Items::empty(alloc),
-            features: Items::empty(alloc),
-            debug_sections: Items::empty(alloc),
+            types: ItemList::empty(alloc),
+            imports: ItemList::empty(alloc),
+            function_names: ItemList::empty(alloc),
+            global_names: ItemList::empty(alloc),
+            functions: ItemList::empty(alloc),
+            memories: ItemList::empty(alloc),
+            globals: ItemList::empty(alloc),
+            exports: ItemList::empty(alloc),
+            data_counts: ItemList::empty(alloc),
+            bodies: ItemList::empty(alloc),
+            segments: ItemList::empty(alloc),
+            segment_memories: ItemList::empty(alloc),
+            segment_infos: ItemList::empty(alloc),
+            init_funcs: ItemList::empty(alloc),
+            symbols: ItemList::empty(alloc),
+            reloc_sections: ItemList::empty(alloc),
+            code_relocations: ItemList::empty(alloc),
+            data_relocations: ItemList::empty(alloc),
+            features: ItemList::empty(alloc),
+            debug_sections: ItemList::empty(alloc),
             has_linking: false,
             has_code_relocations: false,
             has_data_relocations: false,
@@ -90,7 +90,7 @@ impl<'a> Parts<'a> {
     fn add_imports(
         &mut self,
         alloc: Global,
-        imports: Items<PlacedImport<'a>>,
+        imports: ItemList<PlacedImport<'a>>,
         base: u32,
     ) -> Result<(), AllocError>
         requires { AreNamedWithin (Imports imports base) }
@@ -108,12 +108,12 @@ impl<'a> Parts<'a> {
     fn add_segments(
         &mut self,
         alloc: Global,
-        segments: Items<TargetedSegment<'a>>,
+        segments: ItemList<TargetedSegment<'a>>,
     ) -> Result<(), AllocError>
         ensures { OnOk result (self.new ≡ join self.old (part_of (Data segments.entry))) }
     {
         self.segment_memories
-            .append(memories_of(alloc, segments.as_slice())?)?;
+            .append(segment_memories_of(alloc, segments.as_slice())?)?;
         self.segments.append(plain_segments(alloc, segments)?)
     }
 
@@ -181,7 +181,7 @@ pub(crate) fn read_parts<'a>(
 {
     let mut parts = Parts::empty(alloc);
     for section in sections {
-        let items = read_section(alloc, sections, &parts, section)?;
+        let items = read_section_items(alloc, sections, &parts, section)?;
         parts.add(alloc, items)?;
     }
     Ok(parts)

@@ -3,50 +3,50 @@
 ghost use Rattle.std.specs.Prelude.{◌≡◌, IfOk};
 ghost use Rattle.wl_module.specs.Imports.{plain_imports};
 ghost use Rattle.wl_module.specs.Segments.{plain_segments};
-ghost use Rattle.wl_linking.specs.Parts.{memories_of};
+ghost use Rattle.wl_linking.specs.Parts.{segment_memories_of};
 
-use crate::items::Items;
+use crate::items::ItemList;
 use std::alloc::{AllocError, Global};
 use wl_module::{Import, PlacedImport, TargetedSegment, WasmDataSegment};
 
 /// The imports without the places of their names.
 pub(crate) fn plain_imports<'a>(
     alloc: Global,
-    placed: Items<PlacedImport<'a>>,
-) -> Result<Items<Import<'a>>, AllocError>
+    placed: ItemList<PlacedImport<'a>>,
+) -> Result<ItemList<Import<'a>>, AllocError>
     ensures { IfOk result (λ imports. imports ≡ plain_imports placed.entry) }
 {
     let mut imports = Vec::new(alloc);
     for placed in placed.into_vec() {
         imports.push(placed.import)?;
     }
-    Ok(Items::new(imports))
+    Ok(ItemList::new(imports))
 }
 
 /// The memory that each segment goes into when the module starts, if it does.
-pub(crate) fn memories_of(
+pub(crate) fn segment_memories_of(
     alloc: Global,
     segments: &[TargetedSegment<'_>],
-) -> Result<Items<Option<u32>>, AllocError>
-    ensures { IfOk result (λ memories. memories ≡ memories_of segments.now) }
+) -> Result<ItemList<Option<u32>>, AllocError>
+    ensures { IfOk result (λ memories. memories ≡ segment_memories_of segments.now) }
 {
     let mut memories = Vec::new(alloc);
     for segment in segments {
         memories.push(segment.memory_index)?;
     }
-    Ok(Items::new(memories))
+    Ok(ItemList::new(memories))
 }
 
 /// The segments without their memories.
 pub(crate) fn plain_segments<'a>(
     alloc: Global,
-    targeted: Items<TargetedSegment<'a>>,
-) -> Result<Items<WasmDataSegment<'a>>, AllocError>
+    targeted: ItemList<TargetedSegment<'a>>,
+) -> Result<ItemList<WasmDataSegment<'a>>, AllocError>
     ensures { IfOk result (λ segments. segments ≡ plain_segments targeted.entry) }
 {
     let mut segments = Vec::new(alloc);
     for targeted in targeted.into_vec() {
         segments.push(targeted.segment)?;
     }
-    Ok(Items::new(segments))
+    Ok(ItemList::new(segments))
 }

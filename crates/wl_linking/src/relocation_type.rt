@@ -1,7 +1,7 @@
 //! The types of relocations (object file linking, version 2, "Relocation Sections"), as one table.
 
 ghost use Rattle.std.specs.Prelude.{◌≡◌};
-ghost use Rattle.wl_linking.specs.RelocationTypes.{form_of, has_addend, names_a_type, may_stand_in_data, relocation_type_of, numbered_in, type_name};
+ghost use Rattle.wl_linking.specs.RelocationTypes.{field_form, has_addend, names_a_type, may_stand_in_data, relocation_type_of, numbered_in, type_name};
 
 use std::marker::Model;
 
@@ -79,7 +79,7 @@ struct RelocationRow {
 }
 
 impl Model for RelocationRow {
-    ghost use Rattle.wl_linking.specs.RelocationRows.{Row};
+    ghost use Rattle.wl_linking.specs.RelocationRows.{RelocationRow as Row};
 
     ghost Value = { Row };
 
@@ -95,8 +95,11 @@ impl Model for RelocationRow {
 }
 
 /// A row: the type, its number and name, how its field holds the value, whether there is an addend,
-/// what its index is of, and where it may stand.
+/// what its index is of, and where it may stand: of a symbol and anywhere, where it isn't told.
 macro_rules! row {
+    ($ty:ident, $number:literal, $name:literal, $form:ident, $addend:literal) => {
+        row! { $ty, $number, $name, $form, $addend, Symbol, Anywhere }
+    };
     (
         $ty:ident, $number:literal, $name:literal, $form:ident, $addend:literal,
         $index:ident, $allowed:ident
@@ -116,132 +119,22 @@ macro_rules! row {
 /// The table of types, in the order of the enum. The numbers between them are those of offsets in
 /// functions and sections, of tags, of forms of 64 bits, and of addresses relative to their field.
 const ROWS: [RelocationRow; 14] = [
-    row!(
-        FunctionIndexLeb,
-        0,
-        "R_WASM_FUNCTION_INDEX_LEB",
-        PaddedUnsigned,
-        false,
-        Symbol,
-        Anywhere
-    ),
-    row!(
-        TableIndexSleb,
-        1,
-        "R_WASM_TABLE_INDEX_SLEB",
-        PaddedSigned,
-        false,
-        Symbol,
-        Anywhere
-    ),
-    row!(
-        TableIndexI32,
-        2,
-        "R_WASM_TABLE_INDEX_I32",
-        Word,
-        false,
-        Symbol,
-        Anywhere
-    ),
-    row!(
-        MemoryAddrLeb,
-        3,
-        "R_WASM_MEMORY_ADDR_LEB",
-        PaddedUnsigned,
-        true,
-        Symbol,
-        Anywhere
-    ),
-    row!(
-        MemoryAddrSleb,
-        4,
-        "R_WASM_MEMORY_ADDR_SLEB",
-        PaddedSigned,
-        true,
-        Symbol,
-        Anywhere
-    ),
-    row!(
-        MemoryAddrI32,
-        5,
-        "R_WASM_MEMORY_ADDR_I32",
-        Word,
-        true,
-        Symbol,
-        Anywhere
-    ),
-    row!(
-        TypeIndexLeb,
-        6,
-        "R_WASM_TYPE_INDEX_LEB",
-        PaddedUnsigned,
-        false,
-        Type,
-        Anywhere
-    ),
-    row!(
-        GlobalIndexLeb,
-        7,
-        "R_WASM_GLOBAL_INDEX_LEB",
-        PaddedUnsigned,
-        false,
-        Symbol,
-        Anywhere
-    ),
-    row!(
-        MemoryAddrRelSleb,
-        11,
-        "R_WASM_MEMORY_ADDR_REL_SLEB",
-        PaddedSigned,
-        true,
-        Symbol,
-        Anywhere
-    ),
-    row!(
-        TableIndexRelSleb,
-        12,
-        "R_WASM_TABLE_INDEX_REL_SLEB",
-        PaddedSigned,
-        false,
-        Symbol,
-        InCode
-    ),
-    row!(
-        GlobalIndexI32,
-        13,
-        "R_WASM_GLOBAL_INDEX_I32",
-        Word,
-        false,
-        Symbol,
-        Anywhere
-    ),
-    row!(
-        TableNumberLeb,
-        20,
-        "R_WASM_TABLE_NUMBER_LEB",
-        PaddedUnsigned,
-        false,
-        Symbol,
-        Anywhere
-    ),
-    row!(
-        MemoryAddrTlsSleb,
-        21,
-        "R_WASM_MEMORY_ADDR_TLS_SLEB",
-        PaddedSigned,
-        true,
-        Symbol,
-        Anywhere
-    ),
-    row!(
-        FunctionIndexI32,
-        26,
-        "R_WASM_FUNCTION_INDEX_I32",
-        Word,
-        false,
-        Symbol,
-        Anywhere
-    ),
+    row! { FunctionIndexLeb, 0, "R_WASM_FUNCTION_INDEX_LEB", PaddedUnsigned, false },
+    row! { TableIndexSleb, 1, "R_WASM_TABLE_INDEX_SLEB", PaddedSigned, false },
+    row! { TableIndexI32, 2, "R_WASM_TABLE_INDEX_I32", Word, false },
+    row! { MemoryAddrLeb, 3, "R_WASM_MEMORY_ADDR_LEB", PaddedUnsigned, true },
+    row! { MemoryAddrSleb, 4, "R_WASM_MEMORY_ADDR_SLEB", PaddedSigned, true },
+    row! { MemoryAddrI32, 5, "R_WASM_MEMORY_ADDR_I32", Word, true },
+    row! { TypeIndexLeb, 6, "R_WASM_TYPE_INDEX_LEB", PaddedUnsigned, false, Type, Anywhere },
+    row! { GlobalIndexLeb, 7, "R_WASM_GLOBAL_INDEX_LEB", PaddedUnsigned, false },
+    row! { MemoryAddrRelSleb, 11, "R_WASM_MEMORY_ADDR_REL_SLEB", PaddedSigned, true },
+    row! {
+        TableIndexRelSleb, 12, "R_WASM_TABLE_INDEX_REL_SLEB", PaddedSigned, false, Symbol, InCode
+    },
+    row! { GlobalIndexI32, 13, "R_WASM_GLOBAL_INDEX_I32", Word, false },
+    row! { TableNumberLeb, 20, "R_WASM_TABLE_NUMBER_LEB", PaddedUnsigned, false },
+    row! { MemoryAddrTlsSleb, 21, "R_WASM_MEMORY_ADDR_TLS_SLEB", PaddedSigned, true },
+    row! { FunctionIndexI32, 26, "R_WASM_FUNCTION_INDEX_I32", Word, false },
 ];
 
 /// The greatest number of a type of relocation.
@@ -250,7 +143,7 @@ pub(crate) const LAST_TYPE: u8 = 26;
 impl RelocationType {
     /// How its field holds the value.
     pub fn field_form(self) -> FieldForm
-        ensures { result ≡ form_of self }
+        ensures { result ≡ field_form self }
     {
         let row = &ROWS[self as usize];
         row.form

@@ -2,9 +2,9 @@
 
 ghost use Rattle.std.specs.Prelude.{◌≡◌, length};
 ghost use Rattle.wl_module.specs.Outcome.{Yields, Gives};
-ghost use Rattle.wl_linking.specs.Relocations.{may_stand, type_verdict, addend_where_at, entries_of, held_at};
+ghost use Rattle.wl_linking.specs.Relocations.{may_stand, type_verdict, addend_where_at, entries_to_end_at, held_entries_at};
 
-use crate::items::Items;
+use crate::items::ItemList;
 use crate::relocation_type::{LAST_TYPE, RelocationType};
 use std::alloc::Global;
 use std::marker::Model;
@@ -153,7 +153,7 @@ fn read_entries(
     target: Target,
     reader: &mut Reader<'_>,
 ) -> Result<Vec<WasmRelocation>, ReadError>
-    ensures { Gives (λ v. v.items) result (entries_of target reader.old) }
+    ensures { Gives (λ v. v.items) result (entries_to_end_at target reader.old) }
 {
     let entries = read_list(alloc, target, reader)?;
     expect_end(reader)?;
@@ -161,12 +161,12 @@ fn read_entries(
 }
 
 /// What stands behind the number of the section that a relocation section is for.
-pub(crate) fn read_held(
+pub(crate) fn read_held_entries(
     alloc: Global,
     target: Target,
     reader: &mut Reader<'_>,
 ) -> Result<RelocationList, ReadError>
-    ensures { Gives (λ l. l) result (held_at target reader.old) }
+    ensures { Gives (λ l. l) result (held_entries_at target reader.old) }
 {
     let list = match target {
         Target::Code | Target::Data => read_entries(alloc, target, reader)?,

@@ -2,20 +2,19 @@
 
 ghost use Rattle.std.specs.Prelude.{◌≡◌, ◌≤◌, length, MatchResult};
 ghost use Rattle.wl_bytes.specs.declared.reader.TheConstants.{MAX_LEN};
-ghost use Rattle.wl_module.specs.Outcome.{Gives, ReadsWhole};
+ghost use Rattle.wl_module.specs.Outcome.{Gives, ReadsWhole, HasCause};
 ghost use Rattle.wl_module.specs.Memories.{AreMemories, MemoriesFault};
 ghost use Rattle.wl_linking.specs.Relocations.{reloc_section_of};
 ghost use Rattle.wl_linking.specs.Sections.{IsSound, IsFaulty, IsSoundCustom, IsFaultyCustom, LinkingItems, LinkingItemsFault, EndsWithin, has_memory};
-ghost use Rattle.wl_linking.specs.Verdict.{HasCause};
 ghost use Rattle.wl_linking.specs.Targets.{numbered_verdict};
 
 use crate::debug::DebugSectionInput;
 use crate::features::{WasmTargetFeature, parse_target_features_payload};
-use crate::items::Items;
+use crate::items::ItemList;
 use crate::kinds::{CustomKind, custom_kind, target_of};
 use crate::linking::{Linking, read_linking};
 use crate::parts::Parts;
-use crate::relocations::{RelocHeld, WasmRelocSection, read_held};
+use crate::relocations::{RelocHeld, WasmRelocSection, read_held_entries};
 use std::alloc::Global;
 use wl_bytes::Reader;
 use wl_module::{
@@ -28,19 +27,19 @@ use wl_module::{
 /// What a section holds.
 #[derive(Drop)]
 pub(crate) enum SectionItems<'a> {
-    Types(Items<FuncType>),
+    Types(ItemList<FuncType>),
     /// The imports, and how many bytes of the object lie before the section's payload.
-    Imports(Items<PlacedImport<'a>>, u32),
-    Functions(Items<u32>),
-    Memories(Items<MemoryType>),
-    Globals(Items<OutputGlobal<'a>>),
-    Exports(Items<OutputExport<'a>>),
+    Imports(ItemList<PlacedImport<'a>>, u32),
+    Functions(ItemList<u32>),
+    Memories(ItemList<MemoryType>),
+    Globals(ItemList<OutputGlobal<'a>>),
+    Exports(ItemList<OutputExport<'a>>),
     DataCount(u32),
-    Code(Items<WasmFunctionBody<'a>>),
-    Data(Items<TargetedSegment<'a>>),
+    Code(ItemList<WasmFunctionBody<'a>>),
+    Data(ItemList<TargetedSegment<'a>>),
     Linking(Linking<'a>),
     Reloc(RelocHeld),
-    Features(Items<WasmTargetFeature<'a>>),
+    Features(ItemList<WasmTargetFeature<'a>>),
     Debug(DebugSectionInput<'a>),
     Nothing,
 }
@@ -76,7 +75,7 @@ fn read_reloc_section(
     let mut reader = Reader::new(payload);
     let target_section = reader.read_u32()?;
     let target = target_of(sections, before, target_section)?;
-    let relocations = read_held(alloc, target, &mut reader)?;
+    let relocations = read_held_entries(alloc, target, &mut reader)?;
     Ok(RelocHeld {
         target,
         section: WasmRelocSection {
@@ -128,9 +127,9 @@ fn read_custom<'a>(
         CustomKind::Reloc => Ok(SectionItems::Reloc(read_reloc_section(
             alloc, sections, before, payload,
         )?)),
-        CustomKind::Features => Ok(SectionItems::Features(Items::new(parse_target_features_payload(
-            alloc, payload,
-        )?))),
+        CustomKind::Features => Ok(SectionItems::Features(ItemList::new(
+            parse_target_features_payload(alloc, payload)?,
+        ))),
         CustomKind::Debug => Ok(SectionItems::Debug(DebugSectionInput {
             name: section.name,
             payload,
@@ -141,7 +140,7 @@ fn read_custom<'a>(
 }
 
 /// Reads a section, after the sections with these items.
-pub(crate) fn read_section<'a>(
+pub(crate) fn read_section_items<'a>(
     alloc: Global,
     sections: &[FramedSection<'a>],
     before: &Parts<'_>,
@@ -154,27 +153,31 @@ pub(crate) fn read_section<'a>(
     let payload = section.payload;
     match section.kind {
         SectionKind::Custom => read_custom(alloc, sections, before, section),
-        SectionKind::Type => Ok(SectionItems::Types(Items::new(read_types(alloc, payload)?))),
+        SectionKind::Type => Ok(SectionItems::Types(ItemList::new(read_types(alloc, payload)?))),
         SectionKind::Import => {
             let imports = read_placed_imports(alloc, payload)?;
             let base = section.header.payload_range.0;
-            Ok(SectionItems::Imports(Items::new(imports), base))
+            Ok(SectionItems::Imports(ItemList::new(imports), base))
         }
         SectionKind::Function => {
-            Ok(SectionItems::Functions(Items::new(read_functions(alloc, payload)?)))
+            Ok(SectionItems::Functions(ItemList::new(read_functions(alloc, payload)?)))
         }
         SectionKind::Table => Err(ReadError::Unsupported(Form::TableDef)),
         SectionKind::Memory => {
             let imports = before.imports.as_slice();
-            Ok(SectionItems::Memories(Items::new(read_own_memories(alloc, imports, payload)?)))
+            Ok(SectionItems::Memories(ItemList::new(read_own_memories(alloc, imports, payload)?)))
         }
-        SectionKind::Global => Ok(SectionItems::Globals(Items::new(read_globals(alloc, payload)?))),
-        SectionKind::Export => Ok(SectionItems::Exports(Items::new(read_exports(alloc, payload)?))),
+        SectionKind::Global => Ok(SectionItems::Globals(ItemList::new(read_globals(
+            alloc, payload,
+        )?))),
+        SectionKind::Export => Ok(SectionItems::Exports(ItemList::new(read_exports(
+            alloc, payload,
+        )?))),
         SectionKind::Start => Err(ReadError::Unsupported(Form::Start)),
         SectionKind::Element => Ok(SectionItems::Nothing),
-        SectionKind::Code => Ok(SectionItems::Code(Items::new(read_bodies(alloc, payload)?))),
+        SectionKind::Code => Ok(SectionItems::Code(ItemList::new(read_bodies(alloc, payload)?))),
         SectionKind::Data => {
-            Ok(SectionItems::Data(Items::new(read_targeted_segments(alloc, payload)?)))
+            Ok(SectionItems::Data(ItemList::new(read_targeted_segments(alloc, payload)?)))
         }
         SectionKind::DataCount => Ok(SectionItems::DataCount(read_data_count(payload)?)),
         SectionKind::Tag => Err(ReadError::Unsupported(Form::Tag)),

@@ -5,9 +5,9 @@ ghost use Rattle.std.specs.List.{AllByRecursion};
 ghost use Rattle.std.specs.List.Sorted.{IsNonDecreasingBy};
 ghost use Rattle.wl_linking.specs.Sites.{AreInOrder, AreSites, AreApart, HasOverlap, LieApart, FieldsFault, body_piece, segment_piece, is_padded, has_form, field_len, offset_of};
 ghost use Rattle.wl_linking.specs.Placing.{IsSpanned, piece_end, position_of, site_of, Ascend, FieldFault};
-ghost use Rattle.wl_linking.specs.Verdict.{HasCause};
+ghost use Rattle.wl_module.specs.Outcome.{HasCause};
 
-use crate::items::Items;
+use crate::items::ItemList;
 use crate::relocation_type::FieldForm;
 use crate::relocations::WasmRelocation;
 use std::alloc::{AllocError, Global};
@@ -91,12 +91,14 @@ fn segment_pieces<'a>(
 }
 
 /// The relocations in order of their fields, those of one place in file order.
-pub(crate) fn in_order(entries: Items<WasmRelocation>) -> Result<Items<WasmRelocation>, AllocError>
+pub(crate) fn in_order(
+    entries: ItemList<WasmRelocation>,
+) -> Result<ItemList<WasmRelocation>, AllocError>
     ensures { IfOk result (λ relocations. AreInOrder entries relocations) }
 {
     let mut list = entries.into_vec();
     list.sort_by_key(|relocation| relocation.offset)?;
-    Ok(Items::new(list))
+    Ok(ItemList::new(list))
 }
 
 /// How many bytes a field of that form has.
@@ -182,7 +184,7 @@ fn find_sites(
     alloc: Global,
     pieces: &[Piece<'_>],
     relocations: &[WasmRelocation],
-) -> Result<Items<Site>, ReadError>
+) -> Result<ItemList<Site>, ReadError>
     requires pieces { Ascend 0 pieces.now }
     requires order { IsNonDecreasingBy offset_of relocations.now }
     ensures { MatchResult result (AreSites pieces.now relocations.now)
@@ -198,7 +200,7 @@ fn find_sites(
         unit = site.unit;
         sites.push(site)?;
     }
-    Ok(Items::new(sites))
+    Ok(ItemList::new(sites))
 }
 
 /// No two fields share a byte.
@@ -221,7 +223,7 @@ fn place_fields(
     alloc: Global,
     pieces: &[Piece<'_>],
     relocations: &[WasmRelocation],
-) -> Result<Items<Site>, ReadError>
+) -> Result<ItemList<Site>, ReadError>
     requires pieces { Ascend 0 pieces.now }
     requires order { IsNonDecreasingBy offset_of relocations.now }
     ensures { MatchResult result (LieApart pieces.now relocations.now)
@@ -239,7 +241,7 @@ pub(crate) fn code_sites(
     alloc: Global,
     bodies: &[WasmFunctionBody<'_>],
     relocations: &[WasmRelocation],
-) -> Result<Items<Site>, ReadError>
+) -> Result<ItemList<Site>, ReadError>
     requires bodies { Ascend 0 (map body_piece bodies.now) }
     requires order { IsNonDecreasingBy offset_of relocations.now }
     ensures { let pieces = map body_piece bodies.now in
@@ -255,7 +257,7 @@ pub(crate) fn data_sites(
     alloc: Global,
     segments: &[WasmDataSegment<'_>],
     relocations: &[WasmRelocation],
-) -> Result<Items<Site>, ReadError>
+) -> Result<ItemList<Site>, ReadError>
     requires spans { AllByRecursion IsSpanned segments.now }
     requires segments { Ascend 0 (map segment_piece segments.now) }
     requires order { IsNonDecreasingBy offset_of relocations.now }

@@ -6,10 +6,10 @@ ghost use Rattle.wl_bytes.specs.declared.reader.TheConstants.{MAX_LEN};
 ghost use Rattle.std.specs.List.{repeat, AllByRecursion};
 ghost use Rattle.wl_linking.specs.Slots.{Slot, slot_of, slots_of, with_slot, with_import_name, claims, HasOneName, HasTwoNames, AgreeOnNames, SlotFault};
 ghost use Rattle.wl_linking.specs.SlotsReading.{IsNamedWithin, slots_from, AreNamedByRange, IsNamedByRange, is_name_of, Agrees};
-ghost use Rattle.wl_linking.specs.Verdict.{HasCause};
+ghost use Rattle.wl_module.specs.Outcome.{HasCause};
 
-use crate::items::Items;
-use crate::spaces::{Counts, is_of};
+use crate::items::ItemList;
+use crate::spaces::{Counts, is_of_kind};
 use crate::symbols::{WasmSymbol, WasmSymbolKind, range_of};
 use std::alloc::{AllocError, Global};
 use std::marker::Model;
@@ -56,7 +56,7 @@ fn push_slot<'a>(
     requires place { placed.now.name_offset + length placed.now.import.name ≤ MAX_LEN }
     ensures { OnOk result (slots.new.items ≡ slots.old.items ++ slots_from kind base placed.now) }
 {
-    if is_of(kind, &placed.import.entity) {
+    if is_of_kind(kind, &placed.import.entity) {
         slots.push(slot_of(base, placed))?;
     }
     Ok(())
@@ -69,7 +69,7 @@ pub(crate) fn slots_of<'a>(
     kind: ExternalKind,
     base: u32,
     imports: &[PlacedImport<'a>],
-) -> Result<Items<SlotName<'a>>, AllocError>
+) -> Result<ItemList<SlotName<'a>>, AllocError>
     requires base { base ≤ MAX_LEN }
     requires places { AllByRecursion IsNamedWithin imports.now }
     ensures { IfOk result (λ slots. slots ≡ slots_of kind base imports.now) }
@@ -78,7 +78,7 @@ pub(crate) fn slots_of<'a>(
     for placed in imports {
         push_slot(&mut slots, kind, base, placed)?;
     }
-    Ok(Items::new(slots))
+    Ok(ItemList::new(slots))
 }
 
 /// The same symbol with the name of its slot.
@@ -87,7 +87,7 @@ fn with_slot<'a>(symbol: WasmSymbol<'a>, slots: &[SlotName<'a>]) -> WasmSymbol<'
 {
     match slots.get(symbol.index as usize) {
         None => symbol,
-        Some(slot) => symbol.named(slot.name, slot.range),
+        Some(slot) => symbol.with_name(slot.name, slot.range),
     }
 }
 
@@ -117,8 +117,8 @@ pub(crate) fn name_symbols<'a>(
     alloc: Global,
     functions: &[SlotName<'a>],
     globals: &[SlotName<'a>],
-    symbols: Items<WasmSymbol<'a>>,
-) -> Result<Items<WasmSymbol<'a>>, AllocError>
+    symbols: ItemList<WasmSymbol<'a>>,
+) -> Result<ItemList<WasmSymbol<'a>>, AllocError>
     ensures { let named = with_import_name functions.now globals.now in
         IfOk result (λ list. list ≡ map named symbols.entry) }
 {
@@ -126,7 +126,7 @@ pub(crate) fn name_symbols<'a>(
     for symbol in symbols.into_vec() {
         list.push(with_import_name(functions, globals, symbol))?;
     }
-    Ok(Items::new(list))
+    Ok(ItemList::new(list))
 }
 
 /// Whether a symbol stands for an import of that kind, with a name to compare.

@@ -3,9 +3,9 @@
 
 ghost use Rattle.std.specs.Prelude.{◌≡◌, ◌+◌, ◌==◌, nat_lt, MatchResult};
 ghost use Rattle.std.specs.List.{list_all};
-ghost use Rattle.wl_linking.specs.Spaces.{is_of, count_imports, spaces_of, import_exists, export_exists, memory_exists, number_exists, thing_exists, symbol_exists, init_exists, relocation_exists, type_exists, counts_segments, core_names_exist, linked_names_exist, counts_hold, NamesExist, NamesFault};
+ghost use Rattle.wl_linking.specs.Spaces.{is_of_kind, count_imports, spaces_of, import_exists, export_exists, memory_exists, number_exists, thing_exists, symbol_exists, init_exists, relocation_exists, type_exists, counts_segments, core_names_exist, linked_names_exist, counts_hold, NamesExist, NamesFault};
 ghost use Rattle.wl_linking.specs.Symbols.{is_undefined};
-ghost use Rattle.wl_linking.specs.Verdict.{HasCause};
+ghost use Rattle.wl_module.specs.Outcome.{HasCause};
 
 use crate::contents::Contents;
 use crate::infos::WasmInitFunc;
@@ -29,8 +29,8 @@ pub(crate) struct Counts {
 }
 
 /// Whether something of that kind is imported.
-pub(crate) fn is_of(kind: ExternalKind, entity: &ImportEntity) -> bool
-    ensures { result ≡ is_of kind entity.now }
+pub(crate) fn is_of_kind(kind: ExternalKind, entity: &ImportEntity) -> bool
+    ensures { result ≡ is_of_kind kind entity.now }
 {
     match entity {
         ImportEntity::Func(_) => kind == ExternalKind::Func,
@@ -46,7 +46,7 @@ pub(crate) fn count_imports(kind: ExternalKind, imports: &[Import<'_>]) -> usize
 {
     imports
         .iter()
-        .filter(|import| is_of(kind, &import.entity))
+        .filter(|import| is_of_kind(kind, &import.entity))
         .count()
 }
 

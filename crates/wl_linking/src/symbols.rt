@@ -4,12 +4,12 @@
 ghost use Rattle.std.specs.Prelude.{◌≡◌, ◌≤◌, ◌<◌, ◌^◌, ◌+◌, ◌-◌, length};
 ghost use Rattle.wl_bytes.specs.declared.reader.TheConstants.{MAX_LEN};
 ghost use Rattle.wl_module.specs.Outcome.{Yields, Gives};
-ghost use Rattle.wl_linking.specs.Symbols.{kind_verdict, has_flag, has_name, is_undefined, is_weak, is_local, is_absolute, named, range_of};
-ghost use Rattle.wl_linking.specs.SymbolsReading.{based_name_at, name_where_at, extent_where_at, numbered_at, located_at, section_at, details_at, symbols_of};
+ghost use Rattle.wl_linking.specs.Symbols.{symbol_kind_verdict, has_flag, has_name, is_undefined, is_weak, is_local, is_absolute, with_name, range_of, symbol_context};
+ghost use Rattle.wl_linking.specs.SymbolsReading.{based_name_at, name_where_at, extent_where_at, numbered_at, located_at, sectioned_at, details_at, symbols_of};
 
 use crate::base::Base;
 use crate::flags::SymbolFlags;
-use crate::items::Items;
+use crate::items::ItemList;
 use bitflags::Flags;
 use std::alloc::Global;
 use std::marker::Model;
@@ -139,8 +139,8 @@ impl<'a> WasmSymbol<'a> {
     }
 
     /// The same symbol under a name, which stands at that range of the object's bytes.
-    pub(crate) fn named(self, name: &'a str, name_range: (u32, u32)) -> Self
-        ensures { result ≡ named self.entry name.now name_range }
+    pub(crate) fn with_name(self, name: &'a str, name_range: (u32, u32)) -> Self
+        ensures { result ≡ with_name self.entry name.now name_range }
     {
         WasmSymbol {
             name,
@@ -151,8 +151,8 @@ impl<'a> WasmSymbol<'a> {
 }
 
 /// The kind of that number.
-fn read_kind(kind: u8) -> Result<WasmSymbolKind, ReadError>
-    ensures { Gives (λ k. k) result (kind_verdict kind) }
+fn symbol_kind(kind: u8) -> Result<WasmSymbolKind, ReadError>
+    ensures { Gives (λ k. k) result (symbol_kind_verdict kind) }
 {
     match kind {
         0 => Ok(WasmSymbolKind::Func),
@@ -206,7 +206,10 @@ pub(crate) fn range_of(base: u32, end: usize, len: usize) -> (u32, u32)
 
 /// The name in front, with its place in the object.
 #[tactic(auto, unfolding(wl_module::specs::Words::placed_name_at))]
-fn read_name<'a>(base: Base, reader: &mut Reader<'a>) -> Result<(&'a str, (u32, u32)), ReadError>
+fn read_based_name<'a>(
+    base: Base,
+    reader: &mut Reader<'a>,
+) -> Result<(&'a str, (u32, u32)), ReadError>
     ensures { Yields (λ w. (w.0.now, w.1)) result reader.new
         (based_name_at base.before reader.old) }
 {
@@ -226,7 +229,7 @@ fn read_name_where<'a>(
         (name_where_at base.before named reader.old) }
 {
     if named {
-        read_name(base, reader)
+        read_based_name(base, reader)
     } else {
         Ok(("", (0, 0)))
     }
@@ -277,7 +280,7 @@ fn read_located<'a>(
 ) -> Result<Details<'a>, ReadError>
     ensures { Yields (λ d. d) result reader.new (located_at base.before flags.0 reader.old) }
 {
-    let (name, name_range) = read_name(base, reader)?;
+    let (name, name_range) = read_based_name(base, reader)?;
     let defined = !flags.contains(SymbolFlags::UNDEFINED);
     let (index, (offset, size)) = read_extent_where(defined, reader)?;
     Ok(Details {
@@ -290,9 +293,9 @@ fn read_located<'a>(
 }
 
 /// The number of a section.
-#[tactic(auto, unfolding(crate::specs::SymbolsReading::section_at))]
-fn read_section<'a>(reader: &mut Reader<'a>) -> Result<Details<'a>, ReadError>
-    ensures { Yields (λ d. d) result reader.new (section_at reader.old) }
+#[tactic(auto, unfolding(crate::specs::SymbolsReading::sectioned_at))]
+fn read_sectioned<'a>(reader: &mut Reader<'a>) -> Result<Details<'a>, ReadError>
+    ensures { Yields (λ d. d) result reader.new (sectioned_at reader.old) }
 {
     let index = reader.read_u32()?;
     Ok(Details {
@@ -311,14 +314,14 @@ fn read_details<'a>(
     flags: SymbolFlags,
     reader: &mut Reader<'a>,
 ) -> Result<Details<'a>, ReadError>
-    ensures { Yields (λ d. d) result reader.new (details_at base.before kind flags.0 reader.old) }
+    ensures { Yields (λ d. d) result reader.new (details_at kind (symbol_context base.before flags.0) reader.old) }
 {
     match kind {
         WasmSymbolKind::Func | WasmSymbolKind::Global | WasmSymbolKind::Table => {
             read_numbered(base, flags, reader)
         }
         WasmSymbolKind::Data => read_located(base, flags, reader),
-        WasmSymbolKind::Section | WasmSymbolKind::Event => read_section(reader),
+        WasmSymbolKind::Section | WasmSymbolKind::Event => read_sectioned(reader),
     }
 }
 
@@ -332,7 +335,7 @@ impl<'a> Item<'a> for WasmSymbol<'a> {
     #[tactic(auto, unfolding(crate::specs::SymbolsReading::symbol_at))]
     fn read(_alloc: Global, base: &mut Base, reader: &mut Reader<'a>) -> Result<Self, ReadError> {
         let kind = reader.read_u8()?;
-        let kind = read_kind(kind)?;
+        let kind = symbol_kind(kind)?;
         let flags = SymbolFlags::from_bits_retain(reader.read_u32()?);
         let details = read_details(*base, kind, flags, reader)?;
         Ok(WasmSymbol {
@@ -354,11 +357,11 @@ pub(crate) fn read_symbols(
     alloc: Global,
     base: u32,
     payload: &[u8],
-) -> Result<Items<WasmSymbol<'_>>, ReadError>
+) -> Result<ItemList<WasmSymbol<'_>>, ReadError>
     requires base { base + MAX_LEN < 2 ^ 32 }
     requires len { length payload.now ≤ MAX_LEN }
     ensures { Gives (λ symbols. symbols) result (symbols_of base payload.now) }
 {
     let symbols = read_payload(alloc, Base::new(base), payload)?;
-    Ok(Items::new(symbols))
+    Ok(ItemList::new(symbols))
 }

@@ -7,15 +7,15 @@ use Rattle.wl_bytes.proofs.GrammarLaws.{cursor_is, seen_reading}
 use Rattle.wl_bytes.specs.Items.{IsName}
 use Rattle.wl_module.specs.Lists.{WordFault, word_at}
 use Rattle.wl_module.specs.Words.{IsPlacedName, placed_name, placed_name_at}
-use Rattle.wl_module.specs.Checks.{Where, WhereFault, where_at, When, WhenFault, when_at, measured_at, Any, any_at, IsNothing, NoFault, nothing_at}
+use Rattle.wl_module.specs.Checks.{Where, WhereFault, unless, where_at, When, WhenFault, when_at, measured_at, Any, any_at, IsNothing, NoFault, nothing_at}
 use Rattle.wl_module.proofs.ReadingLaws.{respelled, Stands, either, reading_by}
 use Rattle.wl_module.proofs.ListLaws.{word_reading}
 
 -- ---- an item that passes a test
 
 pub where_reading : {X E : Type 0} (spells : ℕ → X → List ℕ → Type 0) (wrong : E → Cursor → Type 0) (read : Cursor → Result (X × Cursor) E) (test : X → Bool) (failed : E)
-    → IsReading spells wrong read → IsReading (Where spells test) (WhereFault spells wrong test failed) (where_at read test failed)
-where_reading {X} {E} spells wrong read test failed law = reading_by (Where spells test) (WhereFault spells wrong test failed) (where_at read test failed)
+    → IsReading spells wrong read → IsReading (Where spells test) (WhereFault spells wrong (unless test failed)) (where_at read test failed)
+where_reading {X} {E} spells wrong read test failed law = reading_by (Where spells test) (WhereFault spells wrong (unless test failed)) (where_at read test failed)
     (λ c x to t. rw (law.again c x to (respelled t t.spelled.0), t.spelled.1) refl)
     (λ c e f. elim f [
       | inl w ↦ rw (law.fails c e w) refl
@@ -23,7 +23,7 @@ where_reading {X} {E} spells wrong read test failed law = reading_by (Where spel
     ])
     (λ c. elim (either law c) [ inl t ↦ by c t.0 t.1 t.2 (test t.0) refl | inr f ↦ inr (f.0, inl f.1) ])
   where
-    by : (c : Cursor) (x : X) (to : Cursor) → Takes spells x c to → (b : Bool) → test x ≡ b → Stands (Where spells test) (WhereFault spells wrong test failed) c
+    by : (c : Cursor) (x : X) (to : Cursor) → Takes spells x c to → (b : Bool) → test x ≡ b → Stands (Where spells test) (WhereFault spells wrong (unless test failed)) c
     by c x to t true is = inl (x, to, respelled t (t.spelled, is))
     by c x to t false is = inr (failed, inr (x, to, t, is, refl))
 

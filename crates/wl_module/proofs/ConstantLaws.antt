@@ -24,7 +24,7 @@ use Rattle.wl_module.specs.Lists.{IsCoded, CodedFault}
 use Rattle.wl_module.specs.Types.{value_type_code, value_types, is_reference}
 use Rattle.wl_module.specs.Checks.{Any}
 use Rattle.wl_module.specs.Ends.{Ended, EndedFault, ended_at}
-use Rattle.wl_module.specs.Constants.{operator_code, step_code, all_steps, first_at, SignedNumberFault, signed_number_at, IsReference, ReferenceFault, reference_at, is_vector_const, IsVector, VectorFault, vector_at, IsImmediate, ImmediateFault, immediate_at, IsOperator, IsStepImmediate, IsStep, StepImmediateFault, StepFault, step_immediate_at, step_at, IsExpression, ExpressionFault, expression_at}
+use Rattle.wl_module.specs.Constants.{operator_code, step_code, all_steps, first_at, SignedNumberFault, signed_number_at, IsReference, ReferenceFault, reference_at, is_vector_const, IsVector, VectorFault, vector_at, IsConstImmediate, ConstImmediateFault, const_immediate_at, IsOperator, IsStepImmediate, IsStep, StepImmediateFault, StepFault, step_immediate_at, step_at, IsExpression, ExpressionFault, expression_at}
 use Rattle.wl_module.proofs.ReadingLaws.{respelled, either, reading_by, both}
 use Rattle.wl_module.proofs.ListLaws.{AreAll, coded_reading, number_reading}
 use Rattle.wl_module.proofs.TypeLaws.{all_value_types}
@@ -68,8 +68,8 @@ vector_reading : IsReading (Any IsVector) VectorFault vector_at
 unfolding vector_at
 vector_reading = any_reading _ _ _ (both (where_reading _ _ _ is_vector_const (Unsupported OtherOperator) number_reading) (λ _. stretch_reading 16))
 
-immediate_reading : (o : ConstOperator) → IsReading (IsImmediate o) (ImmediateFault o) (immediate_at o)
-unfolding immediate_at
+immediate_reading : (o : ConstOperator) → IsReading (IsConstImmediate o) (ConstImmediateFault o) (const_immediate_at o)
+unfolding const_immediate_at
 immediate_reading I32Const = any_reading _ _ _ (signed_number_reading S32)
 immediate_reading I64Const = any_reading _ _ _ (signed_number_reading S64)
 immediate_reading F32Const = any_reading _ _ _ (stretch_reading 4)

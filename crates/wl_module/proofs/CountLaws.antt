@@ -6,20 +6,19 @@ use Rattle.wl_bytes.specs.Leb.{IsU32}
 use Rattle.wl_bytes.specs.Items.{IsName}
 use Rattle.wl_bytes.specs.Grammar.{Items}
 use Rattle.wl_module.specs.declared.error.ReadError.{ReadError}
-use Rattle.wl_module.proofs.ChainLaws.{as_chain}
+use Rattle.wl_module.proofs.ChainLaws.{kept, as_chain}
 use Rattle.wl_module.specs.Outcome.{ReadsWhole}
 use Rattle.wl_module.specs.Lists.{Listed, Whole, SeenAs, AreFew}
-use Rattle.wl_module.specs.Chains.{Chain, ListedAfter, may_come, seen_then}
-use Rattle.wl_module.specs.Checks.{Where}
+use Rattle.wl_module.specs.Chains.{Turns, Chain, ListedAfter, once_in_turn}
 use Rattle.wl_module.specs.Limits.{IsMemoryType}
 use Rattle.wl_module.specs.Types.{IsFuncType, AreTypes}
 use Rattle.wl_module.specs.Bodies.{AreIndices, IsBody, AreBodies}
-use Rattle.wl_module.specs.Memories.{AreMemories}
+use Rattle.wl_module.specs.Memories.{memory_once, AreMemories}
 use Rattle.wl_module.specs.Globals.{IsGlobal, AreGlobals}
-use Rattle.wl_module.specs.Imports.{IsImport, imports_memory, ArePlacedImports, AreImports}
+use Rattle.wl_module.specs.Imports.{IsImport, memory_import_once, ArePlacedImports, AreImports}
 use Rattle.wl_module.specs.Exports.{IsExport, AreExports}
 use Rattle.wl_module.specs.Segments.{IsSegment, AreTargeted, AreSegments}
-use Rattle.wl_module.specs.Sections.{Section, IsSection, next, magic, IsModule, Framed}
+use Rattle.wl_module.specs.Sections.{Section, sections_in_turn, magic, IsModule, Framed}
 
 -- an item is never spelled by no bytes
 abbrev pub HasBytes : {X : Type 0} → (ℕ → X → List ℕ → Type 0) → Type 0
@@ -39,23 +38,23 @@ name_bytes place name text s = front_bytes _ _ _ s.1 (number_bytes place (length
 
 -- ---- lists put together
 
-pub chain_few : {S X : Type 0} (item : S → ℕ → X → List ℕ → Type 0) (next : S → X → S) → ((s : S) → HasBytes (item s)) → (s : S) (place : ℕ) (xs : List X) (text : List ℕ) → Chain item next s place xs text → length xs ≤ length text
-chain_few item next h s place [] text t = omega arith
-chain_few item next h s place (x ∷ xs) text t =
+pub chain_few : {S X : Type 0} (turns : Turns S X) → ((s : S) → HasBytes (turns.item s)) → (s : S) (place : ℕ) (xs : List X) (text : List ℕ) → Chain turns s place xs text → length xs ≤ length text
+chain_few turns h s place [] text t = omega arith
+chain_few turns h s place (x ∷ xs) text t =
     let some = h s place x t.0 t.3 in
-    let others = chain_few item next h (next s x) (place + length t.0) xs t.1 t.4 in
+    let others = chain_few turns h (turns.next s x) (place + length t.0) xs t.1 t.4 in
     omega (arith, some, others, ap length t.2, length-append t.0 t.1)
 
 pub items_few : {X : Type 0} (item : ℕ → X → List ℕ → Type 0) → HasBytes item → (place : ℕ) (xs : List X) (text : List ℕ) → Items item place xs text → length xs ≤ length text
-items_few item h place xs text s = chain_few (λ _. item) (λ u _. u) (λ _. h) tt place xs text (as_chain item place xs text s)
+items_few item h place xs text s = chain_few (kept item) (λ _. h) tt place xs text (as_chain item place xs text s)
 
-pub listed_after_few : {S X : Type 0} (item : S → ℕ → X → List ℕ → Type 0) (next : S → X → S) → ((s : S) → HasBytes (item s)) → (s : S) → AreFew (Whole (ListedAfter item next s))
-listed_after_few item next h s xs payload t =
-    let few = chain_few item next h s (0 + length t.0) xs t.1 t.4 in
+pub listed_after_few : {S X : Type 0} (turns : Turns S X) → ((s : S) → HasBytes (turns.item s)) → (s : S) → AreFew (Whole (ListedAfter turns s))
+listed_after_few turns h s xs payload t =
+    let few = chain_few turns h s (0 + length t.0) xs t.1 t.4 in
     omega (arith, few, ap length t.2, length-append t.0 t.1)
 
 pub listed_few : {X : Type 0} (item : ℕ → X → List ℕ → Type 0) → HasBytes item → AreFew (Whole (Listed item))
-listed_few item h xs payload s = listed_after_few (λ _. item) (λ u _. u) (λ _. h) tt xs payload (s.0, s.1, s.2, s.3, as_chain item (0 + length s.0) xs s.1 s.4)
+listed_few item h xs payload s = listed_after_few (kept item) (λ _. h) tt xs payload (s.0, s.1, s.2, s.3, as_chain item (0 + length s.0) xs s.1 s.4)
 
 pub seen_few : {X Y : Type 0} (f : X → Y) (spells : List X → List ℕ → Type 0) → AreFew spells → AreFew (SeenAs (map f) spells)
 seen_few f spells h ys payload s = let few = h s.0 payload s.1 in omega (arith, few, ap length s.2, length-map s.0 f)
@@ -74,13 +73,13 @@ pub indices_few : AreFew AreIndices
 indices_few = listed_few IsU32 number_bytes
 
 pub memories_few : (imported : Bool) → AreFew (AreMemories imported)
-memories_few imported = listed_after_few (λ seen. Where IsMemoryType (may_come (λ _. true) seen)) (seen_then (λ _. true)) (λ seen place m text s. front_bytes _ _ _ s.0.1.0.1.2 (one_byte _ _ s.0.1.0.1.3)) imported
+memories_few imported = listed_after_few (once_in_turn IsMemoryType (memory_once imported)) (λ seen place m text s. front_bytes _ _ _ s.0.1.0.1.2 (one_byte _ _ s.0.1.0.1.3)) imported
 
 pub globals_few : AreFew AreGlobals
 globals_few = listed_few IsGlobal (λ place g text s. front_bytes _ _ _ s.1.2 (front_bytes _ _ _ s.1.3.1.2 (one_byte _ _ s.1.3.1.3)))
 
 pub placed_imports_few : AreFew ArePlacedImports
-placed_imports_few = listed_after_few (λ seen. Where IsImport (may_come imports_memory seen)) (seen_then imports_memory) (λ seen place i text s. front_bytes _ _ _ s.0.1.2 (name_bytes place s.0.0.0 s.0.1.0 s.0.1.3)) false
+placed_imports_few = listed_after_few (once_in_turn IsImport memory_import_once) (λ seen place i text s. front_bytes _ _ _ s.0.1.2 (name_bytes place s.0.0.0 s.0.1.0 s.0.1.3)) false
 
 pub imports_few : AreFew AreImports
 imports_few = seen_few (λ i. i.import) ArePlacedImports placed_imports_few
@@ -99,7 +98,7 @@ segments_few = seen_few (λ t. t.segment) AreTargeted targeted_few
 
 pub modules_few : AreFew IsModule
 modules_few ss b s =
-    let few = chain_few IsSection next (λ last place x text t. omega (arith, ap length t.1.3, ap length t.1.2, length-append t.1.0 t.1.1)) 0 8 ss s.0 s.2 in
+    let few = chain_few sections_in_turn (λ last place x text t. omega (arith, ap length t.1.3, ap length t.1.2, length-append t.1.0 t.1.1)) 0 8 ss s.0 s.2 in
     omega (arith, few, ap length s.1, length-append magic s.0)
 
 pub sections_few : AreFew Framed

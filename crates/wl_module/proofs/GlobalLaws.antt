@@ -9,7 +9,7 @@ use Rattle.wl_module.specs.declared.error.ReadError.TheVariants.{Malformed, Unsu
 use Rattle.wl_module.specs.Outcome.{Gives, ReadsWhole}
 use Rattle.wl_module.specs.Lists.{NumberFault, number_at, Listed, ListedFault, list_at}
 use Rattle.wl_module.specs.Globals.{mutability_code, IsMutability, MutabilityFault, mutability_at, global_type_from, IsGlobalType, GlobalTypeFault, global_type_at, global_from, IsGlobal, GlobalFault, global_at, AreGlobals, GlobalsFault, globals_of}
-use Rattle.wl_module.specs.Memories.{AreMemories, MemoriesFault, memories_of, IsDataCount, DataCountFault, data_count_of}
+use Rattle.wl_module.specs.Memories.{memory_once, AreMemories, MemoriesFault, memories_of, IsDataCount, DataCountFault, data_count_of}
 use Rattle.wl_module.proofs.ReadingLaws.{both, seen}
 use Rattle.wl_module.proofs.ListLaws.{AreAll, coded_reading, number_reading, list_reading, whole_reading, IsWholeReading, reads_whole}
 use Rattle.wl_module.proofs.AfterLaws.{list_once_reading}
@@ -41,7 +41,7 @@ globals_reading = whole_reading (Listed IsGlobal) (ListedFault IsGlobal GlobalFa
 -- ---- memories
 
 pub memories_reading : (imported : Bool) → IsWholeReading (AreMemories imported) (MemoriesFault imported) (memories_of imported)
-memories_reading imported = whole_reading _ _ _ (list_once_reading (λ _. true) (Unsupported ManyMemories) memory_type_reading imported)
+memories_reading imported = whole_reading _ _ _ (list_once_reading (memory_once imported) memory_type_reading)
 
 -- ---- the data count
 

@@ -1,13 +1,11 @@
 -- The laws of imports and exports.
-use Rattle.std.proofs.Common.{false, [], ◌∷◌, refl}
+use Rattle.std.proofs.Common.{[], ◌∷◌, refl}
 use Rattle.wl_bytes.proofs.Readings.{IsReading}
 use Rattle.wl_module.specs.declared.imports.ExternalKind.{ExternalKind}
 use Rattle.wl_module.specs.declared.imports.ExternalKind.TheVariants.{Func, Table, Memory, Global}
 use Rattle.wl_module.specs.declared.imports.ImportEntity.TheVariants.{Func as AFunction, Table as ATable, Memory as AMemory, Global as AGlobal}
-use Rattle.wl_module.specs.declared.error.Form.TheVariants.{ManyMemories}
-use Rattle.wl_module.specs.declared.error.ReadError.TheVariants.{Unsupported}
 use Rattle.wl_module.specs.Lists.{Listed, ListedFault, list_at}
-use Rattle.wl_module.specs.Imports.{kind_code, kind_error, IsKind, KindFault, kind_at, IsEntity, EntityFault, entity_at, import_from, IsImport, ImportFault, import_at, imports_memory, plain_imports, ArePlacedImports, placed_imports_of, AreImports, ImportsFault, imports_of}
+use Rattle.wl_module.specs.Imports.{kind_code, kind_error, IsExternalKind, ExternalKindFault, external_kind_at, IsEntity, EntityFault, entity_at, import_from, IsImport, ImportFault, import_at, memory_import_once, plain_imports, ArePlacedImports, placed_imports_of, AreImports, ImportsFault, imports_of}
 use Rattle.wl_module.specs.Exports.{export_from, IsExport, ExportFault, export_at, AreExports, ExportsFault, exports_of}
 use Rattle.wl_module.proofs.ReadingLaws.{both, seen}
 use Rattle.wl_module.proofs.ListLaws.{AreAll, coded_reading, number_reading, word_reading, list_reading, whole_reading, IsWholeReading, seen_reading}
@@ -24,8 +22,8 @@ all_kinds Table = refl
 all_kinds Memory = refl
 all_kinds Global = refl
 
-kind_reading : IsReading IsKind KindFault kind_at
-unfolding kind_at
+kind_reading : IsReading IsExternalKind ExternalKindFault external_kind_at
+unfolding external_kind_at
 kind_reading = coded_reading kind_code (Func ∷ Table ∷ Memory ∷ Global ∷ []) kind_error all_kinds
 
 -- ---- imports
@@ -42,7 +40,7 @@ unfolding import_at
 import_reading = seen import_from (both word_reading (λ _. both placed_name_reading (λ _. both kind_reading entity_reading)))
 
 pub placed_imports_reading : IsWholeReading ArePlacedImports ImportsFault placed_imports_of
-placed_imports_reading = whole_reading _ _ _ (list_once_reading imports_memory (Unsupported ManyMemories) import_reading false)
+placed_imports_reading = whole_reading _ _ _ (list_once_reading memory_import_once import_reading)
 
 pub imports_reading : IsWholeReading AreImports ImportsFault imports_of
 imports_reading = seen_reading plain_imports ArePlacedImports ImportsFault placed_imports_of placed_imports_reading

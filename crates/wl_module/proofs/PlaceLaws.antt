@@ -6,7 +6,7 @@ use Rattle.wl_bytes.specs.Items.{IsName}
 use Rattle.wl_bytes.specs.Leb.{IsU32}
 use Rattle.wl_bytes.specs.Grammar.{Then}
 use Rattle.wl_module.specs.Lists.{Listed, Whole, SeenAs}
-use Rattle.wl_module.specs.Chains.{Chain, ListedAfter, may_come, seen_then}
+use Rattle.wl_module.specs.Chains.{Turns, Chain, ListedAfter, once_in_turn}
 use Rattle.wl_module.specs.Checks.{Where, Seen}
 use Rattle.wl_module.specs.Words.{IsPlacedName}
 use Rattle.wl_module.specs.Constants.{IsExpression}
@@ -14,11 +14,11 @@ use Rattle.wl_module.specs.Bodies.{Body, IsBody, AreBodies}
 use Rattle.wl_module.specs.Globals.{IsGlobalType, global_from, IsGlobal, AreGlobals}
 use Rattle.wl_module.specs.declared.imports.ExternalKind.{ExternalKind}
 use Rattle.wl_module.specs.declared.imports.ImportEntity.{ImportEntity}
-use Rattle.wl_module.specs.Imports.{IsKind, IsEntity, import_from, IsImport, imports_memory, ArePlacedImports, AreImports}
+use Rattle.wl_module.specs.Imports.{IsExternalKind, IsEntity, import_from, IsImport, memory_import_once, ArePlacedImports, AreImports}
 use Rattle.wl_module.specs.Exports.{export_from, IsExport, AreExports}
 use Rattle.wl_module.specs.Segments.{Targeted, IsSegment, AreTargeted, AreSegments}
 use Rattle.wl_module.specs.Places.{StandsAt, PartsStand, ImportStands, PlacedImportStands, ExportStands, GlobalStands, BodyStands, SegmentStands, TargetedStands}
-use Rattle.wl_module.proofs.ChainLaws.{as_chain}
+use Rattle.wl_module.proofs.ChainLaws.{kept, as_chain}
 
 -- ---- parts of parts
 
@@ -54,20 +54,20 @@ HasParts {X} stands item = (bytes : List ℕ) (place : ℕ) (x : X) (text : List
 seen_parts : {X Y : Type 0} (stands : List ℕ → Y → Type 0) (item : ℕ → X → List ℕ → Type 0) (f : X → Y) → HasParts (λ bytes x. stands bytes (f x)) item → HasParts stands (Seen item f)
 seen_parts stands item f h bytes place y text s there = subst (stands bytes) s.2 (h bytes place s.0 text s.1 there)
 
-pub chain_stands : {S X : Type 0} (stands : List ℕ → X → Type 0) (item : S → ℕ → X → List ℕ → Type 0) (next : S → X → S) → ((s : S) → HasParts stands (item s))
-    → (bytes : List ℕ) (s : S) (place : ℕ) (xs : List X) (text : List ℕ) → Chain item next s place xs text → StandsAt bytes text place → AllByRecursion (stands bytes) xs
-chain_stands stands item next h bytes s place [] text c there = tt
-chain_stands stands item next h bytes s place (x ∷ xs) text (front, back, parts, here, others) there = (
+pub chain_stands : {S X : Type 0} (stands : List ℕ → X → Type 0) (turns : Turns S X) → ((s : S) → HasParts stands (turns.item s))
+    → (bytes : List ℕ) (s : S) (place : ℕ) (xs : List X) (text : List ℕ) → Chain turns s place xs text → StandsAt bytes text place → AllByRecursion (stands bytes) xs
+chain_stands stands turns h bytes s place [] text c there = tt
+chain_stands stands turns h bytes s place (x ∷ xs) text (front, back, parts, here, others) there = (
   h s bytes place x front here (before_stands bytes text front back place parts there),
-  chain_stands stands item next h bytes (next s x) (place + length front) xs back others (behind_stands bytes text front back place parts there),
+  chain_stands stands turns h bytes (turns.next s x) (place + length front) xs back others (behind_stands bytes text front back place parts there),
 )
 
-pub listed_after_stand : {S X : Type 0} (stands : List ℕ → X → Type 0) (item : S → ℕ → X → List ℕ → Type 0) (next : S → X → S) → ((s : S) → HasParts stands (item s)) → (s : S) → PartsStand stands (Whole (ListedAfter item next s))
-listed_after_stand stands item next h s xs payload (head, body, parts, count, items) =
-    chain_stands stands item next h payload s (0 + length head) xs body items (behind_stands payload payload head body 0 parts (all_stands payload))
+pub listed_after_stand : {S X : Type 0} (stands : List ℕ → X → Type 0) (turns : Turns S X) → ((s : S) → HasParts stands (turns.item s)) → (s : S) → PartsStand stands (Whole (ListedAfter turns s))
+listed_after_stand stands turns h s xs payload (head, body, parts, count, items) =
+    chain_stands stands turns h payload s (0 + length head) xs body items (behind_stands payload payload head body 0 parts (all_stands payload))
 
 pub listed_stand : {X : Type 0} (stands : List ℕ → X → Type 0) (item : ℕ → X → List ℕ → Type 0) → HasParts stands item → PartsStand stands (Whole (Listed item))
-listed_stand stands item h xs payload (head, body, parts, count, items) = listed_after_stand stands (λ _. item) (λ u _. u) (λ _. h) tt xs payload (head, body, parts, count, as_chain item (0 + length head) xs body items)
+listed_stand stands item h xs payload (head, body, parts, count, items) = listed_after_stand stands (kept item) (λ _. h) tt xs payload (head, body, parts, count, as_chain item (0 + length head) xs body items)
 
 -- what f sees of each item has its parts there, if the item has
 all_seen : {X Y : Type 0} (f : X → Y) (stands : X → Type 0) (seen : Y → Type 0) → ((x : X) → stands x → seen (f x)) → (xs : List X) → AllByRecursion stands xs → AllByRecursion seen (map f xs)
@@ -87,9 +87,9 @@ name_stands bytes place name text (head, parts, count, utf8) there =
     (place + length head, behind_stands bytes text head name place parts there, omega (arith, ap length parts, length-append head name))
 
 import_stands : HasParts PlacedImportStands IsImport
-import_stands = seen_parts PlacedImportStands (Then IsName (λ _. Then IsPlacedName (λ _. Then IsKind IsEntity))) import_from by_parts
+import_stands = seen_parts PlacedImportStands (Then IsName (λ _. Then IsPlacedName (λ _. Then IsExternalKind IsEntity))) import_from by_parts
   where
-    by_parts : (bytes : List ℕ) (place : ℕ) (p : List ℕ × ((List ℕ × ℕ) × (ExternalKind × ImportEntity))) (text : List ℕ) → Then IsName (λ _. Then IsPlacedName (λ _. Then IsKind IsEntity)) place p text → StandsAt bytes text place → PlacedImportStands bytes (import_from p)
+    by_parts : (bytes : List ℕ) (place : ℕ) (p : List ℕ × ((List ℕ × ℕ) × (ExternalKind × ImportEntity))) (text : List ℕ) → Then IsName (λ _. Then IsPlacedName (λ _. Then IsExternalKind IsEntity)) place p text → StandsAt bytes text place → PlacedImportStands bytes (import_from p)
     by_parts bytes place p text (first, behind, parts, origin, (second, others, parts', (name, ends), more)) there =
         let o = name_stands bytes place p.0 first origin (before_stands bytes text first behind place parts there) in
         let n = name_stands bytes (place + length first) p.1.0.0 second name (before_stands bytes behind second others (place + length first) parts' (behind_stands bytes text first behind place parts there)) in
@@ -97,7 +97,7 @@ import_stands = seen_parts PlacedImportStands (Then IsName (λ _. Then IsPlacedN
         record { origin = (o.0, o.1); name = subst (λ (k : ℕ). StandsAt bytes p.1.0.0 k) at n.1 }
 
 export_stands : HasParts ExportStands IsExport
-export_stands = seen_parts ExportStands (Then IsName (λ _. Then IsKind (λ _. IsU32))) export_from
+export_stands = seen_parts ExportStands (Then IsName (λ _. Then IsExternalKind (λ _. IsU32))) export_from
     (λ bytes place p text s there. let n = name_stands bytes place p.0 s.0 s.3 (before_stands bytes text s.0 s.1 place s.2 there) in (n.0, n.1))
 
 global_stands : HasParts GlobalStands IsGlobal
@@ -122,7 +122,7 @@ segment_stands bytes place t text (flag, (first, behind, parts, code, (target, c
 -- ---- the sections
 
 pub placed_imports_stand : PartsStand PlacedImportStands ArePlacedImports
-placed_imports_stand = listed_after_stand PlacedImportStands (λ seen. Where IsImport (may_come imports_memory seen)) (seen_then imports_memory) (λ seen bytes place i text s there. import_stands bytes place i text s.0 there) false
+placed_imports_stand = listed_after_stand PlacedImportStands (once_in_turn IsImport memory_import_once) (λ seen bytes place i text s there. import_stands bytes place i text s.0 there) false
 
 pub imports_stand : PartsStand ImportStands AreImports
 imports_stand = seen_stand (λ i. i.import) PlacedImportStands ImportStands ArePlacedImports (λ bytes i h. record { origin = h.origin; name = (i.name_offset, h.name) }) placed_imports_stand

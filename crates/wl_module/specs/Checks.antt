@@ -10,10 +10,19 @@ use Rattle.wl_bytes.specs.Grammar.{map_at}
 abbrev pub Where : {X : Type 0} → (ℕ → X → List ℕ → Type 0) → (X → Bool) → ℕ → X → List ℕ → Type 0
 Where spells test place x text = spells place x text × (test x ≡ true)
 
+-- a test of what was read: what passes, and what is told of the rest
+pub record Test (X E : Type 0) : Type 0 where
+  pub passes : X → Bool
+  pub failed : E
+
+-- what passes, and the error that is told unless it does
+abbrev pub unless : {X E : Type 0} → (X → Bool) → E → Test X E
+unless passes failed = record { passes = passes; failed = failed }
+
 -- the item is at fault, or it stands there and fails the test
-abbrev pub WhereFault : {X E : Type 0} → (ℕ → X → List ℕ → Type 0) → (E → Cursor → Type 0) → (X → Bool) → E → E → Cursor → Type 0
-WhereFault {X} spells wrong test failed e from =
-    wrong e from ⊎ ((x : X) × (mid : Cursor) × Takes spells x from mid × (test x ≡ false) × (e ≡ failed))
+abbrev pub WhereFault : {X E : Type 0} → (ℕ → X → List ℕ → Type 0) → (E → Cursor → Type 0) → Test X E → E → Cursor → Type 0
+WhereFault {X} spells wrong test e from =
+    wrong e from ⊎ ((x : X) × (mid : Cursor) × Takes spells x from mid × (test.passes x ≡ false) × (e ≡ test.failed))
 
 -- the item in front, if it passes
 abbrev pub where_at : {X E : Type 0} → (Cursor → Result (X × Cursor) E) → (X → Bool) → E → Cursor → Result (X × Cursor) E

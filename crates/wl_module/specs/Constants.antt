@@ -2,7 +2,7 @@
 use Rattle.std.specs.Prelude.{◌≡◌, ℕ, ℤ, ◌-◌, ◌==◌, Bool, List, [], ◌∷◌, ◌++◌, Option, Some, None, Result, Ok, take}
 use Rattle.wl_bytes.specs.Cursor.{Cursor}
 use Rattle.wl_bytes.specs.Parse.{Takes, ◌>>=◌}
-use Rattle.wl_bytes.specs.Leb.{Form, s32_form, s64_form, IsU32, IsSigned, SignedFault}
+use Rattle.wl_bytes.specs.Leb.{NumberForm, s32_form, s64_form, IsU32, IsSigned, SignedFault}
 use Rattle.wl_bytes.specs.Items.{IsStretch}
 use Rattle.wl_bytes.specs.Reading as bytes
 use Rattle.wl_bytes.specs.Grammar.{Then, ThenFault, then_at, Items, map_at, error_of, FaultOf}
@@ -17,7 +17,7 @@ use Rattle.wl_module.specs.Error.{read_error}
 use Rattle.wl_module.specs.Lists.{NumberFault, number_at, IsCoded, CodedFault, coded_at}
 use Rattle.wl_module.specs.Types.{value_type_code, value_types, is_reference}
 use Rattle.wl_module.specs.Bodies.{StretchFault, stretch_at}
-use Rattle.wl_module.specs.Checks.{Where, WhereFault, where_at, Any, any_at, IsNothing, NoFault, nothing_at}
+use Rattle.wl_module.specs.Checks.{Where, WhereFault, unless, where_at, Any, any_at, IsNothing, NoFault, nothing_at}
 use Rattle.wl_module.specs.Ends.{ended_at}
 
 -- ---- the first bytes
@@ -56,11 +56,11 @@ first_at c = coded_at step_code all_steps (λ _. Unsupported OtherOperator) c
 -- ---- what stands behind them
 
 -- what is wrong where no signed number stands
-abbrev pub SignedNumberFault : Form → ReadError → Cursor → Type 0
+abbrev pub SignedNumberFault : NumberForm → ReadError → Cursor → Type 0
 SignedNumberFault form = FaultOf read_error (SignedFault form)
 
 -- the signed number in front
-abbrev pub signed_number_at : Form → Cursor → Result (ℤ × Cursor) ReadError
+abbrev pub signed_number_at : NumberForm → Cursor → Result (ℤ × Cursor) ReadError
 signed_number_at form c = error_of read_error (bytes.signed_at form c)
 
 -- the byte of a type of references
@@ -69,7 +69,7 @@ IsReference = Where (IsCoded value_type_code) is_reference
 
 -- there is no byte, or another one
 abbrev pub ReferenceFault : ReadError → Cursor → Type 0
-ReferenceFault = WhereFault (IsCoded value_type_code) (CodedFault value_type_code (λ _. Unsupported Operator)) is_reference (Unsupported Operator)
+ReferenceFault = WhereFault (IsCoded value_type_code) (CodedFault value_type_code (λ _. Unsupported Operator)) (unless is_reference (Unsupported Operator))
 
 -- such a type in front
 unfoldable pub reference_at : Cursor → Result (Unit {0} × Cursor) ReadError
@@ -85,58 +85,58 @@ IsVector = Then (Where IsU32 is_vector_const) (λ _. IsStretch 16)
 
 -- the number is at fault, or another one, or the bytes end
 abbrev pub VectorFault : ReadError → Cursor → Type 0
-VectorFault = ThenFault (Where IsU32 is_vector_const) (WhereFault IsU32 NumberFault is_vector_const (Unsupported OtherOperator)) (λ _. StretchFault 16)
+VectorFault = ThenFault (Where IsU32 is_vector_const) (WhereFault IsU32 NumberFault (unless is_vector_const (Unsupported OtherOperator))) (λ _. StretchFault 16)
 
 -- both in front
 unfoldable pub vector_at : Cursor → Result (Unit {0} × Cursor) ReadError
 vector_at c = any_at (then_at (where_at number_at is_vector_const (Unsupported OtherOperator)) (λ _. stretch_at 16)) c
 
 -- what stands behind the first byte of each operator: a number, so many bytes, a type, or nothing
-abbrev pub IsImmediate : ConstOperator → ℕ → Unit {0} → List ℕ → Type 0
-IsImmediate I32Const = Any (IsSigned s32_form)
-IsImmediate I64Const = Any (IsSigned s64_form)
-IsImmediate F32Const = Any (IsStretch 4)
-IsImmediate F64Const = Any (IsStretch 8)
-IsImmediate GlobalGet = Any IsU32
-IsImmediate RefNull = Any IsReference
-IsImmediate RefFunc = Any IsU32
-IsImmediate Vector = Any IsVector
-IsImmediate _ = IsNothing
+abbrev pub IsConstImmediate : ConstOperator → ℕ → Unit {0} → List ℕ → Type 0
+IsConstImmediate I32Const = Any (IsSigned s32_form)
+IsConstImmediate I64Const = Any (IsSigned s64_form)
+IsConstImmediate F32Const = Any (IsStretch 4)
+IsConstImmediate F64Const = Any (IsStretch 8)
+IsConstImmediate GlobalGet = Any IsU32
+IsConstImmediate RefNull = Any IsReference
+IsConstImmediate RefFunc = Any IsU32
+IsConstImmediate Vector = Any IsVector
+IsConstImmediate _ = IsNothing
 
 -- what is wrong with it
-abbrev pub ImmediateFault : ConstOperator → ReadError → Cursor → Type 0
-ImmediateFault I32Const = SignedNumberFault s32_form
-ImmediateFault I64Const = SignedNumberFault s64_form
-ImmediateFault F32Const = StretchFault 4
-ImmediateFault F64Const = StretchFault 8
-ImmediateFault GlobalGet = NumberFault
-ImmediateFault RefNull = ReferenceFault
-ImmediateFault RefFunc = NumberFault
-ImmediateFault Vector = VectorFault
-ImmediateFault _ = NoFault
+abbrev pub ConstImmediateFault : ConstOperator → ReadError → Cursor → Type 0
+ConstImmediateFault I32Const = SignedNumberFault s32_form
+ConstImmediateFault I64Const = SignedNumberFault s64_form
+ConstImmediateFault F32Const = StretchFault 4
+ConstImmediateFault F64Const = StretchFault 8
+ConstImmediateFault GlobalGet = NumberFault
+ConstImmediateFault RefNull = ReferenceFault
+ConstImmediateFault RefFunc = NumberFault
+ConstImmediateFault Vector = VectorFault
+ConstImmediateFault _ = NoFault
 
 -- what stands in front
-unfoldable pub immediate_at : ConstOperator → Cursor → Result (Unit {0} × Cursor) ReadError
-immediate_at I32Const c = any_at (signed_number_at s32_form) c
-immediate_at I64Const c = any_at (signed_number_at s64_form) c
-immediate_at F32Const c = any_at (stretch_at 4) c
-immediate_at F64Const c = any_at (stretch_at 8) c
-immediate_at GlobalGet c = any_at number_at c
-immediate_at RefNull c = reference_at c
-immediate_at RefFunc c = any_at number_at c
-immediate_at Vector c = vector_at c
-immediate_at _ c = nothing_at c
+unfoldable pub const_immediate_at : ConstOperator → Cursor → Result (Unit {0} × Cursor) ReadError
+const_immediate_at I32Const c = any_at (signed_number_at s32_form) c
+const_immediate_at I64Const c = any_at (signed_number_at s64_form) c
+const_immediate_at F32Const c = any_at (stretch_at 4) c
+const_immediate_at F64Const c = any_at (stretch_at 8) c
+const_immediate_at GlobalGet c = any_at number_at c
+const_immediate_at RefNull c = reference_at c
+const_immediate_at RefFunc c = any_at number_at c
+const_immediate_at Vector c = vector_at c
+const_immediate_at _ c = nothing_at c
 
 -- ---- operators
 
 -- an operator: its first byte, and what stands behind it
 abbrev pub IsOperator : ℕ → ConstOperator → List ℕ → Type 0
-IsOperator place o text = Then (IsCoded operator_code) IsImmediate place (o, tt) text
+IsOperator place o text = Then (IsCoded operator_code) IsConstImmediate place (o, tt) text
 
 -- behind the end nothing more belongs to the expression
 abbrev pub IsStepImmediate : Option ConstOperator → ℕ → Unit {0} → List ℕ → Type 0
 IsStepImmediate None = IsNothing
-IsStepImmediate (Some o) = IsImmediate o
+IsStepImmediate (Some o) = IsConstImmediate o
 
 -- an operator, or the end
 abbrev pub IsStep : ℕ → Option ConstOperator → List ℕ → Type 0
@@ -145,7 +145,7 @@ IsStep place o text = Then (IsCoded step_code) IsStepImmediate place (o, tt) tex
 -- what is wrong behind the first byte
 abbrev pub StepImmediateFault : Option ConstOperator → ReadError → Cursor → Type 0
 StepImmediateFault None = NoFault
-StepImmediateFault (Some o) = ImmediateFault o
+StepImmediateFault (Some o) = ConstImmediateFault o
 
 -- there is no byte, or one that begins no operator and isn't the end; or what stands behind it is at fault
 abbrev pub StepFault : ReadError → Cursor → Type 0
@@ -154,7 +154,7 @@ StepFault = ThenFault (IsCoded step_code) (CodedFault step_code (λ _. Unsupport
 -- what stands behind the first byte in front
 abbrev pub step_immediate_at : Option ConstOperator → Cursor → Result (Unit {0} × Cursor) ReadError
 step_immediate_at None c = nothing_at c
-step_immediate_at (Some o) c = immediate_at o c
+step_immediate_at (Some o) c = const_immediate_at o c
 
 -- the operator or the end in front
 unfoldable pub step_at : Cursor → Result (Option ConstOperator × Cursor) ReadError

@@ -8,7 +8,7 @@ use Rattle.wl_module.specs.declared.imports.ExternalKind.{ExternalKind}
 use Rattle.wl_module.specs.declared.error.ReadError.{ReadError}
 use Rattle.wl_module.specs.Lists.{NumberFault, number_at, WordFault, word_at, Listed, ListedFault, list_at, Whole, WholeFault, whole_of}
 use Rattle.wl_module.specs.Checks.{Seen}
-use Rattle.wl_module.specs.Imports.{IsKind, KindFault, kind_at}
+use Rattle.wl_module.specs.Imports.{IsExternalKind, ExternalKindFault, external_kind_at}
 
 -- an export as clauses see it: its name, and which thing of which kind
 pub record Exported : Type 0 where
@@ -18,7 +18,7 @@ pub record Exported : Type 0 where
 
 -- the first of the three that is at fault
 abbrev pub ExportFault : ReadError → Cursor → Type 0
-ExportFault = ThenFault IsName WordFault (λ _. ThenFault IsKind KindFault (λ _. NumberFault))
+ExportFault = ThenFault IsName WordFault (λ _. ThenFault IsExternalKind ExternalKindFault (λ _. NumberFault))
 
 -- what was read as an export
 abbrev pub export_from : List ℕ × (ExternalKind × ℕ) → Exported
@@ -26,11 +26,11 @@ export_from p = record { name = p.0; kind = p.1.0; index = p.1.1 }
 
 -- a name, a kind, and an index
 abbrev pub IsExport : ℕ → Exported → List ℕ → Type 0
-IsExport = Seen (Then IsName (λ _. Then IsKind (λ _. IsU32))) export_from
+IsExport = Seen (Then IsName (λ _. Then IsExternalKind (λ _. IsU32))) export_from
 
 -- the export in front
 unfoldable pub export_at : Cursor → Result (Exported × Cursor) ReadError
-export_at c = map_at export_from (then_at word_at (λ _. then_at kind_at (λ _. number_at))) c
+export_at c = map_at export_from (then_at word_at (λ _. then_at external_kind_at (λ _. number_at))) c
 
 -- the payload is a list of these exports
 abbrev pub AreExports : List Exported → List ℕ → Type 0

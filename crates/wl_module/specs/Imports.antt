@@ -15,7 +15,7 @@ use Rattle.wl_module.specs.declared.error.ReadError.{ReadError}
 use Rattle.wl_module.specs.declared.error.ReadError.TheVariants.{Malformed, Unsupported}
 use Rattle.wl_module.specs.Lists.{NumberFault, number_at, WordFault, word_at, IsCoded, CodedFault, coded_at, Whole, WholeFault, whole_of, SeenAs, seen_of}
 use Rattle.wl_module.specs.Words.{IsPlacedName, placed_name_at}
-use Rattle.wl_module.specs.Chains.{ListedOnce, ListedOnceFault, list_once_at}
+use Rattle.wl_module.specs.Chains.{Once, ListedOnce, ListedOnceFault, list_once_at}
 use Rattle.wl_module.specs.Checks.{Seen}
 use Rattle.wl_module.specs.Limits.{IsTableType, TableTypeFault, table_type_at, IsMemoryType, MemoryTypeFault, memory_type_at}
 use Rattle.wl_module.specs.Globals.{IsGlobalType, GlobalTypeFault, global_type_at}
@@ -34,16 +34,16 @@ abbrev pub kind_error : ℕ → ReadError
 kind_error b = if b == 4 then Unsupported Tag else Malformed BadByte
 
 -- the byte of that kind
-abbrev pub IsKind : ℕ → ExternalKind → List ℕ → Type 0
-IsKind = IsCoded kind_code
+abbrev pub IsExternalKind : ℕ → ExternalKind → List ℕ → Type 0
+IsExternalKind = IsCoded kind_code
 
 -- there is no byte, or another one
-abbrev pub KindFault : ReadError → Cursor → Type 0
-KindFault = CodedFault kind_code kind_error
+abbrev pub ExternalKindFault : ReadError → Cursor → Type 0
+ExternalKindFault = CodedFault kind_code kind_error
 
 -- the kind in front
-unfoldable pub kind_at : Cursor → Result (ExternalKind × Cursor) ReadError
-kind_at c = coded_at kind_code (Func ∷ Table ∷ Memory ∷ Global ∷ []) kind_error c
+unfoldable pub external_kind_at : Cursor → Result (ExternalKind × Cursor) ReadError
+external_kind_at c = coded_at kind_code (Func ∷ Table ∷ Memory ∷ Global ∷ []) kind_error c
 
 -- ---- what is imported
 
@@ -90,15 +90,15 @@ import_from p = record {
 
 -- two names, the kind, and the type
 abbrev pub IsImport : ℕ → PlacedImported → List ℕ → Type 0
-IsImport = Seen (Then IsName (λ _. Then IsPlacedName (λ _. Then IsKind IsEntity))) import_from
+IsImport = Seen (Then IsName (λ _. Then IsPlacedName (λ _. Then IsExternalKind IsEntity))) import_from
 
 -- the first of the four that is at fault
 abbrev pub ImportFault : ReadError → Cursor → Type 0
-ImportFault = ThenFault IsName WordFault (λ _. ThenFault IsPlacedName WordFault (λ _. ThenFault IsKind KindFault EntityFault))
+ImportFault = ThenFault IsName WordFault (λ _. ThenFault IsPlacedName WordFault (λ _. ThenFault IsExternalKind ExternalKindFault EntityFault))
 
 -- the import in front
 unfoldable pub import_at : Cursor → Result (PlacedImported × Cursor) ReadError
-import_at c = map_at import_from (then_at word_at (λ _. then_at placed_name_at (λ _. then_at kind_at entity_at))) c
+import_at c = map_at import_from (then_at word_at (λ _. then_at placed_name_at (λ _. then_at external_kind_at entity_at))) c
 
 -- a memory
 abbrev pub is_memory : ImportEntity → Bool
@@ -109,9 +109,13 @@ is_memory _ = false
 abbrev pub imports_memory : PlacedImported → Bool
 imports_memory i = is_memory i.import.entity
 
+-- one memory at most is imported
+abbrev pub memory_import_once : Once PlacedImported
+memory_import_once = record { sort = imports_memory; seen = false; many = Unsupported ManyMemories }
+
 -- the payload is a list of these imports, at most one of them a memory
 abbrev pub ArePlacedImports : List PlacedImported → List ℕ → Type 0
-ArePlacedImports = Whole (ListedOnce IsImport imports_memory false)
+ArePlacedImports = Whole (ListedOnce IsImport memory_import_once)
 
 -- the same without the places of the names
 abbrev pub plain_imports : List PlacedImported → List Imported
@@ -123,11 +127,11 @@ AreImports = SeenAs plain_imports ArePlacedImports
 
 -- what is wrong with a payload that is no such list
 abbrev pub ImportsFault : ReadError → List ℕ → Type 0
-ImportsFault = WholeFault (ListedOnce IsImport imports_memory false) (ListedOnceFault IsImport ImportFault imports_memory (Unsupported ManyMemories) false)
+ImportsFault = WholeFault (ListedOnce IsImport memory_import_once) (ListedOnceFault IsImport ImportFault memory_import_once)
 
 -- the imports of a whole payload, with the places of their names
 abbrev pub placed_imports_of : List ℕ → Result (List PlacedImported) ReadError
-placed_imports_of payload = whole_of (list_once_at import_at imports_memory (Unsupported ManyMemories) false) payload
+placed_imports_of payload = whole_of (list_once_at import_at memory_import_once) payload
 
 -- the imports of a whole payload
 abbrev pub imports_of : List ℕ → Result (List Imported) ReadError

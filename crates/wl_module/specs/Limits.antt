@@ -12,7 +12,7 @@ use Rattle.wl_module.specs.declared.error.Form.TheVariants.{Memory64, PageSize, 
 use Rattle.wl_module.specs.declared.error.ReadError.{ReadError}
 use Rattle.wl_module.specs.declared.error.ReadError.TheVariants.{Malformed, Unsupported}
 use Rattle.wl_module.specs.Lists.{NumberFault, number_at, IsCoded, CodedFault, coded_at}
-use Rattle.wl_module.specs.Checks.{Where, WhereFault, where_at, When, WhenFault, when_at, Seen}
+use Rattle.wl_module.specs.Checks.{Where, WhereFault, unless, where_at, When, WhenFault, when_at, Seen}
 
 -- ---- the flags
 
@@ -55,7 +55,7 @@ IsTableFlags = Where (IsCoded flags_code) is_own
 
 -- there is no byte, or another one
 abbrev pub TableFlagsFault : ReadError → Cursor → Type 0
-TableFlagsFault = WhereFault (IsCoded flags_code) (CodedFault flags_code table_flags_error) is_own (Unsupported TableForm)
+TableFlagsFault = WhereFault (IsCoded flags_code) (CodedFault flags_code table_flags_error) (unless is_own (Unsupported TableForm))
 
 -- the flags in front
 unfoldable pub table_flags_at : Cursor → Result (LimitsFlags × Cursor) ReadError
@@ -89,9 +89,9 @@ is_ordered minimum None = true
 is_ordered minimum (Some maximum) = nat_le minimum maximum
 
 -- no size is above n
-abbrev pub is_within : ℕ → ℕ → Option ℕ → Bool
-is_within n minimum None = nat_le minimum n
-is_within n minimum (Some maximum) = nat_le minimum n && nat_le maximum n
+abbrev pub are_within : ℕ → ℕ → Option ℕ → Bool
+are_within n minimum None = nat_le minimum n
+are_within n minimum (Some maximum) = nat_le minimum n && nat_le maximum n
 
 -- limits that can be
 abbrev pub limits_fit : Limits → Bool
@@ -99,7 +99,7 @@ limits_fit l = is_ordered l.minimum l.maximum
 
 -- a memory's limits that can be: at most 65536 pages, and with a maximum where it is shared
 abbrev pub memory_limits_fit : Limits → Bool
-memory_limits_fit l = limits_fit l && (is_within 65536 l.minimum l.maximum && (not l.shared || is_some l.maximum))
+memory_limits_fit l = limits_fit l && (are_within 65536 l.minimum l.maximum && (not l.shared || is_some l.maximum))
 
 -- ---- memories
 
@@ -113,7 +113,7 @@ IsMemoryType = Seen (Where (IsLimits IsMemoryFlags) memory_limits_fit) memory_of
 
 -- the limits are at fault, or they stand there and can't be
 abbrev pub MemoryTypeFault : ReadError → Cursor → Type 0
-MemoryTypeFault = WhereFault (IsLimits IsMemoryFlags) (LimitsFault IsMemoryFlags MemoryFlagsFault) memory_limits_fit (Malformed BadLimits)
+MemoryTypeFault = WhereFault (IsLimits IsMemoryFlags) (LimitsFault IsMemoryFlags MemoryFlagsFault) (unless memory_limits_fit (Malformed BadLimits))
 
 -- the memory in front
 unfoldable pub memory_type_at : Cursor → Result (MemoryType × Cursor) ReadError
@@ -136,7 +136,7 @@ IsTableType = Seen (Then (IsCoded elements_code) (λ _. Where (IsLimits IsTableF
 -- the elements are at fault, or the limits are, or they can't be
 abbrev pub TableTypeFault : ReadError → Cursor → Type 0
 TableTypeFault = ThenFault (IsCoded elements_code) (CodedFault elements_code (λ _. Unsupported OtherElements))
-    (λ _. WhereFault (IsLimits IsTableFlags) (LimitsFault IsTableFlags TableFlagsFault) limits_fit (Malformed BadLimits))
+    (λ _. WhereFault (IsLimits IsTableFlags) (LimitsFault IsTableFlags TableFlagsFault) (unless limits_fit (Malformed BadLimits)))
 
 -- the type of the elements in front
 unfoldable pub elements_at : Cursor → Result (Unit {0} × Cursor) ReadError

@@ -6,22 +6,27 @@ use Rattle.wl_module.specs.declared.error.Form.TheVariants.{ManyMemories}
 use Rattle.wl_module.specs.declared.error.ReadError.{ReadError}
 use Rattle.wl_module.specs.declared.error.ReadError.TheVariants.{Unsupported}
 use Rattle.wl_module.specs.Lists.{NumberFault, number_at, Whole, WholeFault, whole_of}
-use Rattle.wl_module.specs.Chains.{ListedOnce, ListedOnceFault, list_once_at}
+use Rattle.wl_module.specs.Chains.{Once, ListedOnce, ListedOnceFault, list_once_at}
 use Rattle.wl_module.specs.Limits.{IsMemoryType, MemoryTypeFault, memory_type_at}
 
 -- ---- memories
 
+-- one memory at most, and none where one is imported
+abbrev pub memory_once : Bool → Once MemoryType
+memory_once imported = record { sort = λ _. true; seen = imported; many = Unsupported ManyMemories }
+
 -- the payload is a list of these memories, one at most, and none where the flag says that one is imported
 abbrev pub AreMemories : Bool → List MemoryType → List ℕ → Type 0
-AreMemories imported = Whole (ListedOnce IsMemoryType (λ _. true) imported)
+AreMemories imported = Whole (ListedOnce IsMemoryType (memory_once imported))
 
 -- what is wrong with a payload that is no such list
 abbrev pub MemoriesFault : Bool → ReadError → List ℕ → Type 0
-MemoriesFault imported = WholeFault (ListedOnce IsMemoryType (λ _. true) imported) (ListedOnceFault IsMemoryType MemoryTypeFault (λ _. true) (Unsupported ManyMemories) imported)
+MemoriesFault imported = WholeFault (ListedOnce IsMemoryType (memory_once imported))
+    (ListedOnceFault IsMemoryType MemoryTypeFault (memory_once imported))
 
 -- the memories of a whole payload
 abbrev pub memories_of : Bool → List ℕ → Result (List MemoryType) ReadError
-memories_of imported payload = whole_of (list_once_at memory_type_at (λ _. true) (Unsupported ManyMemories) imported) payload
+memories_of imported payload = whole_of (list_once_at memory_type_at (memory_once imported)) payload
 
 -- ---- the data count
 

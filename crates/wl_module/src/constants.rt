@@ -1,6 +1,6 @@
 //! Constant expressions: what a global starts with, and where a segment is put.
 
-ghost use Rattle.wl_module.specs.Constants.{first_at, reference_at, vector_at, immediate_at, step_at, expression_at};
+ghost use Rattle.wl_module.specs.Constants.{first_at, reference_at, vector_at, const_immediate_at, step_at, expression_at};
 ghost use Rattle.wl_module.specs.Outcome.{Yields};
 
 use crate::error::{Form, ReadError};
@@ -81,9 +81,9 @@ fn skip_vector(reader: &mut Reader<'_>) -> Result<(), ReadError>
 }
 
 /// What stands behind an operator's first byte.
-#[tactic(auto, unfolding(crate::specs::Constants::immediate_at))]
+#[tactic(auto, unfolding(crate::specs::Constants::const_immediate_at))]
 fn skip_immediate(operator: ConstOperator, reader: &mut Reader<'_>) -> Result<(), ReadError>
-    ensures { Yields (λ u. u) result reader.new (immediate_at operator reader.old) }
+    ensures { Yields (λ u. u) result reader.new (const_immediate_at operator reader.old) }
 {
     match operator {
         ConstOperator::I32Const => {

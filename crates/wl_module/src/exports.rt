@@ -6,7 +6,7 @@ ghost use Rattle.wl_module.specs.Exports.{AreExports, ExportsFault};
 ghost use Rattle.wl_module.specs.Outcome.{ReadsWhole, AreAlternatives};
 
 use crate::error::ReadError;
-use crate::imports::{ExternalKind, read_kind};
+use crate::imports::{ExternalKind, read_external_kind};
 use crate::items::{Item, read_payload};
 use std::alloc::Global;
 use std::marker::Model;
@@ -42,7 +42,7 @@ impl<'a> Item<'a> for OutputExport<'a> {
     #[tactic(auto, unfolding(crate::specs::Exports::export_at))]
     fn read(_alloc: Global, _under: &mut (), reader: &mut Reader<'a>) -> Result<Self, ReadError> {
         let name = reader.read_name()?;
-        let kind = read_kind(reader)?;
+        let kind = read_external_kind(reader)?;
         let index = reader.read_u32()?;
         Ok(OutputExport { name, kind, index })
     }

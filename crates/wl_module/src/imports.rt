@@ -2,7 +2,7 @@
 
 ghost use Rattle.std.specs.Prelude.{◌≡◌, IfOk, ◌≤◌, length};
 ghost use Rattle.wl_bytes.specs.declared.reader.TheConstants.{MAX_LEN};
-ghost use Rattle.wl_module.specs.Imports.{kind_at, entity_at, import_at, is_memory, plain_imports, ArePlacedImports, AreImports, ImportsFault, function_import, global_import};
+ghost use Rattle.wl_module.specs.Imports.{external_kind_at, entity_at, import_at, is_memory, plain_imports, ArePlacedImports, AreImports, ImportsFault, function_import, global_import};
 ghost use Rattle.wl_module.specs.Outcome.{Yields, ReadsWhole, AreAlternatives};
 
 use crate::error::{Form, ReadError, Why};
@@ -160,9 +160,9 @@ impl<'a> Import<'a> {
 }
 
 /// The byte that tells the kind of what is imported or exported.
-#[tactic(auto, unfolding(crate::specs::Imports::kind_at))]
-pub(crate) fn read_kind(reader: &mut Reader<'_>) -> Result<ExternalKind, ReadError>
-    ensures { Yields (λ k. k) result reader.new (kind_at reader.old) }
+#[tactic(auto, unfolding(crate::specs::Imports::external_kind_at))]
+pub(crate) fn read_external_kind(reader: &mut Reader<'_>) -> Result<ExternalKind, ReadError>
+    ensures { Yields (λ k. k) result reader.new (external_kind_at reader.old) }
 {
     match reader.read_u8()? {
         0 => Ok(ExternalKind::Func),
@@ -194,7 +194,7 @@ fn read_import<'a>(reader: &mut Reader<'a>) -> Result<PlacedImport<'a>, ReadErro
 {
     let module = reader.read_name()?;
     let (name, name_offset) = read_placed_name(reader)?;
-    let kind = read_kind(reader)?;
+    let kind = read_external_kind(reader)?;
     let entity = read_entity(kind, reader)?;
     let import = Import {
         module,

@@ -2,7 +2,7 @@
 use Rattle.std.proofs.Common.{ℕ, ℤ, ◌+◌, ◌≤◌, List, [], ◌∷◌, length, Option, Some, None, ap, arith, length-append}
 use Rattle.std.specs.List.{flat_map}
 use Rattle.std.proofs.lemmas.List.Sums.{sum_by-cons}
-use Rattle.wl_bytes.specs.Leb.{Form, s32_form, s33_form, s64_form, IsSigned}
+use Rattle.wl_bytes.specs.Leb.{NumberForm, s32_form, s33_form, s64_form, IsSigned}
 use Rattle.wl_bytes.specs.Grammar.{Items}
 use Rattle.wl_module.proofs.CountLaws.{HasBytes, number_bytes, items_few as each_has_bytes}
 use Rattle.wl_ops.specs.declared.table.Single.{Single}
@@ -16,7 +16,7 @@ use Rattle.wl_ops.specs.Immediates.{IsSingle, IsCatch, IsImmediate, AreImmediate
 use Rattle.wl_ops.specs.Operators.{IsBehind, IsOp}
 use Rattle.wl_ops.specs.Decoding.{AreTaken, list_items}
 
-signed_bytes : (f : Form) → HasBytes (IsSigned f)
+signed_bytes : (f : NumberForm) → HasBytes (IsSigned f)
 signed_bytes f place z text s = omega (arith, ap length s.leb.parts, length-append s.leb.front (s.leb.end ∷ []))
 
 single_bytes : (k : Single) → HasBytes (IsSingle k)

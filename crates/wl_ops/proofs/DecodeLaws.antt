@@ -17,7 +17,7 @@ use Rattle.wl_module.specs.declared.error.ReadError.{ReadError}
 use Rattle.wl_module.specs.declared.error.ReadError.TheVariants.{OutOfMemory, Malformed, Unsupported}
 use Rattle.wl_module.specs.Outcome.{Fails, Gives}
 use Rattle.wl_module.specs.Lists.{NumberFault, number_at, ByteFault, one_byte_at, list_at, start}
-use Rattle.wl_module.specs.Checks.{Where, WhereFault, where_at, Any, any_at}
+use Rattle.wl_module.specs.Checks.{Where, WhereFault, unless, where_at, Any, any_at}
 use Rattle.wl_module.proofs.ListLaws.{number_reading, one_byte_reading, list_reading, IsWholeReading}
 use Rattle.wl_module.proofs.CheckLaws.{where_reading, any_reading}
 use Rattle.wl_ops.specs.declared.op.Op.{Op}
@@ -31,7 +31,7 @@ use Rattle.wl_ops.proofs.RestLaws.{AreItems, taken_whole, rest_found, rest_again
 
 local_reading : IsReading IsLocal LocalFault local_at
 unfolding local_at
-local_reading = then_reading IsU32 (λ _. Where IsByte is_value_type) NumberFault (λ _. WhereFault IsByte ByteFault is_value_type (Malformed BadByte)) number_at (λ _. where_at one_byte_at is_value_type (Malformed BadByte))
+local_reading = then_reading IsU32 (λ _. Where IsByte is_value_type) NumberFault (λ _. WhereFault IsByte ByteFault (unless is_value_type (Malformed BadByte))) number_at (λ _. where_at one_byte_at is_value_type (Malformed BadByte))
     number_reading (λ _. where_reading IsByte ByteFault one_byte_at is_value_type (Malformed BadByte) one_byte_reading)
 
 pub locals_reading : IsReading (Any AreLocals) LocalsFault (any_at (list_at local_at))

@@ -9,7 +9,7 @@ use Rattle.wl_bytes.proofs.ShortestLaws.{shortest_is_one}
 use Rattle.wl_ops.specs.declared.op.DataIndexImm.{DataIndexImm}
 use Rattle.wl_ops.specs.Numbers.{HasNumbers}
 use Rattle.wl_ops.specs.Rewriting.{IsShort, Rewrites, before, old_bytes, NewBytes, Moves, LieWithin}
-use Rattle.wl_ops.specs.Standing.{OverlapsNone, stretch}
+use Rattle.wl_ops.specs.Standing.{OverlapsNone, window}
 use Rattle.wl_ops.proofs.LieLaws.{none_before, numbers_lie}
 
 -- ---- how many bytes
@@ -43,21 +43,21 @@ drop_within [] ys (suc a) le = absurd (omega (arith, le))
 drop_within (x ∷ xs) ys (suc a) le = drop_within xs ys a (omega (arith, le))
 
 -- a stretch within the front
-front_stretch : (a w : ℕ) (xs ys : List ℕ) → a + w ≤ length xs → stretch a w (xs ++ ys) ≡ stretch a w xs
+front_stretch : (a w : ℕ) (xs ys : List ℕ) → a + w ≤ length xs → window a w (xs ++ ys) ≡ window a w xs
 front_stretch a w xs ys le =
     ap (take w) (drop_within xs ys a (omega (arith, le))) ∙ take-append-le w (drop a xs) ys (omega (arith, le, length-drop a xs))
 
 -- a stretch behind two parts
-back_stretch : (a w : ℕ) (xs ys zs : List ℕ) → stretch (length xs + (length ys + a)) w (xs ++ (ys ++ zs)) ≡ stretch a w zs
+back_stretch : (a w : ℕ) (xs ys zs : List ℕ) → window (length xs + (length ys + a)) w (xs ++ (ys ++ zs)) ≡ window a w zs
 back_stretch a w xs ys zs = ap (take w) (drop-append-add xs (ys ++ zs) (length ys + a) ∙ drop-append-add ys zs a)
 
 -- ---- where the bytes of a field stand
 
 abbrev Found : (ℕ → Option ℕ) → List DataIndexImm → ℕ → ℕ → ℕ → List ℕ → List ℕ → Type 0
-Found new ns from a w x y = (b : ℕ) × (stretch b w y ≡ stretch a w x) × ((bytes : ℕ) → NewBytes new (before (from + a) ns) bytes → b + old_bytes (before (from + a) ns) ≡ a + bytes)
+Found new ns from a w x y = (b : ℕ) × (window b w y ≡ window a w x) × ((bytes : ℕ) → NewBytes new (before (from + a) ns) bytes → b + old_bytes (before (from + a) ns) ≡ a + bytes)
 
 field_found : (new : ℕ → Option ℕ) (ns : List DataIndexImm) (from to a w : ℕ) (x y : List ℕ) → Rewrites new from ns x y → LieWithin from ns to → OverlapsNone ns (from + a) w → a + w ≤ length x → Found new ns from a w x y
-field_found new [] from to a w x y r l o le = (a, ap (stretch a w) r, λ bytes g. omega (arith, g))
+field_found new [] from to a w x y r l o le = (a, ap (window a w) r, λ bytes g. omega (arith, g))
 field_found new (n ∷ ns) from to a w x y r l o le =
     elim (leb_tells (n.offset + n.len) (from + a)) [
       | inl t ↦ behind (λ from a x y r l o le. field_found new ns from to a w x y r l o le) t.0 t.1
@@ -67,7 +67,7 @@ field_found new (n ∷ ns) from to a w x y r l o le =
             let within : a + w ≤ length r.0 = omega (arith, h, r.7) in
             let later : before (from + a) (n ∷ ns) ≡ [] = rw f.0 (none_before (n.offset + n.len) ns to (from + a) l.2 f.1) in (
               a,
-              ap (stretch a w) r.11 ∙ front_stretch a w r.0 (r.4 ++ r.5) within ∙ sym (ap (stretch a w) r.6 ∙ front_stretch a w r.0 (r.1 ++ r.2) within),
+              ap (window a w) r.11 ∙ front_stretch a w r.0 (r.4 ++ r.5) within ∙ sym (ap (window a w) r.6 ∙ front_stretch a w r.0 (r.1 ++ r.2) within),
               λ bytes g. nothing bytes later g,
             )
       ]
@@ -88,8 +88,8 @@ field_found new (n ∷ ns) from to a w x y r l o le =
         let f = further (n.offset + n.len) rest r.2 r.5 r.12 l.2 (subst (λ (p : ℕ). OverlapsNone ns p w) place o.1) bound in
         let theirs : before (from + a) (n ∷ ns) ≡ n ∷ before (from + a) ns = rw is refl in (
           length r.0 + (length r.4 + f.0),
-          ap (stretch (length r.0 + (length r.4 + f.0)) w) r.11 ∙ back_stretch f.0 w r.0 r.4 r.5 ∙ f.1
-              ∙ sym (ap (λ (p : ℕ). stretch p w x) at ∙ ap (stretch (length r.0 + (length r.1 + rest)) w) r.6 ∙ back_stretch rest w r.0 r.1 r.2),
+          ap (window (length r.0 + (length r.4 + f.0)) w) r.11 ∙ back_stretch f.0 w r.0 r.4 r.5 ∙ f.1
+              ∙ sym (ap (λ (p : ℕ). window p w x) at ∙ ap (window (length r.0 + (length r.1 + rest)) w) r.6 ∙ back_stretch rest w r.0 r.1 r.2),
           λ bytes g.
               let h = subst (λ (ks : List DataIndexImm). NewBytes new ks bytes) theirs g in
               let short = one_short (new n.index) r.3 h.0 r.4 h.1 r.9 r.10 h.3 h.4 in
@@ -102,11 +102,11 @@ field_found new (n ∷ ns) from to a w x y r l o le =
 
 -- the bytes of a field that overlaps no number are the same where it has moved
 pub field_same : (new : ℕ → Option ℕ) (ns : List DataIndexImm) (p q w : ℕ) (x y : List ℕ) → HasNumbers ns x → Rewrites new 0 ns x y → Moves new ns p q → OverlapsNone ns p w → p + w ≤ length x
-    → stretch q w y ≡ stretch p w x
+    → window q w y ≡ window p w x
 field_same new ns p q w x y h r m o le =
     let zero : p ≡ 0 + p = omega arith in
     let f = field_found new ns 0 (length x) p w x y r (numbers_lie ns x h) (subst (λ (k : ℕ). OverlapsNone ns k w) zero o) le in
     let there = f.2 m.0 (subst (λ (k : ℕ). NewBytes new (before k ns) m.0) zero m.1) in
     let there' : f.0 + old_bytes (before p ns) ≡ p + m.0 = subst (λ (k : ℕ). f.0 + old_bytes (before k ns) ≡ p + m.0) (sym zero) there in
     let same : q ≡ f.0 = omega (arith, there', m.2) in
-    ap (λ (k : ℕ). stretch k w y) same ∙ f.1
+    ap (λ (k : ℕ). window k w y) same ∙ f.1

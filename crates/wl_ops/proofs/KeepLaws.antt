@@ -13,7 +13,7 @@ use Rattle.wl_ops.specs.declared.op.DataIndexImm.{DataIndexImm}
 use Rattle.wl_ops.specs.declared.op.Marked.{Marked}
 use Rattle.wl_ops.specs.Operators.{IsTaken}
 use Rattle.wl_ops.specs.Decoding.{AreLocals, is_ended, AreTaken}
-use Rattle.wl_ops.specs.Numbers.{IsMarked, op_in, numbers, AreMarked, HasNumbers}
+use Rattle.wl_ops.specs.Numbers.{IsMarkedOp, op_in, numbers, AreMarked, HasNumbers}
 use Rattle.wl_ops.specs.Rewriting.{Rewrites, is_before, before, old_bytes, NewBytes, Moves, renumbered, LieWithin}
 use Rattle.wl_ops.specs.Standing.{StandsInLocals, StandsIn, OverlapsNone, Keeps}
 use Rattle.wl_ops.proofs.DecodeLaws.{all_taken}
@@ -25,13 +25,13 @@ use Rattle.wl_ops.proofs.FieldLaws.{one_new, new_append, field_same}
 
 -- ---- operators with their numbers
 
-marked_op : (op : Op) (place : ℕ) (text : List ℕ) → IsTaken place op text → (m : Marked) × IsMarked place m text × (m.op ≡ op)
+marked_op : (op : Op) (place : ℕ) (text : List ℕ) → IsTaken place op text → (m : Marked) × IsMarkedOp place m text × (m.op ≡ op)
 marked_op op place text s =
     let w = of_taken op (record { position = place; rest = text }) (record { position = place + length text; rest = [] }) (record { text = text; spelled = s; parts = sym (append-nil text); moved = refl }) in
     let same : text ≡ w.1.text = append_cancel_right text w.1.text [] (append-nil text ∙ w.1.parts) in
-    (w.0, subst (λ (z : List ℕ). IsMarked place w.0 z) (sym same) w.1.spelled, w.2)
+    (w.0, subst (λ (z : List ℕ). IsMarkedOp place w.0 z) (sym same) w.1.spelled, w.2)
 
-marked_items : (ops : List Op) (place : ℕ) (text : List ℕ) → Items IsTaken place ops text → (ms : List Marked) × Items IsMarked place ms text × (map op_in ms ≡ ops)
+marked_items : (ops : List Op) (place : ℕ) (text : List ℕ) → Items IsTaken place ops text → (ms : List Marked) × Items IsMarkedOp place ms text × (map op_in ms ≡ ops)
 marked_items [] place text s = ([], s, refl)
 marked_items (op ∷ ops) place text s =
     let one = marked_op op place s.0 s.3 in
@@ -142,7 +142,7 @@ numbers_split : (es : List Marked) (m : Marked) (ls : List Marked) → numbers (
 numbers_split es m ls = filter_map-append (λ m. m.number) es (m ∷ ls)
 
 stands_marked : (new : ℕ → Option ℕ) → (es : List Marked) (m : Marked) (ls : List Marked) (locals : List (ℕ × ℕ)) (front first text rest y : List ℕ) (p q : ℕ)
-    → AreLocals 0 locals front → Items IsMarked (length front) es first → IsMarked (length front + length first) m text → Items IsMarked (length front + length first + length text) ls rest
+    → AreLocals 0 locals front → Items IsMarkedOp (length front) es first → IsMarkedOp (length front + length first) m text → Items IsMarkedOp (length front + length first + length text) ls rest
     → is_ended (map op_in (es ++ m ∷ ls)) ≡ true
     → Rewrites new 0 (numbers es ++ cons_option m.number (numbers ls)) (front ++ (first ++ (text ++ rest))) y
     → Moves new (numbers es ++ cons_option m.number (numbers ls)) p q → OverlapsNone (numbers es ++ cons_option m.number (numbers ls)) p 1
@@ -204,8 +204,8 @@ stands new ns x y i p q h r moves v s =
     let ops : map op_in all ≡ s.earlier ++ s.op ∷ s.later =
     map-append op_in es.0 (m.0 ∷ ls.0) ∙ ap (λ (os : List Op). os ++ m.0.op ∷ map op_in ls.0) es.2 ∙ ap (λ (o : Op). s.earlier ++ o ∷ map op_in ls.0) m.2 ∙ ap (λ (os : List Op). s.earlier ++ s.op ∷ os) ls.2 in
     let ended : is_ended (map op_in all) ≡ true = ap is_ended ops ∙ s.ended in
-    let back : Items IsMarked (length s.front) all (s.first ++ (s.text ++ s.rest)) =
-    items_join IsMarked es.0 (m.0 ∷ ls.0) (length s.front) s.first (s.text ++ s.rest) es.1 (s.text, s.rest, refl, m.1, ls.1) in
+    let back : Items IsMarkedOp (length s.front) all (s.first ++ (s.text ++ s.rest)) =
+    items_join IsMarkedOp es.0 (m.0 ∷ ls.0) (length s.front) s.first (s.text ++ s.rest) es.1 (s.text, s.rest, refl, m.1, ls.1) in
     let marked : AreMarked all x = (s.locals, s.front, s.first ++ (s.text ++ s.rest), s.parts, s.declared, back, ended) in
     let same : ns ≡ numbers es.0 ++ cons_option m.0.number (numbers ls.0) = one_list x ns (numbers all) h (inl (all, marked, refl)) ∙ numbers_split es.0 m.0 ls.0 in
     let r' = subst (λ (z : List ℕ). Rewrites new 0 (numbers es.0 ++ cons_option m.0.number (numbers ls.0)) z y) s.parts (subst (λ (ks : List DataIndexImm). Rewrites new 0 ks x y) same r) in

@@ -8,7 +8,7 @@ use Rattle.wl_module.specs.Checks.{When}
 use Rattle.wl_ops.specs.declared.op.DataIndexImm.{DataIndexImm}
 use Rattle.wl_ops.specs.declared.op.Marked.{Marked}
 use Rattle.wl_ops.specs.Table.{is_prefix}
-use Rattle.wl_ops.specs.Numbers.{is_segment, IsMarked, numbers, HasNumbers}
+use Rattle.wl_ops.specs.Numbers.{is_segment, IsMarkedOp, numbers, HasNumbers}
 use Rattle.wl_ops.specs.Rewriting.{LieWithin, before}
 use Rattle.wl_ops.proofs.NumberLaws.{segment_is}
 use Rattle.wl_ops.proofs.NumberIn.{HasNumber, some_is}
@@ -74,13 +74,13 @@ lies_so place m text n h =
     some_when place None t s = absurd s
     some_when place (Some n) t s = u32_some place n t s
 
-pub lie_items : (ms : List Marked) (from place : ℕ) (text : List ℕ) → from ≤ place → Items IsMarked place ms text → LieWithin from (numbers ms) (place + length text)
+pub lie_items : (ms : List Marked) (from place : ℕ) (text : List ℕ) → from ≤ place → Items IsMarkedOp place ms text → LieWithin from (numbers ms) (place + length text)
 lie_items [] from place text le s = omega (arith, le)
 lie_items (m ∷ ms) from place text le s =
     let all : place + length s.0 + length s.1 ≡ place + length text = omega (arith, ap length s.2, length-append s.0 s.1) in
     by_number (λ from place text le s. lie_items ms from place text le s) all m.number refl
   where
-    by_number : ((from place : ℕ) (text : List ℕ) → from ≤ place → Items IsMarked place ms text → LieWithin from (numbers ms) (place + length text))
+    by_number : ((from place : ℕ) (text : List ℕ) → from ≤ place → Items IsMarkedOp place ms text → LieWithin from (numbers ms) (place + length text))
         → place + length s.0 + length s.1 ≡ place + length text → (o : Option DataIndexImm) → m.number ≡ o → LieWithin from (cons_option m.number (numbers ms)) (place + length text)
     by_number further all None none =
         rw none (subst (λ (to : ℕ). LieWithin from (numbers ms) to) all (further from (place + length s.0) s.1 (omega (arith, le)) s.4))

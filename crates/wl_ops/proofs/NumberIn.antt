@@ -8,7 +8,7 @@ use Rattle.wl_ops.specs.declared.op.Op.{Op}
 use Rattle.wl_ops.specs.declared.op.DataIndexImm.{DataIndexImm}
 use Rattle.wl_ops.specs.declared.op.Marked.{Marked}
 use Rattle.wl_ops.specs.Operators.{IsHead, IsTaken}
-use Rattle.wl_ops.specs.Numbers.{is_segment, IsPlacedNumber, IsSegment, segment_args, IsMarkedBehind, IsMarked}
+use Rattle.wl_ops.specs.Numbers.{is_segment, IsPlacedNumber, IsSegmentNumber, segment_args, IsMarkedBehind, IsMarkedOp}
 use Rattle.wl_ops.specs.Rewriting.{renumbered}
 use Rattle.wl_ops.proofs.NumberLaws.{to_taken}
 use Rattle.wl_ops.proofs.PlaceLaws.{when_there, head_there}
@@ -23,7 +23,7 @@ written place n text lt s =
     subst (λ (x : List ℕ). IsU32 place n x) (sym same) t.spelled
 
 -- what an operator spells, taken by itself
-pub alone : (m : Marked) (place : ℕ) (text : List ℕ) → IsMarked place m text → IsTaken place m.op text
+pub alone : (m : Marked) (place : ℕ) (text : List ℕ) → IsMarkedOp place m text → IsTaken place m.op text
 alone m place text s =
     let t = to_taken m (record { position = place; rest = text }) (record { position = place + length text; rest = [] }) (record { text = text; spelled = s; parts = sym (append-nil text); moved = refl }) in
     let same : text ≡ t.text = append_cancel_right text t.text [] (append-nil text ∙ t.parts) in
@@ -42,14 +42,14 @@ pub record HasNumber (place : ℕ) (m : Marked) (text : List ℕ) (n : DataIndex
   pub segment : is_segment m.op.code m.op.sub ≡ true
   pub args : m.op.args ≡ segment_args (n, memory)
 
-pub none_is : (b : Bool) (m : Marked) (place : ℕ) (text : List ℕ) → is_segment m.op.code m.op.sub ≡ b → m.number ≡ None → IsMarked place m text → is_segment m.op.code m.op.sub ≡ false
+pub none_is : (b : Bool) (m : Marked) (place : ℕ) (text : List ℕ) → is_segment m.op.code m.op.sub ≡ b → m.number ≡ None → IsMarkedOp place m text → is_segment m.op.code m.op.sub ≡ false
 none_is false m place text e none s = e
 none_is true m place text e none s =
     let behind : IsMarkedBehind true (m.op.code, m.op.sub) (place + length s.0) (m.number, m.op.args) s.1 =
     subst (λ (b : Bool). IsMarkedBehind b (m.op.code, m.op.sub) (place + length s.0) (m.number, m.op.args) s.1) e s.4 in
     absurd (let some : Some behind.0.0 ≡ m.number = ap (λ (p : Option DataIndexImm × List ℤ). p.0) behind.2 in cc)
 
-pub some_is : (b : Bool) (m : Marked) (place : ℕ) (text : List ℕ) (n : DataIndexImm) → is_segment m.op.code m.op.sub ≡ b → m.number ≡ Some n → IsMarked place m text → HasNumber place m text n
+pub some_is : (b : Bool) (m : Marked) (place : ℕ) (text : List ℕ) (n : DataIndexImm) → is_segment m.op.code m.op.sub ≡ b → m.number ≡ Some n → IsMarkedOp place m text → HasNumber place m text n
 some_is false m place text n e some s =
     let behind : IsMarkedBehind false (m.op.code, m.op.sub) (place + length s.0) (m.number, m.op.args) s.1 =
     subst (λ (b : Bool). IsMarkedBehind b (m.op.code, m.op.sub) (place + length s.0) (m.number, m.op.args) s.1) e s.4 in
@@ -80,7 +80,7 @@ pub marked_anew : (m : Marked) (place there : ℕ) (text : List ℕ) (n : DataIn
 marked_anew m place there text n k short h lt s =
     let number : DataIndexImm = record { offset = there + length h.head; len = length short; index = k } in
     let op : Op = record { code = m.op.code; sub = m.op.sub; args = segment_args (number, h.memory) } in
-    let spelled : IsSegment m.op.sub (there + length h.head) (number, h.memory) (short ++ h.back) =
+    let spelled : IsSegmentNumber m.op.sub (there + length h.head) (number, h.memory) (short ++ h.back) =
     (short, h.back, refl, (written (there + length h.head) k short lt s, refl, refl), when_there (eqb m.op.sub 8) (place + length h.head + length h.digits) (there + length h.head + length short) h.memory h.back h.others) in
     let behind : IsMarkedBehind true (m.op.code, m.op.sub) (there + length h.head) (Some number, segment_args (number, h.memory)) (short ++ h.back) = ((number, h.memory), spelled, refl) in
     let behind' : IsMarkedBehind (is_segment m.op.code m.op.sub) (m.op.code, m.op.sub) (there + length h.head) (Some number, segment_args (number, h.memory)) (short ++ h.back) =

@@ -17,7 +17,7 @@ use Rattle.wl_module.specs.declared.error.ReadError.{ReadError}
 use Rattle.wl_module.specs.declared.error.ReadError.TheVariants.{Malformed, Unsupported}
 use Rattle.wl_module.specs.Error.{read_error}
 use Rattle.wl_module.specs.Lists.{NumberFault, number_at, ByteFault, one_byte_at}
-use Rattle.wl_module.specs.Checks.{Where, WhereFault, where_at, When, when_at, IsNothing, NoFault, nothing_at, Seen}
+use Rattle.wl_module.specs.Checks.{Where, WhereFault, unless, where_at, When, when_at, IsNothing, NoFault, nothing_at, Seen}
 use Rattle.wl_module.specs.Constants.{SignedNumberFault, signed_number_at}
 use Rattle.wl_module.proofs.ListLaws.{number_reading, one_byte_reading}
 use Rattle.wl_module.proofs.CheckLaws.{where_reading, when_reading, nothing_reading}
@@ -27,7 +27,7 @@ use Rattle.wl_ops.specs.declared.table.Immediate.{Immediate}
 use Rattle.wl_ops.specs.declared.table.Immediate.TheVariants.{One, ListOf, Catches}
 use Rattle.wl_ops.specs.declared.table.Shape.{Shape}
 use Rattle.wl_ops.specs.Table.{immediates, is_prefix, is_element, shape_of}
-use Rattle.wl_ops.specs.Immediates.{is_alignment, is_block_type, is_reference_type, is_value_type, IsSingle, SingleFault, single_at, is_catch, catch_numbers, IsKind, KindFault, kind_at, IsCatch, CatchFault, catch_at, counted, counted_lists, IsImmediate, ImmediateFault, immediate_at, joined, AreImmediates, ImmediatesFault, immediates_at}
+use Rattle.wl_ops.specs.Immediates.{is_alignment, is_block_type, is_reference_type, is_value_type, IsSingle, SingleFault, single_at, is_catch, catch_numbers, IsCatchKind, CatchKindFault, catch_kind_at, IsCatch, CatchFault, catch_at, counted, counted_lists, IsImmediate, ImmediateFault, immediate_at, joined, AreImmediates, ImmediatesFault, immediates_at}
 use Rattle.wl_ops.specs.Operators.{sub_of, IsSub, SubFault, sub_at, IsHead, HeadFault, head_at, IsBehind, IsTaken, taken_shape, IsBehindTaken, BehindFault, OpFault, behind_at, op_of, op_at}
 
 -- what is seen of an item is read as the item is
@@ -42,27 +42,27 @@ signed_number_reading f = error_reading (IsSigned (form_of f)) (SignedFault (for
 pub single_reading : (s : Single) → IsReading (IsSingle s) (SingleFault s) (single_at s)
 unfolding single_at
 single_reading Number = see (λ n. pos n) IsU32 NumberFault number_at number_reading
-single_reading Alignment = see (λ n. pos n) (Where IsU32 is_alignment) (WhereFault IsU32 NumberFault is_alignment (Unsupported Operator)) (where_at number_at is_alignment (Unsupported Operator))
+single_reading Alignment = see (λ n. pos n) (Where IsU32 is_alignment) (WhereFault IsU32 NumberFault (unless is_alignment (Unsupported Operator))) (where_at number_at is_alignment (Unsupported Operator))
     (where_reading IsU32 NumberFault number_at is_alignment (Unsupported Operator) number_reading)
 single_reading BlockType = where_reading (IsSigned s33_form) (SignedNumberFault s33_form) (signed_number_at s33_form) is_block_type (Unsupported Operator) (signed_number_reading S33)
 single_reading Signed32 = signed_number_reading S32
 single_reading Signed64 = signed_number_reading S64
 single_reading Byte = see (λ b. pos b) IsByte ByteFault one_byte_at one_byte_reading
-single_reading ReferenceType = see (λ b. pos b) (Where IsByte is_reference_type) (WhereFault IsByte ByteFault is_reference_type (Unsupported Operator)) (where_at one_byte_at is_reference_type (Unsupported Operator))
+single_reading ReferenceType = see (λ b. pos b) (Where IsByte is_reference_type) (WhereFault IsByte ByteFault (unless is_reference_type (Unsupported Operator))) (where_at one_byte_at is_reference_type (Unsupported Operator))
     (where_reading IsByte ByteFault one_byte_at is_reference_type (Unsupported Operator) one_byte_reading)
-single_reading ValueType = see (λ b. pos b) (Where IsByte is_value_type) (WhereFault IsByte ByteFault is_value_type (Malformed BadByte)) (where_at one_byte_at is_value_type (Malformed BadByte))
+single_reading ValueType = see (λ b. pos b) (Where IsByte is_value_type) (WhereFault IsByte ByteFault (unless is_value_type (Malformed BadByte))) (where_at one_byte_at is_value_type (Malformed BadByte))
     (where_reading IsByte ByteFault one_byte_at is_value_type (Malformed BadByte) one_byte_reading)
 
 -- ---- catches and lists
 
-kind_reading : IsReading IsKind KindFault kind_at
-unfolding kind_at
+kind_reading : IsReading IsCatchKind CatchKindFault catch_kind_at
+unfolding catch_kind_at
 kind_reading = where_reading IsByte ByteFault one_byte_at is_catch (Malformed BadByte) one_byte_reading
 
 catch_reading : IsReading IsCatch CatchFault catch_at
 unfolding catch_at
-catch_reading = see counted (Then IsKind (λ k. Times (IsSingle Number) (catch_numbers k))) CatchFault (then_at kind_at (λ k. times_at (single_at Number) (catch_numbers k)))
-    (then_reading IsKind (λ k. Times (IsSingle Number) (catch_numbers k)) KindFault (λ k. TimesFault (IsSingle Number) (SingleFault Number) (catch_numbers k)) kind_at (λ k. times_at (single_at Number) (catch_numbers k))
+catch_reading = see counted (Then IsCatchKind (λ k. Times (IsSingle Number) (catch_numbers k))) CatchFault (then_at catch_kind_at (λ k. times_at (single_at Number) (catch_numbers k)))
+    (then_reading IsCatchKind (λ k. Times (IsSingle Number) (catch_numbers k)) CatchKindFault (λ k. TimesFault (IsSingle Number) (SingleFault Number) (catch_numbers k)) catch_kind_at (λ k. times_at (single_at Number) (catch_numbers k))
     kind_reading (λ k. times_reading (IsSingle Number) (SingleFault Number) (single_at Number) (single_reading Number) (catch_numbers k)))
 
 immediate_reading : (i : Immediate) → IsReading (IsImmediate i) (ImmediateFault i) (immediate_at i)

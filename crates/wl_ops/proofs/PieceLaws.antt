@@ -9,7 +9,7 @@ use Rattle.wl_ops.specs.declared.op.Op.{Op}
 use Rattle.wl_ops.specs.declared.op.DataIndexImm.{DataIndexImm}
 use Rattle.wl_ops.specs.declared.op.Marked.{Marked}
 use Rattle.wl_ops.specs.Operators.{IsTaken}
-use Rattle.wl_ops.specs.Numbers.{is_segment, IsMarked, numbers}
+use Rattle.wl_ops.specs.Numbers.{is_segment, IsMarkedOp, numbers}
 use Rattle.wl_ops.specs.Rewriting.{Rewrites, old_bytes, NewBytes, renumbered, LieWithin}
 use Rattle.wl_ops.proofs.PlaceLaws.{taken_there}
 use Rattle.wl_ops.proofs.NumberIn.{alone, none_is, some_is, marked_anew, renumbered_is}
@@ -58,7 +58,7 @@ pub record Piece (new : ℕ → Option ℕ) (m : Marked) (ns : List DataIndexImm
 joined_so : (y before short more head back rest : List ℕ) → y ≡ before ++ (short ++ more) → head ≡ before → more ≡ back ++ rest → y ≡ (head ++ (short ++ back)) ++ rest
 joined_so y before short more head back rest e p q = rw (e, ← p, q) (simp append_assoc)
 
-pub piece : (new : ℕ → Option ℕ) → (m : Marked) (ns : List DataIndexImm) (place to : ℕ) (text rest y : List ℕ) → IsMarked place m text → LieWithin (place + length text) ns to
+pub piece : (new : ℕ → Option ℕ) → (m : Marked) (ns : List DataIndexImm) (place to : ℕ) (text rest y : List ℕ) → IsMarkedOp place m text → LieWithin (place + length text) ns to
     → Rewrites new place (cons_option m.number ns) (text ++ rest) y → Piece new m ns place text rest y
 piece new m ns place to text rest y s l r = by_number m.number refl
   where
@@ -124,7 +124,7 @@ old_more : (o : Option DataIndexImm) (ns : List DataIndexImm) → old_bytes (con
 old_more None ns = omega arith
 old_more (Some n) ns = omega (arith, sum_by-cons (λ (n : DataIndexImm). n.len) n ns, sum_by-cons (λ (n : DataIndexImm). n.len) n [])
 
-pub pieces : (new : ℕ → Option ℕ) → (ms : List Marked) (ns : List DataIndexImm) (place to : ℕ) (text rest y : List ℕ) → Items IsMarked place ms text → LieWithin (place + length text) ns to
+pub pieces : (new : ℕ → Option ℕ) → (ms : List Marked) (ns : List DataIndexImm) (place to : ℕ) (text rest y : List ℕ) → Items IsMarkedOp place ms text → LieWithin (place + length text) ns to
     → Rewrites new place (numbers ms ++ ns) (text ++ rest) y → Pieces new ms ns place text rest y
 pieces new [] ns place to text rest y s l r =
     let none : place ≡ place + length text = omega (arith, ap length s) in

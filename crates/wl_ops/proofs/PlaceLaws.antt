@@ -1,6 +1,6 @@
 -- What spells an operator spells it at any place.
 use Rattle.std.proofs.Common.{ℕ, ℤ, ◌+◌, Bool, true, false, List, [], ◌∷◌, length, Option, Some, None}
-use Rattle.wl_bytes.specs.Leb.{IsU32, IsSigned, Form, s32_form, s33_form, s64_form}
+use Rattle.wl_bytes.specs.Leb.{IsU32, IsSigned, NumberForm, s32_form, s33_form, s64_form}
 use Rattle.wl_bytes.specs.Grammar.{Items}
 use Rattle.wl_module.specs.Checks.{When}
 use Rattle.wl_ops.specs.declared.table.Single.{Single}
@@ -16,7 +16,7 @@ use Rattle.wl_ops.specs.Operators.{IsHead, IsBehind, IsTaken}
 abbrev pub u32_at : (p q n : ℕ) (t : List ℕ) → IsU32 p n t → IsU32 q n t
 u32_at p q n t s = record { leb = s.leb; value = s.value }
 
-signed_there : (f : Form) (p q : ℕ) (z : ℤ) (t : List ℕ) → IsSigned f p z t → IsSigned f q z t
+signed_there : (f : NumberForm) (p q : ℕ) (z : ℤ) (t : List ℕ) → IsSigned f p z t → IsSigned f q z t
 signed_there f p q z t s = record { leb = s.leb; value = s.value }
 
 pub when_there : (b : Bool) (p q : ℕ) (o : Option ℕ) (t : List ℕ) → When IsU32 b p o t → When IsU32 b q o t

@@ -9,7 +9,7 @@ use Rattle.wl_ops.specs.declared.op.Op.{Op}
 use Rattle.wl_ops.specs.declared.op.DataIndexImm.{DataIndexImm}
 use Rattle.wl_ops.specs.declared.op.Marked.{Marked}
 use Rattle.wl_ops.specs.Decoding.{decoded}
-use Rattle.wl_ops.specs.Numbers.{is_segment, IsMarkedBehind, IsMarked, numbers, HasNumbers, holds_prefix}
+use Rattle.wl_ops.specs.Numbers.{is_segment, IsMarkedBehind, IsMarkedOp, numbers, HasNumbers, holds_prefix}
 use Rattle.wl_ops.proofs.DecodeLaws.{decoded_reading}
 use Rattle.wl_ops.proofs.NumberLaws.{segment_is, marked_body}
 
@@ -49,7 +49,7 @@ holds_back [] ys e = e
 holds_back (x ∷ xs) ys e = holds_back xs ys (or_false (eqb x 0xfc) (holds_prefix (xs ++ ys)) e).1
 
 -- an operator whose bytes have none isn't on segments
-no_number : (m : Marked) (place : ℕ) (text : List ℕ) (b : Bool) → is_segment m.op.code m.op.sub ≡ b → IsMarked place m text → holds_prefix text ≡ false → m.number ≡ None
+no_number : (m : Marked) (place : ℕ) (text : List ℕ) (b : Bool) → is_segment m.op.code m.op.sub ≡ b → IsMarkedOp place m text → holds_prefix text ≡ false → m.number ≡ None
 no_number m place text true e s h =
     let code = (segment_is m.op.code m.op.sub e).0 in
     let front : s.0 ≡ m.op.code ∷ s.3.1 = s.3.2 ∙ ap (λ (x : List ℕ). x ++ s.3.1) s.3.3 in
@@ -61,7 +61,7 @@ no_number m place text false e s h =
     subst (λ (b : Bool). IsMarkedBehind b (m.op.code, m.op.sub) (place + length s.0) (m.number, m.op.args) s.1) e s.4 in
     sym (ap (λ (p : Option DataIndexImm × List ℤ). p.0) behind.2)
 
-no_numbers : (ms : List Marked) (place : ℕ) (text : List ℕ) → Items IsMarked place ms text → holds_prefix text ≡ false → numbers ms ≡ []
+no_numbers : (ms : List Marked) (place : ℕ) (text : List ℕ) → Items IsMarkedOp place ms text → holds_prefix text ≡ false → numbers ms ≡ []
 no_numbers [] place text s h = refl
 no_numbers (m ∷ ms) place text s h =
     let whole : holds_prefix (s.0 ++ s.1) ≡ false = rw (← s.2) h in

@@ -15,7 +15,7 @@ use Rattle.wl_ops.specs.declared.table.Single.TheVariants.{Number}
 use Rattle.wl_ops.specs.declared.table.Immediate.{Immediate}
 use Rattle.wl_ops.specs.declared.table.Immediate.TheVariants.{One, ListOf, Catches}
 use Rattle.wl_ops.specs.Front.{with_front}
-use Rattle.wl_ops.specs.Immediates.{single_at, catch_numbers, kind_at, catch_at, counted, counted_lists, flat_at, immediate_at, joined, immediates_at}
+use Rattle.wl_ops.specs.Immediates.{single_at, catch_numbers, catch_kind_at, catch_at, counted, counted_lists, flat_at, immediate_at, joined, immediates_at}
 
 abbrev Reading : Type 0
 Reading = Result (List ℤ × Cursor) ReadError
@@ -202,15 +202,15 @@ list_fails s e front c h =
     fails_front e front (map_at counted (then_at number_at (times_at (single_at s))) c)
     (fails_bind e (then_at number_at (times_at (single_at s)) c) (λ (p : (ℕ × List ℤ) × Cursor). Ok (counted p.0, p.1)) (fails_bind e (number_at c) (λ (p : ℕ × Cursor). times_at (single_at s) p.0 p.1 >>= λ q. Ok ((p.0, q.0), q.1)) h))
 
-pub catch_is : (front : List ℤ) (c mid : Cursor) (k : ℕ) → kind_at c ≡ Ok (k, mid) → with_front (front ++ pos k ∷ []) (times_at (single_at Number) (catch_numbers k) mid) ≡ with_front front (catch_at c)
+pub catch_is : (front : List ℤ) (c mid : Cursor) (k : ℕ) → catch_kind_at c ≡ Ok (k, mid) → with_front (front ++ pos k ∷ []) (times_at (single_at Number) (catch_numbers k) mid) ≡ with_front front (catch_at c)
 unfolding catch_at
 catch_is front c mid k e = rw (e, counted_is k (times_at (single_at Number) (catch_numbers k) mid)) (sym (regroup front (pos k) (times_at (single_at Number) (catch_numbers k) mid)))
 
-pub catch_fails : (e : ReadError) (front : List ℤ) (c : Cursor) → Fails e (kind_at c) → Fails e (with_front front (catch_at c))
+pub catch_fails : (e : ReadError) (front : List ℤ) (c : Cursor) → Fails e (catch_kind_at c) → Fails e (with_front front (catch_at c))
 unfolding catch_at
 catch_fails e front c h =
-    fails_front e front (map_at counted (then_at kind_at (λ k. times_at (single_at Number) (catch_numbers k))) c)
-    (fails_bind e (then_at kind_at (λ k. times_at (single_at Number) (catch_numbers k)) c) (λ (p : (ℕ × List ℤ) × Cursor). Ok (counted p.0, p.1)) (fails_bind e (kind_at c) (λ (p : ℕ × Cursor). times_at (single_at Number) (catch_numbers p.0) p.1 >>= λ q. Ok ((p.0, q.0), q.1)) h))
+    fails_front e front (map_at counted (then_at catch_kind_at (λ k. times_at (single_at Number) (catch_numbers k))) c)
+    (fails_bind e (then_at catch_kind_at (λ k. times_at (single_at Number) (catch_numbers k)) c) (λ (p : (ℕ × List ℤ) × Cursor). Ok (counted p.0, p.1)) (fails_bind e (catch_kind_at c) (λ (p : ℕ × Cursor). times_at (single_at Number) (catch_numbers p.0) p.1 >>= λ q. Ok ((p.0, q.0), q.1)) h))
 
 counted_lists_is : (n : ℕ) (read : Lists) → seen counted_lists (both n read) ≡ led (pos n) (flat read)
 counted_lists_is n (Ok q) = refl

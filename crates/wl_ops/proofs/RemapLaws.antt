@@ -3,7 +3,7 @@ use Rattle.std.proofs.Common.{◌≡◌, ◌≢◌, ℕ, zero, suc, ◌+◌, ◌
 use Rattle.std.specs.Prelude.{IfOk, IfErr}
 use Rattle.wl_module.specs.declared.error.ReadError.{ReadError}
 use Rattle.wl_module.specs.declared.error.ReadError.TheVariants.{OutOfMemory, Malformed, Unsupported}
-use Rattle.wl_module.specs.Outcome.{IsFault}
+use Rattle.wl_module.specs.Outcome.{HasCause}
 use Rattle.wl_ops.specs.declared.op.DataIndexImm.{DataIndexImm}
 use Rattle.wl_ops.specs.Numbers.{NumbersFault, AreTold}
 use Rattle.wl_ops.specs.declared.rewriting.Shift.{Shift}
@@ -72,18 +72,18 @@ one_refusal new x e d (inr f) (inr g) = f.3 ∙ sym g.3
 
 -- ---- what a call answers
 
-remapped_so : (new : ℕ → Option ℕ) (ps x qs y : List ℕ) (r : Result Bool ReadError) → IfOk r (λ some. IsRemapped new ps (some, (y, qs)) x) → IfErr r (IsFault (RemapFault new) x) → Remaps new x ps y qs r
+remapped_so : (new : ℕ → Option ℕ) (ps x qs y : List ℕ) (r : Result Bool ReadError) → IfOk r (λ some. IsRemapped new ps (some, (y, qs)) x) → IfErr r (HasCause (λ e. RemapFault new e x)) → Remaps new (x, ps) (y, qs) r
 remapped_so new ps x qs y r s f =
     reads_so (λ some. (some, (y, qs))) (IsRemapped new ps) (RemapFault new) x (λ a b s t. one_answer new ps x a b s t) (λ a e s f. not_both new ps x a e s f) (λ e d f g. one_refusal new x e d f g) r s f
 
 -- the numbers aren't found
-unread : (new : ℕ → Option ℕ) (x : List ℕ) (e : ReadError) → IsFault NumbersFault x e → IsFault (RemapFault new) x e
+unread : (new : ℕ → Option ℕ) (x : List ℕ) (e : ReadError) → HasCause (λ d. NumbersFault d x) e → HasCause (λ d. RemapFault new d x) e
 unread new x OutOfMemory f = tt
 unread new x (Malformed why) f = inl f
 unread new x (Unsupported form) f = inl f
 
 -- one of them has no new one
-unwritten : (new : ℕ → Option ℕ) (x : List ℕ) (ns : List DataIndexImm) (e : ReadError) → AreTold ns x → RewriteFault new ns e → IsFault (RemapFault new) x e
+unwritten : (new : ℕ → Option ℕ) (x : List ℕ) (ns : List DataIndexImm) (e : ReadError) → AreTold ns x → RewriteFault new ns e → HasCause (λ d. RemapFault new d x) e
 unwritten new x ns OutOfMemory s f = tt
 unwritten new x ns (Malformed why) s f = inr (ns, s, f.1, ap Malformed f.0)
 unwritten new x ns (Unsupported form) s f = absurd f
@@ -93,16 +93,16 @@ none_move : (new : ℕ → Option ℕ) (ps : List ℕ) → AllMove new [] ps ps
 none_move new [] = tt
 none_move new (p ∷ ps) = ((0, refl, refl), none_move new ps)
 
-pub refused_unread : (new : ℕ → Option ℕ) (x ps : List ℕ) (e : ReadError) → IsFault NumbersFault x e → Remaps new x ps x ps (Err e)
+pub refused_unread : (new : ℕ → Option ℕ) (x ps : List ℕ) (e : ReadError) → HasCause (λ d. NumbersFault d x) e → Remaps new (x, ps) (x, ps) (Err e)
 refused_unread new x ps e f = remapped_so new ps x ps x (Err e) tt (unread new x e f)
 
-pub refused_unwritten : (new : ℕ → Option ℕ) (x ps : List ℕ) (ns : List DataIndexImm) (e : ReadError) → AreTold ns x → RewriteFault new ns e → Remaps new x ps x ps (Err e)
+pub refused_unwritten : (new : ℕ → Option ℕ) (x ps : List ℕ) (ns : List DataIndexImm) (e : ReadError) → AreTold ns x → RewriteFault new ns e → Remaps new (x, ps) (x, ps) (Err e)
 refused_unwritten new x ps ns e s f = remapped_so new ps x ps x (Err e) tt (unwritten new x ns e s f)
 
-pub without_numbers : (new : ℕ → Option ℕ) (x ps : List ℕ) → AreTold [] x → Remaps new x ps x ps (Ok false)
+pub without_numbers : (new : ℕ → Option ℕ) (x ps : List ℕ) → AreTold [] x → Remaps new (x, ps) (x, ps) (Ok false)
 without_numbers new x ps s = remapped_so new ps x ps x (Ok false) (record { numbers = []; theirs = s; some = refl; bytes = refl; places = none_move new ps }) tt
 
-pub with_numbers : (new : ℕ → Option ℕ) (x ps y : List ℕ) (ns : List DataIndexImm) (ss : List Shift) → AreTold ns x → eqb (length ns) 0 ≡ false → IsRewriting new ns x y ss → Remaps new x ps y (map (λ p. shifted ss p p) ps) (Ok true)
+pub with_numbers : (new : ℕ → Option ℕ) (x ps y : List ℕ) (ns : List DataIndexImm) (ss : List Shift) → AreTold ns x → eqb (length ns) 0 ≡ false → IsRewriting new ns x y ss → Remaps new (x, ps) (y, map (λ p. shifted ss p p) ps) (Ok true)
 with_numbers new x ps y ns ss s some r =
     remapped_so new ps x (map (λ p. shifted ss p p) ps) y (Ok true)
     (record { numbers = ns; theirs = s; some = ap not (sym some); bytes = r.0; places = all_move new ns ss (length x) ps (numbers_lie ns x s.0) r.1 }) tt

@@ -7,14 +7,14 @@ use Rattle.wl_bytes.specs.Grammar.{Items}
 use Rattle.wl_bytes.proofs.Steps.{ok_is, err_is}
 use Rattle.wl_module.specs.declared.error.ReadError.{ReadError}
 use Rattle.wl_module.specs.declared.error.ReadError.TheVariants.{OutOfMemory, Malformed, Unsupported}
-use Rattle.wl_module.specs.Outcome.{Fails, IsFault, ReadsWhole, AreAlternatives}
+use Rattle.wl_module.specs.Outcome.{Fails, HasCause, ReadsWhole, AreAlternatives}
 use Rattle.wl_module.specs.Lists.{start}
 use Rattle.wl_module.specs.Checks.{Any}
 use Rattle.wl_ops.specs.declared.op.Op.{Op}
 use Rattle.wl_ops.specs.declared.op.DataIndexImm.{DataIndexImm}
 use Rattle.wl_ops.specs.declared.op.Marked.{Marked}
 use Rattle.wl_ops.specs.Decoding.{AreLocals, in_body, body_of, decoded}
-use Rattle.wl_ops.specs.Numbers.{IsMarked, MarkedFault, marked_at, op_in, numbers, AreMarked, HasNumbers, holds_prefix, NumbersFault, AreTold, NumbersOf}
+use Rattle.wl_ops.specs.Numbers.{IsMarkedOp, MarkedFault, marked_at, op_in, numbers, AreMarked, HasNumbers, holds_prefix, NumbersFault, AreTold, NumbersOf}
 use Rattle.wl_ops.proofs.RestLaws.{taken_whole, rest_again}
 use Rattle.wl_ops.proofs.DecodeLaws.{locals_reading, dry, mid_of, decoded_reading, told_fails}
 use Rattle.wl_ops.proofs.NumberLaws.{are_marked, marked_body, taken_body}
@@ -33,10 +33,10 @@ pub one_marked : (body : List ℕ) (ms ns : List Marked) → AreMarked ms body �
 one_marked body ms ns s t =
     let same = one_mid body s.1 s.2 t.1 t.2 (s.0, s.4) s.3 (t.0, t.4) t.3 in
     let end : Cursor = record { position = length t.1 + length t.2; rest = [] } in
-    let one = rest_again IsMarked MarkedFault marked_at dry are_marked ms (suc (length s.2)) (mid_of s.1 s.2) (record { position = length s.1 + length s.2; rest = [] })
-    (omega arith) (taken_whole IsMarked ms (mid_of s.1 s.2) s.5) refl in
-    let two = rest_again IsMarked MarkedFault marked_at dry are_marked ns (suc (length s.2)) (mid_of s.1 s.2) end
-    (omega arith) (subst (λ (c : Cursor). Takes (Items IsMarked) ns c end) (sym same) (taken_whole IsMarked ns (mid_of t.1 t.2) t.5)) refl in
+    let one = rest_again IsMarkedOp MarkedFault marked_at dry are_marked ms (suc (length s.2)) (mid_of s.1 s.2) (record { position = length s.1 + length s.2; rest = [] })
+    (omega arith) (taken_whole IsMarkedOp ms (mid_of s.1 s.2) s.5) refl in
+    let two = rest_again IsMarkedOp MarkedFault marked_at dry are_marked ns (suc (length s.2)) (mid_of s.1 s.2) end
+    (omega arith) (subst (λ (c : Cursor). Takes (Items IsMarkedOp) ns c end) (sym same) (taken_whole IsMarkedOp ns (mid_of t.1 t.2) t.5)) refl in
     ok_is {E = ReadError} ms ns (sym one ∙ two)
 
 pub one_list : (body : List ℕ) (ns ks : List DataIndexImm) → HasNumbers ns body → HasNumbers ks body → ns ≡ ks
@@ -78,7 +78,7 @@ told_alternatives = record {
 -- a value where it is spelled, and a fault where it is the case, is all that can be answered
 pub reads_so : {X Y : Type 0} (view : X → Y) (spells : Y → List ℕ → Type 0) (faults : ReadError → List ℕ → Type 0) (body : List ℕ)
     → ((x y : Y) → spells x body → spells y body → x ≡ y) → ((y : Y) (e : ReadError) → spells y body → ¬ faults e body) → ((e d : ReadError) → faults e body → faults d body → e ≡ d)
-    → (r : Result X ReadError) → IfOk r (λ x. spells (view x) body) → IfErr r (IsFault faults body) → ReadsWhole view spells faults body r
+    → (r : Result X ReadError) → IfOk r (λ x. spells (view x) body) → IfErr r (HasCause (λ e. faults e body)) → ReadsWhole view spells faults body r
 reads_so {Y = Y} view spells faults body one not same (Ok x) s f = record {
   sound = s;
   only = λ y t. ap (λ (z : Y). Ok z) (one y (view x) t s);
@@ -99,7 +99,7 @@ reads_so view spells faults body one not same (Err (Unsupported form)) s f = rec
   why = λ e g. ap (λ (d : ReadError). Err d) (same e (Unsupported form) g f);
 }
 
-told_so : {X : Type 0} (view : X → List DataIndexImm) (body : List ℕ) (r : Result X ReadError) → IfOk r (λ v. AreTold (view v) body) → IfErr r (IsFault NumbersFault body) → ReadsWhole view AreTold NumbersFault body r
+told_so : {X : Type 0} (view : X → List DataIndexImm) (body : List ℕ) (r : Result X ReadError) → IfOk r (λ v. AreTold (view v) body) → IfErr r (HasCause (λ e. NumbersFault e body)) → ReadsWhole view AreTold NumbersFault body r
 told_so view body r s f = reads_so view AreTold NumbersFault body (λ ns ks s t. one_list body ns ks s.0 t.0) (λ ns e s f. no_fault body ns e s f) (λ e d f g. one_fault body e d f g) r s f
 
 pub reads_none : {X : Type 0} (view : X → List DataIndexImm) (body : List ℕ) (v : X) → view v ≡ [] → holds_prefix body ≡ false → ReadsWhole view AreTold NumbersFault body (Ok v)
@@ -108,7 +108,7 @@ reads_none view body v none h = told_so view body (Ok v) (rw none (told_none bod
 pub reads_some : {X : Type 0} (view : X → List DataIndexImm) (body : List ℕ) (v : X) → NumbersOf view body (Ok v) → ReadsWhole view AreTold NumbersFault body (Ok v)
 reads_some view body v n = told_so view body (Ok v) (rw n.2 (told_some body n.0 n.1)) tt
 
-fault_of : (d : ReadError) (body : List ℕ) → holds_prefix body ≡ true → Fails d (decoded body) → IsFault NumbersFault body d
+fault_of : (d : ReadError) (body : List ℕ) → holds_prefix body ≡ true → Fails d (decoded body) → HasCause (λ e. NumbersFault e body) d
 fault_of OutOfMemory body h f = tt
 fault_of (Malformed why) body h f = (h, decoded_reading.fault body (Malformed why) f)
 fault_of (Unsupported form) body h f = (h, decoded_reading.fault body (Unsupported form) f)

@@ -10,7 +10,7 @@ use Rattle.wl_module.specs.declared.error.Why.TheVariants.{Truncated, BadByte, B
 use Rattle.wl_module.specs.declared.error.ReadError.{ReadError}
 use Rattle.wl_module.specs.declared.error.ReadError.TheVariants.{OutOfMemory, Malformed, Unsupported}
 use Rattle.wl_module.specs.Lists.{NumberFault, number_at, ByteFault, one_byte_at, Listed, ListedFault, list_at, start}
-use Rattle.wl_module.specs.Checks.{Where, WhereFault, where_at, Any, any_at}
+use Rattle.wl_module.specs.Checks.{Where, WhereFault, unless, where_at, Any, any_at}
 use Rattle.wl_ops.specs.declared.op.Op.{Op}
 use Rattle.wl_ops.specs.Immediates.{is_value_type}
 use Rattle.wl_ops.specs.Operators.{IsOp, IsTaken, is_taken, OpFault, op_at}
@@ -23,7 +23,7 @@ IsLocal = Then IsU32 (λ _. Where IsByte is_value_type)
 
 -- what is wrong where no declaration stands
 abbrev pub LocalFault : ReadError → Cursor → Type 0
-LocalFault = ThenFault IsU32 NumberFault (λ _. WhereFault IsByte ByteFault is_value_type (Malformed BadByte))
+LocalFault = ThenFault IsU32 NumberFault (λ _. WhereFault IsByte ByteFault (unless is_value_type (Malformed BadByte)))
 
 -- the declaration in front
 unfoldable pub local_at : Cursor → Result ((ℕ × ℕ) × Cursor) ReadError

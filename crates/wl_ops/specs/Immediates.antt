@@ -10,7 +10,7 @@ use Rattle.wl_module.specs.declared.error.Form.TheVariants.{Operator}
 use Rattle.wl_module.specs.declared.error.ReadError.{ReadError}
 use Rattle.wl_module.specs.declared.error.ReadError.TheVariants.{Malformed, Unsupported}
 use Rattle.wl_module.specs.Lists.{NumberFault, number_at, ByteFault, one_byte_at}
-use Rattle.wl_module.specs.Checks.{Where, WhereFault, where_at, IsNothing, NoFault, nothing_at, Seen}
+use Rattle.wl_module.specs.Checks.{Where, WhereFault, unless, where_at, IsNothing, NoFault, nothing_at, Seen}
 use Rattle.wl_module.specs.declared.types.ValType.{ValType}
 use Rattle.wl_module.specs.Types.{value_type_of, is_reference}
 use Rattle.wl_module.specs.Constants.{SignedNumberFault, signed_number_at}
@@ -56,13 +56,13 @@ IsSingle ValueType = Seen (Where IsByte is_value_type) (λ b. pos b)
 -- what is wrong with it
 abbrev pub SingleFault : Single → ReadError → Cursor → Type 0
 SingleFault Number = NumberFault
-SingleFault Alignment = WhereFault IsU32 NumberFault is_alignment (Unsupported Operator)
-SingleFault BlockType = WhereFault (IsSigned s33_form) (SignedNumberFault s33_form) is_block_type (Unsupported Operator)
+SingleFault Alignment = WhereFault IsU32 NumberFault (unless is_alignment (Unsupported Operator))
+SingleFault BlockType = WhereFault (IsSigned s33_form) (SignedNumberFault s33_form) (unless is_block_type (Unsupported Operator))
 SingleFault Signed32 = SignedNumberFault s32_form
 SingleFault Signed64 = SignedNumberFault s64_form
 SingleFault Byte = ByteFault
-SingleFault ReferenceType = WhereFault IsByte ByteFault is_reference_type (Unsupported Operator)
-SingleFault ValueType = WhereFault IsByte ByteFault is_value_type (Malformed BadByte)
+SingleFault ReferenceType = WhereFault IsByte ByteFault (unless is_reference_type (Unsupported Operator))
+SingleFault ValueType = WhereFault IsByte ByteFault (unless is_value_type (Malformed BadByte))
 
 -- the value in front
 unfoldable pub single_at : Single → Cursor → Result (ℤ × Cursor) ReadError
@@ -90,24 +90,24 @@ abbrev pub counted : ℕ × List ℤ → List ℤ
 counted p = pos p.0 ∷ p.1
 
 -- the kind of a catch
-abbrev pub IsKind : ℕ → ℕ → List ℕ → Type 0
-IsKind = Where IsByte is_catch
+abbrev pub IsCatchKind : ℕ → ℕ → List ℕ → Type 0
+IsCatchKind = Where IsByte is_catch
 
-abbrev pub KindFault : ReadError → Cursor → Type 0
-KindFault = WhereFault IsByte ByteFault is_catch (Malformed BadByte)
+abbrev pub CatchKindFault : ReadError → Cursor → Type 0
+CatchKindFault = WhereFault IsByte ByteFault (unless is_catch (Malformed BadByte))
 
-unfoldable pub kind_at : Cursor → Result (ℕ × Cursor) ReadError
-kind_at c = where_at one_byte_at is_catch (Malformed BadByte) c
+unfoldable pub catch_kind_at : Cursor → Result (ℕ × Cursor) ReadError
+catch_kind_at c = where_at one_byte_at is_catch (Malformed BadByte) c
 
 -- a catch: its kind, and its numbers
 abbrev pub IsCatch : ℕ → List ℤ → List ℕ → Type 0
-IsCatch = Seen (Then IsKind (λ k. Times (IsSingle Number) (catch_numbers k))) counted
+IsCatch = Seen (Then IsCatchKind (λ k. Times (IsSingle Number) (catch_numbers k))) counted
 
 abbrev pub CatchFault : ReadError → Cursor → Type 0
-CatchFault = ThenFault IsKind KindFault (λ k. TimesFault (IsSingle Number) (SingleFault Number) (catch_numbers k))
+CatchFault = ThenFault IsCatchKind CatchKindFault (λ k. TimesFault (IsSingle Number) (SingleFault Number) (catch_numbers k))
 
 unfoldable pub catch_at : Cursor → Result (List ℤ × Cursor) ReadError
-catch_at c = map_at counted (then_at kind_at (λ k. times_at (single_at Number) (catch_numbers k))) c
+catch_at c = map_at counted (then_at catch_kind_at (λ k. times_at (single_at Number) (catch_numbers k))) c
 
 -- ---- immediates
 

@@ -32,14 +32,14 @@ unfoldable pub placed_number_at : Cursor → Result (DataIndexImm × Cursor) Rea
 placed_number_at c = measured_at placed_number number_at c
 
 -- the number of the segment, and for `memory.init` that of the memory
-abbrev pub IsSegment : ℕ → ℕ → DataIndexImm × Option ℕ → List ℕ → Type 0
-IsSegment sub = Then IsPlacedNumber (λ _. When IsU32 (sub == 8))
+abbrev pub IsSegmentNumber : ℕ → ℕ → DataIndexImm × Option ℕ → List ℕ → Type 0
+IsSegmentNumber sub = Then IsPlacedNumber (λ _. When IsU32 (sub == 8))
 
-abbrev pub SegmentFault : ℕ → ReadError → Cursor → Type 0
-SegmentFault sub = ThenFault IsPlacedNumber NumberFault (λ _. WhenFault NumberFault (sub == 8))
+abbrev pub SegmentNumberFault : ℕ → ReadError → Cursor → Type 0
+SegmentNumberFault sub = ThenFault IsPlacedNumber NumberFault (λ _. WhenFault NumberFault (sub == 8))
 
-unfoldable pub segment_at : ℕ → Cursor → Result ((DataIndexImm × Option ℕ) × Cursor) ReadError
-segment_at sub c = then_at placed_number_at (λ _. when_at number_at (sub == 8)) c
+unfoldable pub segment_number_at : ℕ → Cursor → Result ((DataIndexImm × Option ℕ) × Cursor) ReadError
+segment_number_at sub c = then_at placed_number_at (λ _. when_at number_at (sub == 8)) c
 
 -- the values of these
 abbrev pub segment_args : DataIndexImm × Option ℕ → List ℤ
@@ -55,20 +55,20 @@ without_number zs = (None, zs)
 
 -- what stands behind a first byte and its number
 abbrev pub IsMarkedBehind : Bool → ℕ × ℕ → ℕ → Option DataIndexImm × List ℤ → List ℕ → Type 0
-IsMarkedBehind true h = Seen (IsSegment h.1) with_number
+IsMarkedBehind true h = Seen (IsSegmentNumber h.1) with_number
 IsMarkedBehind false h = Seen (IsBehindTaken (taken_shape h)) without_number
 
 abbrev pub MarkedBehindFault : Bool → ℕ × ℕ → ReadError → Cursor → Type 0
-MarkedBehindFault true h = SegmentFault h.1
+MarkedBehindFault true h = SegmentNumberFault h.1
 MarkedBehindFault false h = BehindFault (taken_shape h)
 
 abbrev pub marked_behind_at : Bool → ℕ × ℕ → Cursor → Result ((Option DataIndexImm × List ℤ) × Cursor) ReadError
-marked_behind_at true h c = map_at with_number (segment_at h.1) c
+marked_behind_at true h c = map_at with_number (segment_number_at h.1) c
 marked_behind_at false h c = map_at without_number (behind_at (taken_shape h)) c
 
 -- an operator that is taken, and the number of a segment in it
-abbrev pub IsMarked : ℕ → Marked → List ℕ → Type 0
-IsMarked place m text = Then IsHead (λ h. IsMarkedBehind (is_segment h.0 h.1) h) place ((m.op.code, m.op.sub), (m.number, m.op.args)) text
+abbrev pub IsMarkedOp : ℕ → Marked → List ℕ → Type 0
+IsMarkedOp place m text = Then IsHead (λ h. IsMarkedBehind (is_segment h.0 h.1) h) place ((m.op.code, m.op.sub), (m.number, m.op.args)) text
 
 abbrev pub MarkedFault : ReadError → Cursor → Type 0
 MarkedFault = ThenFault IsHead HeadFault (λ h. MarkedBehindFault (is_segment h.0 h.1) h)
@@ -91,7 +91,7 @@ numbers ms = filter_map (λ m. m.number) ms
 -- a body of operators with their numbers
 abbrev pub AreMarked : List Marked → List ℕ → Type 0
 AreMarked ms body = (locals : List (ℕ × ℕ)) × (front : List ℕ) × (back : List ℕ) × (body ≡ front ++ back)
-    × AreLocals 0 locals front × Items IsMarked (length front) ms back × (is_ended (map op_in ms) ≡ true)
+    × AreLocals 0 locals front × Items IsMarkedOp (length front) ms back × (is_ended (map op_in ms) ≡ true)
 
 -- the numbers of a body; none where the body can't be decoded
 abbrev pub HasNumbers : List DataIndexImm → List ℕ → Type 0
@@ -114,7 +114,7 @@ AreTold ns body = HasNumbers ns body × ((e : ReadError) → ¬ NumbersFault e b
 
 -- what a reader has answered: the numbers of the operators up to the end of the bytes, or the fault
 abbrev pub NumbersIn : {X : Type 0} → (X → List DataIndexImm) → Cursor → Result X ReadError → Type 0
-NumbersIn view from (Ok v) = (ms : List Marked) × (to : Cursor) × Takes (Items IsMarked) ms from to × (to.rest ≡ [])
+NumbersIn view from (Ok v) = (ms : List Marked) × (to : Cursor) × Takes (Items IsMarkedOp) ms from to × (to.rest ≡ [])
     × (is_ended (map op_in ms) ≡ true) × (view v ≡ numbers ms)
 NumbersIn view from (Err e) = Fails e (ops_of from)
 

@@ -95,9 +95,10 @@ pub record IsRemapped (new : ℕ → Option ℕ) (fields : List ℕ) (answer : B
 abbrev pub RemapFault : (ℕ → Option ℕ) → ReadError → List ℕ → Type 0
 RemapFault new e body = NumbersFault e body ⊎ ((ns : List DataIndexImm) × AreTold ns body × LacksIndex new ns × (e ≡ Malformed BadIndex))
 
--- What a call has answered that rewrites a body and moves fields in it: what becomes of them, or why it is refused.
-abbrev pub Remaps : (ℕ → Option ℕ) → List ℕ → List ℕ → List ℕ → List ℕ → Result Bool ReadError → Type 0
-Remaps new body fields body' fields' result = ReadsWhole (λ some. (some, (body', fields'))) (IsRemapped new fields) (RemapFault new) body result
+-- What a call has answered that rewrites a body and moves fields in it, which are a pair before and after: what becomes of
+-- them, or why it is refused.
+abbrev pub Remaps : (ℕ → Option ℕ) → List ℕ × List ℕ → List ℕ × List ℕ → Result Bool ReadError → Type 0
+Remaps new before after result = ReadsWhole (λ some. (some, after)) (IsRemapped new before.1) (RemapFault new) before.0 result
 
 -- ---- on the way
 

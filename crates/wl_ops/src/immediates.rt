@@ -6,7 +6,7 @@ ghost use Rattle.wl_bytes.specs.Grammar.{times_at};
 ghost use Rattle.wl_module.specs.Outcome.{Yields};
 ghost use Rattle.wl_module.specs.Lists.{number_at};
 ghost use Rattle.wl_ops.specs.Front.{with_front};
-ghost use Rattle.wl_ops.specs.Immediates.{is_block_type, single_at, catch_numbers, kind_at, catch_at, flat_at, immediate_at, immediates_at};
+ghost use Rattle.wl_ops.specs.Immediates.{is_block_type, single_at, catch_numbers, catch_kind_at, catch_at, flat_at, immediate_at, immediates_at};
 
 use crate::op::OpArgs;
 use crate::table::{Immediate, Single};
@@ -92,9 +92,9 @@ pub(crate) fn read_count(reader: &mut Reader<'_>) -> Result<u32, ReadError>
 }
 
 /// The kind of a catch.
-#[tactic(auto, unfolding(crate::specs::Immediates::kind_at))]
-fn read_kind(reader: &mut Reader<'_>) -> Result<u8, ReadError>
-    ensures value { Yields (λ k. k) result reader.new (kind_at reader.old) }
+#[tactic(auto, unfolding(crate::specs::Immediates::catch_kind_at))]
+fn read_catch_kind(reader: &mut Reader<'_>) -> Result<u8, ReadError>
+    ensures value { Yields (λ k. k) result reader.new (catch_kind_at reader.old) }
     ensures end { end_of reader.new ≡ end_of reader.old }
 {
     let kind = reader.read_u8()?;
@@ -118,7 +118,7 @@ fn read_catch(reader: &mut Reader<'_>, args: &mut OpArgs) -> Result<(), ReadErro
         (with_front args.old (catch_at reader.old)) }
     ensures end { end_of reader.new ≡ end_of reader.old }
 {
-    let kind = read_kind(reader)?;
+    let kind = read_catch_kind(reader)?;
     args.push_number(u32::from(kind))?;
     read_singles(Single::Number, catch_numbers(kind), reader, args)
 }

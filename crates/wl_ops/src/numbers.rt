@@ -5,7 +5,7 @@ ghost use Rattle.std.specs.Option.{option_to_list};
 ghost use Rattle.wl_bytes.specs.declared.reader.TheConstants.{MAX_LEN};
 ghost use Rattle.wl_bytes.specs.Cursor.{end_of};
 ghost use Rattle.wl_module.specs.Outcome.{Yields, Gives, ReadsWhole};
-ghost use Rattle.wl_ops.specs.Numbers.{is_segment, placed_number_at, segment_at, segment_args, marked_at, NumbersIn, NumbersOf, AreTold, NumbersFault, holds_prefix};
+ghost use Rattle.wl_ops.specs.Numbers.{is_segment, placed_number_at, segment_number_at, segment_args, marked_at, NumbersIn, NumbersOf, AreTold, NumbersFault, holds_prefix};
 
 use crate::decoding::{in_body, skip_locals};
 use crate::op::{DataIndexImm, Marked, Op, OpArgs};
@@ -44,9 +44,12 @@ fn read_placed_number(reader: &mut Reader<'_>) -> Result<DataIndexImm, ReadError
 }
 
 /// The number of a segment, and for `memory.init` that of a memory.
-#[tactic(auto, unfolding(crate::specs::Numbers::segment_at))]
-fn read_segment(sub: u32, reader: &mut Reader<'_>) -> Result<(DataIndexImm, Option<u32>), ReadError>
-    ensures value { Yields (λ p. p) result reader.new (segment_at sub reader.old) }
+#[tactic(auto, unfolding(crate::specs::Numbers::segment_number_at))]
+fn read_segment_number(
+    sub: u32,
+    reader: &mut Reader<'_>,
+) -> Result<(DataIndexImm, Option<u32>), ReadError>
+    ensures value { Yields (λ p. p) result reader.new (segment_number_at sub reader.old) }
     ensures end { end_of reader.new ≡ end_of reader.old }
 {
     let number = read_placed_number(reader)?;
@@ -82,7 +85,7 @@ pub(crate) fn read_marked(alloc: Global, reader: &mut Reader<'_>) -> Result<Mark
 {
     let (code, sub) = read_head(reader)?;
     if is_segment(code, sub) {
-        let (number, memory) = read_segment(sub, reader)?;
+        let (number, memory) = read_segment_number(sub, reader)?;
         let args = segment_args(alloc, number, memory)?;
         Ok(Marked {
             op: Op { code, sub, args },

@@ -143,8 +143,8 @@ pub fn remap_body_data_indices(
 ) -> Result<bool, ReadError>
     requires bytes { length (cow_slice_items body.old) ≤ MAX_LEN }
     requires fields { All (λ p. p ≤ length (cow_slice_items body.old)) fields.old }
-    ensures remaps { Remaps (new_index indices.now) (cow_slice_items body.old) fields.old
-        (cow_slice_items body.new) fields.new result }
+    ensures remaps { Remaps (new_index indices.now) (cow_slice_items body.old, fields.old)
+        (cow_slice_items body.new, fields.new) result }
     ensures keeps { OnOk result ((numbers : List Number)
         → HasNumbers numbers (cow_slice_items body.old)
         → Keeps (new_index indices.now) numbers

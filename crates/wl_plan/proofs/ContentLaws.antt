@@ -5,7 +5,7 @@ use Rattle.wl_linking.specs.Fitting.{IsObject, ObjectFault, IsFitting}
 use Rattle.std.specs.List.{AllByRecursion}
 use Rattle.wl_module.specs.declared.error.ReadError.{ReadError}
 use Rattle.wl_module.specs.declared.error.ReadError.TheVariants as read
-use Rattle.wl_linking.specs.Verdict.{HasCause}
+use Rattle.wl_module.specs.Outcome.{HasCause}
 use Rattle.wl_plan.specs.Contents.{contents, AllWithin}
 use Rattle.wl_plan.specs.declared.objects.TheConstants.{MAX_OBJECT}
 use Rattle.wl_plan.specs.Objects.{AreObjects, IsBadObject}

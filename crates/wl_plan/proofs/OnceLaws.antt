@@ -7,7 +7,7 @@ use Rattle.wl_module.specs.Types.{FunctionType, value_type_code}
 use Rattle.wl_module.specs.declared.types.ValType.{ValType}
 use Rattle.wl_linking.specs.Object.{Object}
 use Rattle.wl_plan.specs.Types.{same_value, same_type, add_new, firsts_onto, used_from, live_types, output_types}
-use Rattle.wl_plan.specs.Space.{functions_from, functions_of, function_space, StandOnce}
+use Rattle.wl_plan.specs.Space.{functions_from, object_functions, function_space, StandOnce}
 use Rattle.wl_plan.specs.Plan.{IsFunctionsType}
 use Rattle.wl_plan.specs.declared.layout.FunctionOrigin.TheVariants as origin
 use Rattle.wl_plan.proofs.Folds.{none_at}
@@ -168,19 +168,19 @@ length-own object k [] = refl
 length-own object k (ty ∷ functions) = ap suc (length-own object (k + 1) functions)
 
 -- the functions behind are those of later objects
-not_before : (j : ℕ) (objects : List Object) (p i u : ℕ) → slice_get (functions_of j objects) p ≡ Some (origin.Object i u) → j ≤ i
+not_before : (j : ℕ) (objects : List Object) (p i u : ℕ) → slice_get (object_functions j objects) p ≡ Some (origin.Object i u) → j ≤ i
 not_before j [] p i u at = absurd cc
 not_before j (o ∷ objects) p i u at =
-    elim (get_joined (functions_from j 0 o.functions) (functions_of (j + 1) objects) p (origin.Object i u) at) [
+    elim (get_joined (functions_from j 0 o.functions) (object_functions (j + 1) objects) p (origin.Object i u) at) [
       | inl h ↦ let own = own_place j 0 o.functions p i u h in omega (arith, own.0)
       | inr h ↦ omega (arith, not_before (j + 1) objects h.0 i u h.2)
     ]
 
-placed : (j : ℕ) (objects : List Object) (p i u : ℕ) → slice_get (functions_of j objects) p ≡ Some (origin.Object i u) → p ≡ place_of j objects i u
+placed : (j : ℕ) (objects : List Object) (p i u : ℕ) → slice_get (object_functions j objects) p ≡ Some (origin.Object i u) → p ≡ place_of j objects i u
 unfolding place_of
 placed j [] p i u at = absurd cc
 placed j (o ∷ objects) p i u at =
-    elim (get_joined (functions_from j 0 o.functions) (functions_of (j + 1) objects) p (origin.Object i u) at) [
+    elim (get_joined (functions_from j 0 o.functions) (object_functions (j + 1) objects) p (origin.Object i u) at) [
       | inl h ↦
           let own = own_place j 0 o.functions p i u h in
           let same : eqb i j ≡ true = eq-eqb i j own.0 in

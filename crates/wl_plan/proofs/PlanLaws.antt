@@ -15,10 +15,10 @@ use Rattle.wl_linking.specs.declared.relocations.WasmRelocation.{WasmRelocation}
 use Rattle.wl_linking.specs.declared.sites.Site.{Site}
 use Rattle.wl_plan.specs.Types.{types_exist, firsts_onto, live_types, output_types}
 use Rattle.wl_plan.specs.Planned.{is_planned, is_unplanned_relocation, AllPlanned}
-use Rattle.wl_plan.specs.Space.{functions_from, functions_of, function_space, max_entries}
-use Rattle.wl_plan.specs.Plan.{HasItsType, bodies_of, debug_of, function_maps}
+use Rattle.wl_plan.specs.Space.{functions_from, object_functions, function_space, max_entries}
+use Rattle.wl_plan.specs.Plan.{HasItsType, object_bodies, object_debug_sections, function_maps}
 use Rattle.wl_plan.specs.declared.layout.WasmObjectIndexMap.{WasmObjectIndexMap}
-use Rattle.wl_plan.specs.Fixups.{target_of, AreFixupsIn, AreFixups}
+use Rattle.wl_plan.specs.Fixups.{fixup_context, bound_origin, AreFixupsIn, AreFixups}
 use Rattle.wl_plan.specs.Faults.{IsTooLarge}
 use Rattle.wl_linking.specs.Steps.{Clear, Refuses}
 use Rattle.wl_plan.proofs.StepLaws.{refuses_for, refuses_memory}
@@ -84,7 +84,7 @@ function_at object k (ty ∷ functions) rest (suc j) lt =
     let z : k + suc j ≡ k + 1 + j = omega arith in rw z (function_at object (k + 1) functions rest j (omega arith))
 
 value_is : (space : List FunctionOrigin) (i : ℕ) (o : Object) (indices : List ℕ) (r : WasmRelocation) → IsFitting o → is_planned o ≡ true → is_unplanned_relocation o.symbols r ≡ false → LeadsToPlaces space i o indices
-    → slice_get space (get_or indices (index_of (slice_get o.symbols r.index)) 0) ≡ target_of i o r
+    → slice_get space (get_or indices (index_of (slice_get o.symbols r.index)) 0) ≡ bound_origin i o r
 value_is space i o indices r fits planned here leads =
     let n = function_named o r fits planned here in
     let none = nothing_imported o planned in
@@ -94,7 +94,7 @@ value_is space i o indices r fits planned here leads =
     rw (n.at, n.defined, none, zero_less) led
 
 fixups_are : (space : List FunctionOrigin) (i : ℕ) (o : Object) (indices : List ℕ) (rs : List WasmRelocation) (ss : List Site) → IsFitting o → is_planned o ≡ true → list_any (is_unplanned_relocation o.symbols) rs ≡ false → AreSites (code_pieces o) rs ss → LeadsToPlaces space i o indices
-    → AreFixupsIn space i o rs ss (fixups_from indices i o rs ss)
+    → AreFixupsIn (fixup_context space i o) rs ss (fixups_from indices i o rs ss)
 fixups_are space i o indices [] [] fits planned all sited leads = tt
 fixups_are space i o indices [] (s ∷ ss) fits planned all sited leads = absurd sited
 fixups_are space i o indices (r ∷ rs) [] fits planned all sited leads = absurd sited
@@ -104,10 +104,10 @@ fixups_are space i o indices (r ∷ rs) (s ∷ ss) fits planned all sited leads 
       fixups_are space i o indices rs ss fits planned each.1 sited.1 leads,
     )
 
-fixups_push : (space : List FunctionOrigin) (j i : ℕ) (objects : List Object) (o : Object) (fs front : List Fixup) → j + length objects ≡ i → AreFixups space j objects fs → AreFixupsIn space i o o.code_relocations o.code_sites front → AreFixups space j (objects ++ o ∷ []) (fs ++ front)
+fixups_push : (space : List FunctionOrigin) (j i : ℕ) (objects : List Object) (o : Object) (fs front : List Fixup) → j + length objects ≡ i → AreFixups space j objects fs → AreFixupsIn (fixup_context space i o) o.code_relocations o.code_sites front → AreFixups space j (objects ++ o ∷ []) (fs ++ front)
 fixups_push space j i [] o fs front at h new =
     let z : i ≡ j = omega (arith, at) in
-    (front, [], rw h (sym (append-nil front)), subst (λ (n : ℕ). AreFixupsIn space n o o.code_relocations o.code_sites front) z new, refl)
+    (front, [], rw h (sym (append-nil front)), subst (λ (n : ℕ). AreFixupsIn (fixup_context space n o) o.code_relocations o.code_sites front) z new, refl)
 fixups_push space j i (p ∷ objects) o fs front at (a, b, parts, first, rest) new =
     (a, b ++ front, rw parts (append_assoc a b front), first, fixups_push space (j + 1) i objects o b front (omega (arith, at)) rest new)
 
@@ -195,12 +195,12 @@ merges_done objects i merger maps le h =
 
 pub record SpacesOn (objects : List Object) (types : List FunctionType) (i : ℕ) (functions : List OutputFunction) : Type 0 where
   pub room : length functions ≤ max_entries
-  pub origins : map origin_of functions ++ functions_of i (drop i objects) ≡ function_space objects
+  pub origins : map origin_of functions ++ object_functions i (drop i objects) ≡ function_space objects
   pub typed : AllByRecursion (HasItsType objects types) functions
 
-functions_step : (objects : List Object) (i : ℕ) (o : Object) (front : List FunctionOrigin) → i < length objects → o ≡ get_or objects i o → front ++ functions_of i (drop i objects) ≡ function_space objects
-    → front ++ (functions_from i 0 o.functions ++ functions_of (i + 1) (drop (i + 1) objects)) ≡ function_space objects
-functions_step objects i o front lt is h = sym (ap (λ (os : List Object). front ++ functions_of i os) (splits objects i o lt is)) ∙ h
+functions_step : (objects : List Object) (i : ℕ) (o : Object) (front : List FunctionOrigin) → i < length objects → o ≡ get_or objects i o → front ++ object_functions i (drop i objects) ≡ function_space objects
+    → front ++ (functions_from i 0 o.functions ++ object_functions (i + 1) (drop (i + 1) objects)) ≡ function_space objects
+functions_step objects i o front lt is h = sym (ap (λ (os : List Object). front ++ object_functions i os) (splits objects i o lt is)) ∙ h
 
 pub spaces_on : (objects : List Object) (types : List FunctionType) (i : ℕ) (o : Object) (indices : List ℕ) (functions : List OutputFunction) → i < length objects → o ≡ get_or objects i o → IsFitting o → LeadsToTypes types o indices → length functions + length o.functions ≤ max_entries
     → SpacesOn objects types i functions → SpacesOn objects types (i + 1) (functions ++ outputs_from i 0 o.functions indices)
@@ -210,19 +210,19 @@ spaces_on objects types i o indices functions lt is fits leads room h =
     map-append origin_of functions more ∙ ap (λ (fs : List FunctionOrigin). map origin_of functions ++ fs) (outputs_origins i 0 o.functions indices) in
     record {
       room = omega (arith, room, ap length origins, length-map (functions ++ more) origin_of, length-append (map origin_of functions) (functions_from i 0 o.functions), length-map functions origin_of, length-functions_from i 0 o.functions);
-      origins = rw origins (append_assoc (map origin_of functions) (functions_from i 0 o.functions) (functions_of (i + 1) (drop (i + 1) objects)) ∙ functions_step objects i o (map origin_of functions) lt is h.origins);
+      origins = rw origins (append_assoc (map origin_of functions) (functions_from i 0 o.functions) (object_functions (i + 1) (drop (i + 1) objects)) ∙ functions_step objects i o (map origin_of functions) lt is h.origins);
       typed = all_append (HasItsType objects types) functions more h.typed
           (typed_outputs objects types i 0 o indices o.functions (object_at objects i o lt is) (λ j ty e. let z : 0 + j ≡ j = omega arith in rw z e) (functions_typed o fits) leads);
     }
 
 pub spaces_crowded : (objects : List Object) (types : List FunctionType) (i : ℕ) (o : Object) (functions : List OutputFunction) → i < length objects → o ≡ get_or objects i o → SpacesOn objects types i functions → max_entries < length functions + length o.functions → max_entries < length (function_space objects)
 spaces_crowded objects types i o functions lt is h over =
-    let rest = functions_of (i + 1) (drop (i + 1) objects) in
+    let rest = object_functions (i + 1) (drop (i + 1) objects) in
     omega (arith, over, ap length (functions_step objects i o (map origin_of functions) lt is h.origins), length-append (map origin_of functions) (functions_from i 0 o.functions ++ rest), length-append (functions_from i 0 o.functions) rest, length-functions_from i 0 o.functions, length-map functions origin_of)
 
 pub spaces_done : (objects : List Object) (types : List FunctionType) (i : ℕ) (functions : List OutputFunction) → length objects ≤ i → SpacesOn objects types i functions → map origin_of functions ≡ function_space objects
 spaces_done objects types i functions le h =
-    sym (ap (λ (os : List Object). map origin_of functions ++ functions_of i os) (drop_all i objects le) ∙ append-nil (map origin_of functions)) ∙ h.origins
+    sym (ap (λ (os : List Object). map origin_of functions ++ object_functions i os) (drop_all i objects le) ∙ append-nil (map origin_of functions)) ∙ h.origins
 
 -- ---- the maps
 
@@ -244,7 +244,7 @@ range_at a (suc k) (suc j) lt = let z : a + suc j ≡ a + 1 + j = omega arith in
 
 pub record MapsOn (objects : List Object) (i base : ℕ) (maps : List (List ℕ)) : Type 0 where
   pub front : List FunctionOrigin
-  pub is_front : front ++ functions_of i (drop i objects) ≡ function_space objects
+  pub is_front : front ++ object_functions i (drop i objects) ≡ function_space objects
   pub len : length front ≡ base
   pub lead : AreMaps (function_space objects) 0 (take i objects) maps
 
@@ -259,7 +259,7 @@ maps_push space j i (p ∷ objects) o (n ∷ maps) m at h new = (h.0, maps_push 
 
 pub maps_room : (objects : List Object) (i : ℕ) (o : Object) (base : ℕ) (maps : List (List ℕ)) → i < length objects → o ≡ get_or objects i o → length (function_space objects) ≤ max_entries → MapsOn objects i base maps → base + length o.functions ≤ max_entries
 maps_room objects i o base maps lt is room h =
-    let rest = functions_of (i + 1) (drop (i + 1) objects) in
+    let rest = object_functions (i + 1) (drop (i + 1) objects) in
     omega (arith, room, h.len, ap length (functions_step objects i o h.front lt is h.is_front), length-append h.front (functions_from i 0 o.functions ++ rest), length-append (functions_from i 0 o.functions) rest, length-functions_from i 0 o.functions)
 
 leads_to_places : (front : List FunctionOrigin) (i : ℕ) (o : Object) (rest : List FunctionOrigin) → imported_functions o ≡ 0 → LeadsToPlaces (front ++ (functions_from i 0 o.functions ++ rest)) i o (range_with_len (length front) (length o.functions))
@@ -272,7 +272,7 @@ leads_to_places front i o rest none = record {
 
 pub maps_on : (objects : List Object) (i : ℕ) (o : Object) (base : ℕ) (maps : List (List ℕ)) (m : List ℕ) → i < length objects → o ≡ get_or objects i o → imported_functions o ≡ 0 → m ≡ range_with_len base (length o.functions) → MapsOn objects i base maps → MapsOn objects (i + 1) (base + length o.functions) (maps ++ m ∷ [])
 maps_on objects i o base maps m lt is none m-is h =
-    let rest = functions_of (i + 1) (drop (i + 1) objects) in
+    let rest = object_functions (i + 1) (drop (i + 1) objects) in
     let space = functions_step objects i o h.front lt is h.is_front in
     let leads : LeadsToPlaces (function_space objects) i o m =
     rw (m-is, ← h.len) (subst (λ (fs : List FunctionOrigin). LeadsToPlaces fs i o (range_with_len (length h.front) (length o.functions))) space (leads_to_places h.front i o rest none)) in
@@ -299,10 +299,10 @@ maps_length space j [] (n ∷ maps) h = absurd h
 maps_length space j (p ∷ objects) [] h = absurd h
 maps_length space j (p ∷ objects) (n ∷ maps) h = ap suc (maps_length space (j + 1) objects maps h.1)
 
-functions_within : (j : ℕ) (objects : List Object) (i : ℕ) (o : Object) → slice_get objects i ≡ Some o → length o.functions ≤ length (functions_of j objects)
+functions_within : (j : ℕ) (objects : List Object) (i : ℕ) (o : Object) → slice_get objects i ≡ Some o → length o.functions ≤ length (object_functions j objects)
 functions_within j [] i o here = absurd cc
-functions_within j (p ∷ objects) zero o here = let a : p ≡ o = cc in rw (← a) (omega (arith, length-append (functions_from j 0 p.functions) (functions_of (j + 1) objects), length-functions_from j 0 p.functions))
-functions_within j (p ∷ objects) (suc i) o here = omega (arith, functions_within (j + 1) objects i o here, length-append (functions_from j 0 p.functions) (functions_of (j + 1) objects))
+functions_within j (p ∷ objects) zero o here = let a : p ≡ o = cc in rw (← a) (omega (arith, length-append (functions_from j 0 p.functions) (object_functions (j + 1) objects), length-functions_from j 0 p.functions))
+functions_within j (p ∷ objects) (suc i) o here = omega (arith, functions_within (j + 1) objects i o here, length-append (functions_from j 0 p.functions) (object_functions (j + 1) objects))
 
 -- ---- the fixups
 
@@ -333,11 +333,11 @@ fixups_done objects i fixups le h = subst (λ (os : List Object). AreFixups (fun
 
 -- ---- bodies and debug sections
 
-pub bodies_on : (objects : List Object) (i : ℕ) (o : Object) (bodies whole : List Body) → i < length objects → o ≡ get_or objects i o → bodies ++ bodies_of i (drop i objects) ≡ whole → (bodies ++ map (body_in i) o.bodies) ++ bodies_of (i + 1) (drop (i + 1) objects) ≡ whole
-bodies_on objects i o bodies whole lt is h = append_assoc bodies (map (body_in i) o.bodies) (bodies_of (i + 1) (drop (i + 1) objects)) ∙ sym (ap (λ (os : List Object). bodies ++ bodies_of i os) (splits objects i o lt is)) ∙ h
+pub bodies_on : (objects : List Object) (i : ℕ) (o : Object) (bodies whole : List Body) → i < length objects → o ≡ get_or objects i o → bodies ++ object_bodies i (drop i objects) ≡ whole → (bodies ++ map (body_in i) o.bodies) ++ object_bodies (i + 1) (drop (i + 1) objects) ≡ whole
+bodies_on objects i o bodies whole lt is h = append_assoc bodies (map (body_in i) o.bodies) (object_bodies (i + 1) (drop (i + 1) objects)) ∙ sym (ap (λ (os : List Object). bodies ++ object_bodies i os) (splits objects i o lt is)) ∙ h
 
-pub debug_on : (objects : List Object) (i : ℕ) (o : Object) (sections whole : List DebugInput) → i < length objects → o ≡ get_or objects i o → sections ++ debug_of i (drop i objects) ≡ whole → (sections ++ map (debug_in i) o.debug_sections) ++ debug_of (i + 1) (drop (i + 1) objects) ≡ whole
-debug_on objects i o sections whole lt is h = append_assoc sections (map (debug_in i) o.debug_sections) (debug_of (i + 1) (drop (i + 1) objects)) ∙ sym (ap (λ (os : List Object). sections ++ debug_of i os) (splits objects i o lt is)) ∙ h
+pub debug_on : (objects : List Object) (i : ℕ) (o : Object) (sections whole : List DebugInput) → i < length objects → o ≡ get_or objects i o → sections ++ object_debug_sections i (drop i objects) ≡ whole → (sections ++ map (debug_in i) o.debug_sections) ++ object_debug_sections (i + 1) (drop (i + 1) objects) ≡ whole
+debug_on objects i o sections whole lt is h = append_assoc sections (map (debug_in i) o.debug_sections) (object_debug_sections (i + 1) (drop (i + 1) objects)) ∙ sym (ap (λ (os : List Object). sections ++ object_debug_sections i os) (splits objects i o lt is)) ∙ h
 
 -- ---- the step
 

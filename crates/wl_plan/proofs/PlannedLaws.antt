@@ -14,9 +14,9 @@ use Rattle.wl_linking.specs.declared.sites.Site.{Site}
 use Rattle.wl_linking.specs.declared.symbols.WasmSymbolKind.{WasmSymbolKind}
 use Rattle.wl_linking.specs.declared.symbols.WasmSymbolKind.TheVariants.{Func, Data, Global, Section, Event, Table}
 use Rattle.wl_plan.specs.Types.{types_exist}
-use Rattle.wl_plan.specs.Space.{globals_of}
+use Rattle.wl_plan.specs.Space.{object_globals}
 use Rattle.wl_plan.specs.Maps.{imported_functions}
-use Rattle.wl_plan.specs.Planned.{are_some, is_unplanned_kind, is_unplanned_symbol, is_function_index, is_function_kind, is_function, is_unplanned_relocation, unplanned, is_planned, AllPlanned, IsNotYet}
+use Rattle.wl_plan.specs.Planned.{are_some, is_unplanned_kind, is_unplanned_symbol, is_function_index, is_function_kind, is_function_symbol, is_unplanned_relocation, unplanned, is_planned, AllPlanned, IsNotYet}
 use Rattle.wl_linking.specs.Steps.{Clear}
 use Rattle.wl_module.specs.declared.error.Form.TheVariants.{NotYet}
 use Rattle.wl_linking.specs.declared.error.LinkError.TheVariants.{Unsupported}
@@ -74,7 +74,7 @@ pub nothing_imported : (o : Object) → is_planned o ≡ true → imported_funct
 nothing_imported o planned = rw (holds o planned).imports refl
 
 -- no object has globals of its own
-pub no_globals : (i : ℕ) (objects : List Object) → AllPlanned objects → globals_of i objects ≡ []
+pub no_globals : (i : ℕ) (objects : List Object) → AllPlanned objects → object_globals i objects ≡ []
 no_globals i [] all = refl
 no_globals i (o ∷ objects) all =
     let each = both (is_planned o) (list_all is_planned objects) all in
@@ -105,12 +105,12 @@ pub record NamesFunction (o : Object) (r : WasmRelocation) : Type 0 where
 
 pub function_named : (o : Object) (r : WasmRelocation) → IsFitting o → is_planned o ≡ true → is_unplanned_relocation o.symbols r ≡ false → NamesFunction o r
 function_named o r fits planned here =
-    by_symbol (slice_get o.symbols r.index) refl (not_not (is_function (slice_get o.symbols r.index)) (neither (not (is_function_index r.ty)) (not (is_function (slice_get o.symbols r.index))) here).1)
+    by_symbol (slice_get o.symbols r.index) refl (not_not (is_function_symbol (slice_get o.symbols r.index)) (neither (not (is_function_index r.ty)) (not (is_function_symbol (slice_get o.symbols r.index))) here).1)
   where
     not_not : (b : Bool) → not b ≡ false → b ≡ true
     not_not b e = not_true b e
 
-    by_symbol : (found : Option Symbol) → slice_get o.symbols r.index ≡ found → is_function found ≡ true → NamesFunction o r
+    by_symbol : (found : Option Symbol) → slice_get o.symbols r.index ≡ found → is_function_symbol found ≡ true → NamesFunction o r
     by_symbol None at is = absurd cc
     by_symbol (Some s) at is =
         let own = function_below o s s.kind is (none_at is_unplanned_symbol o.symbols r.index s (holds o planned).symbols at) (all_at (symbol_exists (spaces_of o)) o.symbols r.index s (symbols_exist o fits) at) (nothing_imported o planned) in

@@ -23,7 +23,7 @@ use Rattle.wl_plan.specs.Globals.{StartsAs, IsRightGlobal}
 use Rattle.wl_plan.specs.Merging.{LeadsToTypes, AreLed}
 use Rattle.wl_plan.specs.Maps.{imported_functions, LeadsToPlaces, AreMaps}
 use Rattle.wl_plan.specs.Planned.{is_planned, is_unplanned_relocation, AllPlanned}
-use Rattle.wl_plan.specs.Fixups.{target_of, IsValue, IsFixup, AreFixupsIn, AreFixups}
+use Rattle.wl_plan.specs.Fixups.{fixup_context, bound_origin, IsValue, IsFixup, AreFixupsIn, AreFixups}
 use Rattle.wl_plan.specs.Plan.{HasItsType, function_origins, global_origins, type_maps, function_maps, HasEntities, HasPlaces, HasSpaces, HasBodies, IsPlan}
 use Rattle.wl_plan.specs.declared.layout.FunctionOrigin.{FunctionOrigin}
 use Rattle.wl_plan.specs.declared.layout.FunctionOrigin.TheVariants as origin
@@ -177,12 +177,12 @@ make_fixup : ℕ → FixupPlace → ℕ → ℕ → RelocationType → FixupTo �
 make_fixup object place unit position ty to = record { object = object; place = place; unit = unit; position = position; ty = ty; to = to }
 
 -- a symbol of a planned relocation is bound to something
-bound_to : (i : ℕ) (o : Object) (r : WasmRelocation) → IsFitting o → is_planned o ≡ true → is_unplanned_relocation o.symbols r ≡ false → (e : FunctionOrigin) × (target_of i o r ≡ Some e)
+bound_to : (i : ℕ) (o : Object) (r : WasmRelocation) → IsFitting o → is_planned o ≡ true → is_unplanned_relocation o.symbols r ≡ false → (e : FunctionOrigin) × (bound_origin i o r ≡ Some e)
 bound_to i o r fits planned here =
     let n = function_named o r fits planned here in
     (origin.Object i (n.symbol.index - imported_functions o), rw (n.at, n.defined) refl)
 
-same_value : (space : List FunctionOrigin) (i : ℕ) (o : Object) (r : WasmRelocation) (e : FunctionOrigin) (a b : FixupTo) → StandOnce space → target_of i o r ≡ Some e → IsValue space i o r a → IsValue space i o r b → a ≡ b
+same_value : (space : List FunctionOrigin) (i : ℕ) (o : Object) (r : WasmRelocation) (e : FunctionOrigin) (a b : FixupTo) → StandOnce space → bound_origin i o r ≡ Some e → IsValue (fixup_context space i o) r a → IsValue (fixup_context space i o) r b → a ≡ b
 same_value space i o r e (Value v x) (Value w y) once target p q =
     let same : v ≡ w = once v w e (p.1 ∙ target) (q.1 ∙ target) in
     let left : x ≡ y = p.0 ∙ sym q.0 in
@@ -190,14 +190,14 @@ same_value space i o r e (Value v x) (Value w y) once target p q =
 same_value space i o r e (Value v x) (Deferred offset) once target p q = absurd q
 same_value space i o r e (Deferred offset) b once target p q = absurd p
 
-same_fixup : (space : List FunctionOrigin) (i : ℕ) (o : Object) (r : WasmRelocation) (s : Site) (e : FunctionOrigin) (f g : Fixup) → StandOnce space → target_of i o r ≡ Some e → IsFixup space i o r s f → IsFixup space i o r s g → f ≡ g
+same_fixup : (space : List FunctionOrigin) (i : ℕ) (o : Object) (r : WasmRelocation) (s : Site) (e : FunctionOrigin) (f g : Fixup) → StandOnce space → bound_origin i o r ≡ Some e → IsFixup (fixup_context space i o) r s f → IsFixup (fixup_context space i o) r s g → f ≡ g
 unfolding make_fixup
 same_fixup space i o r s e f g once target p q =
     let to = same_value space i o r e f.to g.to once target p.value q.value in
     let h : make_fixup f.object f.place f.unit f.position f.ty f.to ≡ make_fixup g.object g.place g.unit g.position g.ty g.to =
     rw (p.object, p.place, p.unit, p.position, p.ty, q.object, q.place, q.unit, q.position, q.ty, to) refl in h
 
-same_fixups_in : (space : List FunctionOrigin) (i : ℕ) (o : Object) (rs : List WasmRelocation) (ss : List Site) (fs gs : List Fixup) → StandOnce space → IsFitting o → is_planned o ≡ true → list_any (is_unplanned_relocation o.symbols) rs ≡ false → AreFixupsIn space i o rs ss fs → AreFixupsIn space i o rs ss gs → fs ≡ gs
+same_fixups_in : (space : List FunctionOrigin) (i : ℕ) (o : Object) (rs : List WasmRelocation) (ss : List Site) (fs gs : List Fixup) → StandOnce space → IsFitting o → is_planned o ≡ true → list_any (is_unplanned_relocation o.symbols) rs ≡ false → AreFixupsIn (fixup_context space i o) rs ss fs → AreFixupsIn (fixup_context space i o) rs ss gs → fs ≡ gs
 same_fixups_in space i o [] [] [] [] once fits planned all a b = refl
 same_fixups_in space i o [] [] [] (g ∷ gs) once fits planned all a b = absurd b
 same_fixups_in space i o [] [] (f ∷ fs) gs once fits planned all a b = absurd a

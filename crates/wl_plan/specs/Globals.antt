@@ -23,9 +23,9 @@ abbrev pub IsConstant : ℤ → List ℕ → Type 0
 IsConstant number body = AppendsSleb number (0x41 ∷ []) body
 
 -- what a global that the linker makes starts with: the stack pointer at the top of the stack, below which no data lies
-abbrev pub IsMade : MadeGlobal → DefinedGlobal → Type 0
-IsMade StackPointer g = (g.ty ≡ variable_i32) × IsConstant (pos DEFAULT_STACK_SIZE) g.body × (g.owned ≡ true)
-IsMade _ g = ⊥
+abbrev pub IsMadeGlobal : MadeGlobal → DefinedGlobal → Type 0
+IsMadeGlobal StackPointer g = (g.ty ≡ variable_i32) × IsConstant (pos DEFAULT_STACK_SIZE) g.body × (g.owned ≡ true)
+IsMadeGlobal _ g = ⊥
 
 -- a global that an object defines is as that has it
 abbrev pub global_in : List Object → ℕ → ℕ → Option DefinedGlobal
@@ -34,7 +34,7 @@ global_in objects object unit = option_and_then (λ o. slice_get o.globals unit)
 -- what a global of the output starts with, by where it is from
 abbrev pub StartsAs : List Object → GlobalOrigin → DefinedGlobal → Type 0
 StartsAs objects (global_origin.Object object unit) g = global_in objects object unit ≡ Some g
-StartsAs objects (global_origin.Made made) g = IsMade made g
+StartsAs objects (global_origin.Made made) g = IsMadeGlobal made g
 
 -- the global is what it is to be
 abbrev pub IsRightGlobal : List Object → PlannedGlobal → Type 0

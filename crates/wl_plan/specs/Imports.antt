@@ -9,20 +9,20 @@ pub record PlannedImport : Type 0 where
   pub name : List ℕ
   pub entity : OutputImportEntity
 
-abbrev pub is_function : OutputImportEntity → Bool
-is_function (Function type_index) = true
-is_function (Global ty) = false
-is_function (Memory m) = false
+abbrev pub is_function_entity : OutputImportEntity → Bool
+is_function_entity (Function type_index) = true
+is_function_entity (Global ty) = false
+is_function_entity (Memory m) = false
 
-abbrev pub is_global : OutputImportEntity → Bool
-is_global (Function type_index) = false
-is_global (Global ty) = true
-is_global (Memory m) = false
+abbrev pub is_global_entity : OutputImportEntity → Bool
+is_global_entity (Function type_index) = false
+is_global_entity (Global ty) = true
+is_global_entity (Memory m) = false
 
 -- a function is imported
 abbrev pub is_function_import : PlannedImport → Bool
-is_function_import i = is_function i.entity
+is_function_import i = is_function_entity i.entity
 
 -- a global is imported
 abbrev pub is_global_import : PlannedImport → Bool
-is_global_import i = is_global i.entity
+is_global_import i = is_global_entity i.entity

@@ -96,19 +96,19 @@ HasFixups link layout fixups = AreFixups (function_origins layout.function_type_
 -- ---- bodies
 
 -- the bodies of the objects, the first of which has number i
-abbrev pub bodies_of : ℕ → List Object → List Body
-bodies_of i [] = []
-bodies_of i (o ∷ objects) = map (λ (body : Body). record body { object_index = i }) o.bodies ++ bodies_of (i + 1) objects
+abbrev pub object_bodies : ℕ → List Object → List Body
+object_bodies i [] = []
+object_bodies i (o ∷ objects) = map (λ (body : Body). record body { object_index = i }) o.bodies ++ object_bodies (i + 1) objects
 
 -- the debug sections of the objects, the first of which has number i
-abbrev pub debug_of : ℕ → List Object → List DebugInput
-debug_of i [] = []
-debug_of i (o ∷ objects) = map (λ (section : DebugInput). record section { object_index = i }) o.debug_sections ++ debug_of (i + 1) objects
+abbrev pub object_debug_sections : ℕ → List Object → List DebugInput
+object_debug_sections i [] = []
+object_debug_sections i (o ∷ objects) = map (λ (section : DebugInput). record section { object_index = i }) o.debug_sections ++ object_debug_sections (i + 1) objects
 
 -- a body for each function, and the debug sections beside them
 pub record HasBodies (link : Link) (layout : WasmLayout) : Type 0 where
-  pub bodies : layout.function_bodies ≡ bodies_of 0 link.objects
-  pub debug_sections : layout.debug_sections ≡ debug_of 0 link.objects
+  pub bodies : layout.function_bodies ≡ object_bodies 0 link.objects
+  pub debug_sections : layout.debug_sections ≡ object_debug_sections 0 link.objects
 
 -- ---- the plan
 

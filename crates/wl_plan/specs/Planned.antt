@@ -43,13 +43,13 @@ abbrev pub is_function_kind : WasmSymbolKind → Bool
 is_function_kind Func = true
 is_function_kind _ = false
 
-abbrev pub is_function : Option Symbol → Bool
-is_function None = false
-is_function (Some s) = is_function_kind s.kind
+abbrev pub is_function_symbol : Option Symbol → Bool
+is_function_symbol None = false
+is_function_symbol (Some s) = is_function_kind s.kind
 
 -- a relocation that doesn't take the number of a function in five bytes
 abbrev pub is_unplanned_relocation : List Symbol → WasmRelocation → Bool
-is_unplanned_relocation symbols r = not (is_function_index r.ty) || not (is_function (slice_get symbols r.index))
+is_unplanned_relocation symbols r = not (is_function_index r.ty) || not (is_function_symbol (slice_get symbols r.index))
 
 -- what an object may not hold yet, a test each
 abbrev pub unplanned : Object → List Bool

@@ -24,13 +24,13 @@ functions_from object k [] = []
 functions_from object k (ty ∷ functions) = origin.Object object k ∷ functions_from object (k + 1) functions
 
 -- the functions of these objects, the first of which has number i
-abbrev pub functions_of : ℕ → List Object → List FunctionOrigin
-functions_of i [] = []
-functions_of i (o ∷ objects) = functions_from i 0 o.functions ++ functions_of (i + 1) objects
+abbrev pub object_functions : ℕ → List Object → List FunctionOrigin
+object_functions i [] = []
+object_functions i (o ∷ objects) = functions_from i 0 o.functions ++ object_functions (i + 1) objects
 
 -- the function space: the functions of all objects
 abbrev pub function_space : List Object → List FunctionOrigin
-function_space objects = functions_of 0 objects
+function_space objects = object_functions 0 objects
 
 -- ---- globals
 
@@ -44,10 +44,10 @@ globals_from object k [] = []
 globals_from object k (g ∷ globals) = global_origin.Object object k ∷ globals_from object (k + 1) globals
 
 -- the globals of these objects, the first of which has number i
-abbrev pub globals_of : ℕ → List Object → List GlobalOrigin
-globals_of i [] = []
-globals_of i (o ∷ objects) = globals_from i 0 o.globals ++ globals_of (i + 1) objects
+abbrev pub object_globals : ℕ → List Object → List GlobalOrigin
+object_globals i [] = []
+object_globals i (o ∷ objects) = globals_from i 0 o.globals ++ object_globals (i + 1) objects
 
 -- the global space: what the linker makes, and then the globals of all objects
 abbrev pub global_space : List Object → List GlobalOrigin
-global_space objects = made_globals ++ globals_of 0 objects
+global_space objects = made_globals ++ object_globals 0 objects

@@ -1,7 +1,7 @@
 //! The bodies of the functions, and the debug sections beside them.
 
 ghost use Rattle.std.specs.Prelude.{◌≡◌, ◌++◌, map, OnOk, IfOk};
-ghost use Rattle.wl_plan.specs.Plan.{bodies_of, debug_of};
+ghost use Rattle.wl_plan.specs.Plan.{object_bodies, object_debug_sections};
 ghost use Rattle.wl_plan.specs.Building.{body_in, debug_in};
 
 use std::alloc::{AllocError, Global};
@@ -67,7 +67,7 @@ pub(crate) fn all_bodies<'a>(
     alloc: Global,
     files: &[File<'a>],
 ) -> Result<Vec<WasmFunctionBody<'a>>, AllocError>
-    ensures { IfOk result (λ bodies. bodies.items ≡ bodies_of 0 files.now) }
+    ensures { IfOk result (λ bodies. bodies.items ≡ object_bodies 0 files.now) }
 {
     let mut bodies = Vec::new(alloc);
     for (object, file) in files.iter().enumerate() {
@@ -81,7 +81,7 @@ pub(crate) fn all_debug_sections<'a>(
     alloc: Global,
     files: &[File<'a>],
 ) -> Result<Vec<DebugSectionInput<'a>>, AllocError>
-    ensures { IfOk result (λ sections. sections.items ≡ debug_of 0 files.now) }
+    ensures { IfOk result (λ sections. sections.items ≡ object_debug_sections 0 files.now) }
 {
     let mut sections = Vec::new(alloc);
     for (object, file) in files.iter().enumerate() {

@@ -4,7 +4,7 @@ ghost use Rattle.std.specs.Prelude.{◌≡◌, IfOk, pos, true};
 ghost use Rattle.std.specs.Cow.{cow_slice_items};
 ghost use Rattle.wl_module.specs.Slices.{is_owned};
 ghost use Rattle.wl_plan.specs.Space.{made_globals};
-ghost use Rattle.wl_plan.specs.Globals.{IsConstant, IsMade, AreRightGlobals};
+ghost use Rattle.wl_plan.specs.Globals.{IsConstant, IsMadeGlobal, AreRightGlobals};
 ghost use Rattle.wl_plan.specs.Plan.{global_origins};
 ghost use Rattle.wl_plan.specs.declared.layout.MadeGlobal.TheVariants.{StackPointer as StackPointerCase};
 
@@ -12,7 +12,7 @@ use crate::layout::{GlobalOrigin, MadeGlobal, PlannedGlobal};
 use std::alloc::{AllocError, Global};
 use std::borrow::CowSlice;
 use wl_bytes::push_sleb;
-use wl_linking::Items;
+use wl_linking::ItemList;
 use wl_module::{GlobalType, OutputGlobal, ValType};
 use wl_symbols::DEFAULT_STACK_SIZE;
 
@@ -32,7 +32,7 @@ fn constant<'a>(alloc: Global, number: u32) -> Result<CowSlice<'a, u8>, AllocErr
 
 /// The stack pointer: at the top of the stack, below which no data lies.
 fn stack_pointer<'a>(alloc: Global) -> Result<OutputGlobal<'a>, AllocError>
-    ensures { IfOk result (IsMade StackPointerCase) }
+    ensures { IfOk result (IsMadeGlobal StackPointerCase) }
 {
     Ok(OutputGlobal {
         ty: GlobalType {
@@ -44,7 +44,7 @@ fn stack_pointer<'a>(alloc: Global) -> Result<OutputGlobal<'a>, AllocError>
 }
 
 /// The globals of the output: those that the linker makes.
-pub(crate) fn made_globals<'a>(alloc: Global) -> Result<Items<PlannedGlobal<'a>>, AllocError>
+pub(crate) fn made_globals<'a>(alloc: Global) -> Result<ItemList<PlannedGlobal<'a>>, AllocError>
     ensures origins { IfOk result (λ globals. global_origins globals ≡ made_globals) }
     ensures started { IfOk result AreRightGlobals }
 {
@@ -53,5 +53,5 @@ pub(crate) fn made_globals<'a>(alloc: Global) -> Result<Items<PlannedGlobal<'a>>
         global: stack_pointer(alloc)?,
         origin: GlobalOrigin::Made(MadeGlobal::StackPointer),
     })?;
-    Ok(Items::new(globals))
+    Ok(ItemList::new(globals))
 }

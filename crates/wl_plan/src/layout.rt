@@ -6,7 +6,7 @@ ghost use Rattle.wl_plan.specs.Imports.{is_function_import, is_global_import};
 
 use std::alloc::Global;
 use std::marker::Model;
-use wl_linking::{DebugSectionInput, Items, RelocationType};
+use wl_linking::{DebugSectionInput, ItemList, RelocationType};
 use wl_module::{
     FuncType, GlobalType, MemoryType, OutputExport, OutputGlobal, TableType, WasmFunctionBody,
 };
@@ -142,36 +142,36 @@ pub struct Fixup {
 #[derive(Drop)]
 pub struct WasmObjectIndexMap {
     /// The output type of each type, 4294967295 where the output has no use for it.
-    pub type_indices: Items<u32>,
+    pub type_indices: ItemList<u32>,
     /// The index of each function in the function space, imported ones first.
-    pub function_indices: Items<u32>,
+    pub function_indices: ItemList<u32>,
 }
 
 /// What the output module holds, in the order of its spaces.
 #[derive(Drop)]
 pub struct WasmLayout<'a> {
     /// The types, each once.
-    pub output_types: Items<FuncType>,
+    pub output_types: ItemList<FuncType>,
     /// What is imported: functions, globals, and then the memory.
-    pub imports: Items<OutputImport<'a>>,
+    pub imports: ItemList<OutputImport<'a>>,
     /// The functions that aren't imported, with their types.
-    pub function_type_indices: Items<OutputFunction>,
+    pub function_type_indices: ItemList<OutputFunction>,
     /// Their bodies.
-    pub function_bodies: Items<WasmFunctionBody<'a>>,
+    pub function_bodies: ItemList<WasmFunctionBody<'a>>,
     /// The globals that aren't imported.
-    pub globals: Items<PlannedGlobal<'a>>,
+    pub globals: ItemList<PlannedGlobal<'a>>,
     /// The memory, where it isn't imported.
     pub memory: Option<MemoryType>,
     /// The table, where there is one.
     pub table: Option<TableType>,
     /// What others may refer to.
-    pub exports: Items<OutputExport<'a>>,
+    pub exports: ItemList<OutputExport<'a>>,
     /// The function that runs at the start, where there is one.
     pub start_function: Option<u32>,
     /// The debug sections of all objects, by object and place.
-    pub debug_sections: Items<DebugSectionInput<'a>>,
+    pub debug_sections: ItemList<DebugSectionInput<'a>>,
     /// Where the things of each object stand, by the object's number.
-    pub object_index_maps: Items<WasmObjectIndexMap>,
+    pub object_index_maps: ItemList<WasmObjectIndexMap>,
 }
 
 /// The plan of one output module.
@@ -181,7 +181,7 @@ pub struct LinkPlan<'a> {
     pub layout: WasmLayout<'a>,
     /// What each kept relocation becomes: object by object, those in code first, in order of the
     /// fields.
-    pub fixups: Items<Fixup>,
+    pub fixups: ItemList<Fixup>,
 }
 
 /// How many functions and how many globals the output imports.

@@ -9,10 +9,10 @@ ghost use Rattle.wl_plan.specs.Plan.{type_maps, function_maps};
 
 use crate::layout::WasmObjectIndexMap;
 use std::alloc::{AllocError, Global};
-use wl_linking::{File, Items};
+use wl_linking::{File, ItemList};
 
 /// So many indices in a row, from `base` on.
-fn indices_from(alloc: Global, base: usize, count: usize) -> Result<Items<u32>, AllocError>
+fn indices_from(alloc: Global, base: usize, count: usize) -> Result<ItemList<u32>, AllocError>
     requires { base + count ≤ max_entries }
     ensures { IfOk result (λ map. map ≡ range_with_len base count) }
 {
@@ -20,7 +20,7 @@ fn indices_from(alloc: Global, base: usize, count: usize) -> Result<Items<u32>, 
     for unit in 0..count {
         map.push((base + unit) as u32)?;
     }
-    Ok(Items::new(map))
+    Ok(ItemList::new(map))
 }
 
 /// For each object, where its types went and the index of each of its functions in the space. No
@@ -28,8 +28,8 @@ fn indices_from(alloc: Global, base: usize, count: usize) -> Result<Items<u32>, 
 pub(crate) fn index_maps(
     alloc: Global,
     files: &[File<'_>],
-    type_indices: Vec<Items<u32>>,
-) -> Result<Items<WasmObjectIndexMap>, AllocError>
+    type_indices: Vec<ItemList<u32>>,
+) -> Result<ItemList<WasmObjectIndexMap>, AllocError>
     requires planned { AllPlanned files.now }
     requires room { length (function_space files.now) ≤ max_entries }
     requires as_many { length type_indices.items ≡ length files.now }
@@ -47,5 +47,5 @@ pub(crate) fn index_maps(
         })?;
         base += count;
     }
-    Ok(Items::new(maps))
+    Ok(ItemList::new(maps))
 }

@@ -11,7 +11,7 @@ ghost use Rattle.wl_plan.specs.declared.types.TheConstants.{WASM_DEAD_INDEX};
 
 use crate::types::{TypeMerger, WASM_DEAD_INDEX};
 use std::alloc::{AllocError, Global};
-use wl_linking::{File, Items, LinkError};
+use wl_linking::{File, ItemList, LinkError};
 use wl_module::FuncType;
 
 /// Which of so many types a function has.
@@ -68,7 +68,7 @@ fn merge_types(
 #[derive(Drop)]
 pub(crate) struct MergedTypes {
     pub(crate) merger: TypeMerger,
-    pub(crate) indices: Vec<Items<u32>>,
+    pub(crate) indices: Vec<ItemList<u32>>,
 }
 
 /// Merges the types of the functions of all objects.
@@ -84,7 +84,7 @@ pub(crate) fn merge_all(alloc: Global, files: &[File<'_>]) -> Result<MergedTypes
     let mut indices = Vec::new(alloc);
     for file in files {
         let local = merge_types(alloc, &mut merger, file)?;
-        indices.push(Items::new(local))?;
+        indices.push(ItemList::new(local))?;
     }
     Ok(MergedTypes { merger, indices })
 }

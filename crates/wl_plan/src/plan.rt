@@ -14,12 +14,12 @@ use crate::maps::index_maps;
 use crate::merge::merge_all;
 use crate::spaces::function_space;
 use std::alloc::{AllocError, Global};
-use wl_linking::{Items, LinkError};
+use wl_linking::{ItemList, LinkError};
 use wl_module::{ExternalKind, MemoryType, OutputExport};
 use wl_symbols::SymbolTable;
 
 /// The exports: the memory.
-fn exports<'a>(alloc: Global) -> Result<Items<OutputExport<'a>>, AllocError>
+fn exports<'a>(alloc: Global) -> Result<ItemList<OutputExport<'a>>, AllocError>
     ensures { IfOk result (λ exports. exports ≡ memory_export ∷ []) }
 {
     let mut exports = Vec::new(alloc);
@@ -28,7 +28,7 @@ fn exports<'a>(alloc: Global) -> Result<Items<OutputExport<'a>>, AllocError>
         kind: ExternalKind::Memory,
         index: 0,
     })?;
-    Ok(Items::new(exports))
+    Ok(ItemList::new(exports))
 }
 
 /// The memory of a module none of whose objects has one: two pages.
@@ -59,17 +59,17 @@ pub(crate) fn plan_objects<'a>(
     Ok(LinkPlan {
         layout: WasmLayout {
             output_types: merged.merger.into_types(),
-            imports: Items::empty(alloc),
-            function_type_indices: Items::new(functions),
-            function_bodies: Items::new(all_bodies(alloc, files)?),
+            imports: ItemList::empty(alloc),
+            function_type_indices: ItemList::new(functions),
+            function_bodies: ItemList::new(all_bodies(alloc, files)?),
             globals: made_globals(alloc)?,
             memory: Some(MEMORY),
             table: None,
             exports: exports(alloc)?,
             start_function: None,
-            debug_sections: Items::new(all_debug_sections(alloc, files)?),
+            debug_sections: ItemList::new(all_debug_sections(alloc, files)?),
             object_index_maps: maps,
         },
-        fixups: Items::new(fixups),
+        fixups: ItemList::new(fixups),
     })
 }

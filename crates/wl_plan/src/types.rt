@@ -8,7 +8,7 @@ ghost use Rattle.wl_plan.specs.Space.{max_entries};
 
 use std::alloc::{AllocError, Global};
 use std::marker::Model;
-use wl_linking::{Items, LinkError, Quantity};
+use wl_linking::{ItemList, LinkError, Quantity};
 use wl_module::{FuncType, ValType};
 
 /// The two have the same parameters and results, in order.
@@ -107,10 +107,10 @@ impl TypeMerger {
     }
 
     /// The types, in order, without the merger.
-    pub fn into_types(self) -> Items<FuncType>
+    pub fn into_types(self) -> ItemList<FuncType>
         ensures types { result ≡ self }
         ensures room { length result ≤ max_entries }
     {
-        Items::new(self.types)
+        ItemList::new(self.types)
     }
 }

@@ -4,7 +4,7 @@ use Rattle.std.proofs.lemmas.List.{append_assoc, append-nil, take_more, take-app
 use Rattle.std.proofs.Math.Seq.{drop-cons, take-append_seam}
 use Rattle.wl_linking.specs.Symbols.{Symbol as LinkedSymbol}
 use Rattle.wl_linking.specs.Object.{Object}
-use Rattle.wl_symbols.specs.Entries.{Entry, is_private, entry_of, entries_at, entries_from, entries_of}
+use Rattle.wl_symbols.specs.Entries.{Entry, is_private, entry_for, entries_at, entries_from, entries_of}
 use Rattle.wl_symbols.specs.Repeats.{Pair}
 use Rattle.wl_symbols.specs.Adding.{repeat_of, NoneRepeats, AreTwo, AddsOne, Adds, Meets}
 use Rattle.wl_symbols.specs.declared.entry.Firsts.{Firsts}
@@ -84,10 +84,10 @@ meets_all a b xs ys back all pair adds meets split = λ before holds none.
 
 -- ---- one symbol
 
-pub adds_symbol : (a c : List ℕ → Firsts) (object i : ℕ) (s : LinkedSymbol) (e : Entry) → is_private s ≡ false → e ≡ entry_of object i s → AddsOne a c e None → Adds a c (entries_at object i s)
+pub adds_symbol : (a c : List ℕ → Firsts) (object i : ℕ) (s : LinkedSymbol) (e : Entry) → is_private s ≡ false → e ≡ entry_for object i s → AddsOne a c e None → Adds a c (entries_at object i s)
 adds_symbol a c object i s e p is one = rw (p, ← is) (adds_more a a c [] e (adds_none a) one)
 
-pub meets_symbol : (a c : List ℕ → Firsts) (object i : ℕ) (s : LinkedSymbol) (e : Entry) (pair : Pair) → is_private s ≡ false → e ≡ entry_of object i s → AddsOne a c e (Some pair.first) → e.name ≡ pair.name → e.place ≡ pair.second → Meets a (entries_at object i s) pair
+pub meets_symbol : (a c : List ℕ → Firsts) (object i : ℕ) (s : LinkedSymbol) (e : Entry) (pair : Pair) → is_private s ≡ false → e ≡ entry_for object i s → AddsOne a c e (Some pair.first) → e.name ≡ pair.name → e.place ≡ pair.second → Meets a (entries_at object i s) pair
 meets_symbol a c object i s e pair p is one name place = rw (p, ← is) (meets_one a a c [] [] (e ∷ []) e pair (adds_none a) one name place refl)
 
 -- ---- where none repeats

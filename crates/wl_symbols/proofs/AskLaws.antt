@@ -3,9 +3,9 @@ use Rattle.std.proofs.Common.{◌≡◌, List, [], ◌∷◌, ◌++◌, true, fa
 use Rattle.std.specs.List.{last_or}
 use Rattle.std.specs.Option.{option_or}
 use Rattle.std.proofs.lemmas.List.Elements.{filter_map-append}
-use Rattle.wl_symbols.specs.Items.{Item}
+use Rattle.wl_symbols.specs.Items.{ArgItem}
 use Rattle.wl_symbols.specs.Args.{AsksFor, all_of, said_of, last_of, input_of, export_symbol_of, required_export_symbol_of, export_dynamic_of, allow_undefined_of, stack_first_of, gc_sections_of, check_features_of, entry_of, z_stack_size_of, initial_memory_of, max_memory_of, import_memory_of, export_memory_of, extra_features_of, strip_all_of, strip_debug_of, keep_section_of, output_of}
-use Rattle.wl_symbols.specs.Taking.{put_behind, Adds}
+use Rattle.wl_symbols.specs.Taking.{put_behind, AddsItem}
 use Rattle.wl_symbols.specs.declared.args.WasmArgs.{WasmArgs}
 
 last_more : {X : Type 0} (o : Option X) (xs : List X) (x : X) → last_or o (xs ++ x ∷ []) ≡ Some x
@@ -13,30 +13,30 @@ last_more o [] x = refl
 last_more o (y ∷ xs) x = last_more (Some y) xs x
 
 -- each kind of field, whatever the item says of it
-all_more : {X : Type 0} (says : Item → Option X) (items : List Item) (item : Item) (said : Option X) → says item ≡ said → all_of says (items ++ item ∷ []) ≡ put_behind (all_of says items) said
+all_more : {X : Type 0} (says : ArgItem → Option X) (items : List ArgItem) (item : ArgItem) (said : Option X) → says item ≡ said → all_of says (items ++ item ∷ []) ≡ put_behind (all_of says items) said
 all_more says items item None is = rw (filter_map-append, is) (append-nil _)
 all_more says items item (Some x) is = rw (filter_map-append, is) refl
 
-said_more : {X : Type 0} (says : Item → Option X) (items : List Item) (item : Item) (said : Option X) → says item ≡ said → said_of says (items ++ item ∷ []) ≡ option_or said (said_of says items)
+said_more : {X : Type 0} (says : ArgItem → Option X) (items : List ArgItem) (item : ArgItem) (said : Option X) → says item ≡ said → said_of says (items ++ item ∷ []) ≡ option_or said (said_of says items)
 said_more says items item None is = rw (filter_map-append, is) (search rules)
 said_more says items item (Some x) is = rw (filter_map-append, is) (rw last_more refl)
 
-last_same : {X : Type 0} (says : Item → Option X) (default : X) (items : List Item) (item : Item) (said : Option X) → says item ≡ said → last_of says default (items ++ item ∷ []) ≡ unwrap_or said (last_of says default items)
+last_same : {X : Type 0} (says : ArgItem → Option X) (default : X) (items : List ArgItem) (item : ArgItem) (said : Option X) → says item ≡ said → last_of says default (items ++ item ∷ []) ≡ unwrap_or said (last_of says default items)
 last_same says default items item None is = rw (filter_map-append, is) (search rules)
 last_same says default items item (Some x) is = rw (filter_map-append, is) (rw last_more refl)
 
 -- a field as it was asked for, and with one more item
-all_field : {X : Type 0} (says : Item → Option X) (items : List Item) (item : Item) (old new : List X) → old ≡ all_of says items → new ≡ put_behind old (says item) → new ≡ all_of says (items ++ item ∷ [])
+all_field : {X : Type 0} (says : ArgItem → Option X) (items : List ArgItem) (item : ArgItem) (old new : List X) → old ≡ all_of says items → new ≡ put_behind old (says item) → new ≡ all_of says (items ++ item ∷ [])
 all_field says items item old new was is = is ∙ ap (λ xs. put_behind xs (says item)) was ∙ sym (all_more says items item (says item) refl)
 
-said_field : {X : Type 0} (says : Item → Option X) (items : List Item) (item : Item) (old new : Option X) → old ≡ said_of says items → new ≡ option_or (says item) old → new ≡ said_of says (items ++ item ∷ [])
+said_field : {X : Type 0} (says : ArgItem → Option X) (items : List ArgItem) (item : ArgItem) (old new : Option X) → old ≡ said_of says items → new ≡ option_or (says item) old → new ≡ said_of says (items ++ item ∷ [])
 said_field says items item old new was is = is ∙ ap (λ o. option_or (says item) o) was ∙ sym (said_more says items item (says item) refl)
 
-last_field : {X : Type 0} (says : Item → Option X) (default : X) (items : List Item) (item : Item) (old new : X) → old ≡ last_of says default items → new ≡ unwrap_or (says item) old → new ≡ last_of says default (items ++ item ∷ [])
+last_field : {X : Type 0} (says : ArgItem → Option X) (default : X) (items : List ArgItem) (item : ArgItem) (old new : X) → old ≡ last_of says default items → new ≡ unwrap_or (says item) old → new ≡ last_of says default (items ++ item ∷ [])
 last_field says default items item old new was is = is ∙ ap (λ x. unwrap_or (says item) x) was ∙ sym (last_same says default items item (says item) refl)
 
 -- all fields
-pub asks_more : (items : List Item) (item : Item) (old new : WasmArgs) → AsksFor items old → Adds item old new → AsksFor (items ++ item ∷ []) new
+pub asks_more : (items : List ArgItem) (item : ArgItem) (old new : WasmArgs) → AsksFor items old → AddsItem item old new → AsksFor (items ++ item ∷ []) new
 asks_more items item old new h adds = record {
   inputs = all_field input_of items item old.inputs new.inputs h.inputs adds.inputs;
   export_symbols = all_field export_symbol_of items item old.export_symbols new.export_symbols h.export_symbols adds.export_symbols;
@@ -61,7 +61,7 @@ asks_more items item old new h adds = record {
 }
 
 -- what the items ask for, as a record
-pub args_of : List Item → WasmArgs
+pub args_of : List ArgItem → WasmArgs
 args_of items = record {
   inputs = all_of input_of items;
   export_symbols = all_of export_symbol_of items;
@@ -85,7 +85,7 @@ args_of items = record {
   output = said_of output_of items;
 }
 
-pub asks_args : (items : List Item) → AsksFor items (args_of items)
+pub asks_args : (items : List ArgItem) → AsksFor items (args_of items)
 unfolding args_of
 asks_args items = record {
   inputs = refl;
@@ -111,7 +111,7 @@ asks_args items = record {
 }
 
 -- items ask for one thing
-asks_one : (items : List Item) (args : WasmArgs) → AsksFor items args → args ≡ args_of items
+asks_one : (items : List ArgItem) (args : WasmArgs) → AsksFor items args → args ≡ args_of items
 unfolding args_of
 asks_one items args h = λ i. record {
   inputs = h.inputs i;
@@ -136,5 +136,5 @@ asks_one items args h = λ i. record {
   output = h.output i;
 }
 
-pub asks_same : (items : List Item) (a b : WasmArgs) → AsksFor items a → AsksFor items b → a ≡ b
+pub asks_same : (items : List ArgItem) (a b : WasmArgs) → AsksFor items a → AsksFor items b → a ≡ b
 asks_same items a b h k = asks_one items a h ∙ sym (asks_one items b k)

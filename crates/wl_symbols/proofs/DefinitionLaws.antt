@@ -9,7 +9,7 @@ use Rattle.wl_symbols.proofs.PlaceLaws.{places_in_order}
 use Rattle.wl_symbols.proofs.NamedLaws.{named_cases, def_shared}
 use Rattle.std.proofs.lemmas.Bool.{cases_Bool}
 use Rattle.wl_linking.specs.Symbols.{Symbol as LinkedSymbol}
-use Rattle.wl_symbols.specs.Entries.{is_private, symbol_at}
+use Rattle.wl_symbols.specs.Entries.{is_private, symbol_in}
 use Rattle.wl_symbols.specs.declared.entry.Strength.{Strength}
 use Rattle.wl_symbols.specs.declared.entry.Strength.TheVariants.{Strong, Weak, Undefined}
 use Rattle.wl_symbols.specs.declared.entry.Definition.{Definition}
@@ -99,9 +99,9 @@ same_numbers link object symbol o k itself is =
     rw (← object-is, ← symbol-is) itself
 
 pub settled : (link : Link) (object symbol o k : ℕ) → def link object symbol ≡ Symbol o k → def link o k ≡ Symbol o k
-settled link object symbol o k is = by_symbol (symbol_at link.objects object symbol) refl
+settled link object symbol o k is = by_symbol (symbol_in link.objects object symbol) refl
   where
-    by_symbol : (found : Option LinkedSymbol) → symbol_at link.objects object symbol ≡ found → def link o k ≡ Symbol o k
+    by_symbol : (found : Option LinkedSymbol) → symbol_in link.objects object symbol ≡ found → def link o k ≡ Symbol o k
     by_symbol None at = same_numbers link object symbol o k (rw at refl) is
     by_symbol (Some s) at = elim (cases_Bool (is_private s)) [
       | inl p ↦ same_numbers link object symbol o k (rw (at, p) refl) is

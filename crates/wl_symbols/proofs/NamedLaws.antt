@@ -3,7 +3,7 @@ use Rattle.std.proofs.Common.{◌≡◌, ℕ, List, refl, inl, inr, Option, Some
 use Rattle.wl_linking.specs.Symbols.{Symbol as LinkedSymbol}
 use Rattle.wl_symbols.specs.Link.{Link}
 use Rattle.wl_symbols.specs.LinkerNames.{made_of}
-use Rattle.wl_symbols.specs.Entries.{entries_of, symbol_at, is_private, strength_of, first_of}
+use Rattle.wl_symbols.specs.Entries.{entries_of, symbol_in, is_private, strength_of, first_of}
 use Rattle.wl_symbols.specs.Names.{chosen, named, def, StandsFor, IsUnknown, HasNone}
 use Rattle.wl_symbols.proofs.CaseLaws.{none_has, first_has}
 use Rattle.wl_symbols.proofs.MadeLaws.{made_is, none_made}
@@ -35,6 +35,6 @@ shared_from : (link : Link) (name : List ℕ) (o : Option Definition) (d : Defin
 shared_from link name None d h known = absurd (known h)
 shared_from link name (Some x) d h known = h
 
-pub def_shared : (link : Link) (object symbol : ℕ) (s : LinkedSymbol) → symbol_at link.objects object symbol ≡ Some s → is_private s ≡ false → StandsFor link s.name (def link object symbol)
+pub def_shared : (link : Link) (object symbol : ℕ) (s : LinkedSymbol) → symbol_in link.objects object symbol ≡ Some s → is_private s ≡ false → StandsFor link s.name (def link object symbol)
 def_shared link object symbol s e p =
     rw (e, p) (shared_from link s.name (named link s.name) _ (named_cases link s.name) (λ unknown. unknown.none (strength_of s) object symbol (record { s = s; stands = e; shared = p; name_is = refl; strength_is = refl })))

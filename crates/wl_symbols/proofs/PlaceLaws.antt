@@ -6,7 +6,7 @@ use Rattle.std.proofs.lemmas.Bool.{cases_Bool}
 use Rattle.std.proofs.lemmas.Option.{slice_get_within, get_or_from_slice_get}
 use Rattle.wl_linking.specs.Symbols.{Symbol as LinkedSymbol}
 use Rattle.wl_linking.specs.Object.{Object}
-use Rattle.wl_symbols.specs.Entries.{Entry, is_private, strength_of, entry_of, entries_at, entries_from, entries_of}
+use Rattle.wl_symbols.specs.Entries.{Entry, is_private, strength_of, entry_for, entries_at, entries_from, entries_of}
 use Rattle.wl_symbols.specs.Names.{HasSymbol, IsBefore}
 use Rattle.wl_symbols.proofs.AdditionLaws.{symbols_split, objects_split}
 use Rattle.wl_symbols.specs.declared.entry.Place.{Place}
@@ -88,7 +88,7 @@ record EntryIn (object i : ℕ) (symbols : List LinkedSymbol) (e : Entry) : Type
   s : LinkedSymbol
   at : slice_get symbols k ≡ Some s
   shared : is_private s ≡ false
-  is : entry_of object (i + k) s ≡ e
+  is : entry_for object (i + k) s ≡ e
 
 entry_next : (object i : ℕ) (s : LinkedSymbol) (symbols : List LinkedSymbol) (e : Entry) → EntryIn object (i + 1) symbols e → EntryIn object i (s ∷ symbols) e
 entry_next object i s symbols e r =
@@ -114,7 +114,7 @@ record EntryAmong (i : ℕ) (objects : List Object) (e : Entry) : Type 0 where
   object_at : slice_get objects j ≡ Some o
   at : slice_get o.symbols k ≡ Some s
   shared : is_private s ≡ false
-  is : entry_of (i + j) k s ≡ e
+  is : entry_for (i + j) k s ≡ e
 
 entry_here : (i : ℕ) (o : Object) (objects : List Object) (e : Entry) → EntryIn i 0 o.symbols e → EntryAmong i (o ∷ objects) e
 entry_here i o objects e r =
@@ -139,7 +139,7 @@ pub entry_is : (objects : List Object) (e : Entry) → Stands (entries_of 0 obje
 entry_is objects e s =
     let w = all_stand (EntryAmong 0 objects) (entries_of 0 objects) e (all_among 0 objects) s in
     let zero-more : 0 + w.j ≡ w.j = omega arith in
-    let is : entry_of w.j w.k w.s ≡ e = rw zero-more at w.is in
+    let is : entry_for w.j w.k w.s ≡ e = rw zero-more at w.is in
     let here : HasSymbol objects w.s.name (strength_of w.s) w.j w.k = record { s = w.s; stands = rw w.object_at w.at; shared = w.shared; name_is = refl; strength_is = refl } in
     subst (λ (d : Entry). HasSymbol objects d.name d.strength d.place.object d.place.symbol) is here
 
@@ -151,7 +151,7 @@ object_of symbol s (Some x) e = (x, refl, e)
 pub entry_stands : (objects : List Object) (name : List ℕ) (strength : Strength) (o k : ℕ) → HasSymbol objects name strength o k → Stands (entries_of 0 objects) (record { name = name; strength = strength; place = record { object = o; symbol = k } })
 entry_stands objects name strength o k h =
     let x = object_of k h.s (slice_get objects o) h.stands in
-    let e = entry_of o k h.s in
+    let e = entry_for o k h.s in
     let A = entries_of 0 (take o objects) in
     let B = entries_from o 0 (take k x.0.symbols) in
     let R = entries_from o (k + 1) (drop (k + 1) x.0.symbols) in

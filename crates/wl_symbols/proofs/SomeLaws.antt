@@ -5,10 +5,10 @@ use Rattle.std.specs.Option.{option_and_then}
 use Rattle.std.proofs.lemmas.Option.{slice_get_within, slice_get_cases}
 use Rattle.wl_symbols.specs.Options.{front_of, value_of, taken_by, is_option}
 use Rattle.wl_symbols.specs.Values.{number_of, stack_size_text}
-use Rattle.wl_symbols.specs.Items.{Item, Object, Given, Set, Memory, NamesOption, HasValue, joined, parted, IsSound, StandsAt, Items}
+use Rattle.wl_symbols.specs.Items.{ArgItem, Object, Given, Set, Memory, NamesOption, HasValue, joined, parted, IsSoundValue, StandsAtWord, AreArgItems}
 use Rattle.wl_symbols.specs.Faults.{unnamed, valued, ValueFault, ItemFault, unknown, lacking, unsound}
-use Rattle.wl_symbols.specs.declared.options.Takes.{Takes}
-use Rattle.wl_symbols.specs.declared.options.Takes.TheVariants.{Nothing, Value, OptionalValue}
+use Rattle.wl_symbols.specs.declared.options.OptionKind.{OptionKind}
+use Rattle.wl_symbols.specs.declared.options.OptionKind.TheVariants.{Nothing, Value, OptionalValue}
 use Rattle.wl_symbols.specs.declared.options.Setting.{Setting}
 use Rattle.wl_symbols.specs.declared.options.Setting.TheVariants as setting
 use Rattle.wl_symbols.specs.declared.error.ArgError.{ArgError}
@@ -17,32 +17,32 @@ use Rattle.wl_symbols.proofs.ItemLaws.{stands_on}
 
 -- an item stands at this word, or no item does
 abbrev ItemOrFault : List (List ℕ) → ℕ → Type 0
-ItemOrFault words at = ((item : Item) × (next : ℕ) × StandsAt words at item next × (next ≤ length words)) ⊎ ((e : ArgError) × ItemFault words at e)
+ItemOrFault words at = ((item : ArgItem) × (next : ℕ) × StandsAtWord words at item next × (next ≤ length words)) ⊎ ((e : ArgError) × ItemFault words at e)
 
 -- ---- a value
 
 -- a value is sound, or has a fault
-value_or_fault : (s : Setting) (v : List ℕ) (p : ℕ) → IsSound s v ⊎ ((e : ArgError) × ValueFault s v p e)
+value_or_fault : (s : Setting) (v : List ℕ) (p : ℕ) → IsSoundValue s v ⊎ ((e : ArgError) × ValueFault s v p e)
 value_or_fault setting.Export v p = inl tt
 value_or_fault setting.ExportIfDefined v p = inl tt
 value_or_fault setting.Entry v p = inl tt
 value_or_fault setting.Keyword v p = keyword (stack_size_text v) refl
   where
-    sized : (text : List ℕ) (n : Option ℕ) → stack_size_text v ≡ Some text → number_of 32 text ≡ n → IsSound setting.Keyword v ⊎ ((e : ArgError) × ValueFault setting.Keyword v p e)
+    sized : (text : List ℕ) (n : Option ℕ) → stack_size_text v ≡ Some text → number_of 32 text ≡ n → IsSoundValue setting.Keyword v ⊎ ((e : ArgError) × ValueFault setting.Keyword v p e)
     sized text None some is = inr (BadNumber p, inr (text, some, is, refl))
     sized text (Some n) some is = inl (n, ap (option_and_then (number_of 32)) some ∙ is)
 
-    keyword : (o : Option (List ℕ)) → stack_size_text v ≡ o → IsSound setting.Keyword v ⊎ ((e : ArgError) × ValueFault setting.Keyword v p e)
+    keyword : (o : Option (List ℕ)) → stack_size_text v ≡ o → IsSoundValue setting.Keyword v ⊎ ((e : ArgError) × ValueFault setting.Keyword v p e)
     keyword None is = inr (UnknownOption p, inl (is, refl))
     keyword (Some text) is = sized text (number_of 32 text) is refl
 value_or_fault setting.InitialMemory v p = size (number_of 64 v) refl
   where
-    size : (o : Option ℕ) → number_of 64 v ≡ o → IsSound setting.InitialMemory v ⊎ ((e : ArgError) × ValueFault setting.InitialMemory v p e)
+    size : (o : Option ℕ) → number_of 64 v ≡ o → IsSoundValue setting.InitialMemory v ⊎ ((e : ArgError) × ValueFault setting.InitialMemory v p e)
     size None is = inr (BadNumber p, (is, refl))
     size (Some n) is = inl (n, is)
 value_or_fault setting.MaxMemory v p = size (number_of 64 v) refl
   where
-    size : (o : Option ℕ) → number_of 64 v ≡ o → IsSound setting.MaxMemory v ⊎ ((e : ArgError) × ValueFault setting.MaxMemory v p e)
+    size : (o : Option ℕ) → number_of 64 v ≡ o → IsSoundValue setting.MaxMemory v ⊎ ((e : ArgError) × ValueFault setting.MaxMemory v p e)
     size None is = inr (BadNumber p, (is, refl))
     size (Some n) is = inl (n, is)
 value_or_fault setting.ExtraFeatures v p = inl tt
@@ -51,7 +51,7 @@ value_or_fault setting.Output v p = inl tt
 
 -- ---- an item
 
-with_value : (words : List (List ℕ)) (at : ℕ) (s : Setting) (v : List ℕ) (p : ℕ) → HasValue words at s v p → p < length words → IsSound s v ⊎ ((e : ArgError) × ValueFault s v p e) → ItemOrFault words at
+with_value : (words : List (List ℕ)) (at : ℕ) (s : Setting) (v : List ℕ) (p : ℕ) → HasValue words at s v p → p < length words → IsSoundValue s v ⊎ ((e : ArgError) × ValueFault s v p e) → ItemOrFault words at
 with_value words at s v p has within (inl sound) = inl (Set s v, p + 1, (p, has, sound, refl), omega (arith, within))
 with_value words at s v p has within (inr (e, fault)) = inr (e, unsound s v p has fault)
 
@@ -59,14 +59,14 @@ with_next : (words : List (List ℕ)) (at : ℕ) (s : Setting) → NamesOption w
 with_next words at s named None last = inr (MissingValue at, lacking (record { setting = s; named = named; last = last }) refl)
 with_next words at s named (Some v) next = with_value words at s v (at + 1) (parted named next refl) (slice_get_within words (at + 1) v next) (value_or_fault s v (at + 1))
 
-with_option : (words : List (List ℕ)) (at : ℕ) (t : Takes) (behind : Option (List ℕ)) → at < length words → NamesOption words at t behind → ItemOrFault words at
+with_option : (words : List (List ℕ)) (at : ℕ) (t : OptionKind) (behind : Option (List ℕ)) → at < length words → NamesOption words at t behind → ItemOrFault words at
 with_option words at (Nothing flag) None within named = inl (Given flag, at + 1, (named, refl), omega (arith, within))
 with_option words at (Nothing flag) (Some value) within named = inr (UnknownOption at, unknown (valued flag value named) refl)
 with_option words at (Value s) None within named = with_next words at s named (slice_get words (at + 1)) refl
 with_option words at (Value s) (Some value) within named = with_value words at s value at (joined named refl) within (value_or_fault s value at)
 with_option words at (OptionalValue option) behind within named = inl (Memory option behind, at + 1, (named, refl), omega (arith, within))
 
-with_word : (words : List (List ℕ)) (at : ℕ) (word : List ℕ) → slice_get words at ≡ Some word → (dashed : Bool) → is_option word ≡ dashed → (t : Option Takes) → taken_by (front_of word) ≡ t → ItemOrFault words at
+with_word : (words : List (List ℕ)) (at : ℕ) (word : List ℕ) → slice_get words at ≡ Some word → (dashed : Bool) → is_option word ≡ dashed → (t : Option OptionKind) → taken_by (front_of word) ≡ t → ItemOrFault words at
 with_word words at word here false plain t named = inl (Object at, at + 1, (record { word = word; here = here; plain = plain }, refl, refl), omega (arith, slice_get_within words at word here))
 with_word words at word here true dashed None none = inr (UnknownOption at, unknown (unnamed word here dashed none) refl)
 with_word words at word here true dashed (Some t) named = with_option words at t (value_of word) (slice_get_within words at word here) (record { word = word; here = here; dashed = dashed; named = named; value = refl })
@@ -81,10 +81,10 @@ item_or_fault words at within = elim (slice_get_cases words at).1 [
 
 -- items up to the end, or up to a word at which no item stands
 abbrev pub ItemsOrFault : List (List ℕ) → ℕ → Type 0
-ItemsOrFault words at = ((items : List Item) × Items words at items (length words)) ⊎ ((items : List Item) × (stop : ℕ) × (e : ArgError) × Items words at items stop × ItemFault words stop e)
+ItemsOrFault words at = ((items : List ArgItem) × AreArgItems words at items (length words)) ⊎ ((items : List ArgItem) × (stop : ℕ) × (e : ArgError) × AreArgItems words at items stop × ItemFault words stop e)
 
 -- one item in front
-item_before : (words : List (List ℕ)) (at : ℕ) (item : Item) (next : ℕ) → StandsAt words at item next → ItemsOrFault words next → ItemsOrFault words at
+item_before : (words : List (List ℕ)) (at : ℕ) (item : ArgItem) (next : ℕ) → StandsAtWord words at item next → ItemsOrFault words next → ItemsOrFault words at
 item_before words at item next h (inl (items, rest)) = inl (item ∷ items, (next, h, rest))
 item_before words at item next h (inr (items, stop, e, rest, fault)) = inr (item ∷ items, stop, e, (next, h, rest), fault)
 

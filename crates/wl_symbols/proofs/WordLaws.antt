@@ -4,10 +4,10 @@ use Rattle.std.specs.Option.{option_and_then}
 use Rattle.std.proofs.lemmas.Option.{slice_get_within}
 use Rattle.wl_symbols.specs.Options.{front_of, value_of, taken_by, is_option}
 use Rattle.wl_symbols.specs.Values.{number_of}
-use Rattle.wl_symbols.specs.Items.{Item, Object, Given, Set, Memory, NamesObject, NamesOption, HasValue, joined, parted, IsSound, StandsAt, Items}
-use Rattle.wl_symbols.specs.Faults.{IsUnknown, unnamed, valued, LacksValue, ValueFault, ItemFault, unknown, lacking, unsound}
-use Rattle.wl_symbols.specs.declared.options.Takes.{Takes}
-use Rattle.wl_symbols.specs.declared.options.Takes.TheVariants.{Nothing, Value, OptionalValue}
+use Rattle.wl_symbols.specs.Items.{ArgItem, Object, Given, Set, Memory, NamesObject, NamesOption, HasValue, joined, parted, IsSoundValue, StandsAtWord, AreArgItems}
+use Rattle.wl_symbols.specs.Faults.{IsUnknownOption, unnamed, valued, LacksValue, ValueFault, ItemFault, unknown, lacking, unsound}
+use Rattle.wl_symbols.specs.declared.options.OptionKind.{OptionKind}
+use Rattle.wl_symbols.specs.declared.options.OptionKind.TheVariants.{Nothing, Value, OptionalValue}
 use Rattle.wl_symbols.specs.declared.options.Setting.{Setting}
 use Rattle.wl_symbols.specs.declared.options.Setting.TheVariants as setting
 use Rattle.wl_symbols.specs.declared.options.Flag.{Flag}
@@ -25,19 +25,19 @@ some_none x is = absurd cc
 -- ---- what a word names
 
 -- a word names one option, with one value behind it
-one_option : (words : List (List ℕ)) (at : ℕ) (s t : Takes) (u v : Option (List ℕ)) → NamesOption words at s u → NamesOption words at t v → (s ≡ t) × (u ≡ v)
+one_option : (words : List (List ℕ)) (at : ℕ) (s t : OptionKind) (u v : Option (List ℕ)) → NamesOption words at s u → NamesOption words at t v → (s ≡ t) × (u ≡ v)
 one_option words at s t u v h k =
     let same : h.word ≡ k.word = some_same _ _ (sym h.here ∙ k.here) in
     (some_same _ _ (sym h.named ∙ ap (λ (w : List ℕ). taken_by (front_of w)) same ∙ k.named), sym h.value ∙ ap value_of same ∙ k.value)
 
 -- a word that names an object names no option
-no_option : (words : List (List ℕ)) (at : ℕ) (t : Takes) (v : Option (List ℕ)) → NamesObject words at → NamesOption words at t v → ⊥
+no_option : (words : List (List ℕ)) (at : ℕ) (t : OptionKind) (v : Option (List ℕ)) → NamesObject words at → NamesOption words at t v → ⊥
 no_option words at t v h k =
     let same : h.word ≡ k.word = some_same _ _ (sym h.here ∙ k.here) in
     absurd (true≢false (sym k.dashed ∙ ap is_option (sym same) ∙ h.plain))
 
 -- a word that names an option isn't unknown
-not_unnamed : (words : List (List ℕ)) (at : ℕ) (t : Takes) (v : Option (List ℕ)) (word : List ℕ) → NamesOption words at t v → slice_get words at ≡ Some word → taken_by (front_of word) ≡ None → ⊥
+not_unnamed : (words : List (List ℕ)) (at : ℕ) (t : OptionKind) (v : Option (List ℕ)) (word : List ℕ) → NamesOption words at t v → slice_get words at ≡ Some word → taken_by (front_of word) ≡ None → ⊥
 not_unnamed words at t v word h here none =
     let same : h.word ≡ word = some_same _ _ (sym h.here ∙ here) in
     some_none _ (sym h.named ∙ ap (λ (w : List ℕ). taken_by (front_of w)) same ∙ none)
@@ -84,7 +84,7 @@ not_lacking words at s v p (joined h is) lacks = some_none v (one_option words a
 not_lacking words at s v p (parted h next is) lacks = some_none v (sym next ∙ lacks.last)
 
 -- a sound value has no fault
-no_value_fault : (s : Setting) (v : List ℕ) (p : ℕ) (e : ArgError) → IsSound s v → ValueFault s v p e → ⊥
+no_value_fault : (s : Setting) (v : List ℕ) (p : ℕ) (e : ArgError) → IsSoundValue s v → ValueFault s v p e → ⊥
 no_value_fault setting.Export v p e sound fault = fault
 no_value_fault setting.ExportIfDefined v p e sound fault = fault
 no_value_fault setting.Entry v p e sound fault = fault
@@ -113,7 +113,7 @@ one_value_fault setting.Output v p e f h k = absurd h
 
 -- ---- one item
 
-one_item : (words : List (List ℕ)) (at : ℕ) (x y : Item) (m n : ℕ) → StandsAt words at x m → StandsAt words at y n → (x ≡ y) × (m ≡ n)
+one_item : (words : List (List ℕ)) (at : ℕ) (x y : ArgItem) (m n : ℕ) → StandsAtWord words at x m → StandsAtWord words at y n → (x ≡ y) × (m ≡ n)
 one_item words at (Object p) (Object q) m n h k = (ap Object (h.1 ∙ sym k.1), h.2 ∙ sym k.2)
 one_item words at (Object p) (Given g) m n h k = absurd (no_option words at _ _ h.0 k.0)
 one_item words at (Object p) (Set t w) m n h k = let o = value_option words at t w k.0 k.1 in absurd (no_option words at _ _ h.0 o.1)
@@ -138,7 +138,7 @@ one_item words at (Memory a v) (Memory b w) m n h k =
 -- ---- an item or a fault
 
 -- what names an option and stands as an item isn't at fault
-no_unknown : (words : List (List ℕ)) (at : ℕ) (x : Item) (m : ℕ) → StandsAt words at x m → IsUnknown words at → ⊥
+no_unknown : (words : List (List ℕ)) (at : ℕ) (x : ArgItem) (m : ℕ) → StandsAtWord words at x m → IsUnknownOption words at → ⊥
 no_unknown words at (Object p) m h (unnamed word here dashed none) =
     let same : h.0.word ≡ word = some_same _ _ (sym h.0.here ∙ here) in
     absurd (true≢false (sym dashed ∙ ap is_option (sym same) ∙ h.0.plain))
@@ -150,7 +150,7 @@ no_unknown words at (Set s v) m h (valued flag value named) = let o = value_opti
 no_unknown words at (Memory a v) m h (unnamed word here dashed none) = not_unnamed words at _ _ word h.0 here none
 no_unknown words at (Memory a v) m h (valued flag value named) = flag_memory flag a (one_option words at _ _ _ _ named h.0).0
 
-no_fault : (words : List (List ℕ)) (at : ℕ) (x : Item) (m : ℕ) (e : ArgError) → StandsAt words at x m → ItemFault words at e → ⊥
+no_fault : (words : List (List ℕ)) (at : ℕ) (x : ArgItem) (m : ℕ) (e : ArgError) → StandsAtWord words at x m → ItemFault words at e → ⊥
 no_fault words at x m e h (unknown fault is) = no_unknown words at x m h fault
 no_fault words at (Object p) m e h (lacking fault is) = no_option words at _ _ h.0 fault.named
 no_fault words at (Given f) m e h (lacking fault is) = flag_value f fault.setting (one_option words at _ _ _ _ h.0 fault.named).0
@@ -160,12 +160,12 @@ no_fault words at (Object p) m e h (unsound t w q has fault) = let o = value_opt
 no_fault words at (Given f) m e h (unsound t w q has fault) = let o = value_option words at t w q has in flag_value f t (one_option words at _ _ _ _ h.0 o.1).0
 no_fault words at (Set s v) m e h (unsound t w q has fault) =
     let same = one_value words at s t v w h.0 q h.1 has in
-    no_value_fault t w q e (subst (λ (o : Setting). IsSound o w) same.0 (subst (λ (x : List ℕ). IsSound s x) same.1 h.2)) fault
+    no_value_fault t w q e (subst (λ (o : Setting). IsSoundValue o w) same.0 (subst (λ (x : List ℕ). IsSoundValue s x) same.1 h.2)) fault
 no_fault words at (Memory a v) m e h (unsound t w q has fault) = let o = value_option words at t w q has in value_memory t a (one_option words at _ _ _ _ o.1 h.0).0
 
 -- ---- one fault
 
-unknown_value : (words : List (List ℕ)) (at : ℕ) (t : Setting) (behind : Option (List ℕ)) → IsUnknown words at → NamesOption words at (Value t) behind → ⊥
+unknown_value : (words : List (List ℕ)) (at : ℕ) (t : Setting) (behind : Option (List ℕ)) → IsUnknownOption words at → NamesOption words at (Value t) behind → ⊥
 unknown_value words at t behind (unnamed word here dashed none) h = not_unnamed words at _ _ word h here none
 unknown_value words at t behind (valued flag value named) h = flag_value flag t (one_option words at _ _ _ _ named h).0
 
@@ -185,7 +185,7 @@ one_fault words at e f (unsound s v p has h) (unsound t w q had k) =
 -- ---- items and faults among the words
 
 -- the word of an item is there, and that of a fault
-item_within : (words : List (List ℕ)) (at : ℕ) (x : Item) (m : ℕ) → StandsAt words at x m → at < length words
+item_within : (words : List (List ℕ)) (at : ℕ) (x : ArgItem) (m : ℕ) → StandsAtWord words at x m → at < length words
 item_within words at (Object p) m h = slice_get_within words at _ h.0.here
 item_within words at (Given f) m h = slice_get_within words at _ h.0.here
 item_within words at (Set s v) m h = let o = value_option words at s v h.0 h.1 in slice_get_within words at _ o.1.here
@@ -197,26 +197,26 @@ fault_within words at e (unknown (valued flag value named) is) = slice_get_withi
 fault_within words at e (lacking fault is) = slice_get_within words at _ fault.named.here
 fault_within words at e (unsound t w q has fault) = let o = value_option words at t w q has in slice_get_within words at _ o.1.here
 
-pub same_items : (words : List (List ℕ)) (at : ℕ) (xs ys : List Item) (end : ℕ) → end ≡ length words → Items words at xs end → Items words at ys end → xs ≡ ys
+pub same_items : (words : List (List ℕ)) (at : ℕ) (xs ys : List ArgItem) (end : ℕ) → end ≡ length words → AreArgItems words at xs end → AreArgItems words at ys end → xs ≡ ys
 same_items words at [] [] end whole h k = refl
 same_items words at [] (y ∷ ys) end whole h (m, first, rest) = absurd (omega (arith, whole, h, item_within words at y m first))
 same_items words at (x ∷ xs) [] end whole (m, first, rest) k = absurd (omega (arith, whole, k, item_within words at x m first))
 same_items words at (x ∷ xs) (y ∷ ys) end whole (m, first, rest) (n, other, others) =
     let e = one_item words at x y m n first other in
-    ap (λ (z : Item). z ∷ xs) e.0 ∙ ap (λ (zs : List Item). y ∷ zs) (same_items words n xs ys end whole (subst (λ (k : ℕ). Items words k xs end) e.1 rest) others)
+    ap (λ (z : ArgItem). z ∷ xs) e.0 ∙ ap (λ (zs : List ArgItem). y ∷ zs) (same_items words n xs ys end whole (subst (λ (k : ℕ). AreArgItems words k xs end) e.1 rest) others)
 
-pub no_words_fault : (words : List (List ℕ)) (at : ℕ) (xs ys : List Item) (end stop : ℕ) (e : ArgError) → end ≡ length words → Items words at xs end → Items words at ys stop → ItemFault words stop e → ⊥
+pub no_words_fault : (words : List (List ℕ)) (at : ℕ) (xs ys : List ArgItem) (end stop : ℕ) (e : ArgError) → end ≡ length words → AreArgItems words at xs end → AreArgItems words at ys stop → ItemFault words stop e → ⊥
 no_words_fault words at [] [] end stop e whole h k fault = absurd (omega (arith, whole, h, k, fault_within words stop e fault))
 no_words_fault words at [] (y ∷ ys) end stop e whole h (m, first, rest) fault = absurd (omega (arith, whole, h, item_within words at y m first))
 no_words_fault words at (x ∷ xs) [] end stop e whole (m, first, rest) k fault = no_fault words at x m e first (subst (λ (n : ℕ). ItemFault words n e) (sym k) fault)
 no_words_fault words at (x ∷ xs) (y ∷ ys) end stop e whole (m, first, rest) (n, other, others) fault =
     let same = one_item words at x y m n first other in
-    no_words_fault words n xs ys end stop e whole (subst (λ (k : ℕ). Items words k xs end) same.1 rest) others fault
+    no_words_fault words n xs ys end stop e whole (subst (λ (k : ℕ). AreArgItems words k xs end) same.1 rest) others fault
 
-pub one_words_fault : (words : List (List ℕ)) (at : ℕ) (xs ys : List Item) (stop end : ℕ) (e f : ArgError) → Items words at xs stop → ItemFault words stop e → Items words at ys end → ItemFault words end f → e ≡ f
+pub one_words_fault : (words : List (List ℕ)) (at : ℕ) (xs ys : List ArgItem) (stop end : ℕ) (e f : ArgError) → AreArgItems words at xs stop → ItemFault words stop e → AreArgItems words at ys end → ItemFault words end f → e ≡ f
 one_words_fault words at [] [] stop end e f h fault k other = one_fault words at e f (subst (λ (n : ℕ). ItemFault words n e) (sym h) fault) (subst (λ (n : ℕ). ItemFault words n f) (sym k) other)
 one_words_fault words at [] (y ∷ ys) stop end e f h fault (m, first, rest) other = absurd (no_fault words at y m e first (subst (λ (n : ℕ). ItemFault words n e) (sym h) fault))
 one_words_fault words at (x ∷ xs) [] stop end e f (m, first, rest) fault k other = absurd (no_fault words at x m f first (subst (λ (n : ℕ). ItemFault words n f) (sym k) other))
 one_words_fault words at (x ∷ xs) (y ∷ ys) stop end e f (m, first, rest) fault (n, further, others) other =
     let same = one_item words at x y m n first further in
-    one_words_fault words n xs ys stop end e f (subst (λ (k : ℕ). Items words k xs stop) same.1 rest) fault others other
+    one_words_fault words n xs ys stop end e f (subst (λ (k : ℕ). AreArgItems words k xs stop) same.1 rest) fault others other

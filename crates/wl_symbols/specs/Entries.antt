@@ -21,8 +21,8 @@ abbrev pub is_private : LinkedSymbol → Bool
 is_private s = is_local s || not (has_name s)
 
 -- the symbol of that number in the object of that number
-abbrev pub symbol_at : List Object → ℕ → ℕ → Option LinkedSymbol
-symbol_at objects object symbol = option_and_then (λ o. slice_get o.symbols symbol) (slice_get objects object)
+abbrev pub symbol_in : List Object → ℕ → ℕ → Option LinkedSymbol
+symbol_in objects object symbol = option_and_then (λ o. slice_get o.symbols symbol) (slice_get objects object)
 
 -- how many symbols these objects have
 abbrev pub symbol_count : List Object → ℕ
@@ -37,12 +37,12 @@ pub record Entry : Type 0 where
   pub place : Place
 
 -- the entry of a symbol
-abbrev pub entry_of : ℕ → ℕ → LinkedSymbol → Entry
-entry_of object k s = record { name = s.name; strength = strength_of s; place = record { object = object; symbol = k } }
+abbrev pub entry_for : ℕ → ℕ → LinkedSymbol → Entry
+entry_for object k s = record { name = s.name; strength = strength_of s; place = record { object = object; symbol = k } }
 
 -- its entry, where other objects know it
 abbrev pub entries_at : ℕ → ℕ → LinkedSymbol → List Entry
-entries_at object k s = if is_private s then [] else entry_of object k s ∷ []
+entries_at object k s = if is_private s then [] else entry_for object k s ∷ []
 
 -- the entries of an object's symbols, the first of which has number k
 abbrev pub entries_from : ℕ → ℕ → List LinkedSymbol → List Entry

@@ -2,8 +2,8 @@
 use Rattle.std.specs.Prelude.{◌≡◌, ◌≢◌, ◌⊎◌, ℕ, ◌+◌, true, List, Some, None, slice_get}
 use Rattle.wl_symbols.specs.Options.{is_option, front_of, taken_by}
 use Rattle.wl_symbols.specs.Values.{number_of, stack_size_text}
-use Rattle.wl_symbols.specs.Items.{Item, Items, NamesOption, HasValue}
-use Rattle.wl_symbols.specs.declared.options.Takes.TheVariants.{Nothing, Value}
+use Rattle.wl_symbols.specs.Items.{ArgItem, AreArgItems, NamesOption, HasValue}
+use Rattle.wl_symbols.specs.declared.options.OptionKind.TheVariants.{Nothing, Value}
 use Rattle.wl_symbols.specs.declared.options.Flag.{Flag}
 use Rattle.wl_symbols.specs.declared.options.Setting.{Setting}
 use Rattle.wl_symbols.specs.declared.options.Setting.TheVariants as setting
@@ -11,11 +11,11 @@ use Rattle.wl_symbols.specs.declared.error.ArgError.{ArgError}
 use Rattle.wl_symbols.specs.declared.error.ArgError.TheVariants.{OutOfMemory, UnknownOption, MissingValue, BadNumber}
 
 -- the word of this number is an option's, of which there is none, or which has a value and takes none
-pub data IsUnknown (words : List (List ℕ)) (at : ℕ) : Type 0 where
+pub data IsUnknownOption (words : List (List ℕ)) (at : ℕ) : Type 0 where
   unnamed : (word : List ℕ) → slice_get words at ≡ Some word → is_option word ≡ true
-      → taken_by (front_of word) ≡ None → IsUnknown words at
+      → taken_by (front_of word) ≡ None → IsUnknownOption words at
   valued : (flag : Flag) (value : List ℕ) → NamesOption words at (Nothing flag) (Some value)
-      → IsUnknown words at
+      → IsUnknownOption words at
 
 -- the word of this number is an option's that takes a value, and it is the last word and has none
 pub record LacksValue (words : List (List ℕ)) (at : ℕ) : Type 0 where
@@ -34,16 +34,16 @@ ValueFault _ value place e = ⊥
 
 -- no item stands at this word, and this is what is told of it
 pub data ItemFault (words : List (List ℕ)) (at : ℕ) (e : ArgError) : Type 0 where
-  unknown : IsUnknown words at → e ≡ UnknownOption at → ItemFault words at e
+  unknown : IsUnknownOption words at → e ≡ UnknownOption at → ItemFault words at e
   lacking : LacksValue words at → e ≡ MissingValue at → ItemFault words at e
   unsound : (setting : Setting) (value : List ℕ) (place : ℕ)
       → HasValue words at setting value place → ValueFault setting value place e → ItemFault words at e
 
 -- behind items, from the first word on, no item stands
 pub record WordsFault (words : List (List ℕ)) (e : ArgError) : Type 0 where
-  pub items : List Item
+  pub items : List ArgItem
   pub at : ℕ
-  pub before : Items words 0 items at
+  pub before : AreArgItems words 0 items at
   pub fault : ItemFault words at e
 
 -- a refusal of a value has its cause; want of memory is free

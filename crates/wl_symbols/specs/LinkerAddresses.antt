@@ -11,16 +11,34 @@ abbrev pub heap_base : ℕ → ℕ → Bool → ℕ
 heap_base data_end stack_size stack_first =
     next_multiple_of data_end STACK_ALIGNMENT + (if stack_first then 0 else stack_size)
 
--- the address of a data name, by where the data begins and ends, the bytes of the stack, the heap's end if it is known, and
--- whether the stack stands first; other names have none
-abbrev pub address_of : WasmLinkerSymbol → ℕ → ℕ → ℕ → Option ℕ → Bool → Option ℕ
-address_of DataEnd data_start data_end stack_size heap_end stack_first = Some data_end
-address_of GlobalBase data_start data_end stack_size heap_end stack_first = Some data_start
-address_of HeapBase data_start data_end stack_size heap_end stack_first = Some (heap_base data_end stack_size stack_first)
-address_of HeapEnd data_start data_end stack_size heap_end stack_first = heap_end
-address_of WasmFirstPageEnd data_start data_end stack_size heap_end stack_first = Some WASM_PAGE_SIZE
-address_of DsoHandle data_start data_end stack_size heap_end stack_first = Some data_start
-address_of _ data_start data_end stack_size heap_end stack_first = None
+-- where the data begins and ends, the bytes of the stack, the heap's end if it is known, and whether the stack stands in
+-- front of the data
+pub record DataPlaces : Type 0 where
+  pub data_start : ℕ
+  pub data_end : ℕ
+  pub stack_size : ℕ
+  pub heap_end : Option ℕ
+  pub stack_first : Bool
+
+-- these five together
+abbrev pub data_places : ℕ → ℕ → ℕ → Option ℕ → Bool → DataPlaces
+data_places data_start data_end stack_size heap_end stack_first = record {
+  data_start = data_start;
+  data_end = data_end;
+  stack_size = stack_size;
+  heap_end = heap_end;
+  stack_first = stack_first;
+}
+
+-- the address of a data name; other names have none
+abbrev pub address_of : WasmLinkerSymbol → DataPlaces → Option ℕ
+address_of DataEnd at = Some at.data_end
+address_of GlobalBase at = Some at.data_start
+address_of HeapBase at = Some (heap_base at.data_end at.stack_size at.stack_first)
+address_of HeapEnd at = at.heap_end
+address_of WasmFirstPageEnd at = Some WASM_PAGE_SIZE
+address_of DsoHandle at = Some at.data_start
+address_of _ at = None
 
 -- an address is above the last one of memory
 abbrev pub IsTooHigh : Option ℕ → Type 0

@@ -15,25 +15,25 @@ use Rattle.wl_symbols.specs.declared.linker_symbol.WasmLinkerSymbol.TheVariants.
 -- ---- the table
 
 -- a row of the table
-abbrev row : List ℕ → WasmSymbolKind → MadeUnder → LinkerRow
-row name kind under = record { name = name; kind = kind; under = under }
+abbrev linker_row : List ℕ → WasmSymbolKind → MadeUnder → LinkerRow
+linker_row name kind under = record { name = name; kind = kind; under = under }
 
 -- the table of names: what each stands for, and under which options it exists
 abbrev pub row_of : WasmLinkerSymbol → LinkerRow
-row_of DataEnd = row (codes "__data_end") Data AnyOptions
-row_of GlobalBase = row (codes "__global_base") Data AnyOptions
-row_of HeapBase = row (codes "__heap_base") Data AnyOptions
-row_of HeapEnd = row (codes "__heap_end") Data AnyOptions
-row_of WasmFirstPageEnd = row (codes "__wasm_first_page_end") Data AnyOptions
-row_of DsoHandle = row (codes "__dso_handle") Data AnyOptions
-row_of MemoryBase = row (codes "__memory_base") Global AnyOptions
-row_of TableBase = row (codes "__table_base") Global AnyOptions
-row_of StackPointer = row (codes "__stack_pointer") Global AnyOptions
-row_of TlsBase = row (codes "__tls_base") Global AnyOptions
-row_of TlsSize = row (codes "__tls_size") Global SharedMemory
-row_of TlsAlign = row (codes "__tls_align") Global SharedMemory
-row_of CallCtors = row (codes "__wasm_call_ctors") Func AnyOptions
-row_of InitTls = row (codes "__wasm_init_tls") Func SharedMemory
+row_of DataEnd = linker_row (codes "__data_end") Data AnyOptions
+row_of GlobalBase = linker_row (codes "__global_base") Data AnyOptions
+row_of HeapBase = linker_row (codes "__heap_base") Data AnyOptions
+row_of HeapEnd = linker_row (codes "__heap_end") Data AnyOptions
+row_of WasmFirstPageEnd = linker_row (codes "__wasm_first_page_end") Data AnyOptions
+row_of DsoHandle = linker_row (codes "__dso_handle") Data AnyOptions
+row_of MemoryBase = linker_row (codes "__memory_base") Global AnyOptions
+row_of TableBase = linker_row (codes "__table_base") Global AnyOptions
+row_of StackPointer = linker_row (codes "__stack_pointer") Global AnyOptions
+row_of TlsBase = linker_row (codes "__tls_base") Global AnyOptions
+row_of TlsSize = linker_row (codes "__tls_size") Global SharedMemory
+row_of TlsAlign = linker_row (codes "__tls_align") Global SharedMemory
+row_of CallCtors = linker_row (codes "__wasm_call_ctors") Func AnyOptions
+row_of InitTls = linker_row (codes "__wasm_init_tls") Func SharedMemory
 
 -- each one's name
 abbrev pub name_of : WasmLinkerSymbol → List ℕ

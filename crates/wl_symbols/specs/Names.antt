@@ -5,7 +5,7 @@ use Rattle.wl_linking.specs.Symbols.{Symbol as LinkedSymbol}
 use Rattle.wl_linking.specs.Object.{Object}
 use Rattle.wl_symbols.specs.Link.{Link}
 use Rattle.wl_symbols.specs.LinkerNames.{name_of, exists_under, made_of}
-use Rattle.wl_symbols.specs.Entries.{strength_of, is_private, entries_of, firsts_of, symbol_at}
+use Rattle.wl_symbols.specs.Entries.{strength_of, is_private, entries_of, firsts_of, symbol_in}
 use Rattle.wl_symbols.specs.declared.args.WasmArgs.{WasmArgs}
 use Rattle.wl_symbols.specs.declared.linker_symbol.WasmLinkerSymbol.{WasmLinkerSymbol}
 use Rattle.wl_symbols.specs.declared.entry.Place.{Place}
@@ -36,14 +36,14 @@ def_for link object symbol s =
 
 -- what the symbol of the place stands for
 abbrev pub def : Link → ℕ → ℕ → Definition
-def link object symbol = option_map_or (def_for link object symbol) (symbol_at link.objects object symbol) (Symbol object symbol)
+def link object symbol = option_map_or (def_for link object symbol) (symbol_in link.objects object symbol) (Symbol object symbol)
 
 -- ---- the same by places
 
 -- at the place stands a symbol of that strength that other objects know by the name
 pub record HasSymbol (objects : List Object) (name : List ℕ) (strength : Strength) (object symbol : ℕ) : Type 0 where
   pub s : LinkedSymbol
-  pub stands : symbol_at objects object symbol ≡ Some s
+  pub stands : symbol_in objects object symbol ≡ Some s
   pub shared : is_private s ≡ false
   pub name_is : s.name ≡ name
   pub strength_is : strength_of s ≡ strength

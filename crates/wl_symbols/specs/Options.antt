@@ -2,45 +2,45 @@
 use Rattle.std.specs.Prelude.{ℕ, ◌==◌, ◌&&◌, ◌||◌, Bool, true, false, if◌then◌else◌, nat_lt, List, [], ◌∷◌, length, Option, Some, None, find, option_map, codes}
 use Rattle.std.specs.Str.{bytes_eq}
 use Rattle.std.specs.List.{position_or_len, before_first, after_first}
-use Rattle.wl_symbols.specs.declared.options.Takes.{Takes}
-use Rattle.wl_symbols.specs.declared.options.Takes.TheVariants.{Nothing, Value, OptionalValue}
+use Rattle.wl_symbols.specs.declared.options.OptionKind.{OptionKind}
+use Rattle.wl_symbols.specs.declared.options.OptionKind.TheVariants.{Nothing, Value, OptionalValue}
 use Rattle.wl_symbols.specs.declared.options.Flag.TheVariants as flag
 use Rattle.wl_symbols.specs.declared.options.Setting.TheVariants as setting
 use Rattle.wl_symbols.specs.declared.options.MemoryOption.TheVariants as memory
-use Rattle.wl_symbols.specs.Rows.{Row}
+use Rattle.wl_symbols.specs.Rows.{OptionRow}
 
 -- a row of the table
-abbrev row : List ℕ → Takes → Row
-row name takes = record { name = name; takes = takes }
+abbrev option_row : List ℕ → OptionKind → OptionRow
+option_row name takes = record { name = name; takes = takes }
 
 -- the table of options: those of one letter stand behind one dash, the others behind one or two
-abbrev pub options : List Row
+abbrev pub options : List OptionRow
 options =
-    row (codes "export") (Value setting.Export)
-    ∷ row (codes "export-if-defined") (Value setting.ExportIfDefined)
-    ∷ row (codes "export-dynamic") (Nothing flag.ExportDynamic)
-    ∷ row (codes "allow-undefined") (Nothing flag.AllowUndefined)
-    ∷ row (codes "stack-first") (Nothing (flag.StackFirst true))
-    ∷ row (codes "no-stack-first") (Nothing (flag.StackFirst false))
-    ∷ row (codes "gc-sections") (Nothing (flag.GcSections true))
-    ∷ row (codes "no-gc-sections") (Nothing (flag.GcSections false))
-    ∷ row (codes "check-features") (Nothing (flag.CheckFeatures true))
-    ∷ row (codes "no-check-features") (Nothing (flag.CheckFeatures false))
-    ∷ row (codes "entry") (Value setting.Entry)
-    ∷ row (codes "e") (Value setting.Entry)
-    ∷ row (codes "no-entry") (Nothing flag.NoEntry)
-    ∷ row (codes "z") (Value setting.Keyword)
-    ∷ row (codes "initial-memory") (Value setting.InitialMemory)
-    ∷ row (codes "max-memory") (Value setting.MaxMemory)
-    ∷ row (codes "import-memory") (OptionalValue memory.Import)
-    ∷ row (codes "export-memory") (OptionalValue memory.Export)
-    ∷ row (codes "extra-features") (Value setting.ExtraFeatures)
-    ∷ row (codes "strip-all") (Nothing flag.StripAll)
-    ∷ row (codes "s") (Nothing flag.StripAll)
-    ∷ row (codes "strip-debug") (Nothing flag.StripDebug)
-    ∷ row (codes "S") (Nothing flag.StripDebug)
-    ∷ row (codes "keep-section") (Value setting.KeepSection)
-    ∷ row (codes "o") (Value setting.Output)
+    option_row (codes "export") (Value setting.Export)
+    ∷ option_row (codes "export-if-defined") (Value setting.ExportIfDefined)
+    ∷ option_row (codes "export-dynamic") (Nothing flag.ExportDynamic)
+    ∷ option_row (codes "allow-undefined") (Nothing flag.AllowUndefined)
+    ∷ option_row (codes "stack-first") (Nothing (flag.StackFirst true))
+    ∷ option_row (codes "no-stack-first") (Nothing (flag.StackFirst false))
+    ∷ option_row (codes "gc-sections") (Nothing (flag.GcSections true))
+    ∷ option_row (codes "no-gc-sections") (Nothing (flag.GcSections false))
+    ∷ option_row (codes "check-features") (Nothing (flag.CheckFeatures true))
+    ∷ option_row (codes "no-check-features") (Nothing (flag.CheckFeatures false))
+    ∷ option_row (codes "entry") (Value setting.Entry)
+    ∷ option_row (codes "e") (Value setting.Entry)
+    ∷ option_row (codes "no-entry") (Nothing flag.NoEntry)
+    ∷ option_row (codes "z") (Value setting.Keyword)
+    ∷ option_row (codes "initial-memory") (Value setting.InitialMemory)
+    ∷ option_row (codes "max-memory") (Value setting.MaxMemory)
+    ∷ option_row (codes "import-memory") (OptionalValue memory.Import)
+    ∷ option_row (codes "export-memory") (OptionalValue memory.Export)
+    ∷ option_row (codes "extra-features") (Value setting.ExtraFeatures)
+    ∷ option_row (codes "strip-all") (Nothing flag.StripAll)
+    ∷ option_row (codes "s") (Nothing flag.StripAll)
+    ∷ option_row (codes "strip-debug") (Nothing flag.StripDebug)
+    ∷ option_row (codes "S") (Nothing flag.StripDebug)
+    ∷ option_row (codes "keep-section") (Value setting.KeepSection)
+    ∷ option_row (codes "o") (Value setting.Output)
     ∷ []
 
 -- a word of two or more bytes, of which the first is a dash, is an option's; any other names an object
@@ -70,10 +70,10 @@ is_spelled front name =
     bytes_eq front (45 ∷ name) || (nat_lt 1 (length name) && bytes_eq front (45 ∷ 45 ∷ name))
 
 -- what the first of these options is whose dashes and name these are
-abbrev pub taken_in : List Row → List ℕ → Option Takes
+abbrev pub taken_in : List OptionRow → List ℕ → Option OptionKind
 taken_in rows front =
     option_map (λ r. r.takes) (find (λ r. is_spelled front r.name) rows)
 
 -- what the option is whose dashes and name these are, by the table of options
-abbrev pub taken_by : List ℕ → Option Takes
+abbrev pub taken_by : List ℕ → Option OptionKind
 taken_by front = taken_in options front

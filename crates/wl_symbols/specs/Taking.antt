@@ -1,7 +1,7 @@
 -- Items that are taken in, one by one.
 use Rattle.std.specs.Prelude.{◌≡◌, ℕ, List, [], ◌∷◌, ◌++◌, Option, Some, None, unwrap_or}
 use Rattle.std.specs.Option.{option_or}
-use Rattle.wl_symbols.specs.Items.{Item, StandsAt}
+use Rattle.wl_symbols.specs.Items.{ArgItem, StandsAtWord}
 use Rattle.wl_symbols.specs.Args.{input_of, export_symbol_of, required_export_symbol_of, export_dynamic_of, allow_undefined_of, stack_first_of, gc_sections_of, check_features_of, entry_of, z_stack_size_of, initial_memory_of, max_memory_of, import_memory_of, export_memory_of, extra_features_of, strip_all_of, strip_debug_of, keep_section_of, output_of}
 use Rattle.wl_symbols.specs.declared.args.WasmArgs.{WasmArgs}
 
@@ -11,7 +11,7 @@ put_behind xs None = xs
 put_behind xs (Some x) = xs ++ x ∷ []
 
 -- one more item is asked for
-pub record Adds (item : Item) (old new : WasmArgs) : Type 0 where
+pub record AddsItem (item : ArgItem) (old new : WasmArgs) : Type 0 where
   pub inputs : new.inputs ≡ put_behind old.inputs (input_of item)
   pub export_symbols : new.export_symbols ≡ put_behind old.export_symbols (export_symbol_of item)
   pub required_export_symbols : new.required_export_symbols
@@ -36,6 +36,6 @@ pub record Adds (item : Item) (old new : WasmArgs) : Type 0 where
 
 -- the item at this word is asked for, and the next item stands at that one
 pub record TakesItem (words : List (List ℕ)) (at : ℕ) (old new : WasmArgs) (next : ℕ) : Type 0 where
-  pub item : Item
-  pub stands : StandsAt words at item next
-  pub adds : Adds item old new
+  pub item : ArgItem
+  pub stands : StandsAtWord words at item next
+  pub adds : AddsItem item old new

@@ -7,5 +7,5 @@ abbrev pub texts : List (String Global) → List (List ℕ)
 texts words = map string_bytes words
 
 -- those that aren't empty
-abbrev pub filled : List (List ℕ) → List (List ℕ)
-filled names = filter (λ name. nat_lt 0 (length name)) names
+abbrev pub nonempty : List (List ℕ) → List (List ℕ)
+nonempty names = filter (λ name. nat_lt 0 (length name)) names

@@ -5,7 +5,7 @@ use Rattle.std.specs.Str.Parse.{digits_value}
 use Rattle.std.specs.List.{position_or_len, before_first, after_first, slice_split}
 use Rattle.std.specs.Option.{option_and_then}
 use Rattle.wl_symbols.specs.Options.{front_of, value_of}
-use Rattle.wl_symbols.specs.Texts.{filled}
+use Rattle.wl_symbols.specs.Texts.{nonempty}
 
 -- ---- numbers
 
@@ -32,7 +32,7 @@ is_comma byte = byte == 44
 
 -- the names between commas; what is empty is none
 abbrev pub names_in : List ℕ → List (List ℕ)
-names_in value = filled (slice_split is_comma value)
+names_in value = nonempty (slice_split is_comma value)
 
 -- an imported memory: the module that it is from, and its name there
 pub record MemoryName : Type 0 where

@@ -2,21 +2,21 @@
 
 ghost use Rattle.std.specs.Prelude.{◌⊎◌, ℕ, List, ◌≡◌, ◌↔◌, ◌<◌, ◌≤◌, [], All, length, Some, None, option_map, slice_get, IfOk, OnOk, OnErr, IfErr, IfSome, IfNone, IsErr, MatchOption};
 ghost use Rattle.wl_symbols.specs.Texts.{texts};
-ghost use Rattle.wl_symbols.specs.Items.{Given, Set, Memory, IsSound, NamesOption, HasValue};
+ghost use Rattle.wl_symbols.specs.Items.{Given, Set, Memory, IsSoundValue, NamesOption, HasValue};
 ghost use Rattle.wl_symbols.specs.Faults.{WordsFault, RefusesWords, RefusesValue, StopsAt, LacksValue};
 ghost use Rattle.wl_symbols.specs.Args.{IsArgs, AsksFor, emits_stripped_section, export_name};
 ghost use Rattle.wl_symbols.specs.Values.{number_of};
-ghost use Rattle.wl_symbols.specs.Taking.{Adds, TakesItem};
+ghost use Rattle.wl_symbols.specs.Taking.{AddsItem, TakesItem};
 ghost use Rattle.wl_symbols.specs.declared.args.WasmArgs.{WasmArgs as SpecArgs};
 ghost use Rattle.wl_symbols.specs.declared.error.ArgError.{ArgError as SpecError};
-ghost use Rattle.wl_symbols.specs.declared.options.Takes.TheVariants.{Value};
+ghost use Rattle.wl_symbols.specs.declared.options.OptionKind.TheVariants.{Value};
 
 use crate::error::ArgError;
-use crate::options::{Flag, MemoryOption, Setting, Takes, is_option, parts_of, taken_by};
+use crate::options::{Flag, MemoryOption, OptionKind, Setting, is_option, parts_of, taken_by};
 use crate::texts::Texts;
 use crate::values::{MemoryName, copy_of, memory_name, names_in, number_of, stack_size};
 use std::alloc::{AllocError, Global};
-use wl_linking::{Items, Text};
+use wl_linking::{ItemList, Text};
 
 /// The bytes of the stack where no word asks for a number.
 pub const DEFAULT_STACK_SIZE: u32 = 65_536;
@@ -25,7 +25,7 @@ pub const DEFAULT_STACK_SIZE: u32 = 65_536;
 #[derive(Drop)]
 pub struct WasmArgs {
     /// The numbers, from 0, of the words that name objects.
-    pub inputs: Items<usize>,
+    pub inputs: ItemList<usize>,
     /// The names that are exported where they are defined.
     pub export_symbols: Texts,
     /// Those of them that have to be defined.
@@ -67,7 +67,7 @@ pub struct WasmArgs {
 }
 
 /// The word of this number.
-fn word_at(words: &[String], at: usize) -> Option<&str>
+fn get_word(words: &[String], at: usize) -> Option<&str>
     ensures within { IfSome result (λ _. at < length words.now) }
     ensures end { IfNone result (length words.now ≤ at) }
     ensures word { MatchOption result (slice_get (texts words.now) at ≡ None)
@@ -96,7 +96,7 @@ fn value_at<'a>(
 {
     match behind {
         Some(value) => Some((value, at)),
-        None => Some((word_at(words, at + 1)?, at + 1)),
+        None => Some((get_word(words, at + 1)?, at + 1)),
     }
 }
 
@@ -115,7 +115,7 @@ impl WasmArgs {
         ensures { IfOk result (AsksFor []) }
     {
         Ok(WasmArgs {
-            inputs: Items::empty(alloc),
+            inputs: ItemList::empty(alloc),
             export_symbols: Texts::new(alloc),
             required_export_symbols: Texts::new(alloc),
             export_dynamic: false,
@@ -140,7 +140,7 @@ impl WasmArgs {
 
     /// Takes in an option that takes no value.
     fn take_flag(&mut self, flag: Flag)
-        ensures { Adds (Given flag) self.old self.new }
+        ensures { AddsItem (Given flag) self.old self.new }
     {
         match flag {
             Flag::ExportDynamic => self.export_dynamic = true,
@@ -162,8 +162,8 @@ impl WasmArgs {
         value: &str,
         place: usize,
     ) -> Result<(), ArgError>
-        ensures sound { OnOk result (IsSound setting value.now) }
-        ensures ok { OnOk result (Adds (Set setting value.now) self.old self.new) }
+        ensures sound { OnOk result (IsSoundValue setting value.now) }
+        ensures ok { OnOk result (AddsItem (Set setting value.now) self.old self.new) }
         ensures err { IfErr result (RefusesValue setting value.now place) }
     {
         match setting {
@@ -191,7 +191,7 @@ impl WasmArgs {
         value: Option<&str>,
     ) -> Result<(), AllocError>
         ensures { OnOk result
-            (Adds (Memory option (option_map (λ v. v.now) value.entry)) self.old self.new) }
+            (AddsItem (Memory option (option_map (λ v. v.now) value.entry)) self.old self.new) }
     {
         match option {
             MemoryOption::Import => self.import_memory = Some(memory_name(alloc, value)?),
@@ -224,21 +224,21 @@ impl WasmArgs {
         let parts = parts_of(word);
         match taken_by(parts.front) {
             None => Err(ArgError::UnknownOption(at)),
-            Some(Takes::Nothing(flag)) => match parts.value {
+            Some(OptionKind::Nothing(flag)) => match parts.value {
                 Some(_) => Err(ArgError::UnknownOption(at)),
                 None => {
                     self.take_flag(flag);
                     Ok(at + 1)
                 }
             },
-            Some(Takes::Value(setting)) => match value_at(words, at, setting, parts.value) {
+            Some(OptionKind::Value(setting)) => match value_at(words, at, setting, parts.value) {
                 None => Err(ArgError::MissingValue(at)),
                 Some((value, place)) => {
                     self.take_setting(alloc, setting, value, place)?;
                     Ok(place + 1)
                 }
             },
-            Some(Takes::OptionalValue(option)) => {
+            Some(OptionKind::OptionalValue(option)) => {
                 self.take_memory(alloc, option, parts.value)?;
                 Ok(at + 1)
             }
@@ -259,7 +259,7 @@ impl WasmArgs {
     {
         let mut args = WasmArgs::new(alloc)?;
         let mut at = 0;
-        while let Some(word) = word_at(words, at) {
+        while let Some(word) = get_word(words, at) {
             at = args.take_item(alloc, words, at, word)?;
         }
         Ok(args)

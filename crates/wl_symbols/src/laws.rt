@@ -5,7 +5,7 @@ ghost use Rattle.wl_linking.specs.Symbols.{Symbol as LinkedSymbol};
 ghost use Rattle.wl_linking.specs.Object.{Object};
 ghost use Rattle.wl_linking.specs.declared.error.LinkError.{LinkError as SpecError};
 ghost use Rattle.wl_symbols.specs.Link.{Link};
-ghost use Rattle.wl_symbols.specs.Entries.{is_private, symbol_at};
+ghost use Rattle.wl_symbols.specs.Entries.{is_private, symbol_in};
 ghost use Rattle.wl_symbols.specs.Names.{named, def, StandsFor, IsUnknown};
 ghost use Rattle.wl_symbols.specs.Repeats.{HasOneStrong, IsDuplicate};
 ghost use Rattle.wl_symbols.specs.LinkerNames.{name_of, symbol_named};
@@ -24,10 +24,10 @@ pub fn name_by_cases()
         → StandsFor link name d → named link name ≡ Some d }
     ensures unknown { (link : Link) (name : List ℕ) → IsUnknown link name → named link name ≡ None }
     ensures own { (link : Link) (object symbol : ℕ) (s : LinkedSymbol)
-        → symbol_at link.objects object symbol ≡ Some s → is_private s ≡ true
+        → symbol_in link.objects object symbol ≡ Some s → is_private s ≡ true
         → def link object symbol ≡ Symbol object symbol }
     ensures shared { (link : Link) (object symbol : ℕ) (s : LinkedSymbol)
-        → symbol_at link.objects object symbol ≡ Some s → is_private s ≡ false
+        → symbol_in link.objects object symbol ≡ Some s → is_private s ≡ false
         → StandsFor link s.name (def link object symbol) }
     ensures settled { (link : Link) (object symbol o k : ℕ)
         → def link object symbol ≡ Symbol o k → def link o k ≡ Symbol o k }

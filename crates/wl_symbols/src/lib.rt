@@ -26,7 +26,7 @@ pub use laws::{made_names_differ, name_by_cases, names_or_repeat};
 pub use linker_symbol::{
     LINKER_MEMORY_BASE, LINKER_TABLE_BASE, STACK_ALIGNMENT, WASM_PAGE_SIZE, WasmLinkerSymbol,
 };
-pub use options::{Flag, MemoryOption, Setting, Takes};
+pub use options::{Flag, MemoryOption, OptionKind, Setting};
 pub use table::SymbolTable;
 pub use texts::Texts;
 pub use values::MemoryName;

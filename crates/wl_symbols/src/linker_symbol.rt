@@ -2,7 +2,7 @@
 
 ghost use Rattle.std.specs.Prelude.{◌≡◌, ◌≤◌, ◌^◌, find, bytes_eq, IfOk, IfErr, OnErr, IfSome, IfNone};
 ghost use Rattle.wl_symbols.specs.LinkerNames.{row_of, name_of, symbol_named, exists_under, made_of, materializes_on_export, is_exported_as_data, matches_kind};
-ghost use Rattle.wl_symbols.specs.LinkerAddresses.{heap_base, address_of, IsTooHigh};
+ghost use Rattle.wl_symbols.specs.LinkerAddresses.{heap_base, data_places, address_of, IsTooHigh};
 ghost use Rattle.wl_linking.specs.declared.error.Quantity.TheVariants.{Address};
 
 use crate::args::WasmArgs;
@@ -231,11 +231,11 @@ impl WasmLinkerSymbol {
         heap_end: Option<u32>,
         stack_first: bool,
     ) -> Result<Option<u32>, LinkError>
-        ensures ok { IfOk result (λ address. address
-            ≡ address_of self data_start data_end stack_size heap_end stack_first) }
+        ensures ok { let places = data_places data_start data_end stack_size heap_end stack_first in
+            IfOk result (λ address. address ≡ address_of self places) }
         ensures err { IfErr result (λ e. e ≡ LinkError.TooLarge Address) }
-        ensures high { OnErr result (IsTooHigh
-            (address_of self data_start data_end stack_size heap_end stack_first)) }
+        ensures high { let places = data_places data_start data_end stack_size heap_end stack_first in
+            OnErr result (IsTooHigh (address_of self places)) }
     {
         match self {
             Self::DataEnd => Ok(Some(data_end)),

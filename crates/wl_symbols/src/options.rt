@@ -60,7 +60,7 @@ pub enum MemoryOption {
 
 /// What an option is, by the value that it takes.
 #[derive(Clone, Copy, Debug, PartialEq, Eq)]
-pub enum Takes {
+pub enum OptionKind {
     /// No value.
     Nothing(Flag),
     /// A value: behind an equals sign in its own word, or the next word.
@@ -72,13 +72,13 @@ pub enum Takes {
 /// A row of the table of options: a name and what the option is.
 struct OptionRow {
     name: &'static str,
-    takes: Takes,
+    takes: OptionKind,
 }
 
 impl Model for OptionRow {
-    ghost use Rattle.wl_symbols.specs.Rows.{Row};
+    ghost use Rattle.wl_symbols.specs.Rows.{OptionRow as OptionRow};
 
-    ghost Value = { Row };
+    ghost Value = { OptionRow };
 
     ghost view = { λ r. record { name = r.name.now; takes = r.takes } };
 }
@@ -87,103 +87,103 @@ impl Model for OptionRow {
 const OPTIONS: [OptionRow; 25] = [
     OptionRow {
         name: "export",
-        takes: Takes::Value(Setting::Export),
+        takes: OptionKind::Value(Setting::Export),
     },
     OptionRow {
         name: "export-if-defined",
-        takes: Takes::Value(Setting::ExportIfDefined),
+        takes: OptionKind::Value(Setting::ExportIfDefined),
     },
     OptionRow {
         name: "export-dynamic",
-        takes: Takes::Nothing(Flag::ExportDynamic),
+        takes: OptionKind::Nothing(Flag::ExportDynamic),
     },
     OptionRow {
         name: "allow-undefined",
-        takes: Takes::Nothing(Flag::AllowUndefined),
+        takes: OptionKind::Nothing(Flag::AllowUndefined),
     },
     OptionRow {
         name: "stack-first",
-        takes: Takes::Nothing(Flag::StackFirst(true)),
+        takes: OptionKind::Nothing(Flag::StackFirst(true)),
     },
     OptionRow {
         name: "no-stack-first",
-        takes: Takes::Nothing(Flag::StackFirst(false)),
+        takes: OptionKind::Nothing(Flag::StackFirst(false)),
     },
     OptionRow {
         name: "gc-sections",
-        takes: Takes::Nothing(Flag::GcSections(true)),
+        takes: OptionKind::Nothing(Flag::GcSections(true)),
     },
     OptionRow {
         name: "no-gc-sections",
-        takes: Takes::Nothing(Flag::GcSections(false)),
+        takes: OptionKind::Nothing(Flag::GcSections(false)),
     },
     OptionRow {
         name: "check-features",
-        takes: Takes::Nothing(Flag::CheckFeatures(true)),
+        takes: OptionKind::Nothing(Flag::CheckFeatures(true)),
     },
     OptionRow {
         name: "no-check-features",
-        takes: Takes::Nothing(Flag::CheckFeatures(false)),
+        takes: OptionKind::Nothing(Flag::CheckFeatures(false)),
     },
     OptionRow {
         name: "entry",
-        takes: Takes::Value(Setting::Entry),
+        takes: OptionKind::Value(Setting::Entry),
     },
     OptionRow {
         name: "e",
-        takes: Takes::Value(Setting::Entry),
+        takes: OptionKind::Value(Setting::Entry),
     },
     OptionRow {
         name: "no-entry",
-        takes: Takes::Nothing(Flag::NoEntry),
+        takes: OptionKind::Nothing(Flag::NoEntry),
     },
     OptionRow {
         name: "z",
-        takes: Takes::Value(Setting::Keyword),
+        takes: OptionKind::Value(Setting::Keyword),
     },
     OptionRow {
         name: "initial-memory",
-        takes: Takes::Value(Setting::InitialMemory),
+        takes: OptionKind::Value(Setting::InitialMemory),
     },
     OptionRow {
         name: "max-memory",
-        takes: Takes::Value(Setting::MaxMemory),
+        takes: OptionKind::Value(Setting::MaxMemory),
     },
     OptionRow {
         name: "import-memory",
-        takes: Takes::OptionalValue(MemoryOption::Import),
+        takes: OptionKind::OptionalValue(MemoryOption::Import),
     },
     OptionRow {
         name: "export-memory",
-        takes: Takes::OptionalValue(MemoryOption::Export),
+        takes: OptionKind::OptionalValue(MemoryOption::Export),
     },
     OptionRow {
         name: "extra-features",
-        takes: Takes::Value(Setting::ExtraFeatures),
+        takes: OptionKind::Value(Setting::ExtraFeatures),
     },
     OptionRow {
         name: "strip-all",
-        takes: Takes::Nothing(Flag::StripAll),
+        takes: OptionKind::Nothing(Flag::StripAll),
     },
     OptionRow {
         name: "s",
-        takes: Takes::Nothing(Flag::StripAll),
+        takes: OptionKind::Nothing(Flag::StripAll),
     },
     OptionRow {
         name: "strip-debug",
-        takes: Takes::Nothing(Flag::StripDebug),
+        takes: OptionKind::Nothing(Flag::StripDebug),
     },
     OptionRow {
         name: "S",
-        takes: Takes::Nothing(Flag::StripDebug),
+        takes: OptionKind::Nothing(Flag::StripDebug),
     },
     OptionRow {
         name: "keep-section",
-        takes: Takes::Value(Setting::KeepSection),
+        takes: OptionKind::Value(Setting::KeepSection),
     },
     OptionRow {
         name: "o",
-        takes: Takes::Value(Setting::Output),
+        takes: OptionKind::Value(Setting::Output),
     },
 ];
 
@@ -234,7 +234,7 @@ fn is_spelled(front: &str, name: &str) -> bool
 }
 
 /// What the option is whose dashes and name these are, among these options.
-fn taken_in(options: &[OptionRow], front: &str) -> Option<Takes>
+fn taken_in(options: &[OptionRow], front: &str) -> Option<OptionKind>
     ensures { result ≡ taken_in options.now front.now }
 {
     for option in options {
@@ -246,7 +246,7 @@ fn taken_in(options: &[OptionRow], front: &str) -> Option<Takes>
 }
 
 /// What the option is whose dashes and name these are.
-pub(crate) fn taken_by(front: &str) -> Option<Takes>
+pub(crate) fn taken_by(front: &str) -> Option<OptionKind>
     ensures { result ≡ taken_by front.now }
 {
     taken_in(&OPTIONS, front)

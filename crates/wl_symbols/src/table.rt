@@ -3,7 +3,7 @@
 ghost use Rattle.std.specs.Prelude.{◌≡◌, ◌↔◌, ◌+◌, ◌*◌, ◌<◌, ◌≤◌, IfOk, OnOk, IfErr, IsTrue, IsSome, is_some};
 ghost use Rattle.wl_linking.specs.Steps.{Clear, Refuses};
 ghost use Rattle.wl_symbols.specs.Link.{link_of};
-ghost use Rattle.wl_symbols.specs.Entries.{symbol_at, symbol_count};
+ghost use Rattle.wl_symbols.specs.Entries.{symbol_in, symbol_count};
 ghost use Rattle.wl_symbols.specs.Names.{named, def_for, def};
 ghost use Rattle.wl_symbols.specs.Repeats.{HasOneStrong, refusal_of, IsDuplicate};
 
@@ -131,7 +131,7 @@ impl<'f, 'a> SymbolTable<'f, 'a> {
 
     /// Whether there is a symbol of that number in an object of that number.
     pub fn has_symbol(&self, object: usize, symbol: u32) -> bool
-        ensures { result ≡ is_some (symbol_at self.now.objects object symbol) }
+        ensures { result ≡ is_some (symbol_in self.now.objects object symbol) }
     {
         let files = self.files.as_slice();
         object < files.len() && (symbol as usize) < files[object].symbols().len()
@@ -140,7 +140,7 @@ impl<'f, 'a> SymbolTable<'f, 'a> {
     /// What a symbol stands for: itself, where it is local or has no name, and else what its name
     /// does.
     pub fn definition(&self, object: usize, symbol: u32) -> Definition
-        requires { IsSome (symbol_at self.now.objects object symbol) }
+        requires { IsSome (symbol_in self.now.objects object symbol) }
         ensures { result ≡ def self.now object symbol }
     {
         let symbols = self.files.as_slice()[object].symbols();
@@ -149,7 +149,7 @@ impl<'f, 'a> SymbolTable<'f, 'a> {
 
     /// Whether a symbol stands for itself.
     pub fn is_canonical(&self, object: usize, symbol: u32) -> bool
-        requires { IsSome (symbol_at self.now.objects object symbol) }
+        requires { IsSome (symbol_in self.now.objects object symbol) }
         ensures { IsTrue result ↔ (def self.now object symbol ≡ Definition.Symbol object symbol) }
     {
         self.definition(object, symbol) == Definition::Symbol { object, symbol }

@@ -2,7 +2,7 @@
 
 ghost use Rattle.std.specs.Prelude.{◌≡◌, ◌==◌, [], ◌∷◌, ◌++◌, length, OnOk, OnErr, bytes_eq};
 ghost use Rattle.std.specs.List.{list_any};
-ghost use Rattle.wl_symbols.specs.Texts.{texts, filled};
+ghost use Rattle.wl_symbols.specs.Texts.{texts, nonempty};
 
 use std::alloc::{AllocError, Global};
 use std::marker::Model;
@@ -43,7 +43,7 @@ impl Texts {
 
     /// Puts a copy of this text behind the others, where it isn't empty.
     pub(crate) fn push_filled(&mut self, alloc: Global, text: &str) -> Result<(), AllocError>
-        ensures { OnOk result (self.new ≡ self.old ++ filled (text.now ∷ [])) }
+        ensures { OnOk result (self.new ≡ self.old ++ nonempty (text.now ∷ [])) }
     {
         if !text.is_empty() {
             self.push(alloc, text)?;

@@ -1,6 +1,6 @@
 use Rattle.std.proofs.Common.{arith}
 use Rattle.std.proofs.lemmas.Result.{err_from_is_err_and}
-use Rattle.wl_linking.specs.Sections.{EndsWithin}
+use Rattle.wl_linking.specs.Sections.{EndsWithin, section_context}
 use Rattle.wl_linking.proofs.HeldLaws.{spelled}
 use Rattle.wl_linking.proofs.ImportPlaces.{named_within}
 use Rattle.wl_linking.proofs.PartLaws.{reads_more, reads_fault, all_get}
@@ -16,7 +16,7 @@ pub add-requires : goal.add-requires
 add-requires c =
     let s = c.section-item.result in
     named_within s.kind s c.in_ok-items.items (rw (← c.section-item.is) at (all_get EndsWithin c.args.sections.now c.loop-section.section-index s c.requires (omega arith)))
-    (spelled s.kind c.args.sections.now c.loop-section.parts s c.in_ok-items.items s.payload c.in_ok-items.ensures)
+    (spelled s.kind (section_context c.args.sections.now c.loop-section.parts) s c.in_ok-items.items s.payload c.in_ok-items.ensures)
 
 pub loop-section-preserved : goal.loop-section-preserved
 loop-section-preserved c =

@@ -10,4 +10,4 @@ returns-in_err-kind-clause-value c =
 pub returns-clause-value : goal.returns-clause-value
 returns-clause-value c =
     let pushed = rw c.from.ensures at c.in_ok-push_number.ensures in
-    rw (← catch_is c.args.args.now c.args.reader.now c.read_kind.new.reader c.in_ok-kind.kind c.in_ok-kind.ensures.value, ← pushed, ← c.catch_numbers.ensures) c.read_singles.ensures.value
+    rw (← catch_is c.args.args.now c.args.reader.now c.read_catch_kind.new.reader c.in_ok-kind.kind c.in_ok-kind.ensures.value, ← pushed, ← c.catch_numbers.ensures) c.read_singles.ensures.value

@@ -3,12 +3,12 @@ use Rattle.std.proofs.lemmas.Bool.{eqb-true}
 use Rattle.std.proofs.lemmas.List.{nil_from_length}
 use Rattle.std.proofs.lemmas.Result.{err_from_is_err_and}
 use Rattle.wl_bytes.proofs.GrammarLaws.{take_nothing}
-use Rattle.wl_ops.specs.Numbers.{IsMarked}
+use Rattle.wl_ops.specs.Numbers.{IsMarkedOp}
 use Rattle.wl_ops.proofs.NumberLaws.{numbers_stop, numbers_end, read_more, read_less}
 use Rattle.wl_ops.proofs.numbers.numbers_in.Goals as goal
 
 pub loop-alloc-init : goal.loop-alloc-init
-loop-alloc-init c = ([], take_nothing IsMarked c.args.reader.now, refl, c.new-numbers.ensures.items)
+loop-alloc-init c = ([], take_nothing IsMarkedOp c.args.reader.now, refl, c.new-numbers.ensures.items)
 
 pub returns-in_err-marked : goal.returns-in_err-marked
 returns-in_err-marked c =

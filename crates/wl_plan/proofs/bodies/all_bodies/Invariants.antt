@@ -1,6 +1,6 @@
 use Rattle.std.proofs.Common.{◌≡◌, ◌++◌, drop}
-use Rattle.wl_plan.specs.Plan.{bodies_of}
+use Rattle.wl_plan.specs.Plan.{object_bodies}
 use Rattle.wl_plan.proofs.bodies.all_bodies.Given as goal
 
 abbrev pub invariant-loop-object : goal.invariant-loop-object
-invariant-loop-object l = l.bodies.items ++ bodies_of l.object (drop l.object l.files) ≡ bodies_of 0 l.files
+invariant-loop-object l = l.bodies.items ++ object_bodies l.object (drop l.object l.files) ≡ object_bodies 0 l.files

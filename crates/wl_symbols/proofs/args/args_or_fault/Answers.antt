@@ -1,5 +1,5 @@
 use Rattle.std.proofs.Common.{◌⊎◌, ℕ, List, length, refl, subst, arith, inl, inr}
-use Rattle.wl_symbols.specs.Items.{Item}
+use Rattle.wl_symbols.specs.Items.{ArgItem}
 use Rattle.wl_symbols.specs.Faults.{WordsFault}
 use Rattle.wl_symbols.specs.Args.{IsArgs, AsksFor}
 use Rattle.wl_symbols.specs.declared.args.WasmArgs.{WasmArgs}
@@ -21,7 +21,7 @@ returns-clause-never_both c = λ words args e h k. no_words_fault words 0 h.item
 
 pub returns-clause-one : goal.returns-clause-one
 returns-clause-one c = λ words a b h k.
-    asks_same k.items a b (subst (λ (xs : List Item). AsksFor xs a) (same_items words 0 h.items k.items (length words) refl h.spelled k.spelled) h.asked) k.asked
+    asks_same k.items a b (subst (λ (xs : List ArgItem). AsksFor xs a) (same_items words 0 h.items k.items (length words) refl h.spelled k.spelled) h.asked) k.asked
 
 pub returns-clause-one_fault : goal.returns-clause-one_fault
 returns-clause-one_fault c = λ words e f h k. one_words_fault words 0 h.items k.items h.at k.at e f h.before h.fault k.before k.fault

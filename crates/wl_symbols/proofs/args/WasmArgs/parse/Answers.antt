@@ -1,7 +1,7 @@
 use Rattle.std.proofs.Common.{◌≡◌, length, ◌<◌, All, ℕ, subst, arith, string_bytes}
 use Rattle.std.proofs.lemmas.List.{length-map}
 use Rattle.std.specs.List.{filter_map}
-use Rattle.wl_symbols.specs.Items.{Items}
+use Rattle.wl_symbols.specs.Items.{AreArgItems}
 use Rattle.wl_symbols.specs.Texts.{texts}
 use Rattle.wl_symbols.specs.Args.{input_of}
 use Rattle.wl_symbols.proofs.ItemLaws.{items_more, inputs_below}
@@ -24,7 +24,7 @@ returns-clause-ok c =
     let end : c.loop-word.at ≡ length (texts c.args.words.now) = omega (arith, c.loop-word.invariant.within, c.in_default.ensures.end, length-map c.args.words.now string_bytes) in
     record {
       items = c.loop-word.invariant.items;
-      spelled = subst (λ (n : ℕ). Items (texts c.args.words.now) 0 c.loop-word.invariant.items n) end c.loop-word.invariant.stand;
+      spelled = subst (λ (n : ℕ). AreArgItems (texts c.args.words.now) 0 c.loop-word.invariant.items n) end c.loop-word.invariant.stand;
       asked = c.loop-word.invariant.asked;
     }
 

@@ -3,7 +3,7 @@ use Rattle.std.proofs.lemmas.Result.{err_from_is_err_and}
 use Rattle.wl_symbols.specs.Options.{front_of, taken_by, value_of}
 use Rattle.wl_symbols.specs.Items.{Object}
 use Rattle.wl_symbols.specs.Faults.{unnamed, valued, unknown, unsound}
-use Rattle.wl_symbols.specs.declared.options.Takes.TheVariants.{Nothing}
+use Rattle.wl_symbols.specs.declared.options.OptionKind.TheVariants.{Nothing}
 use Rattle.wl_symbols.proofs.args.WasmArgs.take_item.Goals as goal
 
 pub returns-then-not-is_option-clause-ok : goal.returns-then-not-is_option-clause-ok

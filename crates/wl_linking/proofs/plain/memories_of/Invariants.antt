@@ -1,6 +1,0 @@
-use Rattle.std.proofs.Common.{◌≡◌, take}
-use Rattle.wl_linking.specs.Parts.{memories_of}
-use Rattle.wl_linking.proofs.plain.memories_of.Given as goal
-
-abbrev pub invariant-loop-segment : goal.invariant-loop-segment
-invariant-loop-segment l = l.memories.items ≡ memories_of (take l.segment-index l.segments)
