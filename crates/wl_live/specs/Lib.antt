@@ -1,0 +1,9 @@
+pub mod Units
+pub mod Definitions
+pub mod References
+pub mod Roots
+pub mod Kept
+pub mod Faults
+pub mod Facts
+pub mod Table
+pub mod Live
