@@ -23,7 +23,7 @@ use Rattle.wl_ops.specs.Numbers.{AreTold}
 use Rattle.wl_ops.specs.Rewriting.{LieWithin}
 use Rattle.wl_ops.specs.declared.op.DataIndexImm.{DataIndexImm}
 use Rattle.wl_live.specs.Units.{counts_of, has_unit}
-use Rattle.wl_live.specs.Faults.{HasFieldIn, NumberFault, HasNumberFault, BodyFault, GlobalFault, HasFault}
+use Rattle.wl_live.specs.Faults.{HasFieldIn, SegmentNumberFault, HasSegmentNumberFault, HasBodyFault, HasGlobalFault, HasUnitFault}
 use Rattle.wl_live.specs.Facts.{faults_of, AreFaults, FaultsOfBodies}
 use Rattle.wl_live.specs.declared.object_facts.UnitFault.{UnitFault}
 use Rattle.wl_live.specs.declared.units.WasmGcUnit.{WasmGcUnit}
@@ -104,11 +104,11 @@ number-le (x ∷ ns) from to n lies (zero, lt, e) = let same = lie_ends (x.offse
 number-le (x ∷ ns) from to n lies (suc k, lt, e) = number-le ns (x.offset + x.len) to n lies.2 (k, omega arith, e)
 
 -- a body without a fault has these numbers, so none of them is at fault
-pub no_fault : OneNumbers → (o : Object) (b : Body) (ns : List DataIndexImm) → AreTold ns b.bytes → ((e : ReadError) → HasNumberFault o b ns e → ⊥) → (e : ReadError) → BodyFault o b e → ⊥
+pub no_fault : OneNumbers → (o : Object) (b : Body) (ns : List DataIndexImm) → AreTold ns b.bytes → ((e : ReadError) → HasSegmentNumberFault o b ns e → ⊥) → (e : ReadError) → HasBodyFault o b e → ⊥
 no_fault only o b ns told none e (inl f) = told.1 e f
-no_fault only o b ns told none e (inr (ks, has, fault)) = none e (subst (λ (l : List DataIndexImm). HasNumberFault o b l e) (only b.bytes ks ns has told.0) fault)
+no_fault only o b ns told none e (inr (ks, has, fault)) = none e (subst (λ (l : List DataIndexImm). HasSegmentNumberFault o b l e) (only b.bytes ks ns has told.0) fault)
 
-pub body_fault-from : OneNumbers → (o : Object) (b : Body) (ns : List DataIndexImm) (r : Option ReadError) → AreTold ns b.bytes → MatchOption r ((e : ReadError) → HasNumberFault o b ns e → ⊥) (HasNumberFault o b ns) → MatchOption r ((e : ReadError) → BodyFault o b e → ⊥) (BodyFault o b)
+pub body_fault-from : OneNumbers → (o : Object) (b : Body) (ns : List DataIndexImm) (r : Option ReadError) → AreTold ns b.bytes → MatchOption r ((e : ReadError) → HasSegmentNumberFault o b ns e → ⊥) (HasSegmentNumberFault o b ns) → MatchOption r ((e : ReadError) → HasBodyFault o b e → ⊥) (HasBodyFault o b)
 body_fault-from only o b ns None told none = no_fault only o b ns told none
 body_fault-from only o b ns (Some e) told fault = inr (ns, told.0, fault)
 
@@ -120,7 +120,7 @@ same_body o k b c at is = same_Some b c (sym at ∙ is)
 pub fault_kept : (old new : List UnitFault) (u : WasmGcUnit) → (f : UnitFault) × Contains old f × (f.unit ≡ u) → (f : UnitFault) × Contains (old ++ new) f × (f.unit ≡ u)
 fault_kept old new u p = (p.0, Contains-append_left old new p.0 p.1, p.2)
 
-pub FaultsOfBodies-sound : (o : Object) (k : ℕ) (b : Body) (old : List UnitFault) → FaultsOfBodies o k old → slice_get o.bodies k ≡ Some b → ((e : ReadError) → BodyFault o b e → ⊥) → FaultsOfBodies o (k + 1) (old ++ [])
+pub FaultsOfBodies-sound : (o : Object) (k : ℕ) (b : Body) (old : List UnitFault) → FaultsOfBodies o k old → slice_get o.bodies k ≡ Some b → ((e : ReadError) → HasBodyFault o b e → ⊥) → FaultsOfBodies o (k + 1) (old ++ [])
 FaultsOfBodies-sound o k b old h at none = record {
   only = λ f m. h.only f (rw append-nil at m);
   every = λ j e lt fault.
@@ -129,18 +129,18 @@ FaultsOfBodies-sound o k b old h at none = record {
         | inr more ↦
             let same : j ≡ k = omega arith in
             let here : slice_get o.bodies k ≡ Some fault.0 = rw same at fault.1 in
-            absurd (none e (subst (λ (x : Body). BodyFault o x e) (sym (same_body o k b fault.0 at here)) fault.2))
+            absurd (none e (subst (λ (x : Body). HasBodyFault o x e) (sym (same_body o k b fault.0 at here)) fault.2))
       ];
 }
 
-pub FaultsOfBodies-fault : (o : Object) (k : ℕ) (b : Body) (old : List UnitFault) (error : ReadError) → FaultsOfBodies o k old → slice_get o.bodies k ≡ Some b → BodyFault o b error → FaultsOfBodies o (k + 1) (old ++ record { unit = DefinedFunction k; error = error } ∷ [])
+pub FaultsOfBodies-fault : (o : Object) (k : ℕ) (b : Body) (old : List UnitFault) (error : ReadError) → FaultsOfBodies o k old → slice_get o.bodies k ≡ Some b → HasBodyFault o b error → FaultsOfBodies o (k + 1) (old ++ record { unit = DefinedFunction k; error = error } ∷ [])
 FaultsOfBodies-fault o k b old error h at fault =
     let new : UnitFault = record { unit = DefinedFunction k; error = error } in
     record {
       only = λ f m.
           elim (Contains-append_cases old (new ∷ []) f m) [
             | inl before ↦ h.only f before
-            | inr last ↦ subst (λ (x : UnitFault). HasFault o x.unit x.error) (sym (in_single new f last)) (b, at, fault)
+            | inr last ↦ subst (λ (x : UnitFault). HasUnitFault o x.unit x.error) (sym (in_single new f last)) (b, at, fault)
           ];
       every = λ j e lt other.
           elim (cases_lt j k) [
@@ -149,20 +149,20 @@ FaultsOfBodies-fault o k b old error h at fault =
           ];
     }
 
-pub FaultsOfBodies-more : (o : Object) (k : ℕ) (b : Body) (old new : List UnitFault) (error : Option ReadError) → FaultsOfBodies o k old → slice_get o.bodies k ≡ Some b → MatchOption error ((e : ReadError) → BodyFault o b e → ⊥) (BodyFault o b) → new ≡ old ++ faults_of (DefinedFunction k) error → FaultsOfBodies o (k + 1) new
+pub FaultsOfBodies-more : (o : Object) (k : ℕ) (b : Body) (old new : List UnitFault) (error : Option ReadError) → FaultsOfBodies o k old → slice_get o.bodies k ≡ Some b → MatchOption error ((e : ReadError) → HasBodyFault o b e → ⊥) (HasBodyFault o b) → new ≡ old ++ faults_of (DefinedFunction k) error → FaultsOfBodies o (k + 1) new
 FaultsOfBodies-more o k b old new None h at none e = rw e (FaultsOfBodies-sound o k b old h at none)
 FaultsOfBodies-more o k b old new (Some error) h at fault e = rw e (FaultsOfBodies-fault o k b old error h at fault)
 
 -- those of all bodies, and of the first n globals
 pub record FaultsOfGlobals (o : Object) (n : ℕ) (faults : List UnitFault) : Type 0 where
-  pub only : (f : UnitFault) → Contains faults f → HasFault o f.unit f.error
-  pub bodies : (k : ℕ) (e : ReadError) → k < length o.bodies → HasFault o (DefinedFunction k) e → (f : UnitFault) × Contains faults f × (f.unit ≡ DefinedFunction k)
-  pub globals : (k : ℕ) (e : ReadError) → k < n → HasFault o (DefinedGlobal k) e → (f : UnitFault) × Contains faults f × (f.unit ≡ DefinedGlobal k)
+  pub only : (f : UnitFault) → Contains faults f → HasUnitFault o f.unit f.error
+  pub bodies : (k : ℕ) (e : ReadError) → k < length o.bodies → HasUnitFault o (DefinedFunction k) e → (f : UnitFault) × Contains faults f × (f.unit ≡ DefinedFunction k)
+  pub globals : (k : ℕ) (e : ReadError) → k < n → HasUnitFault o (DefinedGlobal k) e → (f : UnitFault) × Contains faults f × (f.unit ≡ DefinedGlobal k)
 
 pub same_global : (o : Object) (k : ℕ) (b c : GlobalRecord) → slice_get o.globals k ≡ Some b → slice_get o.globals k ≡ Some c → b ≡ c
 same_global o k b c at is = same_Some b c (sym at ∙ is)
 
-pub FaultsOfGlobals-sound : (o : Object) (k : ℕ) (g : GlobalRecord) (old : List UnitFault) → FaultsOfGlobals o k old → slice_get o.globals k ≡ Some g → ((e : ReadError) → GlobalFault g e → ⊥) → FaultsOfGlobals o (k + 1) (old ++ [])
+pub FaultsOfGlobals-sound : (o : Object) (k : ℕ) (g : GlobalRecord) (old : List UnitFault) → FaultsOfGlobals o k old → slice_get o.globals k ≡ Some g → ((e : ReadError) → HasGlobalFault g e → ⊥) → FaultsOfGlobals o (k + 1) (old ++ [])
 FaultsOfGlobals-sound o k g old h at none = record {
   only = λ f m. h.only f (rw append-nil at m);
   bodies = λ j e lt fault. fault_kept old [] (DefinedFunction j) (h.bodies j e lt fault);
@@ -172,18 +172,18 @@ FaultsOfGlobals-sound o k g old h at none = record {
         | inr more ↦
             let same : j ≡ k = omega arith in
             let here : slice_get o.globals k ≡ Some fault.0 = rw same at fault.1 in
-            absurd (none e (subst (λ (x : GlobalRecord). GlobalFault x e) (sym (same_global o k g fault.0 at here)) fault.2))
+            absurd (none e (subst (λ (x : GlobalRecord). HasGlobalFault x e) (sym (same_global o k g fault.0 at here)) fault.2))
       ];
 }
 
-pub FaultsOfGlobals-fault : (o : Object) (k : ℕ) (g : GlobalRecord) (old : List UnitFault) (error : ReadError) → FaultsOfGlobals o k old → slice_get o.globals k ≡ Some g → GlobalFault g error → FaultsOfGlobals o (k + 1) (old ++ record { unit = DefinedGlobal k; error = error } ∷ [])
+pub FaultsOfGlobals-fault : (o : Object) (k : ℕ) (g : GlobalRecord) (old : List UnitFault) (error : ReadError) → FaultsOfGlobals o k old → slice_get o.globals k ≡ Some g → HasGlobalFault g error → FaultsOfGlobals o (k + 1) (old ++ record { unit = DefinedGlobal k; error = error } ∷ [])
 FaultsOfGlobals-fault o k g old error h at fault =
     let new : UnitFault = record { unit = DefinedGlobal k; error = error } in
     record {
       only = λ f m.
           elim (Contains-append_cases old (new ∷ []) f m) [
             | inl before ↦ h.only f before
-            | inr last ↦ subst (λ (x : UnitFault). HasFault o x.unit x.error) (sym (in_single new f last)) (g, at, fault)
+            | inr last ↦ subst (λ (x : UnitFault). HasUnitFault o x.unit x.error) (sym (in_single new f last)) (g, at, fault)
           ];
       bodies = λ j e lt other. fault_kept old (new ∷ []) (DefinedFunction j) (h.bodies j e lt other);
       globals = λ j e lt other.
@@ -193,14 +193,14 @@ FaultsOfGlobals-fault o k g old error h at fault =
           ];
     }
 
-pub FaultsOfGlobals-more : (o : Object) (k : ℕ) (g : GlobalRecord) (old new : List UnitFault) (error : Option ReadError) → FaultsOfGlobals o k old → slice_get o.globals k ≡ Some g → MatchOption error ((e : ReadError) → GlobalFault g e → ⊥) (GlobalFault g) → new ≡ old ++ faults_of (DefinedGlobal k) error → FaultsOfGlobals o (k + 1) new
+pub FaultsOfGlobals-more : (o : Object) (k : ℕ) (g : GlobalRecord) (old new : List UnitFault) (error : Option ReadError) → FaultsOfGlobals o k old → slice_get o.globals k ≡ Some g → MatchOption error ((e : ReadError) → HasGlobalFault g e → ⊥) (HasGlobalFault g) → new ≡ old ++ faults_of (DefinedGlobal k) error → FaultsOfGlobals o (k + 1) new
 FaultsOfGlobals-more o k g old new None h at none e = rw e (FaultsOfGlobals-sound o k g old h at none)
 FaultsOfGlobals-more o k g old new (Some error) h at fault e = rw e (FaultsOfGlobals-fault o k g old error h at fault)
 
 pub AreFaults-from : (o : Object) (n : ℕ) (faults : List UnitFault) → FaultsOfGlobals o n faults → length o.globals ≤ n → AreFaults o faults
 AreFaults-from o n faults h le = record { only = h.only; every = each }
   where
-    each : (u : WasmGcUnit) (e : ReadError) → HasFault o u e → (f : UnitFault) × Contains faults f × (f.unit ≡ u)
+    each : (u : WasmGcUnit) (e : ReadError) → HasUnitFault o u e → (f : UnitFault) × Contains faults f × (f.unit ≡ u)
     each (DefinedFunction k) e f = h.bodies k e (slice_get_within o.bodies k f.0 f.1) f
     each (DefinedGlobal k) e f = h.globals k e (omega (arith, slice_get_within o.globals k f.0 f.1)) f
     each (DataSegment k) e f = absurd f
@@ -209,7 +209,7 @@ AreFaults-from o n faults h le = record { only = h.only; every = each }
 
 -- ---- units with faults exist
 
-pub fault_exists : (o : Object) (u : WasmGcUnit) (e : ReadError) → IsWhole o → HasFault o u e → has_unit (counts_of o) u ≡ true
+pub fault_exists : (o : Object) (u : WasmGcUnit) (e : ReadError) → IsWhole o → HasUnitFault o u e → has_unit (counts_of o) u ≡ true
 fault_exists o (DefinedFunction k) e whole f =
     let within : k < length o.bodies = slice_get_within o.bodies k f.0 f.1 in
     let many : length o.bodies ≡ length o.functions = whole.object.fitting.names.bodies in
@@ -221,12 +221,12 @@ fault_exists o (GlobalImport k) e whole f = absurd f
 
 -- ---- numbers
 
-pub number_fault-more : (o : Object) (b : Body) (ns : List DataIndexImm) (k : ℕ) (n : DataIndexImm) → ((e : ReadError) → HasNumberFault o b (take k ns) e → ⊥) → k < length ns → get_or ns k n ≡ n → ((e : ReadError) → NumberFault o b n e → ⊥) → (e : ReadError) → HasNumberFault o b (take (k + 1) ns) e → ⊥
+pub number_fault-more : (o : Object) (b : Body) (ns : List DataIndexImm) (k : ℕ) (n : DataIndexImm) → ((e : ReadError) → HasSegmentNumberFault o b (take k ns) e → ⊥) → k < length ns → get_or ns k n ≡ n → ((e : ReadError) → SegmentNumberFault o b n e → ⊥) → (e : ReadError) → HasSegmentNumberFault o b (take (k + 1) ns) e → ⊥
 number_fault-more o b ns k n h lt at none e f =
     let whole : take (k + 1) ns ≡ take k ns ++ n ∷ [] = take_more ns k n lt ∙ ap (λ (x : DataIndexImm). take k ns ++ x ∷ []) at in
     elim (Contains-append_cases (take k ns) (n ∷ []) f.0 (subst (λ (l : List DataIndexImm). Contains l f.0) whole f.1)) [
       | inl before ↦ h e (f.0, before, f.2)
-      | inr last ↦ none e (subst (λ (x : DataIndexImm). NumberFault o b x e) (in_single n f.0 last) f.2)
+      | inr last ↦ none e (subst (λ (x : DataIndexImm). SegmentNumberFault o b x e) (in_single n f.0 last) f.2)
     ]
 
 -- what isn't want of memory is the fault that was told

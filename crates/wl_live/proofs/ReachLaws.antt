@@ -10,10 +10,10 @@ use Rattle.wl_reach.proofs.ChainLaws.{IsReached-root, IsReached-step, IsReached-
 use Rattle.wl_live.specs.declared.references.Reference.{Reference}
 use Rattle.wl_live.specs.declared.units.LinkUnit.{LinkUnit}
 use Rattle.wl_live.specs.declared.units.UnitCounts.{UnitCounts}
-use Rattle.wl_live.specs.Units.{exists, number_of, number_if, total_of}
+use Rattle.wl_live.specs.Units.{exists, unit_number, unit_number_if, total_of}
 use Rattle.wl_live.specs.Table.{found, edge_of, Leads, Begins}
 use Rattle.wl_live.specs.Live.{UnitsReached}
-use Rattle.wl_live.proofs.NumberingLaws.{number_if_found, number_if_parts, number_of-injective, number_of-lt}
+use Rattle.wl_live.proofs.NumberingLaws.{number_if_found, number_if_parts, unit_number-injective, unit_number-lt}
 
 -- ---- what is found
 
@@ -62,8 +62,8 @@ edge_parts None q e h = absurd (cc)
 edge_parts (Some a) None e h = absurd (cc)
 edge_parts (Some a) (Some b) e h = let s = same_Some _ e h in (ap (λ (x : Edge). Some x.from) s, ap (λ (x : Edge). Some x.to) s)
 
-pub edge_of-from : (ns : List UnitCounts) (r : Reference) (e : Edge) → edge_of ns r ≡ Some e → (number_if ns r.from ≡ Some e.from) × (number_if ns r.to ≡ Some e.to)
-edge_of-from ns r e h = edge_parts (number_if ns r.from) (number_if ns r.to) e h
+pub edge_of-from : (ns : List UnitCounts) (r : Reference) (e : Edge) → edge_of ns r ≡ Some e → (unit_number_if ns r.from ≡ Some e.from) × (unit_number_if ns r.to ≡ Some e.to)
+edge_of-from ns r e h = edge_parts (unit_number_if ns r.from) (unit_number_if ns r.to) e h
 
 abbrev pub edge_between : Option ℕ → Option ℕ → Option Edge
 edge_between p q = option_and_then (λ a. option_map (λ b. record { from = a; to = b }) q) p
@@ -71,21 +71,21 @@ edge_between p q = option_and_then (λ a. option_map (λ b. record { from = a; t
 pub edge_made : (p q : Option ℕ) (a b : ℕ) → p ≡ Some a → q ≡ Some b → edge_between p q ≡ Some (record { from = a; to = b })
 edge_made p q a b e f = rw (e, f) refl
 
-pub edge_of-is : (ns : List UnitCounts) (u v : LinkUnit) → exists ns u ≡ true → exists ns v ≡ true → edge_of ns (record { from = u; to = v }) ≡ Some (record { from = number_of ns u; to = number_of ns v })
-edge_of-is ns u v hu hv = edge_made (number_if ns u) (number_if ns v) (number_of ns u) (number_of ns v) (number_if_found ns u hu) (number_if_found ns v hv)
+pub edge_of-is : (ns : List UnitCounts) (u v : LinkUnit) → exists ns u ≡ true → exists ns v ≡ true → edge_of ns (record { from = u; to = v }) ≡ Some (record { from = unit_number ns u; to = unit_number ns v })
+edge_of-is ns u v hu hv = edge_made (unit_number_if ns u) (unit_number_if ns v) (unit_number ns u) (unit_number ns v) (number_if_found ns u hu) (number_if_found ns v hv)
 
-pub numbers-lt : (ns : List UnitCounts) (us : List LinkUnit) → All (λ n. n < total_of ns) (found (number_if ns) us)
-numbers-lt ns us = All-found (λ n. n < total_of ns) (number_if ns) (λ u n e. let p = number_if_parts ns u n e in rw (← p.1) (number_of-lt ns u p.0)) us
+pub numbers-lt : (ns : List UnitCounts) (us : List LinkUnit) → All (λ n. n < total_of ns) (found (unit_number_if ns) us)
+numbers-lt ns us = All-found (λ n. n < total_of ns) (unit_number_if ns) (λ u n e. let p = number_if_parts ns u n e in rw (← p.1) (unit_number-lt ns u p.0)) us
 
 pub edges_from-lt : (ns : List UnitCounts) (refs : List Reference) → All (λ e. e.from < total_of ns) (found (edge_of ns) refs)
 edges_from-lt ns refs =
     All-found (λ (e : Edge). e.from < total_of ns) (edge_of ns)
-    (λ r e h. let q = edge_of-from ns r e h in let p = number_if_parts ns r.from e.from q.0 in rw (← p.1) (number_of-lt ns r.from p.0)) refs
+    (λ r e h. let q = edge_of-from ns r e h in let p = number_if_parts ns r.from e.from q.0 in rw (← p.1) (unit_number-lt ns r.from p.0)) refs
 
 pub edges_to-lt : (ns : List UnitCounts) (refs : List Reference) → All (λ e. e.to < total_of ns) (found (edge_of ns) refs)
 edges_to-lt ns refs =
     All-found (λ (e : Edge). e.to < total_of ns) (edge_of ns)
-    (λ r e h. let q = edge_of-from ns r e h in let p = number_if_parts ns r.to e.to q.1 in rw (← p.1) (number_of-lt ns r.to p.0)) refs
+    (λ r e h. let q = edge_of-from ns r e h in let p = number_if_parts ns r.to e.to q.1 in rw (← p.1) (unit_number-lt ns r.to p.0)) refs
 
 -- ---- chains
 
@@ -93,17 +93,17 @@ edges_to-lt ns refs =
 pub record ReachedAt (ns : List UnitCounts) (refs : List Reference) (begins : List LinkUnit) (n : ℕ) : Type 0 where
   pub unit : LinkUnit
   pub there : exists ns unit ≡ true
-  pub number : number_of ns unit ≡ n
+  pub number : unit_number ns unit ≡ n
   pub reached : IsReached (Begins ns begins) (Leads ns refs) unit
 
 abbrev pub IsGraphOf : List UnitCounts → List Reference → List (List ℕ) → Type 0
 IsGraphOf ns refs rows = HasEdges (found (edge_of ns) refs) rows
 
-pub reached_only : (ns : List UnitCounts) (refs : List Reference) (begins : List LinkUnit) (rows : List (List ℕ)) → IsGraphOf ns refs rows → (n : ℕ) → IsReached (Contains (found (number_if ns) begins)) (HasEdge rows) n → ReachedAt ns refs begins n
+pub reached_only : (ns : List UnitCounts) (refs : List Reference) (begins : List LinkUnit) (rows : List (List ℕ)) → IsGraphOf ns refs rows → (n : ℕ) → IsReached (Contains (found (unit_number_if ns) begins)) (HasEdge rows) n → ReachedAt ns refs begins n
 reached_only ns refs begins rows g n r =
-    IsReached-closed (Contains (found (number_if ns) begins)) (HasEdge rows) (ReachedAt ns refs begins)
+    IsReached-closed (Contains (found (unit_number_if ns) begins)) (HasEdge rows) (ReachedAt ns refs begins)
     (λ x m.
-    let u = Contains-found_from (number_if ns) begins x m in
+    let u = Contains-found_from (unit_number_if ns) begins x m in
     let p = number_if_parts ns u.0 x u.2 in
     record {
       unit = u.0;
@@ -117,7 +117,7 @@ reached_only ns refs begins rows g n r =
     let parts = edge_of-from ns q.0 (record { from = a; to = b }) q.2 in
     let from = number_if_parts ns q.0.from a parts.0 in
     let to = number_if_parts ns q.0.to b parts.1 in
-    let same : p.unit ≡ q.0.from = number_of-injective ns p.unit q.0.from p.there from.0 (p.number ∙ sym from.1) in
+    let same : p.unit ≡ q.0.from = unit_number-injective ns p.unit q.0.from p.there from.0 (p.number ∙ sym from.1) in
     record {
       unit = q.0.to;
       there = to.0;
@@ -127,20 +127,20 @@ reached_only ns refs begins rows g n r =
     })
     n r
 
-pub reached_every : (ns : List UnitCounts) (refs : List Reference) (begins : List LinkUnit) (rows : List (List ℕ)) → IsGraphOf ns refs rows → (u : LinkUnit) → IsReached (Begins ns begins) (Leads ns refs) u → IsReached (Contains (found (number_if ns) begins)) (HasEdge rows) (number_of ns u)
+pub reached_every : (ns : List UnitCounts) (refs : List Reference) (begins : List LinkUnit) (rows : List (List ℕ)) → IsGraphOf ns refs rows → (u : LinkUnit) → IsReached (Begins ns begins) (Leads ns refs) u → IsReached (Contains (found (unit_number_if ns) begins)) (HasEdge rows) (unit_number ns u)
 reached_every ns refs begins rows g u r =
-    IsReached-closed (Begins ns begins) (Leads ns refs) (λ v. IsReached (Contains (found (number_if ns) begins)) (HasEdge rows) (number_of ns v))
-    (λ v b. IsReached-root (Contains (found (number_if ns) begins)) (HasEdge rows) (number_of ns v) (Contains-found (number_if ns) begins v (number_of ns v) b.listed (number_if_found ns v b.unit)))
+    IsReached-closed (Begins ns begins) (Leads ns refs) (λ v. IsReached (Contains (found (unit_number_if ns) begins)) (HasEdge rows) (unit_number ns v))
+    (λ v b. IsReached-root (Contains (found (unit_number_if ns) begins)) (HasEdge rows) (unit_number ns v) (Contains-found (unit_number_if ns) begins v (unit_number ns v) b.listed (number_if_found ns v b.unit)))
     (λ v w p l.
-    IsReached-step (Contains (found (number_if ns) begins)) (HasEdge rows) (number_of ns v) (number_of ns w) p
-    ((g (number_of ns v) (number_of ns w)).1
-    (Contains-found (edge_of ns) refs (record { from = v; to = w }) (record { from = number_of ns v; to = number_of ns w }) l.listed (edge_of-is ns v w l.from l.to))))
+    IsReached-step (Contains (found (unit_number_if ns) begins)) (HasEdge rows) (unit_number ns v) (unit_number ns w) p
+    ((g (unit_number ns v) (unit_number ns w)).1
+    (Contains-found (edge_of ns) refs (record { from = v; to = w }) (record { from = unit_number ns v; to = unit_number ns w }) l.listed (edge_of-is ns v w l.from l.to))))
     u r
 
-pub UnitsReached-from : (ns : List UnitCounts) (refs : List Reference) (begins : List LinkUnit) (rows : List (List ℕ)) (marks : List Bool) → IsGraphOf ns refs rows → MarksReached rows (found (number_if ns) begins) marks → UnitsReached ns refs begins marks
+pub UnitsReached-from : (ns : List UnitCounts) (refs : List Reference) (begins : List LinkUnit) (rows : List (List ℕ)) (marks : List Bool) → IsGraphOf ns refs rows → MarksReached rows (found (unit_number_if ns) begins) marks → UnitsReached ns refs begins marks
 UnitsReached-from ns refs begins rows marks g reached = record {
   only = λ u there m.
-      let r = reached_only ns refs begins rows g (number_of ns u) (reached.only (number_of ns u) m) in
-      subst (IsReached (Begins ns begins) (Leads ns refs)) (number_of-injective ns r.unit u r.there there r.number) r.reached;
-  every = λ u there r. reached.every (number_of ns u) (reached_every ns refs begins rows g u r);
+      let r = reached_only ns refs begins rows g (unit_number ns u) (reached.only (unit_number ns u) m) in
+      subst (IsReached (Begins ns begins) (Leads ns refs)) (unit_number-injective ns r.unit u r.there there r.number) r.reached;
+  every = λ u there r. reached.every (unit_number ns u) (reached_every ns refs begins rows g u r);
 }

@@ -1,8 +1,8 @@
 -- The table of references holds exactly what units refer to.
-use Rattle.std.proofs.Common.{◌≡◌, ◌⊎◌, ℕ, zero, suc, ◌+◌, Bool, true, false, List, [], ◌∷◌, ◌++◌, map, inl, inr, refl, ap, sym, ◌∙◌, subst, arith, Option, Some, None, slice_get, Contains, replicate, get_or}
+use Rattle.std.proofs.Common.{◌≡◌, ◌⊎◌, ℕ, zero, suc, ◌+◌, Bool, true, false, List, [], ◌∷◌, ◌++◌, map, inl, inr, refl, ap, sym, ◌∙◌, subst, arith, Option, Some, None, slice_get, Contains, replicate, get_or, length}
 use Rattle.std.specs.List.{flat_map}
 use Rattle.std.proofs.lemmas.Bool.{cases_Bool, cond-true, cond-false, and_from, and_parts, true≢false}
-use Rattle.std.proofs.lemmas.List.{get_or-replicate}
+use Rattle.std.proofs.lemmas.List.{get_or-replicate, length-replicate}
 use Rattle.std.proofs.lemmas.List.Elements.{Contains-append_left, Contains-append_right, Contains-append_cases}
 use Rattle.std.proofs.lemmas.Option.{same_Some}
 use Rattle.wl_module.specs.Bodies.{Body}
@@ -17,13 +17,13 @@ use Rattle.wl_symbols.specs.Link.{Link}
 use Rattle.wl_symbols.specs.Entries.{symbol_at}
 use Rattle.wl_reach.specs.Search.{IsReached}
 use Rattle.wl_reach.proofs.ChainLaws.{IsReached-root, IsReached-step, IsReached-closed}
-use Rattle.wl_live.specs.Units.{counts_of, units_of, unit_in, sibling_of, exists, number_of, total_of}
+use Rattle.wl_live.specs.Units.{counts_of, units_of, unit_in, sibling_of, exists, unit_number, total_of}
 use Rattle.wl_live.specs.Live.{IsLiveOf, UnitsReached}
 use Rattle.wl_live.specs.Definitions.{unit_at, replacing_unit, other_unit}
-use Rattle.wl_live.specs.References.{Holds, RefersBySymbol, RefersByNumber, RefersBySlot, Refers}
-use Rattle.wl_live.specs.Roots.{IsRoot, roots}
-use Rattle.wl_live.specs.Facts.{Facts, use_of, section_uses, uses_of, slot_unit, slot_use, slots_from, slots_of, segment_uses, AreSegmentUses, AreFacts, AreAllFacts}
-use Rattle.wl_live.specs.Table.{reference, symbol_references, user_of, use_references, slot_references, segment_reference, object_references, references_from, references, Leads, Begins}
+use Rattle.wl_live.specs.References.{HasRelocation, RefersBySymbol, RefersByNumber, RefersBySlot, Refers}
+use Rattle.wl_live.specs.Roots.{IsRoot}
+use Rattle.wl_live.specs.Facts.{Facts, use_of, section_uses, uses_of, slot_unit, slot_use, slot_uses_from, slot_uses, segment_uses, AreSegmentUses, AreFacts, AreAllFacts}
+use Rattle.wl_live.specs.Table.{reference, symbol_references, user_of, use_references, slot_references, segment_reference, object_references, references_from, references, Leads, Begins, roots}
 use Rattle.wl_live.specs.declared.object_facts.SymbolUse.{SymbolUse}
 use Rattle.wl_live.specs.declared.object_facts.SegmentUse.{SegmentUse}
 use Rattle.wl_live.specs.declared.references.Reference.{Reference}
@@ -32,8 +32,10 @@ use Rattle.wl_live.specs.declared.units.UnitCounts.{UnitCounts}
 use Rattle.wl_live.specs.declared.units.WasmGcUnit.{WasmGcUnit}
 use Rattle.wl_live.specs.declared.units.WasmGcUnit.TheVariants.{DefinedFunction, DefinedGlobal, DataSegment, FunctionImport, GlobalImport}
 use Rattle.wl_live.proofs.FactLaws.{OneNumbers}
-use Rattle.wl_live.proofs.NumberingLaws.{number_of-lt}
+use Rattle.wl_live.proofs.NumberingLaws.{unit_number-lt}
 use Rattle.wl_live.proofs.ReachLaws.{Contains-here}
+use Rattle.wl_live.proofs.ExistLaws.{at_object}
+use Rattle.wl_live.proofs.RootLaws.{in_roots, roots_in, root_exists}
 use Rattle.wl_live.proofs.JoinLaws.{Contains-none, in_single, in_joined, joined_in, in_flat, flat_in, in_map, map_in, in_option, option_in, zip_left, zip_right}
 
 abbrev pub refers_to : LinkUnit → LinkUnit → Reference
@@ -121,7 +123,7 @@ section_in kind (q ∷ rs) (t ∷ ss) (suc k) r s at lies other =
 -- a relocation in the unit makes the use
 pub record UsedBy (o : Object) (used : SymbolUse) : Type 0 where
   pub relocation : WasmRelocation
-  pub holds : Holds o used.unit relocation
+  pub holds : HasRelocation o used.unit relocation
   pub other : names_a_type relocation.ty ≡ false
   pub symbol : used.symbol ≡ relocation.index
 
@@ -132,7 +134,7 @@ in_uses o used m =
           let p = in_section (DefinedFunction 0) o.code_relocations o.code_sites used code in
           record {
             relocation = p.relocation;
-            holds = subst (λ (x : WasmGcUnit). Holds o x p.relocation) (sym (ap (λ (x : SymbolUse). x.unit) p.is)) (p.place, p.site, p.at, p.lies, refl);
+            holds = subst (λ (x : WasmGcUnit). HasRelocation o x p.relocation) (sym (ap (λ (x : SymbolUse). x.unit) p.is)) (p.place, p.site, p.at, p.lies, refl);
             other = p.other;
             symbol = ap (λ (x : SymbolUse). x.symbol) p.is;
           }
@@ -140,13 +142,13 @@ in_uses o used m =
           let p = in_section (DataSegment 0) o.data_relocations o.data_sites used payload in
           record {
             relocation = p.relocation;
-            holds = subst (λ (x : WasmGcUnit). Holds o x p.relocation) (sym (ap (λ (x : SymbolUse). x.unit) p.is)) (p.place, p.site, p.at, p.lies, refl);
+            holds = subst (λ (x : WasmGcUnit). HasRelocation o x p.relocation) (sym (ap (λ (x : SymbolUse). x.unit) p.is)) (p.place, p.site, p.at, p.lies, refl);
             other = p.other;
             symbol = ap (λ (x : SymbolUse). x.symbol) p.is;
           }
     ]
 
-pub uses_in : (o : Object) (unit : WasmGcUnit) (r : WasmRelocation) → Holds o unit r → names_a_type r.ty ≡ false → Contains (uses_of o) (record { unit = unit; symbol = r.index })
+pub uses_in : (o : Object) (unit : WasmGcUnit) (r : WasmRelocation) → HasRelocation o unit r → names_a_type r.ty ≡ false → Contains (uses_of o) (record { unit = unit; symbol = r.index })
 uses_in o (DefinedFunction k) r h other =
     Contains-append_left (section_uses (DefinedFunction 0) o.code_relocations o.code_sites) (section_uses (DataSegment 0) o.data_relocations o.data_sites) (record { unit = DefinedFunction k; symbol = r.index })
     (subst (λ (n : ℕ). Contains (section_uses (DefinedFunction 0) o.code_relocations o.code_sites) (record { unit = DefinedFunction n; symbol = r.index })) h.4 (section_in (DefinedFunction 0) o.code_relocations o.code_sites h.0 r h.1 h.2 h.3 other))
@@ -173,9 +175,9 @@ slot_parts n s unit e =
       | inr off ↦ absurd (let none : None ≡ Some unit = sym (cond-false (is_undefined s) (unit_in n s) None off) ∙ e in cc)
     ]
 
-pub in_slots : (o : Object) (used : SymbolUse) → Contains (slots_of o) used → SlotOf o used
+pub in_slots : (o : Object) (used : SymbolUse) → Contains (slot_uses o) used → SlotOf o used
 in_slots o used m =
-    let r = in_joined (slot_use (counts_of o)) (slots_from (counts_of o)) (λ i. refl) (λ i x xs. refl) 0 o.symbols used m in
+    let r = in_joined (slot_use (counts_of o)) (slot_uses_from (counts_of o)) (λ i. refl) (λ i x xs. refl) 0 o.symbols used m in
     let p = in_option (λ (w : WasmGcUnit). record { unit = w; symbol = 0 + r.0 }) (slot_unit (counts_of o) r.1) used r.3 in
     let number : r.0 ≡ used.symbol = omega (arith, ap (λ (x : SymbolUse). x.symbol) p.2) in
     let q = slot_parts (counts_of o) r.1 p.0 p.1 in
@@ -186,11 +188,11 @@ in_slots o used m =
       slot = q.1 ∙ ap (λ (x : SymbolUse). Some x.unit) p.2;
     }
 
-pub slots_in : (o : Object) (number : ℕ) (s : Symbol) (unit : WasmGcUnit) → slice_get o.symbols number ≡ Some s → is_undefined s ≡ true → unit_in (counts_of o) s ≡ Some unit → Contains (slots_of o) (record { unit = unit; symbol = number })
+pub slots_in : (o : Object) (number : ℕ) (s : Symbol) (unit : WasmGcUnit) → slice_get o.symbols number ≡ Some s → is_undefined s ≡ true → unit_in (counts_of o) s ≡ Some unit → Contains (slot_uses o) (record { unit = unit; symbol = number })
 slots_in o number s unit at undefined slot =
     let same : number ≡ 0 + number = omega arith in
     let e : slot_unit (counts_of o) s ≡ Some unit = cond-true (is_undefined s) (unit_in (counts_of o) s) None undefined ∙ slot in
-    joined_in (slot_use (counts_of o)) (slots_from (counts_of o)) (λ i x xs. refl) 0 o.symbols number s (record { unit = unit; symbol = number }) at
+    joined_in (slot_use (counts_of o)) (slot_uses_from (counts_of o)) (λ i x xs. refl) 0 o.symbols number s (record { unit = unit; symbol = number }) at
     (subst (λ (n : ℕ). Contains (slot_use (counts_of o) n s) (record { unit = unit; symbol = number })) same
     (option_in (λ (w : WasmGcUnit). record { unit = w; symbol = number }) (slot_unit (counts_of o) s) unit e))
 
@@ -338,10 +340,6 @@ object_in link facts k f x at m =
     let number : k ≡ 0 + k = omega arith in
     joined_in (object_references link ns) (references_from link ns) (λ i x xs. refl) 0 facts k f x at (subst (λ (n : ℕ). Contains (object_references link ns n f) x) number m)
 
--- the same place
-abbrev pub at_object : ℕ → WasmGcUnit → LinkUnit
-at_object object unit = record { object = object; unit = unit }
-
 pub use_in : (link : Link) (facts : List Facts) (u v : LinkUnit) → AreAllFacts link.objects facts → RefersBySymbol link u v → Contains (references link (units_of link.objects) facts) (refers_to u v)
 use_in link facts u v all b =
     let ns = units_of link.objects in
@@ -396,14 +394,14 @@ BeginsIn link = Begins (units_of link.objects) (roots link (units_of link.object
 pub reached_from : (link : Link) (facts : List Facts) → AreAllFacts link.objects facts → (u : LinkUnit) → IsReached (BeginsIn link) (LeadsIn link facts) u → IsReached (IsRoot link) (Refers link) u
 reached_from link facts all u r =
     IsReached-closed (BeginsIn link) (LeadsIn link facts) (IsReached (IsRoot link) (Refers link))
-    (λ x b. IsReached-root (IsRoot link) (Refers link) x (record { unit = b.unit; listed = b.listed }))
+    (λ x b. IsReached-root (IsRoot link) (Refers link) x (in_roots link x b.listed))
     (λ x y p l. IsReached-step (IsRoot link) (Refers link) x y p (record { from = l.from; to = l.to; how = in_references link facts x y all l.listed }))
     u r
 
 pub reached_to : OneNumbers → (link : Link) (facts : List Facts) → AreAllFacts link.objects facts → (u : LinkUnit) → IsReached (IsRoot link) (Refers link) u → IsReached (BeginsIn link) (LeadsIn link facts) u
 reached_to only link facts all u r =
     IsReached-closed (IsRoot link) (Refers link) (IsReached (BeginsIn link) (LeadsIn link facts))
-    (λ x b. IsReached-root (BeginsIn link) (LeadsIn link facts) x (record { unit = b.unit; listed = b.listed }))
+    (λ x b. IsReached-root (BeginsIn link) (LeadsIn link facts) x (record { unit = root_exists link x b; listed = roots_in link x b }))
     (λ x y p l. IsReached-step (BeginsIn link) (LeadsIn link facts) x y p (record { from = l.from; to = l.to; listed = references_in only link facts x y all l.how }))
     u r
 
@@ -413,31 +411,33 @@ reached_to only link facts all u r =
 pub live_all : (link : Link) (ns : List UnitCounts) (marks : List Bool) → ns ≡ units_of link.objects → link.args.gc_sections ≡ false → marks ≡ replicate (total_of ns) true → IsLiveOf link (record { units = ns; marks = marks })
 live_all link ns marks units off all = record {
   units = units;
+  sized = ap length all ∙ length-replicate (total_of ns) true;
   only = λ u on. inl off;
   every = λ u there kept.
       let has : exists ns u ≡ true = rw units there in
-      and_from (exists ns u) (get_or marks (number_of ns u) false) has
-      (ap (λ (m : List Bool). get_or m (number_of ns u) false) all ∙ get_or-replicate (total_of ns) (number_of ns u) true false (number_of-lt ns u has));
+      and_from (exists ns u) (get_or marks (unit_number ns u) false) has
+      (ap (λ (m : List Bool). get_or m (unit_number ns u) false) all ∙ get_or-replicate (total_of ns) (unit_number ns u) true false (unit_number-lt ns u has));
 }
 
 -- the units to which references of the table lead are marked
-pub live_reached : OneNumbers → (link : Link) (ns : List UnitCounts) (facts : List Facts) (marks : List Bool) → ns ≡ units_of link.objects → AreAllFacts link.objects facts → link.args.gc_sections ≡ true → UnitsReached ns (references link ns facts) (roots link ns) marks → IsLiveOf link (record { units = ns; marks = marks })
-live_reached only link ns facts marks units all on reached =
+pub live_reached : OneNumbers → (link : Link) (ns : List UnitCounts) (facts : List Facts) (marks : List Bool) → ns ≡ units_of link.objects → AreAllFacts link.objects facts → link.args.gc_sections ≡ true → length marks ≡ total_of ns → UnitsReached ns (references link ns facts) (roots link ns) marks → IsLiveOf link (record { units = ns; marks = marks })
+live_reached only link ns facts marks units all on sized reached =
     let here : UnitsReached (units_of link.objects) (references link (units_of link.objects) facts) (roots link (units_of link.objects)) marks =
     subst (λ (n : List UnitCounts). UnitsReached n (references link n facts) (roots link n) marks) units reached in
     record {
       units = units;
+      sized = sized;
       only = λ u live.
-          let p = and_parts (exists ns u) (get_or marks (number_of ns u) false) live in
+          let p = and_parts (exists ns u) (get_or marks (unit_number ns u) false) live in
           let there : exists (units_of link.objects) u ≡ true = rw (← units) p.0 in
-          let mark : get_or marks (number_of (units_of link.objects) u) false ≡ true = rw (← units) p.1 in
+          let mark : get_or marks (unit_number (units_of link.objects) u) false ≡ true = rw (← units) p.1 in
           inr (reached_from link facts all u (here.only u there mark));
       every = λ u there kept.
           let has : exists ns u ≡ true = rw units there in
-          let mark : get_or marks (number_of (units_of link.objects) u) false ≡ true =
+          let mark : get_or marks (unit_number (units_of link.objects) u) false ≡ true =
           elim kept [
             | inl off ↦ absurd (true≢false (sym on ∙ off))
             | inr chain ↦ here.every u there (reached_to only link facts all u chain)
           ] in
-          and_from (exists ns u) (get_or marks (number_of ns u) false) has (rw units mark);
+          and_from (exists ns u) (get_or marks (unit_number ns u) false) has (rw units mark);
     }

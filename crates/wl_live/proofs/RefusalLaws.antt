@@ -2,7 +2,7 @@
 use Rattle.std.proofs.Common.{◌≡◌, ℕ, ◌+◌, ◌<◌, ◌≤◌, true, false, List, [], ◌∷◌, ◌++◌, length, get_or, take, inl, inr, ap, sym, ◌∙◌, subst, arith, Some, slice_get, Contains}
 use Rattle.std.specs.List.{AllByRecursion}
 use Rattle.std.proofs.lemmas.Bool.{cases_lt, false≢true}
-use Rattle.std.proofs.lemmas.List.{take_more, take_all, get_or_default, get_or-map}
+use Rattle.std.proofs.lemmas.List.{take_more, take_all, get_or_default}
 use Rattle.std.proofs.lemmas.List.Elements.{Contains-append_cases, All-from_recursion}
 use Rattle.std.proofs.lemmas.Option.{same_Some, slice_get_within, slice_get-get_or}
 use Rattle.wl_module.specs.declared.error.ReadError.{ReadError}
@@ -10,12 +10,13 @@ use Rattle.wl_linking.specs.Fitting.{IsWhole}
 use Rattle.wl_linking.specs.Object.{Object}
 use Rattle.wl_linking.specs.Steps.{Clear, Refuses}
 use Rattle.wl_symbols.specs.Link.{Link}
-use Rattle.wl_live.specs.Units.{counts_of, units_of, units_at, no_units, has_unit, exists}
-use Rattle.wl_live.specs.Faults.{refusal_of, IsKeptFault}
+use Rattle.wl_live.specs.Units.{units_of, has_unit, exists}
+use Rattle.wl_live.specs.Faults.{object_refusal, IsKeptFault}
 use Rattle.wl_live.specs.Facts.{Facts, AreFacts, AreAllFacts}
 use Rattle.wl_live.specs.Live.{Live, is_live, IsLiveOf, HasNoKept, IsKeptOne}
 use Rattle.wl_live.specs.declared.object_facts.UnitFault.{UnitFault}
 use Rattle.wl_live.specs.declared.units.UnitCounts.{UnitCounts}
+use Rattle.wl_live.proofs.ExistLaws.{units_of-at}
 use Rattle.wl_live.proofs.FaultLaws.{fault_exists}
 use Rattle.wl_live.proofs.JoinLaws.{in_single, zip_left, zip_right}
 
@@ -51,12 +52,6 @@ ClearTo-more live facts n f h at here k g lt is =
           rw same (subst (λ (x : Facts). HasNoKept live n x.faults) equal here)
     ]
 
-pub units_of-at : (objects : List Object) (k : ℕ) (o : Object) → slice_get objects k ≡ Some o → units_at (units_of objects) k ≡ counts_of o
-units_of-at objects k o at =
-    let lt : k < length objects = slice_get_within objects k o at in
-    let here : get_or objects k o ≡ o = same_Some (get_or objects k o) o (sym (slice_get-get_or objects k o lt) ∙ at) in
-    get_or-map counts_of objects k o no_units lt ∙ ap counts_of here
-
 pub Clear-from : (link : Link) (live : Live) (facts : List Facts) (n : ℕ) → AllByRecursion IsWhole link.objects → IsLiveOf link live → AreAllFacts link.objects facts → ClearTo live facts n → length link.objects ≤ n → Clear (IsKeptFault link)
 Clear-from link live facts n whole is all clear le = record {
   none = λ e f.
@@ -71,7 +66,7 @@ Clear-from link live facts n whole is all clear le = record {
       (rw found.2 on);
 }
 
-pub Refuses-from : (link : Link) (live : Live) (facts : List Facts) (k : ℕ) (f : Facts) (e : ReadError) → IsLiveOf link live → AreAllFacts link.objects facts → slice_get facts k ≡ Some f → IsKeptOne live k f.faults e → Refuses (IsKeptFault link) (refusal_of k e)
+pub Refuses-from : (link : Link) (live : Live) (facts : List Facts) (k : ℕ) (f : Facts) (e : ReadError) → IsLiveOf link live → AreAllFacts link.objects facts → slice_get facts k ≡ Some f → IsKeptOne live k f.faults e → Refuses (IsKeptFault link) (object_refusal k e)
 Refuses-from link live facts k f e is all at kept =
     let z = zip_left AreFacts link.objects facts k f all at in
     record {
@@ -82,6 +77,6 @@ Refuses-from link live facts k f e is all at kept =
         here = z.1;
         cause = kept.0.error;
         fault = z.2.faults.only kept.0 kept.1;
-        told = ap (λ (x : ReadError). refusal_of k x) (sym kept.3);
+        told = ap (λ (x : ReadError). object_refusal k x) (sym kept.3);
       };
     }

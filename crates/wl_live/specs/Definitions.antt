@@ -15,7 +15,8 @@ use Rattle.wl_live.specs.declared.units.UnitCounts.{UnitCounts}
 
 -- the unit of a symbol, with its object
 abbrev pub unit_at : List UnitCounts → ℕ → LinkedSymbol → Option LinkUnit
-unit_at ns object s = option_map (λ u. record { object = object; unit = u }) (unit_in (units_at ns object) s)
+unit_at ns object s =
+    option_map (λ u. record { object = object; unit = u }) (unit_in (units_at ns object) s)
 
 -- the unit of a symbol that its object defines
 abbrev pub defined_unit : List UnitCounts → ℕ → LinkedSymbol → Option LinkUnit
@@ -29,11 +30,13 @@ definition_unit link ns (Made m) = None
 
 -- what the symbol of that place stands for, if there is one
 abbrev pub definition_at : Link → ℕ → ℕ → Option Definition
-definition_at link object symbol = option_map (λ s. def_for link object symbol s) (symbol_at link.objects object symbol)
+definition_at link object symbol =
+    option_map (λ s. def_for link object symbol s) (symbol_at link.objects object symbol)
 
 -- the unit of what an object defines and the symbol of that place stands for
 abbrev pub other_unit : Link → List UnitCounts → ℕ → ℕ → Option LinkUnit
-other_unit link ns object symbol = option_and_then (λ d. definition_unit link ns d) (definition_at link object symbol)
+other_unit link ns object symbol =
+    option_and_then (λ d. definition_unit link ns d) (definition_at link object symbol)
 
 -- the unit of what an object defines and a name stands for
 abbrev pub named_unit : Link → List UnitCounts → List ℕ → Option LinkUnit
@@ -48,10 +51,12 @@ gives_way Section = false
 gives_way Event = false
 gives_way Table = false
 
--- what a symbol stands for is followed beside the symbol: it is undefined, or weak and a function or data
+-- what a symbol stands for is followed beside the symbol: it is undefined, or weak and a function
+-- or data
 abbrev pub is_replaceable : LinkedSymbol → Bool
 is_replaceable s = is_undefined s || (is_weak s && gives_way s.kind)
 
 -- the unit of what such a symbol stands for
 abbrev pub replacing_unit : Link → List UnitCounts → ℕ → ℕ → LinkedSymbol → Option LinkUnit
-replacing_unit link ns object symbol s = if is_replaceable s then other_unit link ns object symbol else None
+replacing_unit link ns object symbol s =
+    if is_replaceable s then other_unit link ns object symbol else None

@@ -12,7 +12,7 @@ use Rattle.wl_linking.specs.declared.sites.Site.{Site}
 use Rattle.wl_ops.specs.Numbers.{HasNumbers}
 use Rattle.wl_ops.specs.declared.op.DataIndexImm.{DataIndexImm}
 use Rattle.wl_live.specs.Units.{counts_of, unit_in, sibling_of}
-use Rattle.wl_live.specs.Faults.{HasFault}
+use Rattle.wl_live.specs.Faults.{HasUnitFault}
 use Rattle.wl_live.specs.declared.object_facts.SymbolUse.{SymbolUse}
 use Rattle.wl_live.specs.declared.object_facts.SegmentUse.{SegmentUse}
 use Rattle.wl_live.specs.declared.object_facts.UnitFault.{UnitFault}
@@ -20,8 +20,8 @@ use Rattle.wl_live.specs.declared.units.UnitCounts.{UnitCounts}
 use Rattle.wl_live.specs.declared.units.WasmGcUnit.{WasmGcUnit}
 use Rattle.wl_live.specs.declared.units.WasmGcUnit.TheVariants.{DefinedFunction, DataSegment}
 
--- which symbols the relocations in units name, which symbols import slots have, which segments bodies number, and why
--- units can't be kept
+-- which symbols the relocations in units name, which symbols import slots have, which segments
+-- bodies number, and why units can't be kept
 pub record Facts : Type 0 where
   pub uses : List SymbolUse
   pub slots : List SymbolUse
@@ -32,13 +32,15 @@ pub record Facts : Type 0 where
 
 -- a relocation in a unit of that kind, if it isn't against a type
 abbrev pub use_of : WasmGcUnit → WasmRelocation → Site → List SymbolUse
-use_of kind r s = if names_a_type r.ty then [] else record { unit = sibling_of kind s.unit; symbol = r.index } ∷ []
+use_of kind r s =
+    if names_a_type r.ty then [] else record { unit = sibling_of kind s.unit; symbol = r.index } ∷ []
 
 -- the relocations of a section, whose fields lie in units of that kind
 abbrev pub section_uses : WasmGcUnit → List WasmRelocation → List Site → List SymbolUse
 section_uses kind [] sites = []
 section_uses kind (r ∷ relocations) [] = []
-section_uses kind (r ∷ relocations) (s ∷ sites) = use_of kind r s ++ section_uses kind relocations sites
+section_uses kind (r ∷ relocations) (s ∷ sites) =
+    use_of kind r s ++ section_uses kind relocations sites
 
 -- the relocations of an object
 abbrev pub uses_of : Object → List SymbolUse
@@ -52,22 +54,24 @@ slot_unit n s = if is_undefined s then unit_in n s else None
 
 -- the symbol of that number, on its import slot
 abbrev pub slot_use : UnitCounts → ℕ → Symbol → List SymbolUse
-slot_use n symbol s = option_to_list (option_map (λ u. record { unit = u; symbol = symbol }) (slot_unit n s))
+slot_use n symbol s =
+    option_to_list (option_map (λ u. record { unit = u; symbol = symbol }) (slot_unit n s))
 
 -- the import slots of these symbols, of which the first has that number
-abbrev pub slots_from : UnitCounts → ℕ → List Symbol → List SymbolUse
-slots_from n symbol [] = []
-slots_from n symbol (s ∷ symbols) = slot_use n symbol s ++ slots_from n (symbol + 1) symbols
+abbrev pub slot_uses_from : UnitCounts → ℕ → List Symbol → List SymbolUse
+slot_uses_from n symbol [] = []
+slot_uses_from n symbol (s ∷ symbols) = slot_use n symbol s ++ slot_uses_from n (symbol + 1) symbols
 
 -- the import slots of an object's undefined symbols
-abbrev pub slots_of : Object → List SymbolUse
-slots_of o = slots_from (counts_of o) 0 o.symbols
+abbrev pub slot_uses : Object → List SymbolUse
+slot_uses o = slot_uses_from (counts_of o) 0 o.symbols
 
 -- ---- segments
 
 -- the body of that number has these numbers of segments
 abbrev pub segment_uses : ℕ → List DataIndexImm → List SegmentUse
-segment_uses function numbers = map (λ (n : DataIndexImm). record { function = function; segment = n.index }) numbers
+segment_uses function numbers =
+    map (λ (n : DataIndexImm). record { function = function; segment = n.index }) numbers
 
 -- these are the numbers of segments of the bodies, of which the first has that number
 abbrev pub AreSegmentUses : ℕ → List Body → List SegmentUse → Type 0
@@ -79,7 +83,8 @@ AreSegmentUses function (body ∷ bodies) uses =
 -- those of one more body stand behind the others
 abbrev pub NumbersAdded : ℕ → List ℕ → List SegmentUse → List SegmentUse → Type 0
 NumbersAdded function body old new =
-    (numbers : List DataIndexImm) × HasNumbers numbers body × (new ≡ old ++ segment_uses function numbers)
+    (numbers : List DataIndexImm) × HasNumbers numbers body
+    × (new ≡ old ++ segment_uses function numbers)
 
 -- ---- faults
 
@@ -89,13 +94,14 @@ faults_of unit error = option_to_list (option_map (λ e. record { unit = unit; e
 
 -- each fault is that of its unit, and of each unit that can't be kept there is a fault
 pub record AreFaults (o : Object) (faults : List UnitFault) : Type 0 where
-  pub only : (f : UnitFault) → Contains faults f → HasFault o f.unit f.error
-  pub every : (u : WasmGcUnit) (e : ReadError) → HasFault o u e → (f : UnitFault) × Contains faults f × (f.unit ≡ u)
+  pub only : (f : UnitFault) → Contains faults f → HasUnitFault o f.unit f.error
+  pub every : (u : WasmGcUnit) (e : ReadError) → HasUnitFault o u e
+      → (f : UnitFault) × Contains faults f × (f.unit ≡ u)
 
 -- the same of the first n bodies alone
 pub record FaultsOfBodies (o : Object) (n : ℕ) (faults : List UnitFault) : Type 0 where
-  pub only : (f : UnitFault) → Contains faults f → HasFault o f.unit f.error
-  pub every : (k : ℕ) (e : ReadError) → k < n → HasFault o (DefinedFunction k) e
+  pub only : (f : UnitFault) → Contains faults f → HasUnitFault o f.unit f.error
+  pub every : (k : ℕ) (e : ReadError) → k < n → HasUnitFault o (DefinedFunction k) e
       → (f : UnitFault) × Contains faults f × (f.unit ≡ DefinedFunction k)
 
 -- ---- objects
@@ -103,7 +109,7 @@ pub record FaultsOfBodies (o : Object) (n : ℕ) (faults : List UnitFault) : Typ
 -- the facts are those of the object
 pub record AreFacts (o : Object) (facts : Facts) : Type 0 where
   pub uses : facts.uses ≡ uses_of o
-  pub slots : facts.slots ≡ slots_of o
+  pub slots : facts.slots ≡ slot_uses o
   pub segments : AreSegmentUses 0 o.bodies facts.segments
   pub faults : AreFaults o facts.faults
 

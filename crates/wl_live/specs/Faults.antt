@@ -27,45 +27,52 @@ use Rattle.wl_live.specs.declared.units.WasmGcUnit.TheVariants.{DefinedFunction,
 -- a relocation's field has a byte between these places of the code section's payload
 abbrev pub HasFieldIn : List WasmRelocation → ℕ → ℕ → Type 0
 HasFieldIn relocations from to =
-    (r : WasmRelocation) × Contains relocations r × (r.offset < to) × (from < r.offset + field_len (form_of r.ty))
+    (r : WasmRelocation) × Contains relocations r × (r.offset < to)
+    × (from < r.offset + field_len (form_of r.ty))
 
 -- a number in the body names no segment, or shares a byte with the field of a relocation
-abbrev pub NumberFault : Object → Body → DataIndexImm → ReadError → Type 0
-NumberFault o body n (read.Malformed BadIndex) = length o.segments ≤ n.index
-NumberFault o body n (read.Malformed Overlap) =
-    HasFieldIn o.code_relocations (body.code_offset + n.offset) (body.code_offset + n.offset + n.len)
-NumberFault o body n _ = ⊥
+abbrev pub SegmentNumberFault : Object → Body → DataIndexImm → ReadError → Type 0
+SegmentNumberFault o body n (read.Malformed BadIndex) = length o.segments ≤ n.index
+SegmentNumberFault o body n (read.Malformed Overlap) =
+    HasFieldIn o.code_relocations (body.code_offset + n.offset)
+    (body.code_offset + n.offset + n.len)
+SegmentNumberFault o body n _ = ⊥
 
 -- one of these numbers is at fault
-abbrev pub HasNumberFault : Object → Body → List DataIndexImm → ReadError → Type 0
-HasNumberFault o body numbers e = (n : DataIndexImm) × Contains numbers n × NumberFault o body n e
+abbrev pub HasSegmentNumberFault : Object → Body → List DataIndexImm → ReadError → Type 0
+HasSegmentNumberFault o body numbers e =
+    (n : DataIndexImm) × Contains numbers n × SegmentNumberFault o body n e
 
 -- a body with 0xfc isn't decoded, or one of its numbers of segments is at fault
-abbrev pub BodyFault : Object → Body → ReadError → Type 0
-BodyFault o body e =
-    NumbersFault e body.bytes ⊎ ((numbers : List DataIndexImm) × HasNumbers numbers body.bytes × HasNumberFault o body numbers e)
+abbrev pub HasBodyFault : Object → Body → ReadError → Type 0
+HasBodyFault o body e =
+    NumbersFault e body.bytes
+    ⊎ ((numbers : List DataIndexImm) × HasNumbers numbers body.bytes
+    × HasSegmentNumberFault o body numbers e)
 
 -- ---- globals
 
 -- its expression has `global.get` or `ref.func` (core specification, "Constant Expressions")
-abbrev pub GlobalFault : GlobalRecord → ReadError → Type 0
-GlobalFault global e = HasReference (start global.body) × (e ≡ read.Unsupported GlobalInit)
+abbrev pub HasGlobalFault : GlobalRecord → ReadError → Type 0
+HasGlobalFault global e = HasReference (start global.body) × (e ≡ read.Unsupported GlobalInit)
 
 -- ---- units
 
 -- why the unit of an object can't be kept
-abbrev pub HasFault : Object → WasmGcUnit → ReadError → Type 0
-HasFault o (DefinedFunction k) e = (body : Body) × (slice_get o.bodies k ≡ Some body) × BodyFault o body e
-HasFault o (DefinedGlobal k) e = (global : GlobalRecord) × (slice_get o.globals k ≡ Some global) × GlobalFault global e
-HasFault o (DataSegment k) e = ⊥
-HasFault o (FunctionImport k) e = ⊥
-HasFault o (GlobalImport k) e = ⊥
+abbrev pub HasUnitFault : Object → WasmGcUnit → ReadError → Type 0
+HasUnitFault o (DefinedFunction k) e =
+    (body : Body) × (slice_get o.bodies k ≡ Some body) × HasBodyFault o body e
+HasUnitFault o (DefinedGlobal k) e =
+    (global : GlobalRecord) × (slice_get o.globals k ≡ Some global) × HasGlobalFault global e
+HasUnitFault o (DataSegment k) e = ⊥
+HasUnitFault o (FunctionImport k) e = ⊥
+HasUnitFault o (GlobalImport k) e = ⊥
 
 -- the refusal of the object of that number for this reason
-abbrev pub refusal_of : ℕ → ReadError → LinkError
-refusal_of object read.OutOfMemory = OutOfMemory
-refusal_of object (read.Malformed why) = Malformed object why
-refusal_of object (read.Unsupported form) = Unsupported object form
+abbrev pub object_refusal : ℕ → ReadError → LinkError
+object_refusal object read.OutOfMemory = OutOfMemory
+object_refusal object (read.Malformed why) = Malformed object why
+object_refusal object (read.Unsupported form) = Unsupported object form
 
 -- a unit is kept that can't be
 pub record IsKeptFault (link : Link) (e : LinkError) : Type 0 where
@@ -74,5 +81,5 @@ pub record IsKeptFault (link : Link) (e : LinkError) : Type 0 where
   pub object : Object
   pub here : slice_get link.objects unit.object ≡ Some object
   pub cause : ReadError
-  pub fault : HasFault object unit.unit cause
-  pub told : e ≡ refusal_of unit.object cause
+  pub fault : HasUnitFault object unit.unit cause
+  pub told : e ≡ object_refusal unit.object cause

@@ -3,6 +3,7 @@ pub mod Definitions
 pub mod References
 pub mod Roots
 pub mod Kept
+pub mod Entry
 pub mod Faults
 pub mod Facts
 pub mod Table

@@ -18,23 +18,24 @@ use Rattle.wl_live.specs.declared.units.WasmGcUnit.TheVariants.{DefinedFunction,
 -- the relocation is one of these, and its field lies in the body or segment of that number
 abbrev pub IsSited : List WasmRelocation → List Site → ℕ → WasmRelocation → Type 0
 IsSited relocations sites unit r =
-    (k : ℕ) × (s : Site) × (slice_get relocations k ≡ Some r) × (slice_get sites k ≡ Some s) × (s.unit ≡ unit)
+    (k : ℕ) × (s : Site) × (slice_get relocations k ≡ Some r) × (slice_get sites k ≡ Some s)
+    × (s.unit ≡ unit)
 
 -- the field of the relocation lies in the unit's body or payload
-abbrev pub Holds : Object → WasmGcUnit → WasmRelocation → Type 0
-Holds o (DefinedFunction k) r = IsSited o.code_relocations o.code_sites k r
-Holds o (DefinedGlobal k) r = ⊥
-Holds o (DataSegment k) r = IsSited o.data_relocations o.data_sites k r
-Holds o (FunctionImport k) r = ⊥
-Holds o (GlobalImport k) r = ⊥
+abbrev pub HasRelocation : Object → WasmGcUnit → WasmRelocation → Type 0
+HasRelocation o (DefinedFunction k) r = IsSited o.code_relocations o.code_sites k r
+HasRelocation o (DefinedGlobal k) r = ⊥
+HasRelocation o (DataSegment k) r = IsSited o.data_relocations o.data_sites k r
+HasRelocation o (FunctionImport k) r = ⊥
+HasRelocation o (GlobalImport k) r = ⊥
 
--- a relocation in u that isn't against a type names a symbol, and v is the symbol's unit, or the unit of what an object
--- defines in its place
+-- a relocation in u that isn't against a type names a symbol, and v is the symbol's unit, or the
+-- unit of what an object defines in its place
 pub record RefersBySymbol (link : Link) (u v : LinkUnit) : Type 0 where
   pub object : Object
   pub here : slice_get link.objects u.object ≡ Some object
   pub relocation : WasmRelocation
-  pub holds : Holds object u.unit relocation
+  pub holds : HasRelocation object u.unit relocation
   pub other : names_a_type relocation.ty ≡ false
   pub symbol : Symbol
   pub names : slice_get object.symbols relocation.index ≡ Some symbol
@@ -55,7 +56,8 @@ pub record RefersByNumber (link : Link) (u v : LinkUnit) : Type 0 where
   pub one : Contains numbers number
   pub to : v ≡ record { object = u.object; unit = DataSegment number.index }
 
--- u is an import slot with an undefined symbol, and v is the unit of what an object defines and that stands for
+-- u is an import slot with an undefined symbol, and v is the unit of what the symbol stands for and
+-- an object defines
 pub record RefersBySlot (link : Link) (u v : LinkUnit) : Type 0 where
   pub object : Object
   pub here : slice_get link.objects u.object ≡ Some object

@@ -1,17 +1,18 @@
 -- Which units are kept by themselves.
-use Rattle.std.specs.Prelude.{◌≡◌, ℕ, ◌+◌, ◌==◌, ◌&&◌, ◌||◌, Bool, true, false, not, if◌then◌else◌, List, [], ◌∷◌, ◌++◌, Option, Some, None, Contains, flat_map, option_map}
-use Rattle.std.specs.Option.{option_and_then, option_to_list, option_or}
+use Rattle.std.specs.Prelude.{◌≡◌, ◌⊎◌, ℕ, ◌==◌, ◌&&◌, ◌||◌, Bool, true, false, not, List, Option, Some, None, Contains, option_map, slice_get}
+use Rattle.std.specs.Option.{option_or}
 use Rattle.wl_module.specs.Exports.{Exported}
 use Rattle.wl_module.specs.declared.imports.ExternalKind.{ExternalKind}
 use Rattle.wl_module.specs.declared.imports.ExternalKind.TheVariants as external
 use Rattle.wl_linking.specs.Object.{Object}
 use Rattle.wl_linking.specs.Symbols.{Symbol as LinkedSymbol, is_undefined, is_weak, is_local, has_flag}
 use Rattle.wl_linking.specs.declared.infos.WasmInitFunc.{WasmInitFunc}
+use Rattle.wl_linking.specs.declared.symbols.WasmSymbolKind.{WasmSymbolKind}
+use Rattle.wl_linking.specs.declared.symbols.WasmSymbolKind.TheVariants as symbol
 use Rattle.wl_symbols.specs.Link.{Link}
-use Rattle.wl_symbols.specs.Entries.{symbol_at}
 use Rattle.wl_symbols.specs.declared.entry.Definition.{Definition}
 use Rattle.wl_symbols.specs.declared.entry.Definition.TheVariants.{Symbol, Made}
-use Rattle.wl_live.specs.Units.{units_of, units_at, exists, defined, imported}
+use Rattle.wl_live.specs.Units.{counts_of, units_of, unit_of, defined, imported}
 use Rattle.wl_live.specs.Definitions.{unit_at, definition_at, other_unit, named_unit}
 use Rattle.wl_live.specs.declared.units.LinkUnit.{LinkUnit}
 use Rattle.wl_live.specs.declared.units.UnitCounts.{UnitCounts}
@@ -32,13 +33,13 @@ export_unit n external.Global index =
 export_unit n external.Table index = None
 export_unit n external.Memory index = None
 
--- the unit with its object, if there is one
-abbrev pub placed : ℕ → Option WasmGcUnit → List LinkUnit
-placed object unit = option_to_list (option_map (λ u. record { object = object; unit = u }) unit)
-
--- the exports of an object
-abbrev pub export_roots : List UnitCounts → ℕ → List Exported → List LinkUnit
-export_roots ns object exports = flat_map (λ x. placed object (export_unit (units_at ns object) x.kind x.index)) exports
+-- the object exports the function or the global
+pub record RootByExport (link : Link) (u : LinkUnit) : Type 0 where
+  pub object : Object
+  pub here : slice_get link.objects u.object ≡ Some object
+  pub exported : Exported
+  pub one : Contains object.exports exported
+  pub is : export_unit (counts_of object) exported.kind exported.index ≡ Some u.unit
 
 -- ---- symbols
 
@@ -47,68 +48,73 @@ export_roots ns object exports = flat_map (λ x. placed object (export_unit (uni
 abbrev pub is_kept_symbol : LinkedSymbol → Bool
 is_kept_symbol s = has_flag s.flags 0x20 || has_flag s.flags 0x80
 
--- the symbol stands for itself
-abbrev pub is_own : Option Definition → ℕ → ℕ → Bool
-is_own None object symbol = false
-is_own (Some (Made m)) object symbol = false
-is_own (Some (Symbol o k)) object symbol = (o == object) && (k == symbol)
+-- the symbol of the place stands for itself
+abbrev pub is_itself : Option Definition → ℕ → ℕ → Bool
+is_itself None object symbol = false
+is_itself (Some (Made m)) object symbol = false
+is_itself (Some (Symbol o k)) object symbol = (o == object) && (k == symbol)
 
--- a definition that others see, that isn't HIDDEN, 4, or EXPORTED, 0x20, and that stands for itself
+-- functions, globals and data can be exported
+abbrev pub is_exportable : WasmSymbolKind → Bool
+is_exportable symbol.Func = true
+is_exportable symbol.Data = true
+is_exportable symbol.Global = true
+is_exportable symbol.Section = false
+is_exportable symbol.Event = false
+is_exportable symbol.Table = false
+
+-- a defined function, global or data symbol that isn't local, HIDDEN, 4, or EXPORTED, 0x20, and
+-- that stands for itself: `--export-dynamic` exports it
 abbrev pub is_candidate : Link → ℕ → ℕ → LinkedSymbol → Bool
-is_candidate link object symbol s =
-    not (is_undefined s) && not (is_local s) && not (has_flag s.flags 4) && not (has_flag s.flags 0x20)
-    && is_own (definition_at link object symbol) object symbol
+is_candidate link object number s =
+    is_exportable s.kind && not (is_undefined s) && not (is_local s)
+    && not (has_flag s.flags 4) && not (has_flag s.flags 0x20)
+    && is_itself (definition_at link object number) object number
 
 -- it is kept, or all candidates are
 abbrev pub is_root_symbol : Link → ℕ → ℕ → LinkedSymbol → Bool
-is_root_symbol link object symbol s = is_kept_symbol s || (link.args.export_dynamic && is_candidate link object symbol s)
+is_root_symbol link object number s =
+    is_kept_symbol s || (link.args.export_dynamic && is_candidate link object number s)
 
--- the symbols from that number on that are kept
-abbrev pub symbol_roots : Link → List UnitCounts → ℕ → ℕ → List LinkedSymbol → List LinkUnit
-symbol_roots link ns object symbol [] = []
-symbol_roots link ns object symbol (s ∷ symbols) =
-    (if is_root_symbol link object symbol s then option_to_list (unit_at ns object s) else [])
-    ++ symbol_roots link ns object (symbol + 1) symbols
+-- such a symbol has the unit
+pub record RootBySymbol (link : Link) (u : LinkUnit) : Type 0 where
+  pub object : Object
+  pub here : slice_get link.objects u.object ≡ Some object
+  pub number : ℕ
+  pub symbol : LinkedSymbol
+  pub at : slice_get object.symbols number ≡ Some symbol
+  pub kept : is_root_symbol link u.object number symbol ≡ true
+  pub is : unit_of object symbol ≡ Some u.unit
 
 -- ---- functions that run at the start
 
--- the unit of the symbol, and where that is weak also the unit of what an object defines in its place
-abbrev pub init_root : Link → List UnitCounts → ℕ → ℕ → Option LinkedSymbol → List LinkUnit
-init_root link ns object symbol None = []
-init_root link ns object symbol (Some s) =
-    option_to_list (unit_at ns object s) ++ (if is_weak s then option_to_list (other_unit link ns object symbol) else [])
+-- an object has an init function, and this is the unit of its symbol, or, where that is weak, the
+-- unit of what an object defines in its place
+pub record RootByInit (link : Link) (u : LinkUnit) : Type 0 where
+  pub place : ℕ
+  pub object : Object
+  pub here : slice_get link.objects place ≡ Some object
+  pub function : WasmInitFunc
+  pub one : Contains object.init_funcs function
+  pub symbol : LinkedSymbol
+  pub names : slice_get object.symbols function.symbol_index ≡ Some symbol
+  pub leads : (unit_at (units_of link.objects) place symbol ≡ Some u)
+      ⊎ ((is_weak symbol ≡ true)
+      × (other_unit link (units_of link.objects) place function.symbol_index ≡ Some u))
 
--- those of an object
-abbrev pub init_roots : Link → List UnitCounts → ℕ → List WasmInitFunc → List LinkUnit
-init_roots link ns object functions =
-    flat_map (λ f. init_root link ns object f.symbol_index (symbol_at link.objects object f.symbol_index)) functions
+-- ---- names
+
+-- a name that is to be exported, or that of the entry, stands for what an object defines
+pub record RootByName (link : Link) (u : LinkUnit) : Type 0 where
+  pub name : List ℕ
+  pub asked : Contains link.args.export_symbols name ⊎ (link.args.entry ≡ Some name)
+  pub leads : named_unit link (units_of link.objects) name ≡ Some u
 
 -- ---- all of them
 
--- what an object keeps by itself
-abbrev pub object_roots : Link → List UnitCounts → ℕ → Object → List LinkUnit
-object_roots link ns object o =
-    export_roots ns object o.exports ++ (symbol_roots link ns object 0 o.symbols ++ init_roots link ns object o.init_funcs)
-
--- what the objects from that number on keep by themselves
-abbrev pub roots_from : Link → List UnitCounts → ℕ → List Object → List LinkUnit
-roots_from link ns object [] = []
-roots_from link ns object (o ∷ os) = object_roots link ns object o ++ roots_from link ns (object + 1) os
-
--- the units of names that are to be exported
-abbrev pub forced_roots : Link → List UnitCounts → List (List ℕ) → List LinkUnit
-forced_roots link ns names = flat_map (λ name. option_to_list (named_unit link ns name)) names
-
--- the unit of the entry
-abbrev pub entry_unit : Link → List UnitCounts → Option LinkUnit
-entry_unit link ns = option_and_then (λ name. named_unit link ns name) link.args.entry
-
--- what is kept by itself
-abbrev pub roots : Link → List UnitCounts → List LinkUnit
-roots link ns =
-    roots_from link ns 0 link.objects ++ (forced_roots link ns link.args.export_symbols ++ option_to_list (entry_unit link ns))
-
 -- a unit is kept by itself
-pub record IsRoot (link : Link) (u : LinkUnit) : Type 0 where
-  pub unit : exists (units_of link.objects) u ≡ true
-  pub listed : Contains (roots link (units_of link.objects)) u
+pub data IsRoot (link : Link) (u : LinkUnit) : Type 0 where
+  by_export : RootByExport link u → IsRoot link u
+  by_symbol : RootBySymbol link u → IsRoot link u
+  by_init : RootByInit link u → IsRoot link u
+  by_name : RootByName link u → IsRoot link u

@@ -26,15 +26,21 @@ counts_of o = record {
 
 -- none
 abbrev pub no_units : UnitCounts
-no_units = record { functions = 0; globals = 0; segments = 0; function_imports = 0; global_imports = 0 }
+no_units = record {
+  functions = 0;
+  globals = 0;
+  segments = 0;
+  function_imports = 0;
+  global_imports = 0;
+}
 
 -- the number of a unit among those of its kind
-abbrev pub index_of : WasmGcUnit → ℕ
-index_of (DefinedFunction k) = k
-index_of (DefinedGlobal k) = k
-index_of (DataSegment k) = k
-index_of (FunctionImport k) = k
-index_of (GlobalImport k) = k
+abbrev pub unit_index : WasmGcUnit → ℕ
+unit_index (DefinedFunction k) = k
+unit_index (DefinedGlobal k) = k
+unit_index (DataSegment k) = k
+unit_index (FunctionImport k) = k
+unit_index (GlobalImport k) = k
 
 -- how many units of that kind there are
 abbrev pub count_of_kind : UnitCounts → WasmGcUnit → ℕ
@@ -46,7 +52,7 @@ count_of_kind n (GlobalImport k) = n.global_imports
 
 -- the unit exists
 abbrev pub has_unit : UnitCounts → WasmGcUnit → Bool
-has_unit n u = nat_lt (index_of u) (count_of_kind n u)
+has_unit n u = nat_lt (unit_index u) (count_of_kind n u)
 
 -- the unit of the same kind with another number
 abbrev pub sibling_of : WasmGcUnit → ℕ → WasmGcUnit
@@ -58,28 +64,33 @@ sibling_of (GlobalImport k) j = GlobalImport j
 
 -- ---- the unit of a symbol
 
--- what is defined under an index, which counts imported things first (core specification, "Indices")
+-- what is defined under an index, which counts imported things first (core specification,
+-- "Indices")
 abbrev pub defined : ℕ → ℕ → ℕ → Option ℕ
-defined imports count index = if nat_lt index imports || nat_le count (index - imports) then None else Some (index - imports)
+defined imports count index =
+    if nat_lt index imports || nat_le count (index - imports) then None else Some (index - imports)
 
 -- what is imported under an index
 abbrev pub imported : ℕ → ℕ → Option ℕ
 imported count index = if nat_lt index count then Some index else None
 
--- by the kind of a symbol, by whether its object leaves it undefined, and by its index: functions and globals, and the
--- segments of defined data
+-- by the kind of a symbol, by whether its object leaves it undefined, and by its index: functions
+-- and globals, and the segments of defined data
 abbrev pub unit_by : UnitCounts → WasmSymbolKind → Bool → ℕ → Option WasmGcUnit
 unit_by n Func true index = option_map FunctionImport (imported n.function_imports index)
-unit_by n Func false index = option_map DefinedFunction (defined n.function_imports n.functions index)
+unit_by n Func false index =
+    option_map DefinedFunction (defined n.function_imports n.functions index)
 unit_by n Global true index = option_map GlobalImport (imported n.global_imports index)
-unit_by n Global false index = option_map DefinedGlobal (defined n.global_imports n.globals index)
+unit_by n Global false index =
+    option_map DefinedGlobal (defined n.global_imports n.globals index)
 unit_by n Data true index = None
 unit_by n Data false index = option_map DataSegment (imported n.segments index)
 unit_by n Section undefined index = None
 unit_by n Event undefined index = None
 unit_by n Table undefined index = None
 
--- the unit of a symbol of an object with these units; data at an absolute address lies in no segment
+-- the unit of a symbol of an object with these units; data at an absolute address lies in no
+-- segment
 abbrev pub unit_in : UnitCounts → Symbol → Option WasmGcUnit
 unit_in n s = if is_absolute s then None else unit_by n s.kind (is_undefined s) s.index
 
@@ -104,45 +115,45 @@ exists ns u = has_unit (units_at ns u.object) u.unit
 -- ---- numbers: object by object, kind by kind
 
 -- how many units an object has
-abbrev pub size_of : UnitCounts → ℕ
-size_of n = n.functions + n.globals + n.segments + n.function_imports + n.global_imports
+abbrev pub unit_count : UnitCounts → ℕ
+unit_count n = n.functions + n.globals + n.segments + n.function_imports + n.global_imports
 
 -- how many units stand before those of that kind
-abbrev pub first_of : UnitCounts → WasmGcUnit → ℕ
-first_of n (DefinedFunction k) = 0
-first_of n (DefinedGlobal k) = n.functions
-first_of n (DataSegment k) = n.functions + n.globals
-first_of n (FunctionImport k) = n.functions + n.globals + n.segments
-first_of n (GlobalImport k) = n.functions + n.globals + n.segments + n.function_imports
+abbrev pub before_kind : UnitCounts → WasmGcUnit → ℕ
+before_kind n (DefinedFunction k) = 0
+before_kind n (DefinedGlobal k) = n.functions
+before_kind n (DataSegment k) = n.functions + n.globals
+before_kind n (FunctionImport k) = n.functions + n.globals + n.segments
+before_kind n (GlobalImport k) = n.functions + n.globals + n.segments + n.function_imports
 
 -- a unit's place among all of its object
-abbrev pub offset_of : UnitCounts → WasmGcUnit → ℕ
-offset_of n u = first_of n u + index_of u
+abbrev pub number_in_object : UnitCounts → WasmGcUnit → ℕ
+number_in_object n u = before_kind n u + unit_index u
 
 -- how many units the objects before that one have
-abbrev pub base_of : List UnitCounts → ℕ → ℕ
-base_of ns object = sum_by size_of (take object ns)
+abbrev pub units_before : List UnitCounts → ℕ → ℕ
+units_before ns object = sum_by unit_count (take object ns)
 
 -- how many units there are
 abbrev pub total_of : List UnitCounts → ℕ
-total_of ns = sum_by size_of ns
+total_of ns = sum_by unit_count ns
 
 -- the number of a unit among all
-unfoldable pub number_of : List UnitCounts → LinkUnit → ℕ
-number_of ns u = base_of ns u.object + offset_of (units_at ns u.object) u.unit
+unfoldable pub unit_number : List UnitCounts → LinkUnit → ℕ
+unit_number ns u = units_before ns u.object + number_in_object (units_at ns u.object) u.unit
 
 -- the number of a unit that exists
-abbrev pub number_if : List UnitCounts → LinkUnit → Option ℕ
-number_if ns u = if exists ns u then Some (number_of ns u) else None
+abbrev pub unit_number_if : List UnitCounts → LinkUnit → Option ℕ
+unit_number_if ns u = if exists ns u then Some (unit_number ns u) else None
 
 -- few enough to be added up
 abbrev pub IsSmall : UnitCounts → Type 0
-IsSmall n = size_of n ≤ 2 ^ 33
+IsSmall n = unit_count n ≤ 2 ^ 33
 
 -- where the units of each object begin, and how many there are
-pub record IsNumbered (ns : List UnitCounts) (bases : List ℕ) (total : ℕ) : Type 0 where
+pub record AreBases (ns : List UnitCounts) (bases : List ℕ) (total : ℕ) : Type 0 where
   pub size : length bases ≡ length ns
-  pub at : (k : ℕ) → k < length ns → slice_index bases k ≡ base_of ns k
+  pub at : (k : ℕ) → k < length ns → slice_index bases k ≡ units_before ns k
   pub all : total ≡ total_of ns
   pub fits : total < 2 ^ 64
   pub small : All IsSmall ns

@@ -7,7 +7,7 @@ ghost use Rattle.wl_module.specs.declared.error.ReadError.{ReadError as ErrorRec
 ghost use Rattle.wl_linking.specs.RelocationTypes.{form_of};
 ghost use Rattle.wl_linking.specs.Sites.{AreApart, field_len};
 ghost use Rattle.wl_ops.specs.declared.op.DataIndexImm.{DataIndexImm as Number};
-ghost use Rattle.wl_live.specs.Faults.{HasFieldIn, NumberFault, HasNumberFault, BodyFault, GlobalFault};
+ghost use Rattle.wl_live.specs.Faults.{HasFieldIn, SegmentNumberFault, HasSegmentNumberFault, HasBodyFault, HasGlobalFault};
 ghost use Rattle.wl_live.specs.Facts.{segment_uses, NumbersAdded, AreSegmentUses, faults_of, FaultsOfBodies, AreFaults};
 
 use crate::object_facts::{SegmentUse, UnitFault};
@@ -59,8 +59,8 @@ fn number_fault(
 ) -> Option<ReadError>
     requires { number.offset + number.len ≤ MAX_LEN }
     ensures { MatchOption result
-        ((e : ErrorRecord) → NumberFault file.now body.now number e → ⊥)
-        (NumberFault file.now body.now number) }
+        ((e : ErrorRecord) → SegmentNumberFault file.now body.now number e → ⊥)
+        (SegmentNumberFault file.now body.now number) }
 {
     file.stands_for_an_object();
     if number.index as usize >= file.num_data_segments() {
@@ -81,8 +81,8 @@ fn numbers_fault(
 ) -> Option<ReadError>
     requires { (n : Number) → Contains numbers.now n → n.offset + n.len ≤ MAX_LEN }
     ensures { MatchOption result
-        ((e : ErrorRecord) → HasNumberFault file.now body.now numbers.now e → ⊥)
-        (HasNumberFault file.now body.now numbers.now) }
+        ((e : ErrorRecord) → HasSegmentNumberFault file.now body.now numbers.now e → ⊥)
+        (HasSegmentNumberFault file.now body.now numbers.now) }
 {
     for number in numbers {
         if let Some(error) = number_fault(file, body, *number) {
@@ -122,7 +122,7 @@ fn take_body(
     ensures segments { IfOk result (λ _. NumbersAdded function body.now.bytes
         segments.old.items segments.new.items) }
     ensures fault { IfOk result (λ fault. MatchOption fault
-        ((e : ErrorRecord) → BodyFault file.now body.now e → ⊥) (BodyFault file.now body.now)) }
+        ((e : ErrorRecord) → HasBodyFault file.now body.now e → ⊥) (HasBodyFault file.now body.now)) }
 {
     numbers_are_one();
     match data_index_immediates(alloc, &body.bytes) {
@@ -172,7 +172,7 @@ fn collect_bodies(alloc: Global, file: &File<'_>) -> Result<BodyFacts, AllocErro
 fn global_fault(alloc: Global, global: &OutputGlobal<'_>) -> Result<Option<ReadError>, AllocError>
     requires { length global.now.body ≤ MAX_LEN }
     ensures { IfOk result (λ fault. MatchOption fault
-        ((e : ErrorRecord) → GlobalFault global.now e → ⊥) (GlobalFault global.now)) }
+        ((e : ErrorRecord) → HasGlobalFault global.now e → ⊥) (HasGlobalFault global.now)) }
 {
     if has_reference(alloc, &global.init_expr_body)? {
         Ok(Some(ReadError::Unsupported(Form::GlobalInit)))

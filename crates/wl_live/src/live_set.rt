@@ -4,7 +4,7 @@ ghost use Rattle.std.specs.Prelude.{◌≡◌};
 ghost use Rattle.wl_live.specs.Live.{is_live, ordinal_of};
 
 use crate::numbers::UnitNumbers;
-use crate::units::{LinkUnit, WasmGcUnit, index_of};
+use crate::units::{LinkUnit, WasmGcUnit, unit_index};
 use std::marker::Model;
 use wl_reach::RankedMarks;
 
@@ -48,7 +48,7 @@ impl LiveSet {
             return None;
         }
         let number = self.numbers.number(LinkUnit { object, unit })?;
-        let first = number - index_of(unit) as usize;
+        let first = number - unit_index(unit) as usize;
         let count = self.marks.count_before(number) - self.marks.count_before(first);
         Some(count as u32)
     }

@@ -2,7 +2,7 @@
 
 ghost use Rattle.std.specs.Prelude.{◌≡◌, ◌≤◌, ◌+◌, ◌++◌, length, IfOk, OnOk};
 ghost use Rattle.std.specs.Option.{option_to_list};
-ghost use Rattle.wl_live.specs.Units.{units_of, number_if, total_of};
+ghost use Rattle.wl_live.specs.Units.{units_of, unit_number_if, total_of};
 ghost use Rattle.wl_live.specs.Facts.{AreAllFacts};
 ghost use Rattle.wl_live.specs.Table.{edge_of, found, most_steps};
 ghost use Rattle.wl_live.specs.Live.{IsLiveOf, UnitsReached};
@@ -69,7 +69,7 @@ fn collect_numbers(
     numbers: &UnitNumbers,
     units: &[LinkUnit],
 ) -> Result<Vec<usize>, AllocError>
-    ensures { IfOk result (λ v. v.items ≡ found (number_if numbers.now) units.now) }
+    ensures { IfOk result (λ v. v.items ≡ found (unit_number_if numbers.now) units.now) }
 {
     let mut list = Vec::new(alloc);
     for unit in units {

@@ -1,9 +1,9 @@
 //! A number for each unit of all objects.
 
 ghost use Rattle.std.specs.Prelude.{◌≡◌, ◌<◌, ◌+◌, ◌^◌, IfOk};
-ghost use Rattle.wl_live.specs.Units.{units_of, units_at, number_if, total_of, size_of, IsSmall};
+ghost use Rattle.wl_live.specs.Units.{units_of, units_at, unit_number_if, total_of, unit_count, IsSmall};
 
-use crate::units::{LinkUnit, UnitCounts, counts_of, has_unit, offset_of, size_of};
+use crate::units::{LinkUnit, UnitCounts, counts_of, has_unit, number_in_object, unit_count};
 use std::alloc::{AllocError, Global};
 use std::marker::Model;
 use wl_linking::FileList;
@@ -29,23 +29,23 @@ pub(crate) struct UnitNumbers {
 impl Model for UnitNumbers {
     ghost use Rattle.std.specs.Prelude.{List};
     ghost use Rattle.wl_live.specs.declared.units.UnitCounts.{UnitCounts as Counts};
-    ghost use Rattle.wl_live.specs.Units.{IsNumbered};
+    ghost use Rattle.wl_live.specs.Units.{AreBases};
 
     ghost Value = { List Counts };
 
     ghost view = { λ n. n.counts.items };
 
-    ghost invariant = { λ n. IsNumbered n.counts.items n.bases.items n.total };
+    ghost invariant = { λ n. AreBases n.counts.items n.bases.items n.total };
 }
 
 /// How many units there are with those of one more object. No memory has room for more than a
 /// number can count.
 fn total_with(total: usize, counts: UnitCounts) -> Result<usize, AllocError>
     requires { IsSmall counts }
-    ensures sum { IfOk result (λ n. n ≡ total + size_of counts) }
+    ensures sum { IfOk result (λ n. n ≡ total + unit_count counts) }
     ensures fits { IfOk result (λ n. n < 2 ^ 64) }
 {
-    total.checked_add(size_of(counts)).ok_or(AllocError)
+    total.checked_add(unit_count(counts)).ok_or(AllocError)
 }
 
 impl UnitNumbers {
@@ -78,13 +78,13 @@ impl UnitNumbers {
 
     /// The number of a unit, if it exists.
     pub(crate) fn number(&self, unit: LinkUnit) -> Option<usize>
-        ensures { result ≡ number_if self.now unit }
+        ensures { result ≡ unit_number_if self.now unit }
     {
         let counts = self.counts(unit.object);
         if !has_unit(counts, unit.unit) {
             return None;
         }
-        Some(self.bases[unit.object] + offset_of(counts, unit.unit))
+        Some(self.bases[unit.object] + number_in_object(counts, unit.unit))
     }
 
     /// How many units of each kind an object has.

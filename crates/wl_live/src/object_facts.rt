@@ -2,7 +2,7 @@
 
 ghost use Rattle.std.specs.Prelude.{◌≡◌, ℕ, ◌<◌, ◌^◌, ◌++◌, length, IfOk, OnOk, Some, slice_get};
 ghost use Rattle.wl_linking.specs.declared.sites.Site.{Site as SiteRecord};
-ghost use Rattle.wl_live.specs.Facts.{use_of, section_uses, uses_of, slot_unit, slot_use, slots_of, AreFacts, AreAllFacts};
+ghost use Rattle.wl_live.specs.Facts.{use_of, section_uses, uses_of, slot_unit, slot_use, slot_uses, AreFacts, AreAllFacts};
 
 use crate::faults::{BodyFacts, collect_faults};
 use crate::units::{UnitCounts, WasmGcUnit, counts_of, sibling_of, unit_in};
@@ -180,7 +180,7 @@ fn push_slot(
 
 /// Which symbols the import slots of an object have.
 fn collect_slots(alloc: Global, file: &File<'_>) -> Result<Vec<SymbolUse>, AllocError>
-    ensures { IfOk result (λ v. v.items ≡ slots_of file.now) }
+    ensures { IfOk result (λ v. v.items ≡ slot_uses file.now) }
 {
     file.stands_for_an_object();
     let counts = counts_of(file);

@@ -2,7 +2,7 @@
 
 ghost use Rattle.std.specs.Prelude.{◌≡◌, MatchOption, OnOk, IfErr};
 ghost use Rattle.wl_linking.specs.Steps.{Clear, Refuses};
-ghost use Rattle.wl_live.specs.Faults.{refusal_of, IsKeptFault};
+ghost use Rattle.wl_live.specs.Faults.{object_refusal, IsKeptFault};
 ghost use Rattle.wl_live.specs.Facts.{AreAllFacts};
 ghost use Rattle.wl_live.specs.Live.{IsLiveOf, HasNoKept, IsKeptOne};
 
@@ -13,8 +13,8 @@ use wl_module::ReadError;
 use wl_symbols::SymbolTable;
 
 /// The refusal of the object of that number for this reason.
-fn refusal_of(object: usize, error: ReadError) -> LinkError
-    ensures { result ≡ refusal_of object error }
+fn object_refusal(object: usize, error: ReadError) -> LinkError
+    ensures { result ≡ object_refusal object error }
 {
     match error {
         ReadError::OutOfMemory => LinkError::OutOfMemory,
@@ -50,7 +50,7 @@ pub(crate) fn check_faults(
     let files = symbols.files().as_slice();
     for object in 0..files.len() {
         if let Some(error) = kept_fault(live, object, facts[object].faults()) {
-            return Err(refusal_of(object, error));
+            return Err(object_refusal(object, error));
         }
     }
     Ok(())

@@ -7,14 +7,15 @@ ghost use Rattle.wl_module.specs.declared.imports.ExternalKind.TheVariants as Ex
 ghost use Rattle.wl_symbols.specs.Entries.{symbol_at};
 ghost use Rattle.wl_symbols.specs.Texts.{texts};
 ghost use Rattle.wl_live.specs.Definitions.{unit_at, other_unit};
-ghost use Rattle.wl_live.specs.Roots.{export_unit, placed, export_roots, is_kept_symbol, is_own, is_candidate, is_root_symbol, symbol_roots, init_root, init_roots, object_roots, roots_from, forced_roots, entry_unit, roots};
+ghost use Rattle.wl_live.specs.Roots.{export_unit, is_kept_symbol, is_itself, is_exportable, is_candidate, is_root_symbol};
+ghost use Rattle.wl_live.specs.Table.{placed, export_roots, symbol_roots, init_root, init_roots, object_roots, roots_from, forced_roots, entry_unit, roots};
 
 use crate::definitions::{definition_at, find_symbol, named_unit, other_unit, unit_at};
 use crate::numbers::UnitNumbers;
 use crate::units::{LinkUnit, UnitCounts, WasmGcUnit, defined, imported};
 use bitflags::Flags;
 use std::alloc::{AllocError, Global};
-use wl_linking::{File, SymbolFlags, WasmInitFunc, WasmSymbol};
+use wl_linking::{File, SymbolFlags, WasmInitFunc, WasmSymbol, WasmSymbolKind};
 use wl_module::{ExternalKind, OutputExport};
 use wl_symbols::{Definition, SymbolTable};
 
@@ -117,8 +118,8 @@ fn is_kept_symbol(symbol: &WasmSymbol<'_>) -> bool
 }
 
 /// Whether a symbol stands for itself.
-fn is_own(definition: Option<Definition>, object: usize, symbol: u32) -> bool
-    ensures { result ≡ is_own definition object symbol }
+fn is_itself(definition: Option<Definition>, object: usize, symbol: u32) -> bool
+    ensures { result ≡ is_itself definition object symbol }
 {
     match definition {
         None | Some(Definition::Made(_)) => false,
@@ -128,6 +129,16 @@ fn is_own(definition: Option<Definition>, object: usize, symbol: u32) -> bool
                 symbol: k,
             },
         ) => o == object && k == symbol,
+    }
+}
+
+/// Whether symbols of that kind can be exported.
+fn is_exportable(kind: WasmSymbolKind) -> bool
+    ensures { result ≡ is_exportable kind }
+{
+    match kind {
+        WasmSymbolKind::Func | WasmSymbolKind::Data | WasmSymbolKind::Global => true,
+        WasmSymbolKind::Section | WasmSymbolKind::Event | WasmSymbolKind::Table => false,
     }
 }
 
@@ -141,11 +152,12 @@ fn is_candidate(
 ) -> bool
     ensures { result ≡ is_candidate symbols.now object number symbol.now }
 {
-    !symbol.is_undefined()
+    is_exportable(symbol.kind)
+        && !symbol.is_undefined()
         && !symbol.is_local()
         && !symbol.is_hidden()
         && !is_exported(symbol)
-        && is_own(definition_at(symbols, object, number), object, number)
+        && is_itself(definition_at(symbols, object, number), object, number)
 }
 
 /// Whether a symbol is kept, as itself or as one of all candidates.

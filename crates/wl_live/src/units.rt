@@ -2,7 +2,7 @@
 
 ghost use Rattle.std.specs.Prelude.{◌≡◌, ◌≤◌, ◌^◌, ◌<◌};
 ghost use Rattle.wl_linking.specs.declared.symbols.WasmSymbolKind.TheVariants as WasmSymbolKind;
-ghost use Rattle.wl_live.specs.Units.{defined, imported, counts_of, index_of, count_of_kind, has_unit, offset_of, size_of, unit_in, unit_by, unit_of, sibling_of, IsSmall};
+ghost use Rattle.wl_live.specs.Units.{defined, imported, counts_of, unit_index, count_of_kind, has_unit, number_in_object, unit_count, unit_in, unit_by, unit_of, sibling_of, IsSmall};
 
 use wl_linking::{File, WasmSymbol, WasmSymbolKind};
 
@@ -56,8 +56,8 @@ pub(crate) fn counts_of(file: &File<'_>) -> UnitCounts
 }
 
 /// The unit's number among those of its kind.
-pub(crate) fn index_of(unit: WasmGcUnit) -> u32
-    ensures { result ≡ index_of unit }
+pub(crate) fn unit_index(unit: WasmGcUnit) -> u32
+    ensures { result ≡ unit_index unit }
 {
     match unit {
         WasmGcUnit::DefinedFunction(index)
@@ -85,13 +85,13 @@ pub(crate) fn count_of_kind(counts: UnitCounts, unit: WasmGcUnit) -> usize
 pub(crate) fn has_unit(counts: UnitCounts, unit: WasmGcUnit) -> bool
     ensures { result ≡ has_unit counts unit }
 {
-    (index_of(unit) as usize) < count_of_kind(counts, unit)
+    (unit_index(unit) as usize) < count_of_kind(counts, unit)
 }
 
 /// How many units there are.
-pub(crate) fn size_of(counts: UnitCounts) -> usize
+pub(crate) fn unit_count(counts: UnitCounts) -> usize
     requires { IsSmall counts }
-    ensures { result ≡ size_of counts }
+    ensures { result ≡ unit_count counts }
 {
     counts.functions
         + counts.globals
@@ -101,9 +101,9 @@ pub(crate) fn size_of(counts: UnitCounts) -> usize
 }
 
 /// The unit's place among all of its object, kind by kind.
-pub(crate) fn offset_of(counts: UnitCounts, unit: WasmGcUnit) -> usize
+pub(crate) fn number_in_object(counts: UnitCounts, unit: WasmGcUnit) -> usize
     requires { IsSmall counts }
-    ensures { result ≡ offset_of counts unit }
+    ensures { result ≡ number_in_object counts unit }
 {
     let before = match unit {
         WasmGcUnit::DefinedFunction(_) => 0,
@@ -114,7 +114,7 @@ pub(crate) fn offset_of(counts: UnitCounts, unit: WasmGcUnit) -> usize
             counts.functions + counts.globals + counts.segments + counts.function_imports
         }
     };
-    before + index_of(unit) as usize
+    before + unit_index(unit) as usize
 }
 
 /// The thing that is defined under an index, which counts imported ones first.

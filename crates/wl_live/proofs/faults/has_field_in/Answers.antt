@@ -1,4 +1,4 @@
-use Rattle.std.proofs.Common.{◌≡◌, ◌∙◌, rules, of_calls, true, false, sym, subst, Some, slice_get, ◌<◌, ap, arith}
+use Rattle.std.proofs.Common.{◌≡◌, ◌∙◌, rules, of_calls, true, false, sym, subst, Some, slice_get, ◌<◌, ap, arith, length}
 use Rattle.std.specs.List.Sorted.{IsPartitionPoint}
 use Rattle.std.proofs.lemmas.Bool.{false≢true, ltb-true, lt-ltb}
 use Rattle.std.proofs.lemmas.Fn.{always_returns_same}
@@ -14,7 +14,7 @@ returns-in-Some c =
     let point : IsPartitionPoint (λ y. is_past c.args.from y ≡ true) (λ y. is_past c.args.from y ≡ false) rs place =
     c.partition_point-place.ensures.partitioned (is_past c.args.from) (always_returns_same _ _ _ (λ a r f k. search (rules, of_calls))) (ends_rise rs c.args.from c.requires) in
     let r = c.in-Some.relocation.now in
-    let at : slice_get rs place ≡ Some r = slice_get-get_or rs place r (ltb-true _ _ (sym c.in-Some.ensures.lookup.0)) ∙ ap (λ (x : WasmRelocation). Some x) (sym c.in-Some.ensures.lookup.1) in (
+    let at : slice_get rs place ≡ Some r = slice_get-get_or rs place r (ltb-true place (length rs) (sym c.in-Some.ensures.lookup.0)) ∙ ap (λ (x : WasmRelocation). Some x) (sym c.in-Some.ensures.lookup.1) in (
       λ on. found_field rs c.args.from c.args.to place c.in-Some.relocation.now point at (ltb-true _ _ on),
       λ h.
           let q = field_found rs c.args.from c.args.to place c.requires point h in

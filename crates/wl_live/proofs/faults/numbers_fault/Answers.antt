@@ -2,7 +2,7 @@ use Rattle.std.proofs.Common.{◌≡◌, get_or, take, subst, sym, List}
 use Rattle.std.proofs.lemmas.List.{take_all, get_or_default}
 use Rattle.std.proofs.lemmas.List.Elements.{Contains-get_or}
 use Rattle.wl_ops.specs.declared.op.DataIndexImm.{DataIndexImm}
-use Rattle.wl_live.specs.Faults.{HasNumberFault}
+use Rattle.wl_live.specs.Faults.{HasSegmentNumberFault}
 use Rattle.wl_live.proofs.FaultLaws.{number_fault-more}
 use Rattle.wl_live.proofs.faults.numbers_fault.Goals as goal
 
@@ -22,4 +22,4 @@ pub returns : goal.returns
 returns c =
     let ns = c.args.numbers.now in
     let whole : take c.loop-number.number-index ns ≡ ns = take_all c.loop-number.number-index ns c.loop-number-test.false in
-    λ e f. c.loop-number.invariant e (subst (λ (l : List DataIndexImm). HasNumberFault c.args.file.now c.args.body.now l e) (sym whole) f)
+    λ e f. c.loop-number.invariant e (subst (λ (l : List DataIndexImm). HasSegmentNumberFault c.args.file.now c.args.body.now l e) (sym whole) f)

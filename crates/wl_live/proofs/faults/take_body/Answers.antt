@@ -1,7 +1,7 @@
 use Rattle.std.proofs.Common.{◌≡◌, ◌∙◌, ap, sym, arith, rules, length, append-nil, inl, []}
 use Rattle.wl_module.specs.Bodies.{Body}
 use Rattle.wl_ops.specs.Numbers.{AreTold, NumbersFault}
-use Rattle.wl_live.specs.Faults.{BodyFault}
+use Rattle.wl_live.specs.Faults.{HasBodyFault}
 use Rattle.wl_live.proofs.FaultLaws.{number-le, body_fault-from, told_fault}
 use Rattle.wl_live.proofs.faults.take_body.Goals as goal
 
@@ -31,7 +31,7 @@ returns-in-Err-Malformed c =
     let fault : NumbersFault c.in-Err-Malformed.field-0 c.args.body.now.bytes = rw same at (told_fault NumbersFault c.deref.result.now c.in-Err-Malformed.field-0 (search rules) c.in-Err-Malformed.ensures.reads.fault) in
     record {
       segments = ([], c.numbers_are_one.ensures.none c.args.body.now.bytes c.in-Err-Malformed.field-0 fault, sym (append-nil c.args.segments.now.items));
-      fault = let wrong : BodyFault c.args.file.now c.args.body.now c.in-Err-Malformed.field-0 = inl fault in rw c.in-Err-Malformed.field-0-is at wrong;
+      fault = let wrong : HasBodyFault c.args.file.now c.args.body.now c.in-Err-Malformed.field-0 = inl fault in rw c.in-Err-Malformed.field-0-is at wrong;
     }
 
 pub returns-in-Err-Unsupported : goal.returns-in-Err-Unsupported
@@ -40,5 +40,5 @@ returns-in-Err-Unsupported c =
     let fault : NumbersFault c.in-Err-Unsupported.field-0 c.args.body.now.bytes = rw same at (told_fault NumbersFault c.deref.result.now c.in-Err-Unsupported.field-0 (search rules) c.in-Err-Unsupported.ensures.reads.fault) in
     record {
       segments = ([], c.numbers_are_one.ensures.none c.args.body.now.bytes c.in-Err-Unsupported.field-0 fault, sym (append-nil c.args.segments.now.items));
-      fault = let wrong : BodyFault c.args.file.now c.args.body.now c.in-Err-Unsupported.field-0 = inl fault in rw c.in-Err-Unsupported.field-0-is at wrong;
+      fault = let wrong : HasBodyFault c.args.file.now c.args.body.now c.in-Err-Unsupported.field-0 = inl fault in rw c.in-Err-Unsupported.field-0-is at wrong;
     }

@@ -10,5 +10,5 @@ returns-then-not-args-clause-marks g c =
 pub returns-clause-marks : goal.returns-clause-marks
 returns-clause-marks g c =
     let on : c.args.args.now.gc_sections ≡ true = search rules in
-    live_reached c.numbers_are_one.ensures.one c.args.symbols.now c.args.numbers.now c.args.facts.now c.in_ok-marks-2.marks c.requires.units c.requires.facts (rw c.requires.args at on)
+    live_reached c.numbers_are_one.ensures.one c.args.symbols.now c.args.numbers.now c.args.facts.now c.in_ok-marks-2.marks c.requires.units c.requires.facts (rw c.requires.args at on) c.in_ok-marks-2.ensures.each
     (rw (c.deref.ensures.value, c.in_ok-references.ensures, c.deref-2.ensures.value, c.in_ok-roots.ensures) at c.in_ok-marks-2.ensures.marks)

@@ -20,7 +20,7 @@ returns-in-Some-clause-err c =
     let lt : k < length c.args.symbols.now.objects = rw (c.as_slice-files.ensures.objects, c.files.ensures) at c.loop-object-test.true in
     let within : k < length facts = omega (arith, zip_length AreFacts c.args.symbols.now.objects facts c.requires.facts) in
     let at : slice_get facts k ≡ Some said = slice_get-get_or facts k said within ∙ ap (λ (x : Facts). Some x) (sym c.index-facts-object.is) in
-    rw c.refusal_of.ensures (Refuses-from c.args.symbols.now c.args.live.now facts k said c.in-Some.error c.requires.live c.requires.facts at (rw c.faults.ensures at c.in-Some.ensures))
+    rw c.object_refusal.ensures (Refuses-from c.args.symbols.now c.args.live.now facts k said c.in-Some.error c.requires.live c.requires.facts at (rw c.faults.ensures at c.in-Some.ensures))
 
 pub loop-object-preserved : goal.loop-object-preserved
 loop-object-preserved c =

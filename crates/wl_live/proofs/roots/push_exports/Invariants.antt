@@ -1,5 +1,5 @@
 use Rattle.std.proofs.Common.{◌≡◌, ◌++◌, drop}
-use Rattle.wl_live.specs.Roots.{export_roots}
+use Rattle.wl_live.specs.Table.{export_roots}
 use Rattle.wl_live.proofs.roots.push_exports.Given as goal
 
 abbrev pub invariant-loop-export : goal.invariant-loop-export

@@ -1,5 +1,5 @@
 use Rattle.std.proofs.Common.{◌≡◌, ◌++◌, drop}
-use Rattle.wl_live.specs.Roots.{forced_roots}
+use Rattle.wl_live.specs.Table.{forced_roots}
 use Rattle.wl_symbols.specs.Texts.{texts}
 use Rattle.wl_live.proofs.roots.push_forced.Given as goal
 

@@ -1,5 +1,5 @@
 use Rattle.std.proofs.Common.{◌≡◌, ◌++◌, drop}
-use Rattle.wl_live.specs.Roots.{init_roots}
+use Rattle.wl_live.specs.Table.{init_roots}
 use Rattle.wl_live.proofs.roots.push_inits.Given as goal
 
 abbrev pub invariant-loop-function : goal.invariant-loop-function

@@ -1,5 +1,5 @@
 use Rattle.std.proofs.Common.{◌≡◌, ◌++◌, drop}
-use Rattle.wl_live.specs.Roots.{roots_from}
+use Rattle.wl_live.specs.Table.{roots_from}
 use Rattle.wl_live.proofs.roots.push_objects.Given as goal
 
 abbrev pub invariant-loop-object : goal.invariant-loop-object

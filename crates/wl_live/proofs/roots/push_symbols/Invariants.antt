@@ -1,5 +1,5 @@
 use Rattle.std.proofs.Common.{◌≡◌, ◌++◌, drop}
-use Rattle.wl_live.specs.Roots.{symbol_roots}
+use Rattle.wl_live.specs.Table.{symbol_roots}
 use Rattle.wl_live.proofs.roots.push_symbols.Given as goal
 
 abbrev pub invariant-loop-i : goal.invariant-loop-i
