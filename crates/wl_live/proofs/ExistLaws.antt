@@ -1,7 +1,7 @@
 -- Units that symbols, names and exports tell exist.
 use Rattle.std.proofs.Common.{◌≡◌, ◌⊎◌, ℕ, ◌-◌, ◌<◌, ◌||◌, Bool, true, false, cond, nat_lt, nat_le, List, length, get_or, inl, inr, refl, ap, sym, ◌∙◌, subst, Option, Some, None, slice_get}
-use Rattle.std.specs.Option.{option_map, option_or, option_and_then}
-use Rattle.std.proofs.lemmas.Bool.{cases_Bool, cond-true, cond-false, or_parts, leb-false, lt-ltb}
+use Rattle.std.specs.Option.{option_map, option_or}
+use Rattle.std.proofs.lemmas.Bool.{or_parts, leb-false, lt-ltb}
 use Rattle.std.proofs.lemmas.List.{get_or-map}
 use Rattle.std.proofs.lemmas.Option.{same_Some, cond_some, option_and_then_some, slice_get_within, slice_get-get_or}
 use Rattle.wl_module.specs.declared.imports.ExternalKind.{ExternalKind}

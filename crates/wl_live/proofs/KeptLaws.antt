@@ -1,10 +1,8 @@
 -- What follows from kept units: what they refer to is kept, and live sets of a link say the same.
-use Rattle.std.proofs.Common.{◌≡◌, ◌⊎◌, ℕ, zero, suc, ◌+◌, ◌<◌, ◌&&◌, Bool, true, false, cond, List, [], get_or, inl, inr, refl, ap, sym, ◌∙◌, subst, arith, Contains, length, Option, Some, None, slice_get}
-use Rattle.std.proofs.lemmas.Bool.{cases_Bool, and_parts, true≢false, cases_lt, cases_order}
+use Rattle.std.proofs.Common.{◌≡◌, ◌⊎◌, ℕ, zero, suc, true, List, [], inl, inr, refl, sym, ◌∙◌}
+use Rattle.std.proofs.lemmas.Bool.{cases_Bool, and_parts, true≢false}
 use Rattle.wl_ops.specs.Decoding.{AreTaken}
-use Rattle.wl_ops.specs.Numbers.{HasNumbers}
 use Rattle.wl_ops.specs.declared.op.Op.{Op}
-use Rattle.wl_ops.specs.declared.op.DataIndexImm.{DataIndexImm}
 use Rattle.wl_reach.specs.Search.{IsReached}
 use Rattle.wl_reach.proofs.ChainLaws.{IsReached-root, IsReached-step, IsReached-closed}
 use Rattle.wl_symbols.specs.Link.{Link}

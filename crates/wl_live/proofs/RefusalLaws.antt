@@ -7,7 +7,6 @@ use Rattle.std.proofs.lemmas.List.Elements.{Contains-append_cases, All-from_recu
 use Rattle.std.proofs.lemmas.Option.{same_Some, slice_get_within, slice_get-get_or}
 use Rattle.wl_module.specs.declared.error.ReadError.{ReadError}
 use Rattle.wl_linking.specs.Fitting.{IsWhole}
-use Rattle.wl_linking.specs.Object.{Object}
 use Rattle.wl_linking.specs.Steps.{Clear, Refuses}
 use Rattle.wl_symbols.specs.Link.{Link}
 use Rattle.wl_live.specs.Units.{units_of, has_unit, exists}

@@ -1,10 +1,10 @@
 -- The kept relocations and what they become; the bodies, and the exports.
-use Rattle.std.proofs.Common.{◌≡◌, ◌⊎◌, ◌<◌, ◌≤◌, ◌+◌, ◌-◌, ◌++◌, ◌||◌, ◌&&◌, ℕ, zero, suc, Bool, true, false, not, cond, leb, ltb, List, [], ◌∷◌, length, get_or, drop, map, filter, Option, Some, None, refl, sym, ap, subst, ◌∙◌, arith, slice_get, add-one, drop-cons, append_assoc, append-nil, pos, Contains, inl, inr}
+use Rattle.std.proofs.Common.{◌≡◌, ◌⊎◌, ◌<◌, ◌≤◌, ◌+◌, ◌-◌, ◌++◌, ◌||◌, ◌&&◌, ℕ, zero, suc, Bool, true, false, not, cond, leb, ltb, List, [], ◌∷◌, length, get_or, drop, take, map, filter, Option, Some, None, refl, sym, ap, subst, ◌∙◌, arith, slice_get, add-one, drop-cons, append_assoc, append-nil, pos, Contains, inl, inr}
 use Rattle.std.specs.List.{AllByRecursion, AllZip, list_any, range_with_len}
 use Rattle.std.specs.Option.{option_and_then, option_map, option_map_or}
 use Rattle.std.specs.Str.{bytes_eq}
 use Rattle.std.proofs.lemmas.Bool.{cases_Bool, ltb-true, leb-true}
-use Rattle.std.proofs.lemmas.List.{drop_all}
+use Rattle.std.proofs.lemmas.List.{drop_all, length-map}
 use Rattle.std.proofs.lemmas.Option.{slice_get-get_or, slice_get_within, get_or_from_slice_get, slice_get-map}
 use Rattle.wl_module.specs.Bodies.{Body}
 use Rattle.wl_module.specs.Exports.{Exported}
@@ -12,6 +12,7 @@ use Rattle.wl_linking.specs.Symbols.{Symbol, is_undefined, is_data, has_flag}
 use Rattle.wl_linking.specs.Object.{Object}
 use Rattle.wl_linking.specs.Fitting.{IsFitting, IsWhole}
 use Rattle.wl_linking.specs.RelocationTypes.{names_a_type}
+use Rattle.wl_linking.specs.Sites.{PieceOf, AreSites, body_piece}
 use Rattle.wl_linking.specs.declared.relocations.WasmRelocation.{WasmRelocation}
 use Rattle.wl_linking.specs.declared.sites.Site.{Site}
 use Rattle.wl_linking.specs.declared.symbols.WasmSymbolKind.{WasmSymbolKind}
@@ -39,10 +40,11 @@ use Rattle.wl_plan.specs.Maps.{imported_functions, LeadsToPlaces, AreMaps}
 use Rattle.wl_plan.specs.Relocations.{keeps_unit, relocated_at, relocated_if, relocated_in, object_relocations, relocations_from, kept_relocations}
 use Rattle.wl_plan.specs.Fixups.{target_of, IsFixup, AreFixups}
 use Rattle.wl_plan.specs.Entry.{function_in, named_function, memory_export, IsFunctionExport, IsExportedOnce, IsEntryExport, AreExports}
-use Rattle.wl_plan.specs.Plan.{body_of, body_in, IsBodyOf}
+use Rattle.wl_plan.specs.Plan.{function_origins, body_of, body_in, IsBodyOf}
 use Rattle.wl_plan.specs.Building.{IsSmallSite, AreSmallSites, map_of, number_in, fixup_by, HasIndex, HasBody, imported_in, index_by, IsMapped, IsNameMapped, IsEntryMapped, exported_as, named_exports, exports_by}
 use Rattle.wl_plan.specs.declared.layout.FunctionOrigin.{FunctionOrigin}
 use Rattle.wl_plan.specs.declared.layout.FunctionOrigin.TheVariants as origin
+use Rattle.wl_plan.specs.declared.layout.OutputFunction.{OutputFunction}
 use Rattle.wl_plan.specs.declared.layout.Fixup.{Fixup}
 use Rattle.wl_plan.specs.declared.layout.FixupPlace.{FixupPlace}
 use Rattle.wl_plan.specs.declared.layout.FixupPlace.TheVariants.{Code, Segment}
@@ -137,7 +139,7 @@ each_of P Q [] f h = tt
 each_of P Q (x ∷ xs) f h = (f x h.0, each_of P Q xs f h.1)
 
 -- the function that it names
-named_by : (live : Live) (objects : List Object) (r : Relocated) (k : IsKeptRelocation live objects r) → NamesFunction k.object r.relocation
+pub named_by : (live : Live) (objects : List Object) (r : Relocated) (k : IsKeptRelocation live objects r) → NamesFunction k.object r.relocation
 named_by live objects r k = function_named k.object r.relocation k.fits k.planned (none_at (is_unplanned_relocation k.object.symbols) k.object.code_relocations k.number r.relocation (holds k.object k.planned).relocations k.relocation)
 
 -- ---- what is named by a kept unit is kept
@@ -158,14 +160,15 @@ defined_is imports count index none lt =
     not_below : ltb index imports ≡ false
     not_below =
         elim (cases_Bool (ltb index imports)) [
-          | inl yes ↦ absurd (omega (arith, none, ltb-true index imports yes))
-          | inr no ↦ no
+          | inl under ↦ absurd (omega (arith, none, ltb-true index imports under))
+          | inr right ↦ right
         ]
+
     below : leb count (index - imports) ≡ false
     below =
         elim (cases_Bool (leb count (index - imports))) [
-          | inl yes ↦ absurd (omega (arith, none, lt, leb-true count (index - imports) yes))
-          | inr no ↦ no
+          | inl over ↦ absurd (omega (arith, none, lt, leb-true count (index - imports) over))
+          | inr right ↦ right
         ]
 
 by_kind : (n : UnitCounts) (kind : WasmSymbolKind) (undefined flag : Bool) (index : ℕ) → kind ≡ Func → undefined ≡ false → n.function_imports ≡ 0 → index < n.functions
@@ -209,9 +212,16 @@ keeps_named closed link live r of k =
 
 -- ---- fixups
 
+site_at : (pieces : List PieceOf) (rs : List WasmRelocation) (ss : List Site) (i : ℕ) (s : Site) → AreSites pieces rs ss → slice_get ss i ≡ Some s → s.unit < length pieces
+site_at pieces [] [] i s h at = absurd cc
+site_at pieces [] (t ∷ ss) i s h at = absurd h
+site_at pieces (r ∷ rs) [] i s h at = absurd h
+site_at pieces (r ∷ rs) (t ∷ ss) zero s h at = let same : t ≡ s = cc in rw (← same) (slice_get_within pieces t.unit h.0.piece h.0.here)
+site_at pieces (r ∷ rs) (t ∷ ss) (suc i) s h at = site_at pieces rs ss i s h.1 at
+
 -- what can be fixed
-pub has_index : (live : Live) (objects : List Object) (maps : List (List ℕ)) → AreMaps (function_space live objects) live 0 objects maps → (r : Relocated) → IsSmallSite r.site → IsKeptRelocation live objects r → HasIndex objects maps r
-has_index live objects maps all r small k =
+pub has_index : (live : Live) (objects : List Object) (maps : List (List ℕ)) → AreMaps (function_space live objects) live 0 objects maps → (r : Relocated) → IsKeptRelocation live objects r → HasIndex objects maps r
+has_index live objects maps all r k =
     let n = named_by live objects r k in
     let none = nothing_imported k.object k.planned in
     let within : r.object < length maps = omega (arith, slice_get_within objects r.object k.object k.here, maps_length live (function_space live objects) 0 objects maps all) in
@@ -224,7 +234,7 @@ has_index live objects maps all r small k =
       at = n.at;
       map = within;
       within = omega (arith, leads.len, none, n.within);
-      small = small;
+      unit = omega (arith, site_at (map body_piece k.object.bodies) k.object.code_relocations k.object.code_sites k.number r.site k.fits.code.sited k.site, length-map k.object.bodies body_piece, as_many_bodies k.object k.fits);
     }
 
 fixed_value : SymbolsAreKept → (link : Link) (live : Live) (maps : List (List ℕ)) (r : Relocated) → IsLiveOf link live → AreMaps (function_space live link.objects) live 0 link.objects maps → IsKeptRelocation live link.objects r
@@ -306,6 +316,7 @@ named_is link name i k e = by_unit (named_unit link (units_of link.objects) name
     is_unit (DataSegment g) object h = absurd cc
     is_unit (FunctionImport g) object h = absurd cc
     is_unit (GlobalImport g) object h = absurd cc
+
     by_unit : (found : Option LinkUnit) → option_and_then (λ (u : LinkUnit). function_in u.object u.unit) found ≡ Some (origin.Object i k) → found ≡ Some (unit_of_function i k)
     by_unit None h = absurd cc
     by_unit (Some u) h = ap (λ (v : LinkUnit). Some v) (is_unit u.unit u.object h)
@@ -340,6 +351,12 @@ index_is_place roots link live maps name (origin.Object i k) of all asked e =
     let imported : imported_in link.objects i ≡ imported_functions o.object = rw o.here refl in
     rw imported (leads.place k o.within kept)
 
+-- the function of a unit that an object defines
+found_unit : (undefined : Bool) (found : Option LinkUnit) (u : LinkUnit) → undefined ≡ false → found ≡ Some u
+    → option_and_then (λ (v : LinkUnit). function_in v.object v.unit) (cond undefined None found) ≡ function_in u.object u.unit
+found_unit false found u not is = ap (λ (v : Option LinkUnit). option_and_then (λ (w : LinkUnit). function_in w.object w.unit) v) is
+found_unit true found u not is = absurd cc
+
 -- an entry that no step refuses stands for a function
 pub entry_found : (link : Link) (name : List ℕ) → AllByRecursion IsFitting link.objects → AllPlanned link.objects → gives_function link (named link name) ≡ true → (f : FunctionOrigin) × (named_function link name ≡ Some f)
 entry_found link name fit planned gives = by_definition (named link name) gives
@@ -354,7 +371,7 @@ entry_found link name fit planned gives = by_definition (named link name) gives
         let n' = defined_function o s n fits is_planned_here at parts.0 in
         let none = nothing_imported o is_planned_here in
         let unit = function_unit link.objects i o s here n'.kind n'.defined none n'.within in
-        (origin.Object i s.index, rw (n'.defined, unit) refl)
+        (origin.Object i s.index, found_unit (is_undefined s) (unit_at (units_of link.objects) i s) (unit_of_function i s.index) n'.defined unit)
 
     by_object : (i n : ℕ) (found : Option Object) → slice_get link.objects i ≡ found → option_map_or is_defined_function (option_and_then (λ (o : Object). slice_get o.symbols n) found) false ≡ true
         → (f : FunctionOrigin) × (option_and_then (λ (u : LinkUnit). function_in u.object u.unit) (option_and_then (λ s. defined_unit (units_of link.objects) i s) (option_and_then (λ (o : Object). slice_get o.symbols n) found)) ≡ Some f)
@@ -397,3 +414,23 @@ entry_from link fit planned clear = λ name asked.
       | inl gives ↦ entry_found link name fit planned gives
       | inr missing ↦ absurd (clear.none (EntryNotDefined name) (record { name = name; asked = asked; missing = missing; told = refl }))
     ]
+
+pub all_indexed : (live : Live) (objects : List Object) (maps : List (List ℕ)) → AllByRecursion IsFitting objects → AllPlanned objects → AreMaps (function_space live objects) live 0 objects maps → AllByRecursion (HasIndex objects maps) (kept_relocations live objects)
+all_indexed live objects maps fit planned all = each_of (IsKeptRelocation live objects) (HasIndex objects maps) (kept_relocations live objects) (λ r k. has_index live objects maps all r k) (all_kept_relocations live objects fit planned)
+
+-- ---- bodies, one by one
+
+pub body_at : (objects : List Object) (fs : List OutputFunction) (i : ℕ) (d : OutputFunction) → AllByRecursion (HasBody objects) (function_origins fs) → i < length fs → HasBody objects (get_or fs i d).origin
+body_at objects [] i d h lt = absurd (omega arith)
+body_at objects (f ∷ fs) zero d h lt = h.0
+body_at objects (f ∷ fs) (suc i) d h lt = body_at objects fs i d h.1 (omega (arith, lt))
+
+bodies_suc : (objects : List Object) (fs : List OutputFunction) (i : ℕ) (d : OutputFunction) (bodies : List Body) (b : Body) → i < length fs → IsBodyOf objects (get_or fs i d).origin b → AllZip (IsBodyOf objects) (take i (function_origins fs)) bodies → AllZip (IsBodyOf objects) (take (suc i) (function_origins fs)) (bodies ++ b ∷ [])
+bodies_suc objects [] i d bodies b lt is h = absurd (omega arith)
+bodies_suc objects (f ∷ fs) zero d [] b lt is h = (is, tt)
+bodies_suc objects (f ∷ fs) zero d (y ∷ bodies) b lt is h = absurd h
+bodies_suc objects (f ∷ fs) (suc i) d [] b lt is h = absurd h
+bodies_suc objects (f ∷ fs) (suc i) d (y ∷ bodies) b lt is h = (h.0, bodies_suc objects fs i d bodies b (omega (arith, lt)) is h.1)
+
+pub bodies_more : (objects : List Object) (fs : List OutputFunction) (i : ℕ) (d : OutputFunction) (bodies : List Body) (b : Body) → i < length fs → IsBodyOf objects (get_or fs i d).origin b → AllZip (IsBodyOf objects) (take i (function_origins fs)) bodies → AllZip (IsBodyOf objects) (take (i + 1) (function_origins fs)) (bodies ++ b ∷ [])
+bodies_more objects fs i d bodies b lt is h = rw add-one (bodies_suc objects fs i d bodies b lt is h)

@@ -23,7 +23,7 @@ module _ (p : ℕ → Bool) where
   kept_more k = ap (filter p) (range_more k) ∙ filter-append p (range_with_len 0 k) (k ∷ [])
 
   -- those of the first part, and those behind it
-  kept_split : (n k : ℕ) → k ≤ n → filter p (range_with_len 0 n) ≡ filter p (range_with_len 0 k) ++ filter p (range_with_len k (n - k))
+  pub kept_split : (n k : ℕ) → k ≤ n → filter p (range_with_len 0 n) ≡ filter p (range_with_len 0 k) ++ filter p (range_with_len k (n - k))
   kept_split n k le =
       let whole : k + (n - k) ≡ n = omega arith in
       let z : 0 + k ≡ k = omega arith in
@@ -37,29 +37,24 @@ module _ (p : ℕ → Bool) where
   kept_count a zero = omega arith
   kept_count a (suc n) =
       elim (cases_Bool (p a)) [
-        | inl yes ↦ rw yes (omega (arith, kept_count (a + 1) n))
-        | inr no ↦ rw no (omega (arith, kept_count (a + 1) n))
+        | inl pass ↦ rw pass (omega (arith, kept_count (a + 1) n))
+        | inr fail ↦ rw fail (omega (arith, kept_count (a + 1) n))
       ]
 
   -- one that passes stands behind those before it
-  kept_from : (k n : ℕ) → 0 < n → p k ≡ true → slice_get (filter p (range_with_len k n)) 0 ≡ Some k
-  kept_from k zero lt yes = absurd (omega arith)
-  kept_from k (suc n) lt yes = rw yes refl
+  pub kept_from : (k n : ℕ) → 0 < n → p k ≡ true → slice_get (filter p (range_with_len k n)) 0 ≡ Some k
+  kept_from k zero lt pass = absurd (omega arith)
+  kept_from k (suc n) lt pass = rw pass refl
 
   -- some number that passes passes another test too
   pub kept_any : (test : ℕ → Bool) (a n k : ℕ) → a ≤ k → k < a + n → p k ≡ true → test k ≡ true → list_any test (filter p (range_with_len a n)) ≡ true
-  kept_any test a zero k le lt yes here = absurd (omega arith)
-  kept_any test a (suc n) k le lt yes here =
+  kept_any test a zero k le lt pass here = absurd (omega arith)
+  kept_any test a (suc n) k le lt pass here =
+      let behind : (k ≡ a → ⊥) → list_any test (filter p (range_with_len (a + 1) n)) ≡ true = λ other. kept_any test (a + 1) n k (omega (arith, le, other)) (omega (arith, lt)) pass here in
       elim (cases_Bool (p a)) [
-        | inl first ↦ rw first (by_test first)
-        | inr not ↦ rw not (behind (λ e. let other : p a ≡ true = rw e yes in cc))
+        | inl first ↦ elim (cases_Bool (test a)) [
+          | inl passes ↦ rw (first, passes) refl
+          | inr fails ↦ rw (first, fails) (behind (λ e. let other : test a ≡ true = rw e at here in cc))
+        ]
+        | inr not ↦ rw not (behind (λ e. let other : p a ≡ true = rw e at pass in cc))
       ]
-    where
-      behind : (k ≡ a → ⊥) → list_any test (filter p (range_with_len (a + 1) n)) ≡ true
-      behind other = kept_any test (a + 1) n k (omega (arith, le, other)) (omega (arith, lt)) yes here
-      by_test : p a ≡ true → (test a || list_any test (filter p (range_with_len (a + 1) n))) ≡ true
-      by_test first =
-          elim (cases_Bool (test a)) [
-            | inl passes ↦ rw passes refl
-            | inr fails ↦ rw fails (behind (λ e. let other : test a ≡ true = rw e here in cc))
-          ]

@@ -123,18 +123,29 @@ found_any test (x ∷ xs) e =
       | inr not ↦ let later = found_any test xs (rw not at e) in (suc later.0, later.1, later.2, later.3)
     ]
 
+-- a number of a range that passes a test
+abbrev IsPassing : (ℕ → Bool) → ℕ → ℕ → ℕ → Type 0
+IsPassing p a n x = (p x ≡ true) × (a ≤ x) × (x < a + n)
+
+passing_more : (p : ℕ → Bool) (a n x : ℕ) → IsPassing p (a + 1) n x → IsPassing p a (suc n) x
+passing_more p a n x h = (h.0, omega (arith, h.1), omega (arith, h.2))
+
+first_passing : (p : ℕ → Bool) (a n x : ℕ) → p a ≡ true → a ≡ x → IsPassing p a (suc n) x
+first_passing p a n x pass same = (rw same at pass, omega (arith, same), omega (arith, same))
+
 -- what passes a test of a range lies in it
-pub passed : (p : ℕ → Bool) (a n i x : ℕ) → slice_get (filter p (range_with_len a n)) i ≡ Some x → (p x ≡ true) × (a ≤ x) × (x < a + n)
+pub passed : (p : ℕ → Bool) (a n i x : ℕ) → slice_get (filter p (range_with_len a n)) i ≡ Some x → IsPassing p a n x
 passed p a zero i x at = absurd cc
-passed p a (suc n) i x at =
+passed p a (suc n) zero x at =
     elim (cases_Bool (p a)) [
-      | inl yes ↦ by_place yes i (rw yes at at)
-      | inr no ↦ let later = passed p (a + 1) n i x (rw no at at) in (later.0, omega (arith, later.1), omega (arith, later.2))
+      | inl pass ↦ first_passing p a n x pass (let here : slice_get (a ∷ filter p (range_with_len (a + 1) n)) 0 ≡ Some x = rw pass at at in cc)
+      | inr fail ↦ passing_more p a n x (passed p (a + 1) n zero x (rw fail at at))
     ]
-  where
-    by_place : p a ≡ true → (j : ℕ) → slice_get (a ∷ filter p (range_with_len (a + 1) n)) j ≡ Some x → (p x ≡ true) × (a ≤ x) × (x < a + suc n)
-    by_place yes zero here = let same : a ≡ x = cc in (rw (← same) yes, omega (arith, same), omega (arith, same))
-    by_place yes (suc j) here = let later = passed p (a + 1) n j x here in (later.0, omega (arith, later.1), omega (arith, later.2))
+passed p a (suc n) (suc i) x at =
+    elim (cases_Bool (p a)) [
+      | inl pass ↦ passing_more p a n x (passed p (a + 1) n i x (rw pass at at))
+      | inr fail ↦ passing_more p a n x (passed p (a + 1) n (suc i) x (rw fail at at))
+    ]
 
 -- ---- the functions of an object
 
@@ -171,17 +182,18 @@ module _ (live : Live) (all : List Object) where
             let small : found.1 < length o.functions = omega (arith, in_range.2) in
             let is : get_or o.functions found.1 0 ≡ used.0 = eqb-true (get_or o.functions found.1 0) used.0 found.3 in
             let y : i + 0 ≡ i = omega arith in
-            let o-is : slice_get all i ≡ Some o = rw y at (at 0 o refl) in
-            (
-              found.0, origin.Object i found.1,
+            let o-is : slice_get all i ≡ Some o = rw y at (at 0 o refl) in (
+              found.0,
+              origin.Object i found.1,
               front_of (map (origin.Object i) (kept_functions live i o)) (functions_from live (i + 1) objects) found.0 (origin.Object i found.1) (of_own i (kept_functions live i o) found.0 found.1 found.2),
               rw (o-is, slice_get-get_or o.functions found.1 0 small, is, used.1) refl,
             )
         | inr h ↦
-            let later = in_object (i + 1) objects (λ k p e. let y : i + suc k ≡ i + 1 + k = omega arith in rw y at (at (suc k) p e)) h.0 t h.2 in
-            (
-              length (map (origin.Object i) (kept_functions live i o)) + later.0, later.1,
-              behind_of (map (origin.Object i) (kept_functions live i o)) (functions_from live (i + 1) objects) later.0 later.1 later.2, later.3,
+            let later = in_object (i + 1) objects (λ k p e. let y : i + suc k ≡ i + 1 + k = omega arith in rw y at (at (suc k) p e)) h.0 t h.2 in (
+              length (map (origin.Object i) (kept_functions live i o)) + later.0,
+              later.1,
+              behind_of (map (origin.Object i) (kept_functions live i o)) (functions_from live (i + 1) objects) later.0 later.1 later.2,
+              later.3,
             )
       ]
 
@@ -194,20 +206,21 @@ types_used live objects i t at =
 
 -- ---- no function stands twice
 
--- numbers that pass stand in order
+by_places : (p : ℕ → Bool) (a n x k l : ℕ) → ((m o : ℕ) → slice_get (filter p (range_with_len (a + 1) n)) m ≡ Some x → slice_get (filter p (range_with_len (a + 1) n)) o ≡ Some x → m ≡ o)
+    → slice_get (a ∷ filter p (range_with_len (a + 1) n)) k ≡ Some x → slice_get (a ∷ filter p (range_with_len (a + 1) n)) l ≡ Some x → k ≡ l
+by_places p a n x zero zero once here there = refl
+by_places p a n x zero (suc l) once here there = let same : a ≡ x = cc in absurd (omega (arith, same, (passed p (a + 1) n l x there).1))
+by_places p a n x (suc k) zero once here there = let same : a ≡ x = cc in absurd (omega (arith, same, (passed p (a + 1) n k x here).1))
+by_places p a n x (suc k) (suc l) once here there = ap suc (once k l here there)
+
+-- a number that passes stands once
 pub kept_once : (p : ℕ → Bool) (a n i j x : ℕ) → slice_get (filter p (range_with_len a n)) i ≡ Some x → slice_get (filter p (range_with_len a n)) j ≡ Some x → i ≡ j
 kept_once p a zero i j x at bt = absurd cc
 kept_once p a (suc n) i j x at bt =
     elim (cases_Bool (p a)) [
-      | inl yes ↦ by_places i j (rw yes at at) (rw yes at bt)
-      | inr no ↦ kept_once p (a + 1) n i j x (rw no at at) (rw no at bt)
+      | inl pass ↦ by_places p a n x i j (λ k l here there. kept_once p (a + 1) n k l x here there) (rw pass at at) (rw pass at bt)
+      | inr fail ↦ kept_once p (a + 1) n i j x (rw fail at at) (rw fail at bt)
     ]
-  where
-    by_places : (k l : ℕ) → slice_get (a ∷ filter p (range_with_len (a + 1) n)) k ≡ Some x → slice_get (a ∷ filter p (range_with_len (a + 1) n)) l ≡ Some x → k ≡ l
-    by_places zero zero here there = refl
-    by_places zero (suc l) here there = let same : a ≡ x = cc in absurd (omega (arith, same, (passed p (a + 1) n l x there).1))
-    by_places (suc k) zero here there = let same : a ≡ x = cc in absurd (omega (arith, same, (passed p (a + 1) n k x here).1))
-    by_places (suc k) (suc l) here there = ap suc (kept_once p (a + 1) n k l x here there)
 
 module _ (live : Live) where
   -- the functions behind are those of later objects

@@ -1,9 +1,11 @@
 -- The passes over the objects: types, functions, maps.
-use Rattle.std.proofs.Common.{◌≡◌, ◌<◌, ◌≤◌, ◌+◌, ◌-◌, ◌++◌, ◌||◌, ℕ, zero, suc, Bool, true, false, cond, eqb, List, [], ◌∷◌, length, get_or, drop, take, map, filter, Some, refl, sym, ap, subst, ◌∙◌, arith, slice_get, add-one, drop-cons, append_assoc, length-append, inl, inr, eq-eqb, append-nil}
+use Rattle.std.proofs.Common.{◌≡◌, ◌≢◌, ◌<◌, ◌≤◌, ◌+◌, ◌-◌, ◌++◌, ◌||◌, ℕ, zero, suc, Bool, true, false, cond, eqb, List, [], ◌∷◌, length, get_or, drop, take, map, filter, Some, refl, sym, ap, subst, ◌∙◌, arith, slice_get, add-one, drop-cons, append_assoc, length-append, inl, inr, eq-eqb, append-nil}
 use Rattle.std.specs.List.{AllByRecursion, list_any, range_with_len}
 use Rattle.std.proofs.Math.Seq.{take-suc}
-use Rattle.std.proofs.lemmas.Bool.{cases_Bool}
-use Rattle.std.proofs.lemmas.List.{length-map, length-take, map-append, take_all, drop_all}
+use Rattle.std.proofs.Math.ListN.{set}
+use Rattle.std.proofs.lemmas.Bool.{cases_Bool, eqb-true}
+use Rattle.std.proofs.lemmas.List.Folds.{list_any-append}
+use Rattle.std.proofs.lemmas.List.{get_or-set_same, get_or-set_other, length-map, length-take, map-append, take_all, drop_all}
 use Rattle.std.proofs.lemmas.List.FromFn.{length-map-range_with_len, get_or-map-range_with_len, map-range_with_len_more}
 use Rattle.std.proofs.lemmas.Option.{slice_get-get_or, slice_get_within, get_or_from_slice_get, slice_get-map}
 use Rattle.wl_module.specs.Types.{FunctionType}
@@ -59,25 +61,16 @@ full_longer xs ys _ le f = f
 
 -- ---- which types are used
 
-or_false : (a b : Bool) → b ≡ false → (a || b) ≡ a
-or_false true b e = refl
-or_false false b e = e
+or_none : (t : Bool) → (t || false) ≡ t
+or_none true = refl
+or_none false = refl
+
+any_alone : (test : ℕ → Bool) (kept : Bool) (k : ℕ) → list_any test (cond kept (k ∷ []) []) ≡ cond kept (test k) false
+any_alone test true k = or_none (test k)
+any_alone test false k = refl
 
 any_snoc : (test : ℕ → Bool) (kept : Bool) (xs : List ℕ) (k : ℕ) → list_any test (xs ++ cond kept (k ∷ []) []) ≡ (list_any test xs || cond kept (test k) false)
-any_snoc test kept [] k = alone kept
-  where
-    alone : (b : Bool) → list_any test (cond b (k ∷ []) []) ≡ cond b (test k) false
-    alone true = by_test (test k)
-      where
-        by_test : (t : Bool) → (t || false) ≡ t
-        by_test true = refl
-        by_test false = refl
-    alone false = refl
-any_snoc test kept (x ∷ xs) k = by_test (test x)
-  where
-    by_test : (t : Bool) → (t || list_any test (xs ++ cond kept (k ∷ []) [])) ≡ ((t || list_any test xs) || cond kept (test k) false)
-    by_test true = refl
-    by_test false = any_snoc test kept xs k
+any_snoc test kept xs k = list_any-append test xs (cond kept (k ∷ []) []) ∙ ap (λ (b : Bool). list_any test xs || b) (any_alone test kept k)
 
 -- the types that one of the first functions has which is kept
 abbrev pub used_by : Live → ℕ → Object → ℕ → ℕ → Bool
@@ -86,9 +79,34 @@ used_by live i o n ty = list_any (λ function. eqb (get_or o.functions function 
 -- with one more function
 pub used_more : (live : Live) (i : ℕ) (o : Object) (n ty : ℕ) → used_by live i o (n + 1) ty ≡ (used_by live i o n ty || cond (keeps_function live i n) (eqb (get_or o.functions n 0) ty) false)
 used_more live i o n ty =
-    let test : ℕ → Bool = λ function. eqb (get_or o.functions function 0) ty in
     ap (list_any (λ function. eqb (get_or o.functions function 0) ty)) (kept_more (keeps_function live i) n)
     ∙ any_snoc (λ function. eqb (get_or o.functions function 0) ty) (keeps_function live i n) (filter (keeps_function live i) (range_with_len 0 n)) n
+
+cond_same : (kept : Bool) → cond kept true false ≡ kept
+cond_same true = refl
+cond_same false = refl
+
+cond_none : (kept : Bool) → cond kept false false ≡ false
+cond_none true = refl
+cond_none false = refl
+
+-- with the type of one more function marked
+pub marks_more : (live : Live) (i : ℕ) (o : Object) (n : ℕ) (marks : List Bool) → length marks ≡ length o.types → get_or o.functions n 0 < length o.types → ((k : ℕ) → k < length o.types → marked marks k ≡ used_by live i o n k)
+    → (k : ℕ) → k < length o.types → marked (set marks (get_or o.functions n 0) (get_or marks (get_or o.functions n 0) false || keeps_function live i n)) k ≡ used_by live i o (n + 1) k
+marks_more live i o n marks len small each k lt =
+    let ty = get_or o.functions n 0 in
+    let new = get_or marks ty false || keeps_function live i n in
+    elim (cases_Bool (eqb ty k)) [
+      | inl same ↦
+          let is : ty ≡ k = eqb-true ty k same in
+          let at : marked (set marks ty new) k ≡ new = ap (marked (set marks ty new)) (sym is) ∙ get_or-set_same marks ty new false (omega (arith, len, small)) in
+          let before : get_or marks ty false ≡ used_by live i o n k = ap (λ (j : ℕ). get_or marks j false) is ∙ each k lt in
+          at ∙ ap (λ (b : Bool). b || keeps_function live i n) before ∙ sym (used_more live i o n k ∙ ap (λ (b : Bool). used_by live i o n k || cond (keeps_function live i n) b false) same ∙ ap (λ (b : Bool). used_by live i o n k || b) (cond_same (keeps_function live i n)))
+      | inr other ↦
+          let not : k ≢ ty = λ e. let there = eq-eqb ty k (sym e) in absurd cc in
+          get_or-set_other marks ty k new false not ∙ each k lt
+          ∙ sym (used_more live i o n k ∙ ap (λ (b : Bool). used_by live i o n k || cond (keeps_function live i n) b false) other ∙ ap (λ (b : Bool). used_by live i o n k || b) (cond_none (keeps_function live i n)) ∙ or_none (used_by live i o n k))
+    ]
 
 -- ---- types
 
@@ -180,6 +198,20 @@ module _ (live : Live) (i : ℕ) (functions indices : List ℕ) where
   outputs-le k le =
       omega (arith, kept-le (keeps_function live i) (length functions) k le, length-map (filter (keeps_function live i) (range_with_len 0 k)) (output_at i functions indices), length-map (filter (keeps_function live i) (range_with_len 0 (length functions))) (output_at i functions indices))
 
+  pub outputs_on : (k : ℕ) (before now : List OutputFunction) → now ≡ before ++ map (output_at i functions indices) (filter (keeps_function live i) (range_with_len 0 k))
+      → now ++ output_where live i k (get_or indices (get_or functions k 0) 0) ≡ before ++ map (output_at i functions indices) (filter (keeps_function live i) (range_with_len 0 (k + 1)))
+  outputs_on k before now h =
+      let so_far = map (output_at i functions indices) (filter (keeps_function live i) (range_with_len 0 k)) in
+      let one = output_where live i k (get_or indices (get_or functions k 0) 0) in
+      ap (λ (fs : List OutputFunction). fs ++ one) h ∙ append_assoc before so_far one ∙ ap (λ (fs : List OutputFunction). before ++ fs) (sym (outputs_more k))
+
+  pub outputs_full : (k : ℕ) (before now : List OutputFunction) (e : LinkError) → k < length functions → now ≡ before ++ map (output_at i functions indices) (filter (keeps_function live i) (range_with_len 0 k))
+      → IsFull (now ++ output_where live i k (get_or indices (get_or functions k 0) 0)) e → IsFull (before ++ outputs_in live i functions indices) e
+  outputs_full k before now e lt h f =
+      let more = map (output_at i functions indices) (filter (keeps_function live i) (range_with_len 0 (k + 1))) in
+      full_longer (now ++ output_where live i k (get_or indices (get_or functions k 0) 0)) (before ++ outputs_in live i functions indices) e
+      (omega (arith, ap length (outputs_on k before now h), length-append before more, length-append before (outputs_in live i functions indices), outputs-le (k + 1) (omega (arith, lt)))) f
+
   outputs_origins : (ks : List ℕ) → map origin_of (map (output_at i functions indices) ks) ≡ map (origin.Object i) ks
   outputs_origins [] = refl
   outputs_origins (k ∷ ks) = ap (λ (fs : List FunctionOrigin). origin.Object i k ∷ fs) (outputs_origins ks)
@@ -189,8 +221,8 @@ pub each_kept : {X : Type 0} (P : X → Type 0) (f : ℕ → X) (p : ℕ → Boo
 each_kept P f p a zero h = tt
 each_kept P f p a (suc n) h =
     elim (cases_Bool (p a)) [
-      | inl yes ↦ rw yes (h a (omega arith) yes, each_kept P f p (a + 1) n (λ k lt. h k (omega (arith, lt))))
-      | inr no ↦ rw no (each_kept P f p (a + 1) n (λ k lt. h k (omega (arith, lt))))
+      | inl pass ↦ rw pass (h a (omega arith) pass, each_kept P f p (a + 1) n (λ k lt. h k (omega (arith, lt))))
+      | inr fail ↦ rw fail (each_kept P f p (a + 1) n (λ k lt. h k (omega (arith, lt))))
     ]
 
 -- a kept function has a type that an index leads to
@@ -242,8 +274,13 @@ module _ (live : Live) where
       let rest = functions_from live (i + 1) (drop (i + 1) objects) in
       full_longer (functions ++ outputs_in live i o.functions indices) (function_space live objects) e
       (omega (
-        arith, ap length (functions_step objects i o (map origin_of functions) lt is h.origins), ap length (with_origins i o indices functions),
-        length-map (functions ++ outputs_in live i o.functions indices) origin_of, length-append (map origin_of functions) (mine ++ rest), length-append (map origin_of functions) mine, length-append mine rest
+        arith,
+        ap length (functions_step objects i o (map origin_of functions) lt is h.origins),
+        ap length (with_origins i o indices functions),
+        length-map (functions ++ outputs_in live i o.functions indices) origin_of,
+        length-append (map origin_of functions) (mine ++ rest),
+        length-append (map origin_of functions) mine,
+        length-append mine rest,
       )) f
 
   pub spaces_done : (objects : List Object) (types : List FunctionType) (i : ℕ) (functions : List OutputFunction) → length objects ≤ i → SpacesOn objects types i functions → map origin_of functions ≡ function_space live objects

@@ -1,5 +1,5 @@
 -- Laws of objects that fit together and are planned: what they name is their own.
-use Rattle.std.proofs.Common.{◌≡◌, ◌<◌, ◌-◌, ◌+◌, ◌||◌, ◌&&◌, ℕ, zero, suc, Bool, true, false, not, eqb, ltb, leb, List, [], ◌∷◌, length, get_or, map, Option, Some, None, refl, ap, take, inl, inr, arith, slice_get}
+use Rattle.std.proofs.Common.{◌≡◌, ◌<◌, ◌≤◌, ◌-◌, ◌+◌, ◌||◌, ◌&&◌, ℕ, zero, suc, Bool, true, false, not, eqb, ltb, leb, List, [], ◌∷◌, length, get_or, map, Option, Some, None, refl, ap, take, inl, inr, arith, slice_get}
 use Rattle.std.specs.List.{list_all, list_any}
 use Rattle.std.proofs.lemmas.Bool.{eqb-true, ltb-true, cases_Bool}
 use Rattle.std.proofs.lemmas.List.{length-map}

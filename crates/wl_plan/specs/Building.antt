@@ -105,7 +105,7 @@ pub record HasIndex (objects : List Object) (maps : List (List ℕ)) (r : Reloca
   pub at : slice_get object.symbols r.relocation.index ≡ Some symbol
   pub map : r.object < length maps
   pub within : symbol.index < length (map_of maps r.object)
-  pub small : IsSmallSite r.site
+  pub unit : r.site.unit < length object.functions
 
 -- ---- bodies
 

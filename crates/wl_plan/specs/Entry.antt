@@ -1,5 +1,5 @@
 -- The function at which the program begins, and its export.
-use Rattle.std.specs.Prelude.{◌≡◌, ℕ, Bool, true, false, List, [], ◌∷◌, Option, Some, None, slice_get}
+use Rattle.std.specs.Prelude.{◌≡◌, ℕ, Bool, true, false, List, [], ◌∷◌, Option, Some, None, slice_get, codes}
 use Rattle.std.specs.Option.{option_and_then}
 use Rattle.std.specs.Str.{bytes_eq}
 use Rattle.wl_module.specs.Exports.{Exported}
@@ -32,8 +32,8 @@ abbrev pub memory_export : Exported
 memory_export = record { name = codes "memory"; kind = Memory; index = 0 }
 
 -- a function under a name, by its index in the space
-pub record IsFunctionExport (space : List FunctionOrigin) (function : Option FunctionOrigin) (name : List ℕ) (x : Exported) : Type 0 where
-  pub name : x.name ≡ name
+pub record IsFunctionExport (space : List FunctionOrigin) (function : Option FunctionOrigin) (under : List ℕ) (x : Exported) : Type 0 where
+  pub name : x.name ≡ under
   pub kind : x.kind ≡ Func
   pub index : slice_get space x.index ≡ function
 

@@ -16,7 +16,9 @@ fn fixup_at(files: &[File<'_>], maps: &[WasmObjectIndexMap], relocated: &Relocat
     ensures { result ≡ fixup_by files.now (function_maps maps.now) relocated.now }
 {
     let object = relocated.object;
-    let symbol = &files[object].symbols()[relocated.relocation.index as usize];
+    let file = &files[object];
+    file.stands_for_an_object();
+    let symbol = &file.symbols()[relocated.relocation.index as usize];
     let indices = maps[object].function_indices.as_slice();
     Fixup {
         object,

@@ -69,7 +69,9 @@ pub(crate) fn index_maps(
     let mut next: u32 = 0;
     for type_indices in type_indices {
         let object = maps.len();
-        let count = files[object].functions().len();
+        let file = &files[object];
+        file.stands_for_an_object();
+        let count = file.functions().len();
         maps.push(WasmObjectIndexMap {
             type_indices,
             function_indices: function_indices(alloc, live, object, count, &mut next)?,

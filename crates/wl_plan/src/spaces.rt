@@ -72,7 +72,13 @@ fn push_functions(
         (IsFull (functions.old.items ++ outputs_in live.now object local.now indices.now)) }
 {
     for (function, ty) in local.iter().enumerate() {
-        push_kept(functions, live, object, function as u32, indices[*ty as usize])?;
+        push_kept(
+            functions,
+            live,
+            object,
+            function as u32,
+            indices[*ty as usize],
+        )?;
     }
     Ok(())
 }
@@ -96,7 +102,13 @@ pub(crate) fn function_space(
     for (object, file) in files.iter().enumerate() {
         file.stands_for_an_object();
         let indices = &merged.indices[object];
-        push_functions(&mut functions, live, object, file.functions(), indices.as_slice())?;
+        push_functions(
+            &mut functions,
+            live,
+            object,
+            file.functions(),
+            indices.as_slice(),
+        )?;
     }
     Ok(functions)
 }
