@@ -14,6 +14,7 @@ PROGRAM = ROOT / "crates" / "wildplan" / "out" / "wildplan"
 EXAMPLES = ROOT / "examples"
 OBJECTS = ROOT / "tests" / "objects"
 ROWS = ROOT / "tests" / "rows.txt"
+OPERATORS = ROOT / "tests" / "operators.txt"
 FORMAT = ROOT / "docs" / "FORMAT.md"
 OPTIONS = ROOT / "docs" / "OPTIONS.md"
 README = ROOT / "README.md"
@@ -91,13 +92,11 @@ def options():
     for others in idle:
         check(f"words {others}", run([*others, made, *FLAGS]), 0, listing)
         check(f"words {others}", run(["--gc-sections", "-e", "a", *others, *FLAGS, made]), 0, listing)
-    unplanned = """--gc-sections --entry=a --export=a --export-if-defined=a --export-dynamic --allow-undefined
+    unplanned = """--export=a --export-if-defined=a --export-dynamic --allow-undefined
         --stack-first --no-check-features -z=stack-size=16 --initial-memory=65536 --max-memory=65536
         --import-memory --export-memory --extra-features=a --strip-all -s --strip-debug -S"""
     for option in unplanned.split():
         check(f"word {option}", run([*FLAGS, option, made]), 1, err=b"error: Unsupported 0 NotYet\n")
-    check("units dropped", run([made, "--no-entry"]), 1, err=b"error: Unsupported 0 NotYet\n")
-    check("an entry asked for", run([made, "--no-gc-sections"]), 1, err=b"error: Unsupported 0 NotYet\n")
 
 
 def reads(folder):
@@ -169,6 +168,40 @@ def rows(folder):
                     files[-1].write_bytes(object_of(text, stretches))
                 out, err = (listings[told], "") if status == "0" else ("", f"error: {told}\n")
                 check(f"{rule}: {row}", run([*words, *files]), int(status), out.encode(), err.encode())
+
+
+def runs_of(text):
+    """A row of its lowest, one of its highest and one between them for a run of numbers, as in {45-c4}."""
+    run_of = re.search(r"\{([0-9a-f ]*)([0-9a-f]{2})-[0-9a-f ]*([0-9a-f]{2})\}", text)
+    if run_of is None:
+        return [text]
+    first, last = int(run_of[2], 16), int(run_of[3], 16)
+    numbers = sorted({first, (first + last) // 2, last})
+    return [f"{text[:run_of.start()]}{run_of[1]}{n:02x}{text[run_of.end():]}" for n in numbers]
+
+
+def operators(folder):
+    """The table of what is an operator: each row is the end of the body of an object's one function."""
+    made = folder / "operators.o"
+    listing = (
+        "wildplan 1\ntype 0 ()->()\nfunc 0 type 0 object 0 unit 0\nbody 0 BODY\n"
+        'global 0 i32 var 41808004 made stack_pointer\nmemory 2 - -\nexport "memory" memory 0\nend\n'
+    )
+    rule = ""
+    for line in OPERATORS.read_text().splitlines():
+        if line.startswith("#") or not line:
+            rule = line.removeprefix("## ")
+            continue
+        text, answer = line.split("= ")
+        for row in runs_of(text):
+            body = bytes.fromhex("00fc00" + row)
+            size = len(body)
+            section = bytes([10, size + 2, 1, size]) + body
+            made.write_bytes(bytes.fromhex("0061736d01000000 01040160000003020100") + section)
+            out, err = (listing.replace("BODY", body.hex()), "") if answer == "ok" else ("", answer)
+            kind = "Malformed" if answer in ("Body", "BadIndex") else "Unsupported"
+            err = err and f"error: {kind} 0 {err}\n"
+            check(f"{rule}: {row}", run([*FLAGS, made]), 1 if err else 0, out.encode(), err.encode())
 
 
 def table_of(document, title):
@@ -304,6 +337,7 @@ def main():
         folder = pathlib.Path(name)
         reads(folder)
         rows(folder)
+        operators(folder)
         documented_relocations(folder)
         compiled(folder)
         sizes(folder)

@@ -5,6 +5,7 @@ pub mod RestLaws
 pub mod DecodeLaws
 pub mod CountLaws
 pub mod NumberLaws
+pub mod ReferenceLaws
 pub mod PrefixLaws
 pub mod ToldLaws
 pub mod PlaceLaws

@@ -3,6 +3,7 @@ pub mod Table
 pub mod Immediates
 pub mod Operators
 pub mod Decoding
+pub mod Expressions
 pub mod Numbers
 pub mod Rewriting
 pub mod Standing

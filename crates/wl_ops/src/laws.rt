@@ -1,14 +1,15 @@
 //! What callers may count on: functions with an empty body, each of which states a law of what
 //! bodies spell.
 
-ghost use Rattle.std.specs.Prelude.{◌≤◌, ℕ, List, length, Option};
+ghost use Rattle.std.specs.Prelude.{◌≡◌, ◌≤◌, ℕ, List, [], length, Option};
 ghost use Rattle.wl_module.specs.Lists.{AreFew};
+ghost use Rattle.wl_module.specs.declared.error.ReadError.{ReadError as Fault};
 ghost use Rattle.wl_module.specs.Outcome.{AreAlternatives};
 ghost use Rattle.wl_ops.specs.declared.op.Op.{Op as OpRecord};
 ghost use Rattle.wl_ops.specs.Decoding.{AreTaken, DecodeFault, list_items};
 ghost use Rattle.wl_ops.specs.declared.op.DataIndexImm.{DataIndexImm as Number};
 ghost use Rattle.wl_ops.specs.Numbers.{HasNumbers, AreTold, NumbersFault};
-ghost use Rattle.wl_ops.specs.Rewriting.{Rewrites};
+ghost use Rattle.wl_ops.specs.Rewriting.{LieWithin, Rewrites};
 ghost use Rattle.wl_ops.specs.Standing.{Keeps};
 
 /// Each body is decoded to one list of operators or has one fault, and never both.
@@ -19,6 +20,16 @@ pub fn operators_or_fault()
 /// Each body has one list of numbers or one fault that is told, and never both.
 pub fn numbers_or_fault()
     ensures { AreAlternatives AreTold NumbersFault }
+{}
+
+/// A body has one list of numbers of data segments, which lie in it one behind the other. One that
+/// isn't decoded has none.
+pub fn numbers_are_one()
+    ensures one { (body : List ℕ) (numbers others : List Number)
+        → HasNumbers numbers body → HasNumbers others body → numbers ≡ others }
+    ensures within { (body : List ℕ) (numbers : List Number)
+        → HasNumbers numbers body → LieWithin 0 numbers (length body) }
+    ensures none { (body : List ℕ) (e : Fault) → NumbersFault e body → HasNumbers [] body }
 {}
 
 /// A body has at least as many bytes as operators and immediates together.

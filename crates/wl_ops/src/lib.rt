@@ -7,6 +7,7 @@
 #![tactic(auto)]
 
 mod decoding;
+mod expressions;
 mod immediates;
 mod laws;
 mod numbers;
@@ -16,8 +17,10 @@ mod rewriting;
 mod table;
 
 pub use decoding::decode_body;
+pub use expressions::has_reference;
 pub use laws::{
-    numbers_or_fault, operators_are_few, operators_or_fault, rewriting_keeps_operators,
+    numbers_are_one, numbers_or_fault, operators_are_few, operators_or_fault,
+    rewriting_keeps_operators,
 };
 pub use numbers::data_index_immediates;
 pub use op::{DataIndexImm, Op, OpArgs};

@@ -1,10 +1,10 @@
 pub mod StepLaws
 pub mod TypeLaws
 pub mod Merges
-pub mod PlainLaws
 pub mod PlannedLaws
-pub mod SpaceLaws
+pub mod KeptLaws
 pub mod PlanLaws
+pub mod FixupLaws
 pub mod Folds
 pub mod ContentLaws
 pub mod OnceLaws

@@ -1,47 +1,16 @@
 -- The types of an object that are merged in turn.
-use Rattle.std.proofs.Common.{◌≡◌, ◌≢◌, ◌<◌, ◌≤◌, ◌+◌, ℕ, zero, suc, Bool, true, false, cond, eqb, ltb, ◌||◌, List, [], ◌∷◌, ◌++◌, length, get_or, drop, take, Some, refl, sym, ap, subst, ◌∙◌, arith, slice_get, add-one, drop-cons, length-append, inl, inr, eq-eqb}
+use Rattle.std.proofs.Common.{◌≡◌, ◌<◌, ◌≤◌, ◌+◌, ℕ, zero, suc, Bool, true, false, cond, ltb, List, [], ◌∷◌, ◌++◌, length, get_or, drop, Some, refl, sym, ap, subst, ◌∙◌, arith, slice_get, add-one, drop-cons, length-append, inl, inr}
 use Rattle.std.specs.List.{list_any, list_all}
-use Rattle.std.proofs.Math.ListN.{set}
 use Rattle.std.proofs.Math.Seq.{get_or-append_seam}
-use Rattle.std.proofs.lemmas.Bool.{cases_Bool, eqb-true, cases_lt, ltb-true}
-use Rattle.std.proofs.lemmas.List.{get_or-set_same, get_or-set_other, take_all, get_or_append_left, get_or_default, drop_all}
-use Rattle.std.proofs.lemmas.List.Folds.{list_any_more, list_all_at}
+use Rattle.std.proofs.lemmas.Bool.{cases_Bool, cases_lt, ltb-true}
+use Rattle.std.proofs.lemmas.List.{get_or_append_left, get_or_default, drop_all}
+use Rattle.std.proofs.lemmas.List.Folds.{list_all_at}
 use Rattle.wl_module.specs.Types.{FunctionType}
-use Rattle.wl_linking.specs.Object.{Object}
-use Rattle.wl_plan.specs.Types.{same_type, add_new, firsts_onto, used_from, live_types}
+use Rattle.wl_plan.specs.Types.{same_type, add_new, firsts_onto, types_where}
 use Rattle.wl_plan.specs.Merging.{IsFull, LeadsToTypes}
 use Rattle.wl_plan.specs.declared.types.TheConstants.{WASM_DEAD_INDEX}
 use Rattle.wl_linking.specs.declared.error.LinkError.{LinkError}
 use Rattle.wl_linking.specs.declared.error.LinkError.TheVariants.{OutOfMemory, TooLarge}
-
--- ---- which types a function has
-
-abbrev Marks : List Bool → List ℕ → ℕ → Type 0
-Marks used functions count = (k : ℕ) (d : Bool) → k < count → get_or used k d ≡ list_any (λ f. eqb f k) functions
-
-or_true : (b : Bool) → (b || true) ≡ true
-or_true true = refl
-or_true false = refl
-
-or_false : (b : Bool) → (b || false) ≡ b
-or_false true = refl
-or_false false = refl
-
-pub marks_more : (used : List Bool) (functions : List ℕ) (i count : ℕ) → length used ≡ count → i < length functions → get_or functions i 0 < count → Marks used (take i functions) count → Marks (set used (get_or functions i 0) true) (take (i + 1) functions) count
-marks_more used functions i count len lt small marks k d in_range =
-    let f = get_or functions i 0 in
-    let more : list_any (λ g. eqb g k) (take (i + 1) functions) ≡ (list_any (λ g. eqb g k) (take i functions) || eqb f k) = list_any_more (λ g. eqb g k) functions i 0 lt in
-    elim (cases_Bool (eqb f k)) [
-      | inl same ↦
-          let is : f ≡ k = eqb-true f k same in
-          rw (more, same, or_true) (subst (λ (n : ℕ). get_or (set used f true) n d ≡ true) is (get_or-set_same used f true d (omega (arith, len))))
-      | inr other ↦
-          let not : k ≢ f = λ e. let yes = eq-eqb f k (sym e) in absurd cc in
-          rw (more, other, or_false) (get_or-set_other used f k true d not ∙ marks k d in_range)
-    ]
-
-pub marks_all : (used : List Bool) (functions : List ℕ) (i count : ℕ) → length functions ≤ i → Marks used (take i functions) count → Marks used functions count
-marks_all used functions i count le marks = subst (λ (fs : List ℕ). Marks used fs count) (take_all i functions le) marks
 
 -- ---- merging
 
@@ -90,69 +59,86 @@ merged_stays true merger ty k x e = stays merger ty k x e
 merged_stays false merger ty k x e = e
 
 -- the first types that were merged, and where they went
-pub record MergesOn (before : List FunctionType) (o : Object) (i : ℕ) (merger : List FunctionType) (indices : List ℕ) : Type 0 where
+pub record MergesOn (before locals : List FunctionType) (passes : ℕ → Bool) (i : ℕ) (merger : List FunctionType) (indices : List ℕ) : Type 0 where
   pub len : length indices ≡ i
-  pub rest : firsts_onto merger (used_from i (drop i o.types) o.functions) ≡ firsts_onto before (live_types o)
-  pub removed : (k : ℕ) → k < i → list_any (λ f. eqb f k) o.functions ≡ false → get_or indices k 0 ≡ WASM_DEAD_INDEX
-  pub place : (k : ℕ) (d : FunctionType) → k < i → list_any (λ f. eqb f k) o.functions ≡ true → slice_get merger (get_or indices k 0) ≡ Some (get_or o.types k d)
+  pub rest : firsts_onto merger (types_where passes i (drop i locals)) ≡ firsts_onto before (types_where passes 0 locals)
+  pub removed : (k : ℕ) → k < i → passes k ≡ false → get_or indices k 0 ≡ WASM_DEAD_INDEX
+  pub place : (k : ℕ) (d : FunctionType) → k < i → passes k ≡ true → slice_get merger (get_or indices k 0) ≡ Some (get_or locals k d)
 
--- what is still to be merged, with the next type in front
-step : (before : List FunctionType) (o : Object) (i : ℕ) (merger : List FunctionType) (indices : List ℕ) (ty : FunctionType) (used : Bool) → i < length o.types → ty ≡ get_or o.types i ty → used ≡ list_any (λ f. eqb f i) o.functions → MergesOn before o i merger indices
-    → firsts_onto (merged used merger ty) (used_from (i + 1) (drop (i + 1) o.types) o.functions) ≡ firsts_onto before (live_types o)
-step before o i merger indices ty used lt ty-is is h =
-    let split : drop i o.types ≡ ty ∷ drop (i + 1) o.types = rw (add-one, drop-cons o.types i ty) (ap (λ (t : FunctionType). t ∷ drop (suc i) o.types) (sym ty-is)) in
-    let one : firsts_onto merger (used_from i (drop i o.types) o.functions) ≡ firsts_onto (merged used merger ty) (used_from (i + 1) (drop (i + 1) o.types) o.functions) =
-    ap (λ (ts : List FunctionType). firsts_onto merger (used_from i ts o.functions)) split
-    ∙ ap (λ (b : Bool). firsts_onto merger (cond b (ty ∷ []) [] ++ used_from (i + 1) (drop (i + 1) o.types) o.functions)) (sym is)
-    ∙ merged_front used merger ty (used_from (i + 1) (drop (i + 1) o.types) o.functions) in
-    sym one ∙ h.rest
+module _ (before locals : List FunctionType) (passes : ℕ → Bool) (i : ℕ) (merger : List FunctionType) (indices : List ℕ) (ty : FunctionType) (used : Bool) where
+  -- what is still to be merged, with the next type in front
+  step : i < length locals → ty ≡ get_or locals i ty → used ≡ passes i → MergesOn before locals passes i merger indices
+      → firsts_onto (merged used merger ty) (types_where passes (i + 1) (drop (i + 1) locals)) ≡ firsts_onto before (types_where passes 0 locals)
+  step lt ty-is is h =
+      let split : drop i locals ≡ ty ∷ drop (i + 1) locals = rw (add-one, drop-cons locals i ty) (ap (λ (t : FunctionType). t ∷ drop (suc i) locals) (sym ty-is)) in
+      let one : firsts_onto merger (types_where passes i (drop i locals)) ≡ firsts_onto (merged used merger ty) (types_where passes (i + 1) (drop (i + 1) locals)) =
+      ap (λ (ts : List FunctionType). firsts_onto merger (types_where passes i ts)) split
+      ∙ ap (λ (b : Bool). firsts_onto merger (cond b (ty ∷ []) [] ++ types_where passes (i + 1) (drop (i + 1) locals))) (sym is)
+      ∙ merged_front used merger ty (types_where passes (i + 1) (drop (i + 1) locals)) in
+      sym one ∙ h.rest
 
-pub merges_more : (before : List FunctionType) (o : Object) (i : ℕ) (merger : List FunctionType) (indices : List ℕ) (ty : FunctionType) (used : Bool) (index : ℕ) → i < length o.types → ty ≡ get_or o.types i ty → used ≡ list_any (λ f. eqb f i) o.functions
-    → (used ≡ true → slice_get (merged used merger ty) index ≡ Some ty) → (used ≡ false → index ≡ WASM_DEAD_INDEX) → MergesOn before o i merger indices → MergesOn before o (i + 1) (merged used merger ty) (indices ++ index ∷ [])
-merges_more before o i merger indices ty used index lt ty-is is here dead h = record {
-  len = omega (arith, h.len, length-append indices (index ∷ []));
-  rest = step before o i merger indices ty used lt ty-is is h;
-  removed = λ k small unused.
-      elim (cases_lt k i) [
-        | inl lower ↦
-            let same : get_or (indices ++ index ∷ []) k 0 ≡ get_or indices k 0 = get_or_append_left indices (index ∷ []) 0 k (omega (arith, h.len)) in
-            rw same (h.removed k lower unused)
-        | inr high ↦
-            let k-is : k ≡ i = omega arith in
-            let last : get_or (indices ++ index ∷ []) k 0 ≡ index = ap (λ (n : ℕ). get_or (indices ++ index ∷ []) n 0) (k-is ∙ sym h.len) ∙ get_or-append_seam indices index [] 0 in
-            rw last (dead (is ∙ subst (λ (n : ℕ). list_any (λ f. eqb f n) o.functions ≡ false) k-is unused))
-      ];
-  place = λ k e small live.
-      elim (cases_lt k i) [
-        | inl lower ↦
-            let same : get_or (indices ++ index ∷ []) k 0 ≡ get_or indices k 0 = get_or_append_left indices (index ∷ []) 0 k (omega (arith, h.len)) in
-            rw same (merged_stays used merger ty (get_or indices k 0) (get_or o.types k e) (h.place k e lower live))
-        | inr high ↦
-            let k-is : k ≡ i = omega arith in
-            let last : get_or (indices ++ index ∷ []) k 0 ≡ index = ap (λ (n : ℕ). get_or (indices ++ index ∷ []) n 0) (k-is ∙ sym h.len) ∙ get_or-append_seam indices index [] 0 in
-            let live' : used ≡ true = is ∙ subst (λ (n : ℕ). list_any (λ f. eqb f n) o.functions ≡ true) k-is live in
-            let type-is : ty ≡ get_or o.types k e = ty-is ∙ ap (λ (n : ℕ). get_or o.types n ty) (sym k-is) ∙ get_or_default o.types k ty e (omega arith) in
-            rw last (here live' ∙ ap (λ (t : FunctionType). Some t) type-is)
-      ];
-}
+  pub merges_more : (index : ℕ) → i < length locals → ty ≡ get_or locals i ty → used ≡ passes i → (used ≡ true → slice_get (merged used merger ty) index ≡ Some ty) → (used ≡ false → index ≡ WASM_DEAD_INDEX)
+      → MergesOn before locals passes i merger indices → MergesOn before locals passes (i + 1) (merged used merger ty) (indices ++ index ∷ [])
+  merges_more index lt ty-is is here dead h = record {
+    len = omega (arith, h.len, length-append indices (index ∷ []));
+    rest = step lt ty-is is h;
+    removed = λ k small unused.
+        elim (cases_lt k i) [
+          | inl lower ↦
+              let same : get_or (indices ++ index ∷ []) k 0 ≡ get_or indices k 0 = get_or_append_left indices (index ∷ []) 0 k (omega (arith, h.len)) in
+              rw same (h.removed k lower unused)
+          | inr high ↦
+              let k-is : k ≡ i = omega arith in
+              let last : get_or (indices ++ index ∷ []) k 0 ≡ index = ap (λ (n : ℕ). get_or (indices ++ index ∷ []) n 0) (k-is ∙ sym h.len) ∙ get_or-append_seam indices index [] 0 in
+              rw last (dead (is ∙ subst (λ (n : ℕ). passes n ≡ false) k-is unused))
+        ];
+    place = λ k e small live.
+        elim (cases_lt k i) [
+          | inl lower ↦
+              let same : get_or (indices ++ index ∷ []) k 0 ≡ get_or indices k 0 = get_or_append_left indices (index ∷ []) 0 k (omega (arith, h.len)) in
+              rw same (merged_stays used merger ty (get_or indices k 0) (get_or locals k e) (h.place k e lower live))
+          | inr high ↦
+              let k-is : k ≡ i = omega arith in
+              let last : get_or (indices ++ index ∷ []) k 0 ≡ index = ap (λ (n : ℕ). get_or (indices ++ index ∷ []) n 0) (k-is ∙ sym h.len) ∙ get_or-append_seam indices index [] 0 in
+              let live' : used ≡ true = is ∙ subst (λ (n : ℕ). passes n ≡ true) k-is live in
+              let type-is : ty ≡ get_or locals k e = ty-is ∙ ap (λ (n : ℕ). get_or locals n ty) (sym k-is) ∙ get_or_default locals k ty e (omega arith) in
+              rw last (here live' ∙ ap (λ (t : FunctionType). Some t) type-is)
+        ];
+  }
 
-pub merges_all : (before : List FunctionType) (o : Object) (i : ℕ) (merger : List FunctionType) (indices : List ℕ) → i ≡ length o.types → MergesOn before o i merger indices → (merger ≡ firsts_onto before (live_types o)) × LeadsToTypes merger o indices
-merges_all before o i merger indices all h =
-    let none : drop i o.types ≡ [] = drop_all i o.types (omega (arith, all)) in
-    let done : firsts_onto merger (used_from i (drop i o.types) o.functions) ≡ merger = ap (λ (ts : List FunctionType). firsts_onto merger (used_from i ts o.functions)) none in
+  -- a list that is full stays so
+  pub full_later : (e : LinkError) → i < length locals → ty ≡ get_or locals i ty → used ≡ passes i → MergesOn before locals passes i merger indices
+      → (used ≡ true) × IsFull (add_new merger ty) e → IsFull (firsts_onto before (types_where passes 0 locals)) e
+  full_later OutOfMemory lt ty-is is h f = tt
+  full_later (TooLarge what) lt ty-is is h f =
+      let now = merged used merger ty in
+      let later = grows_all now (types_where passes (i + 1) (drop (i + 1) locals)) in
+      let same = step lt ty-is is h in
+      let now-is : now ≡ add_new merger ty = rw f.0 refl in
+      (f.1.0, omega (arith, f.1.1, later, ap length same, ap length now-is))
+  full_later _ lt ty-is is h f = f.1
+
+pub merges_all : (before locals : List FunctionType) (passes : ℕ → Bool) (i : ℕ) (merger : List FunctionType) (indices : List ℕ) → i ≡ length locals → MergesOn before locals passes i merger indices
+    → (merger ≡ firsts_onto before (types_where passes 0 locals)) × LeadsToTypes merger locals passes indices
+merges_all before locals passes i merger indices all h =
+    let none : drop i locals ≡ [] = drop_all i locals (omega (arith, all)) in
+    let done : firsts_onto merger (types_where passes i (drop i locals)) ≡ merger = ap (λ (ts : List FunctionType). firsts_onto merger (types_where passes i ts)) none in
     (sym done ∙ h.rest, record { len = omega (arith, h.len, all); removed = λ k lt unused. h.removed k (omega (arith, all)) unused; place = λ k d lt live. h.place k d (omega (arith, all)) live })
 
--- a list that is full stays so
-pub full_later : (before : List FunctionType) (o : Object) (i : ℕ) (merger : List FunctionType) (indices : List ℕ) (ty : FunctionType) (used : Bool) (e : LinkError) → i < length o.types → ty ≡ get_or o.types i ty → used ≡ list_any (λ f. eqb f i) o.functions
-    → MergesOn before o i merger indices → (used ≡ true) × IsFull (add_new merger ty) e → IsFull (firsts_onto before (live_types o)) e
-full_later before o i merger indices ty used OutOfMemory lt ty-is is h f = tt
-full_later before o i merger indices ty used (TooLarge what) lt ty-is is h f =
-    let now = merged used merger ty in
-    let later = grows_all now (used_from (i + 1) (drop (i + 1) o.types) o.functions) in
-    let same = step before o i merger indices ty used lt ty-is is h in
-    let now-is : now ≡ add_new merger ty = rw f.0 refl in
-    (f.1.0, omega (arith, f.1.1, later, ap length same, ap length now-is))
-full_later before o i merger indices ty used _ lt ty-is is h f = f.1
+-- types that pass the same tests are the same
+pub types_where_same : (p q : ℕ → Bool) (k : ℕ) (types : List FunctionType) → ((j : ℕ) → k ≤ j → j < k + length types → p j ≡ q j) → types_where p k types ≡ types_where q k types
+types_where_same p q k [] same = refl
+types_where_same p q k (ty ∷ types) same =
+    let here : p k ≡ q k = same k (omega arith) (omega arith) in
+    let rest = types_where_same p q (k + 1) types (λ j le lt. same j (omega (arith, le)) (omega (arith, lt))) in
+    ap (λ (b : Bool). cond b (ty ∷ []) [] ++ types_where p (k + 1) types) here ∙ ap (λ (ts : List FunctionType). cond (q k) (ty ∷ []) [] ++ ts) rest
+
+pub leads_same : (types locals : List FunctionType) (p q : ℕ → Bool) (indices : List ℕ) → ((j : ℕ) → j < length locals → p j ≡ q j) → LeadsToTypes types locals p indices → LeadsToTypes types locals q indices
+leads_same types locals p q indices same h = record {
+  len = h.len;
+  removed = λ k lt e. h.removed k lt (same k lt ∙ e);
+  place = λ k d lt e. h.place k d lt (same k lt ∙ e);
+}
 
 -- what passes for each passes for one
 pub below_all : (count : ℕ) (xs : List ℕ) (i : ℕ) → list_all (λ t. ltb t count) xs ≡ true → i < length xs → get_or xs i 0 < count

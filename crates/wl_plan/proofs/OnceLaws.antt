@@ -1,16 +1,20 @@
 -- Nothing stands at two places of a space, and each output type is that of a function.
-use Rattle.std.proofs.Common.{◌≡◌, ◌⊎◌, ◌<◌, ◌≤◌, ◌+◌, ◌++◌, ℕ, zero, suc, Bool, true, false, cond, eqb, List, [], ◌∷◌, length, Some, refl, sym, ap, ◌∙◌, arith, slice_get, inl, inr, eq-eqb}
+use Rattle.std.proofs.Common.{◌≡◌, ◌⊎◌, ◌<◌, ◌≤◌, ◌+◌, ◌++◌, ℕ, zero, suc, Bool, true, false, cond, eqb, List, [], ◌∷◌, length, get_or, map, filter, Some, refl, sym, ap, ◌∙◌, arith, slice_get, inl, inr, eq-eqb}
 use Rattle.std.specs.Cmp.Lexicographic.{pointwise}
-use Rattle.std.specs.List.{list_any, flat_map}
+use Rattle.std.specs.List.{list_any, range_with_len}
 use Rattle.std.proofs.lemmas.Bool.{cases_Bool, eqb-true}
+use Rattle.std.proofs.lemmas.Option.{slice_get-get_or, slice_get-map}
 use Rattle.wl_module.specs.Types.{FunctionType, value_type_code}
 use Rattle.wl_module.specs.declared.types.ValType.{ValType}
 use Rattle.wl_linking.specs.Object.{Object}
-use Rattle.wl_plan.specs.Types.{same_value, same_type, add_new, firsts_onto, used_from, live_types, output_types}
-use Rattle.wl_plan.specs.Space.{functions_from, object_functions, function_space, StandOnce}
-use Rattle.wl_plan.specs.Plan.{IsFunctionsType}
+use Rattle.wl_live.specs.Live.{Live}
+use Rattle.wl_plan.specs.Types.{same_value, same_type, add_new, firsts_onto, is_live_type, types_where, live_types, types_from, output_types}
+use Rattle.wl_plan.specs.Space.{keeps_function, kept_functions, functions_from, function_space, StandOnce}
+use Rattle.wl_plan.specs.Plan.{type_of, IsFunctionsType}
+use Rattle.wl_plan.specs.declared.layout.FunctionOrigin.{FunctionOrigin}
 use Rattle.wl_plan.specs.declared.layout.FunctionOrigin.TheVariants as origin
 use Rattle.wl_plan.proofs.Folds.{none_at}
+use Rattle.wl_plan.proofs.Merges.{slice_get_left}
 
 -- ---- lists
 
@@ -71,8 +75,8 @@ once_onto : (seen types : List FunctionType) → StandOnce seen → StandOnce (f
 once_onto seen [] once = once
 once_onto seen (ty ∷ types) once = once_onto (add_new seen ty) types (once_added seen ty once)
 
-pub types_once : (objects : List Object) → StandOnce (output_types objects)
-types_once objects = once_onto [] (flat_map live_types objects) (λ i k x a b. absurd cc)
+pub types_once : (live : Live) (objects : List Object) → StandOnce (output_types live objects)
+types_once live objects = once_onto [] (types_from live 0 objects) (λ i k x a b. absurd cc)
 
 -- ---- each is some function's
 
@@ -95,22 +99,18 @@ from_onto seen (ty ∷ types) i t at =
           ]
         ]
 
--- a type that a function of the object has
-abbrev IsUsedHere : Object → FunctionType → Type 0
-IsUsedHere o t = (k : ℕ) × (slice_get o.types k ≡ Some t) × (list_any (λ f. eqb f k) o.functions ≡ true)
+front_passes : (passes : Bool) (ty : FunctionType) (rest : List FunctionType) (i : ℕ) (t : FunctionType) → slice_get (cond passes (ty ∷ []) [] ++ rest) i ≡ Some t → ((passes ≡ true) × (ty ≡ t)) ⊎ ((j : ℕ) × (slice_get rest j ≡ Some t))
+front_passes true ty rest zero t at = inl (refl, cc)
+front_passes true ty rest (suc i) t at = inr (i, at)
+front_passes false ty rest i t at = inr (i, at)
 
-front_used : (used : Bool) (ty : FunctionType) (rest : List FunctionType) (i : ℕ) (t : FunctionType) → slice_get (cond used (ty ∷ []) [] ++ rest) i ≡ Some t → ((used ≡ true) × (ty ≡ t)) ⊎ ((j : ℕ) × (slice_get rest j ≡ Some t))
-front_used true ty rest zero t at = inl (refl, cc)
-front_used true ty rest (suc i) t at = inr (i, at)
-front_used false ty rest i t at = inr (i, at)
-
-used_here : (k : ℕ) (types : List FunctionType) (functions : List ℕ) (i : ℕ) (t : FunctionType) → slice_get (used_from k types functions) i ≡ Some t → (j : ℕ) × (slice_get types j ≡ Some t) × (list_any (λ f. eqb f (k + j)) functions ≡ true)
-used_here k [] functions i t at = absurd cc
-used_here k (ty ∷ types) functions i t at =
-    elim (front_used (list_any (λ f. eqb f k) functions) ty (used_from (k + 1) types functions) i t at) [
+passes_here : (test : ℕ → Bool) (k : ℕ) (types : List FunctionType) (i : ℕ) (t : FunctionType) → slice_get (types_where test k types) i ≡ Some t → (j : ℕ) × (slice_get types j ≡ Some t) × (test (k + j) ≡ true)
+passes_here test k [] i t at = absurd cc
+passes_here test k (ty ∷ types) i t at =
+    elim (front_passes (test k) ty (types_where test (k + 1) types) i t at) [
       | inl h ↦ let z : k + 0 ≡ k = omega arith in (0, ap (λ (x : FunctionType). Some x) h.1, rw z h.0)
       | inr h ↦
-          let later = used_here (k + 1) types functions h.0 t h.1 in
+          let later = passes_here test (k + 1) types h.0 t h.1 in
           let z : k + suc later.0 ≡ k + 1 + later.0 = omega arith in
           (suc later.0, later.1, rw z later.2)
     ]
@@ -123,82 +123,128 @@ found_any test (x ∷ xs) e =
       | inr not ↦ let later = found_any test xs (rw not at e) in (suc later.0, later.1, later.2, later.3)
     ]
 
--- it is the type of a function of the object
-of_function : (objects : List Object) (i : ℕ) (o : Object) (t : FunctionType) (n : ℕ) → slice_get objects i ≡ Some o → slice_get (live_types o) n ≡ Some t → IsFunctionsType objects t
-of_function objects i o t n here at =
-    let used = used_here 0 o.types o.functions n t at in
-    let z : 0 + used.0 ≡ used.0 = omega arith in
-    let test : list_any (λ f. eqb f used.0) o.functions ≡ true = rw z at used.2 in
-    let found = found_any (λ f. eqb f used.0) o.functions test in
-    let is : found.1 ≡ used.0 = eqb-true found.1 used.0 found.3 in
-    (i, found.0, rw (here, found.2, is, used.1) refl)
+-- a number of a range that passes a test
+abbrev IsPassing : (ℕ → Bool) → ℕ → ℕ → ℕ → Type 0
+IsPassing p a n x = (p x ≡ true) × (a ≤ x) × (x < a + n)
 
-in_object : (objects : List Object) (n : ℕ) (t : FunctionType) → slice_get (flat_map live_types objects) n ≡ Some t → (i : ℕ) × (o : Object) × (m : ℕ) × (slice_get objects i ≡ Some o) × (slice_get (live_types o) m ≡ Some t)
-in_object [] n t at = absurd cc
-in_object (o ∷ objects) n t at =
-    elim (get_joined (live_types o) (flat_map live_types objects) n t at) [
-      | inl h ↦ (0, o, n, refl, h)
-      | inr h ↦ let later = in_object objects h.0 t h.2 in (suc later.0, later.1, later.2, later.3, later.4)
+passing_more : (p : ℕ → Bool) (a n x : ℕ) → IsPassing p (a + 1) n x → IsPassing p a (suc n) x
+passing_more p a n x h = (h.0, omega (arith, h.1), omega (arith, h.2))
+
+first_passing : (p : ℕ → Bool) (a n x : ℕ) → p a ≡ true → a ≡ x → IsPassing p a (suc n) x
+first_passing p a n x pass same = (rw same at pass, omega (arith, same), omega (arith, same))
+
+-- what passes a test of a range lies in it
+pub passed : (p : ℕ → Bool) (a n i x : ℕ) → slice_get (filter p (range_with_len a n)) i ≡ Some x → IsPassing p a n x
+passed p a zero i x at = absurd cc
+passed p a (suc n) zero x at =
+    elim (cases_Bool (p a)) [
+      | inl pass ↦ first_passing p a n x pass (let here : slice_get (a ∷ filter p (range_with_len (a + 1) n)) 0 ≡ Some x = rw pass at at in cc)
+      | inr fail ↦ passing_more p a n x (passed p (a + 1) n zero x (rw fail at at))
+    ]
+passed p a (suc n) (suc i) x at =
+    elim (cases_Bool (p a)) [
+      | inl pass ↦ passing_more p a n x (passed p (a + 1) n i x (rw pass at at))
+      | inr fail ↦ passing_more p a n x (passed p (a + 1) n (suc i) x (rw fail at at))
     ]
 
-pub types_used : (objects : List Object) (i : ℕ) (t : FunctionType) → slice_get (output_types objects) i ≡ Some t → IsFunctionsType objects t
-types_used objects i t at =
-    elim (from_onto [] (flat_map live_types objects) i t at) [
+-- ---- the functions of an object
+
+own_place : (i : ℕ) (ks : List ℕ) (p j k : ℕ) → slice_get (map (origin.Object i) ks) p ≡ Some (origin.Object j k) → (j ≡ i) × (slice_get ks p ≡ Some k)
+own_place i [] p j k at = absurd cc
+own_place i (x ∷ ks) zero j k at = (cc, cc)
+own_place i (x ∷ ks) (suc p) j k at = own_place i ks p j k at
+
+of_own : (i : ℕ) (ks : List ℕ) (p k : ℕ) → slice_get ks p ≡ Some k → slice_get (map (origin.Object i) ks) p ≡ Some (origin.Object i k)
+of_own i ks p k at = slice_get-map (origin.Object i) ks p ∙ rw at refl
+
+-- those in front stay where they are
+front_of : (fs gs : List FunctionOrigin) (p : ℕ) (f : FunctionOrigin) → slice_get fs p ≡ Some f → slice_get (fs ++ gs) p ≡ Some f
+front_of fs gs p f at = slice_get_left fs gs p f at
+
+behind_of : (fs gs : List FunctionOrigin) (p : ℕ) (f : FunctionOrigin) → slice_get gs p ≡ Some f → slice_get (fs ++ gs) (length fs + p) ≡ Some f
+behind_of [] gs p f at = let z : 0 + p ≡ p = omega arith in rw z at
+behind_of (x ∷ fs) gs p f at = let z : suc (length fs) + p ≡ suc (length fs + p) = omega arith in rw z (behind_of fs gs p f at)
+
+-- ---- each type is that of a kept function
+
+module _ (live : Live) (all : List Object) where
+  in_object : (i : ℕ) (objects : List Object) → ((k : ℕ) (o : Object) → slice_get objects k ≡ Some o → slice_get all (i + k) ≡ Some o) → (n : ℕ) (t : FunctionType) → slice_get (types_from live i objects) n ≡ Some t
+      → (p : ℕ) × (f : FunctionOrigin) × (slice_get (functions_from live i objects) p ≡ Some f) × (type_of all f ≡ Some t)
+  in_object i [] at n t here = absurd cc
+  in_object i (o ∷ objects) at n t here =
+      elim (get_joined (live_types live i o) (types_from live (i + 1) objects) n t here) [
+        | inl h ↦
+            let used = passes_here (is_live_type live i o) 0 o.types n t h in
+            let z : 0 + used.0 ≡ used.0 = omega arith in
+            let live' : is_live_type live i o used.0 ≡ true = rw z at used.2 in
+            let found = found_any (λ function. eqb (get_or o.functions function 0) used.0) (kept_functions live i o) live' in
+            let in_range = passed (keeps_function live i) 0 (length o.functions) found.0 found.1 found.2 in
+            let small : found.1 < length o.functions = omega (arith, in_range.2) in
+            let is : get_or o.functions found.1 0 ≡ used.0 = eqb-true (get_or o.functions found.1 0) used.0 found.3 in
+            let y : i + 0 ≡ i = omega arith in
+            let o-is : slice_get all i ≡ Some o = rw y at (at 0 o refl) in (
+              found.0,
+              origin.Object i found.1,
+              front_of (map (origin.Object i) (kept_functions live i o)) (functions_from live (i + 1) objects) found.0 (origin.Object i found.1) (of_own i (kept_functions live i o) found.0 found.1 found.2),
+              rw (o-is, slice_get-get_or o.functions found.1 0 small, is, used.1) refl,
+            )
+        | inr h ↦
+            let later = in_object (i + 1) objects (λ k p e. let y : i + suc k ≡ i + 1 + k = omega arith in rw y at (at (suc k) p e)) h.0 t h.2 in (
+              length (map (origin.Object i) (kept_functions live i o)) + later.0,
+              later.1,
+              behind_of (map (origin.Object i) (kept_functions live i o)) (functions_from live (i + 1) objects) later.0 later.1 later.2,
+              later.3,
+            )
+      ]
+
+pub types_used : (live : Live) (objects : List Object) (i : ℕ) (t : FunctionType) → slice_get (output_types live objects) i ≡ Some t → IsFunctionsType objects (function_space live objects) t
+types_used live objects i t at =
+    elim (from_onto [] (types_from live 0 objects) i t at) [
       | inl h ↦ absurd cc
-      | inr h ↦ let found = in_object objects h.0 t h.1 in of_function objects found.0 found.1 t found.2 found.3 found.4
+      | inr h ↦ in_object live objects 0 objects (λ k o e. let z : 0 + k ≡ k = omega arith in rw z e) h.0 t h.1
     ]
 
--- ---- functions
+-- ---- no function stands twice
 
-own_place : (object k : ℕ) (functions : List ℕ) (p i u : ℕ) → slice_get (functions_from object k functions) p ≡ Some (origin.Object i u) → (i ≡ object) × (u ≡ k + p) × (p < length functions)
-own_place object k [] p i u at = absurd cc
-own_place object k (ty ∷ functions) zero i u at = let z : k + 0 ≡ k = omega arith in (cc, rw z cc, omega arith)
-own_place object k (ty ∷ functions) (suc p) i u at =
-    let later = own_place object (k + 1) functions p i u at in
-    let z : k + suc p ≡ k + 1 + p = omega arith in
-    (later.0, rw z later.1, omega (arith, later.2))
+by_places : (p : ℕ → Bool) (a n x k l : ℕ) → ((m o : ℕ) → slice_get (filter p (range_with_len (a + 1) n)) m ≡ Some x → slice_get (filter p (range_with_len (a + 1) n)) o ≡ Some x → m ≡ o)
+    → slice_get (a ∷ filter p (range_with_len (a + 1) n)) k ≡ Some x → slice_get (a ∷ filter p (range_with_len (a + 1) n)) l ≡ Some x → k ≡ l
+by_places p a n x zero zero once here there = refl
+by_places p a n x zero (suc l) once here there = let same : a ≡ x = cc in absurd (omega (arith, same, (passed p (a + 1) n l x there).1))
+by_places p a n x (suc k) zero once here there = let same : a ≡ x = cc in absurd (omega (arith, same, (passed p (a + 1) n k x here).1))
+by_places p a n x (suc k) (suc l) once here there = ap suc (once k l here there)
 
--- the place of a function, by its object and its number there
-place_of : ℕ → List Object → ℕ → ℕ → ℕ
-place_of j [] i u = u
-place_of j (o ∷ objects) i u = cond (eqb i j) u (length o.functions + place_of (j + 1) objects i u)
-
-length-own : (object k : ℕ) (functions : List ℕ) → length (functions_from object k functions) ≡ length functions
-length-own object k [] = refl
-length-own object k (ty ∷ functions) = ap suc (length-own object (k + 1) functions)
-
--- the functions behind are those of later objects
-not_before : (j : ℕ) (objects : List Object) (p i u : ℕ) → slice_get (object_functions j objects) p ≡ Some (origin.Object i u) → j ≤ i
-not_before j [] p i u at = absurd cc
-not_before j (o ∷ objects) p i u at =
-    elim (get_joined (functions_from j 0 o.functions) (object_functions (j + 1) objects) p (origin.Object i u) at) [
-      | inl h ↦ let own = own_place j 0 o.functions p i u h in omega (arith, own.0)
-      | inr h ↦ omega (arith, not_before (j + 1) objects h.0 i u h.2)
+-- a number that passes stands once
+pub kept_once : (p : ℕ → Bool) (a n i j x : ℕ) → slice_get (filter p (range_with_len a n)) i ≡ Some x → slice_get (filter p (range_with_len a n)) j ≡ Some x → i ≡ j
+kept_once p a zero i j x at bt = absurd cc
+kept_once p a (suc n) i j x at bt =
+    elim (cases_Bool (p a)) [
+      | inl pass ↦ by_places p a n x i j (λ k l here there. kept_once p (a + 1) n k l x here there) (rw pass at at) (rw pass at bt)
+      | inr fail ↦ kept_once p (a + 1) n i j x (rw fail at at) (rw fail at bt)
     ]
 
-placed : (j : ℕ) (objects : List Object) (p i u : ℕ) → slice_get (object_functions j objects) p ≡ Some (origin.Object i u) → p ≡ place_of j objects i u
-unfolding place_of
-placed j [] p i u at = absurd cc
-placed j (o ∷ objects) p i u at =
-    elim (get_joined (functions_from j 0 o.functions) (object_functions (j + 1) objects) p (origin.Object i u) at) [
-      | inl h ↦
-          let own = own_place j 0 o.functions p i u h in
-          let same : eqb i j ≡ true = eq-eqb i j own.0 in
-          let z : 0 + p ≡ p = omega arith in
-          rw (same, own.1, z) refl
-      | inr h ↦
-          let later = placed (j + 1) objects h.0 i u h.2 in
-          let behind = not_before (j + 1) objects h.0 i u h.2 in
-          let other : eqb i j ≡ false = differs i j behind in
-          rw (other, ← later) (h.1 ∙ ap (λ (n : ℕ). n + h.0) (length-own j 0 o.functions))
-    ]
-  where
-    differs : (a b : ℕ) → b + 1 ≤ a → eqb a b ≡ false
-    differs a b lt =
-        elim (cases_Bool (eqb a b)) [
-          | inl same ↦ absurd (omega (arith, lt, eqb-true a b same))
-          | inr not ↦ not
+module _ (live : Live) where
+  -- the functions behind are those of later objects
+  not_before : (j : ℕ) (objects : List Object) (p i u : ℕ) → slice_get (functions_from live j objects) p ≡ Some (origin.Object i u) → j ≤ i
+  not_before j [] p i u at = absurd cc
+  not_before j (o ∷ objects) p i u at =
+      elim (get_joined (map (origin.Object j) (kept_functions live j o)) (functions_from live (j + 1) objects) p (origin.Object i u) at) [
+        | inl h ↦ let own = own_place j (kept_functions live j o) p i u h in omega (arith, own.0)
+        | inr h ↦ omega (arith, not_before (j + 1) objects h.0 i u h.2)
+      ]
+
+  once_from : (j : ℕ) (objects : List Object) (p q i u : ℕ) → slice_get (functions_from live j objects) p ≡ Some (origin.Object i u) → slice_get (functions_from live j objects) q ≡ Some (origin.Object i u) → p ≡ q
+  once_from j [] p q i u at bt = absurd cc
+  once_from j (o ∷ objects) p q i u at bt =
+      elim (get_joined (map (origin.Object j) (kept_functions live j o)) (functions_from live (j + 1) objects) p (origin.Object i u) at) [
+        | inl h ↦ elim (get_joined (map (origin.Object j) (kept_functions live j o)) (functions_from live (j + 1) objects) q (origin.Object i u) bt) [
+          | inl k ↦ kept_once (keeps_function live j) 0 (length o.functions) p q u (own_place j (kept_functions live j o) p i u h).1 (own_place j (kept_functions live j o) q i u k).1
+          | inr k ↦ absurd (omega (arith, (own_place j (kept_functions live j o) p i u h).0, not_before (j + 1) objects k.0 i u k.2))
         ]
+        | inr h ↦ elim (get_joined (map (origin.Object j) (kept_functions live j o)) (functions_from live (j + 1) objects) q (origin.Object i u) bt) [
+          | inl k ↦ absurd (omega (arith, (own_place j (kept_functions live j o) q i u k).0, not_before (j + 1) objects h.0 i u h.2))
+          | inr k ↦ omega (arith, h.1, k.1, once_from (j + 1) objects h.0 k.0 i u h.2 k.2)
+        ]
+      ]
 
-pub functions_once : (objects : List Object) → StandOnce (function_space objects)
-functions_once objects i k (origin.Object object unit) a b = placed 0 objects i object unit a ∙ sym (placed 0 objects k object unit b)
+pub functions_once : (live : Live) (objects : List Object) → StandOnce (function_space live objects)
+functions_once live objects p q (origin.Object i u) at bt = once_from live 0 objects p q i u at bt

@@ -1,124 +1,50 @@
--- The passes over the objects: types, functions, maps, fixups.
-use Rattle.std.proofs.Common.{◌≡◌, ◌<◌, ◌≤◌, ◌+◌, ◌-◌, ◌++◌, ℕ, zero, suc, true, false, eqb, List, [], ◌∷◌, length, get_or, drop, take, map, Some, refl, sym, ap, subst, ◌∙◌, arith, slice_get, add-one, drop-cons, append_assoc, length-append, inl, inr, eq-eqb, append-nil}
-use Rattle.std.specs.List.{AllByRecursion, list_any, flat_map, range_with_len}
+-- The passes over the objects: types, functions, maps.
+use Rattle.std.proofs.Common.{◌≡◌, ◌≢◌, ◌<◌, ◌≤◌, ◌+◌, ◌-◌, ◌++◌, ◌||◌, ℕ, zero, suc, Bool, true, false, cond, eqb, List, [], ◌∷◌, length, get_or, drop, take, map, filter, Some, refl, sym, ap, subst, ◌∙◌, arith, slice_get, add-one, drop-cons, append_assoc, length-append, inl, inr, eq-eqb, append-nil}
+use Rattle.std.specs.List.{AllByRecursion, list_any, range_with_len}
 use Rattle.std.proofs.Math.Seq.{take-suc}
-use Rattle.std.proofs.lemmas.List.{length-map, length-take, map-append, take_all, drop_all}
-use Rattle.std.proofs.lemmas.List.Folds.{list_any_at}
-use Rattle.std.proofs.lemmas.Option.{slice_get-get_or, slice_get_within, get_or_from_slice_get}
+use Rattle.std.proofs.Math.ListN.{set}
+use Rattle.std.proofs.lemmas.Bool.{cases_Bool, eqb-true}
+use Rattle.std.proofs.lemmas.List.Folds.{list_any-append}
+use Rattle.std.proofs.lemmas.List.{get_or-set_same, get_or-set_other, length-map, length-take, map-append, take_all, drop_all}
+use Rattle.std.proofs.lemmas.List.FromFn.{length-map-range_with_len, get_or-map-range_with_len, map-range_with_len_more}
+use Rattle.std.proofs.lemmas.Option.{slice_get-get_or, slice_get_within, get_or_from_slice_get, slice_get-map}
 use Rattle.wl_module.specs.Types.{FunctionType}
 use Rattle.wl_module.specs.Bodies.{Body}
 use Rattle.wl_linking.specs.Debug.{DebugInput}
 use Rattle.wl_linking.specs.Object.{Object}
-use Rattle.wl_linking.specs.Fitting.{IsFitting, IsWhole, code_pieces}
-use Rattle.wl_linking.specs.Sites.{AreSites}
-use Rattle.wl_linking.specs.declared.relocations.WasmRelocation.{WasmRelocation}
-use Rattle.wl_linking.specs.declared.sites.Site.{Site}
-use Rattle.wl_plan.specs.Types.{types_exist, firsts_onto, live_types, output_types}
-use Rattle.wl_plan.specs.Planned.{is_planned, is_unplanned_relocation, AllPlanned}
-use Rattle.wl_plan.specs.Space.{functions_from, object_functions, function_space, max_entries}
-use Rattle.wl_plan.specs.Plan.{HasItsType, object_bodies, object_debug_sections, function_maps}
-use Rattle.wl_plan.specs.declared.layout.WasmObjectIndexMap.{WasmObjectIndexMap}
-use Rattle.wl_plan.specs.Fixups.{fixup_context, bound_origin, AreFixupsIn, AreFixups}
-use Rattle.wl_plan.specs.Faults.{IsTooLarge}
+use Rattle.wl_linking.specs.Fitting.{IsFitting, IsWhole}
 use Rattle.wl_linking.specs.Steps.{Clear, Refuses}
-use Rattle.wl_plan.proofs.StepLaws.{refuses_for, refuses_memory}
-use Rattle.wl_plan.specs.Merging.{IsFull, LeadsToTypes, AreLed}
+use Rattle.wl_symbols.specs.Link.{Link}
+use Rattle.wl_live.specs.Live.{Live, IsLiveOf}
+use Rattle.wl_plan.specs.Types.{types_exist, firsts_onto, is_live_type, types_where, live_types, types_from, output_types}
+use Rattle.wl_plan.specs.Planned.{is_planned, AllPlanned}
+use Rattle.wl_plan.specs.Space.{keeps_function, kept_functions, functions_from, function_space, max_entries}
+use Rattle.wl_plan.specs.Plan.{HasItsType, object_debug_sections, function_maps}
+use Rattle.wl_plan.specs.Faults.{IsTooLarge}
+use Rattle.wl_plan.specs.Merging.{IsFull, marked, AreMarked, LeadsToTypes, AreLed}
 use Rattle.wl_plan.specs.Maps.{imported_functions, LeadsToPlaces, AreMaps}
-use Rattle.wl_plan.specs.Building.{outputs_from, body_in, debug_in, index_of, fixups_from, HasMap}
+use Rattle.wl_plan.specs.Building.{output_where, output_at, outputs_in, kept_here, kept_below, index_at, indices_in, debug_in}
 use Rattle.wl_linking.specs.declared.error.LinkError.{LinkError}
 use Rattle.wl_linking.specs.declared.error.LinkError.TheVariants.{OutOfMemory, TooLarge}
 use Rattle.wl_plan.specs.declared.layout.FunctionOrigin.{FunctionOrigin}
 use Rattle.wl_plan.specs.declared.layout.FunctionOrigin.TheVariants as origin
 use Rattle.wl_plan.specs.declared.layout.OutputFunction.{OutputFunction}
-use Rattle.wl_plan.specs.declared.layout.Fixup.{Fixup}
-use Rattle.wl_plan.proofs.Folds.{neither, all_at, each_at}
-use Rattle.wl_plan.proofs.PlannedLaws.{functions_typed, function_named, nothing_imported, holds, code_sited}
-use Rattle.wl_plan.proofs.Merges.{stays_all, grows_all, onto_append, below_all}
-
--- ---- functions
-
-abbrev pub origin_of : OutputFunction → FunctionOrigin
-origin_of f = f.origin
-
-outputs_origins : (object k : ℕ) (functions indices : List ℕ) → map origin_of (outputs_from object k functions indices) ≡ functions_from object k functions
-outputs_origins object k [] indices = refl
-outputs_origins object k (ty ∷ functions) indices = ap (λ (fs : List FunctionOrigin). origin.Object object k ∷ fs) (outputs_origins object (k + 1) functions indices)
-
-length-functions_from : (object k : ℕ) (functions : List ℕ) → length (functions_from object k functions) ≡ length functions
-length-functions_from object k [] = refl
-length-functions_from object k (ty ∷ functions) = ap suc (length-functions_from object (k + 1) functions)
-
--- a function has a type that an index leads to
-typed_one : (objects : List Object) (types : List FunctionType) (i k : ℕ) (o : Object) (indices : List ℕ) (ty : ℕ) → slice_get objects i ≡ Some o → slice_get o.functions k ≡ Some ty → types_exist (length o.types) o.functions ≡ true → LeadsToTypes types o indices
-    → HasItsType objects types (record { type_index = get_or indices ty 0; origin = origin.Object i k })
-typed_one objects types i k o indices ty here unit exist leads =
-    let within = slice_get_within o.functions k ty unit in
-    let is : get_or o.functions k 0 ≡ ty = get_or_from_slice_get o.functions k ty 0 unit in
-    let small : ty < length o.types = rw is at (below_all (length o.types) o.functions k exist within) in
-    let live : list_any (λ f. eqb f ty) o.functions ≡ true = list_any_at (λ f. eqb f ty) o.functions k 0 within (eq-eqb (get_or o.functions k 0) ty is) in
-    let d : FunctionType = record { params = []; results = [] } in
-    (get_or o.types ty d, leads.place ty d small live, rw (here, unit) (slice_get-get_or o.types ty d small))
-
-typed_outputs : (objects : List Object) (types : List FunctionType) (i k : ℕ) (o : Object) (indices functions : List ℕ) → slice_get objects i ≡ Some o → ((j ty : ℕ) → slice_get functions j ≡ Some ty → slice_get o.functions (k + j) ≡ Some ty)
-    → types_exist (length o.types) o.functions ≡ true → LeadsToTypes types o indices → AllByRecursion (HasItsType objects types) (outputs_from i k functions indices)
-typed_outputs objects types i k o indices [] here at exist leads = tt
-typed_outputs objects types i k o indices (ty ∷ functions) here at exist leads = (
-  typed_one objects types i k o indices ty here (let first = at 0 ty refl in let z : k + 0 ≡ k = omega arith in rw z at first) exist leads,
-  typed_outputs objects types i (k + 1) o indices functions here (λ j ty e. let later = at (suc j) ty e in let z : k + suc j ≡ k + 1 + j = omega arith in rw z at later) exist leads,
-)
-
-all_append : (P : OutputFunction → Type 0) (xs ys : List OutputFunction) → AllByRecursion P xs → AllByRecursion P ys → AllByRecursion P (xs ++ ys)
-all_append P [] ys h k = k
-all_append P (x ∷ xs) ys h k = (h.0, all_append P xs ys h.1 k)
-
--- ---- fixups
-
-slice_get_behind : {X : Type 0} (xs ys : List X) (k : ℕ) → slice_get (xs ++ ys) (length xs + k) ≡ slice_get ys k
-slice_get_behind [] ys k = let z : 0 + k ≡ k = omega arith in rw z refl
-slice_get_behind (x ∷ xs) ys k = let z : suc (length xs) + k ≡ suc (length xs + k) = omega arith in rw z (slice_get_behind xs ys k)
-
-function_at : (object k : ℕ) (functions : List ℕ) (rest : List FunctionOrigin) (j : ℕ) → j < length functions → slice_get (functions_from object k functions ++ rest) j ≡ Some (origin.Object object (k + j))
-function_at object k [] rest j lt = absurd (omega arith)
-function_at object k (ty ∷ functions) rest zero lt = let z : k + 0 ≡ k = omega arith in rw z refl
-function_at object k (ty ∷ functions) rest (suc j) lt =
-    let z : k + suc j ≡ k + 1 + j = omega arith in rw z (function_at object (k + 1) functions rest j (omega arith))
-
-value_is : (space : List FunctionOrigin) (i : ℕ) (o : Object) (indices : List ℕ) (r : WasmRelocation) → IsFitting o → is_planned o ≡ true → is_unplanned_relocation o.symbols r ≡ false → LeadsToPlaces space i o indices
-    → slice_get space (get_or indices (index_of (slice_get o.symbols r.index)) 0) ≡ bound_origin i o r
-value_is space i o indices r fits planned here leads =
-    let n = function_named o r fits planned here in
-    let none = nothing_imported o planned in
-    let z : 0 + n.symbol.index ≡ n.symbol.index = omega arith in
-    let zero_less : n.symbol.index - 0 ≡ n.symbol.index = omega arith in
-    let led : slice_get space (get_or indices n.symbol.index 0) ≡ Some (origin.Object i n.symbol.index) = rw (none, z) at (leads.place n.symbol.index n.within) in
-    rw (n.at, n.defined, none, zero_less) led
-
-fixups_are : (space : List FunctionOrigin) (i : ℕ) (o : Object) (indices : List ℕ) (rs : List WasmRelocation) (ss : List Site) → IsFitting o → is_planned o ≡ true → list_any (is_unplanned_relocation o.symbols) rs ≡ false → AreSites (code_pieces o) rs ss → LeadsToPlaces space i o indices
-    → AreFixupsIn (fixup_context space i o) rs ss (fixups_from indices i o rs ss)
-fixups_are space i o indices [] [] fits planned all sited leads = tt
-fixups_are space i o indices [] (s ∷ ss) fits planned all sited leads = absurd sited
-fixups_are space i o indices (r ∷ rs) [] fits planned all sited leads = absurd sited
-fixups_are space i o indices (r ∷ rs) (s ∷ ss) fits planned all sited leads =
-    let each = neither (is_unplanned_relocation o.symbols r) (list_any (is_unplanned_relocation o.symbols) rs) all in (
-      record { object = refl; place = refl; unit = refl; position = refl; ty = refl; value = (refl, value_is space i o indices r fits planned each.0 leads) },
-      fixups_are space i o indices rs ss fits planned each.1 sited.1 leads,
-    )
-
-fixups_push : (space : List FunctionOrigin) (j i : ℕ) (objects : List Object) (o : Object) (fs front : List Fixup) → j + length objects ≡ i → AreFixups space j objects fs → AreFixupsIn (fixup_context space i o) o.code_relocations o.code_sites front → AreFixups space j (objects ++ o ∷ []) (fs ++ front)
-fixups_push space j i [] o fs front at h new =
-    let z : i ≡ j = omega (arith, at) in
-    (front, [], rw h (sym (append-nil front)), subst (λ (n : ℕ). AreFixupsIn (fixup_context space n o) o.code_relocations o.code_sites front) z new, refl)
-fixups_push space j i (p ∷ objects) o fs front at (a, b, parts, first, rest) new =
-    (a, b ++ front, rw parts (append_assoc a b front), first, fixups_push space (j + 1) i objects o b front (omega (arith, at)) rest new)
+use Rattle.wl_plan.specs.declared.layout.WasmObjectIndexMap.{WasmObjectIndexMap}
+use Rattle.wl_plan.specs.declared.types.TheConstants.{WASM_DEAD_INDEX}
+use Rattle.wl_plan.proofs.StepLaws.{refuses_for, refuses_memory}
+use Rattle.wl_plan.proofs.Folds.{all_at, each_at}
+use Rattle.wl_plan.proofs.KeptLaws.{kept_more, kept_split, kept-le, kept_count, kept_from, kept_any}
+use Rattle.wl_plan.proofs.PlannedLaws.{functions_typed}
+use Rattle.wl_plan.proofs.Merges.{stays_all, grows_all, onto_append, below_all, types_where_same, leads_same}
 
 -- ---- objects in turn
 
 -- what is still to come, with the next object in front
-splits : (objects : List Object) (i : ℕ) (o : Object) → i < length objects → o ≡ get_or objects i o → drop i objects ≡ o ∷ drop (i + 1) objects
+pub splits : (objects : List Object) (i : ℕ) (o : Object) → i < length objects → o ≡ get_or objects i o → drop i objects ≡ o ∷ drop (i + 1) objects
 splits objects i o lt is = rw (add-one, drop-cons objects i o) (ap (λ (x : Object). x ∷ drop (suc i) objects) (sym is))
 
 -- what has come, with the next object at the end
-grows_to : (objects : List Object) (i : ℕ) (o : Object) → i < length objects → o ≡ get_or objects i o → take (i + 1) objects ≡ take i objects ++ o ∷ []
+pub grows_to : (objects : List Object) (i : ℕ) (o : Object) → i < length objects → o ≡ get_or objects i o → take (i + 1) objects ≡ take i objects ++ o ∷ []
 grows_to objects i o lt is = rw (add-one, take-suc objects i o) (ap (λ (x : Object). take i objects ++ x ∷ []) (sym is))
 
 pub object_at : (objects : List Object) (i : ℕ) (o : Object) → i < length objects → o ≡ get_or objects i o → slice_get objects i ≡ Some o
@@ -127,232 +53,384 @@ object_at objects i o lt is = slice_get-get_or objects i o lt ∙ ap (λ (x : Ob
 pub map_at : (maps : List (List ℕ)) (i : ℕ) (m : List ℕ) → i < length maps → m ≡ get_or maps i m → slice_get maps i ≡ Some m
 map_at maps i m lt is = slice_get-get_or maps i m lt ∙ ap (λ (x : List ℕ). Some x) (sym is)
 
--- the map of functions of the object at a place
-pub map_is : (maps : List WasmObjectIndexMap) (i : ℕ) (m : WasmObjectIndexMap) → i < length maps → m ≡ get_or maps i m → m.function_indices ≡ get_or (function_maps maps) i m.function_indices
-map_is [] i m lt is = absurd (omega arith)
-map_is (n ∷ maps) zero m lt is = ap (λ (x : WasmObjectIndexMap). x.function_indices) is
-map_is (n ∷ maps) (suc i) m lt is = map_is maps i m (omega arith) is
+-- a list that is longer is full where a shorter one is
+pub full_longer : {X Y : Type 0} (xs : List X) (ys : List Y) (e : LinkError) → length xs ≤ length ys → IsFull xs e → IsFull ys e
+full_longer xs ys OutOfMemory le f = tt
+full_longer xs ys (TooLarge what) le f = (f.0, omega (arith, f.1))
+full_longer xs ys _ le f = f
 
--- ---- the types
+-- ---- which types are used
 
-leads_stays : (before types : List FunctionType) (o : Object) (indices : List ℕ) → LeadsToTypes before o indices → LeadsToTypes (firsts_onto before types) o indices
-leads_stays before types o indices h = record { len = h.len; removed = h.removed; place = λ k d lt live. stays_all before types (get_or indices k 0) (get_or o.types k d) (h.place k d lt live) }
+or_none : (t : Bool) → (t || false) ≡ t
+or_none true = refl
+or_none false = refl
 
-led_stays : (before types : List FunctionType) (objects : List Object) (maps : List (List ℕ)) → AreLed before objects maps → AreLed (firsts_onto before types) objects maps
-led_stays before types [] [] h = tt
-led_stays before types [] (m ∷ maps) h = absurd h
-led_stays before types (o ∷ objects) [] h = absurd h
-led_stays before types (o ∷ objects) (m ∷ maps) h = (leads_stays before types o m h.0, led_stays before types objects maps h.1)
+any_alone : (test : ℕ → Bool) (kept : Bool) (k : ℕ) → list_any test (cond kept (k ∷ []) []) ≡ cond kept (test k) false
+any_alone test true k = or_none (test k)
+any_alone test false k = refl
 
-led_push : (types : List FunctionType) (objects : List Object) (maps : List (List ℕ)) (o : Object) (m : List ℕ) → AreLed types objects maps → LeadsToTypes types o m → AreLed types (objects ++ o ∷ []) (maps ++ m ∷ [])
-led_push types [] [] o m h new = (new, tt)
-led_push types [] (n ∷ maps) o m h new = absurd h
-led_push types (p ∷ objects) [] o m h new = absurd h
-led_push types (p ∷ objects) (n ∷ maps) o m h new = (h.0, led_push types objects maps o m h.1 new)
+any_snoc : (test : ℕ → Bool) (kept : Bool) (xs : List ℕ) (k : ℕ) → list_any test (xs ++ cond kept (k ∷ []) []) ≡ (list_any test xs || cond kept (test k) false)
+any_snoc test kept xs k = list_any-append test xs (cond kept (k ∷ []) []) ∙ ap (λ (b : Bool). list_any test xs || b) (any_alone test kept k)
 
-pub led_at : (types : List FunctionType) (objects : List Object) (maps : List (List ℕ)) (i : ℕ) (o : Object) (m : List ℕ) → AreLed types objects maps → slice_get objects i ≡ Some o → slice_get maps i ≡ Some m → LeadsToTypes types o m
-led_at types [] [] i o m h here there = absurd cc
-led_at types [] (n ∷ maps) i o m h here there = absurd h
-led_at types (p ∷ objects) [] i o m h here there = absurd h
-led_at types (p ∷ objects) (n ∷ maps) zero o m h here there = let a : p ≡ o = cc in let b : n ≡ m = cc in rw (← a, ← b) h.0
-led_at types (p ∷ objects) (n ∷ maps) (suc i) o m h here there = led_at types objects maps i o m h.1 here there
+-- the types that one of the first functions has which is kept
+abbrev pub used_by : Live → ℕ → Object → ℕ → ℕ → Bool
+used_by live i o n ty = list_any (λ function. eqb (get_or o.functions function 0) ty) (filter (keeps_function live i) (range_with_len 0 n))
 
-pub led_length : (types : List FunctionType) (objects : List Object) (maps : List (List ℕ)) → AreLed types objects maps → length maps ≡ length objects
-led_length types [] [] h = refl
-led_length types [] (n ∷ maps) h = absurd h
-led_length types (p ∷ objects) [] h = absurd h
-led_length types (p ∷ objects) (n ∷ maps) h = ap suc (led_length types objects maps h.1)
+-- with one more function
+pub used_more : (live : Live) (i : ℕ) (o : Object) (n ty : ℕ) → used_by live i o (n + 1) ty ≡ (used_by live i o n ty || cond (keeps_function live i n) (eqb (get_or o.functions n 0) ty) false)
+used_more live i o n ty =
+    ap (list_any (λ function. eqb (get_or o.functions function 0) ty)) (kept_more (keeps_function live i) n)
+    ∙ any_snoc (λ function. eqb (get_or o.functions function 0) ty) (keeps_function live i n) (filter (keeps_function live i) (range_with_len 0 n)) n
 
-pub record MergesAll (objects : List Object) (i : ℕ) (merger : List FunctionType) (maps : List (List ℕ)) : Type 0 where
-  pub types : firsts_onto merger (flat_map live_types (drop i objects)) ≡ output_types objects
-  pub led : AreLed merger (take i objects) maps
+cond_same : (kept : Bool) → cond kept true false ≡ kept
+cond_same true = refl
+cond_same false = refl
 
-types_step : (objects : List Object) (i : ℕ) (o : Object) (merger : List FunctionType) → i < length objects → o ≡ get_or objects i o → firsts_onto merger (flat_map live_types (drop i objects)) ≡ output_types objects
-    → firsts_onto (firsts_onto merger (live_types o)) (flat_map live_types (drop (i + 1) objects)) ≡ output_types objects
-types_step objects i o merger lt is h =
-    sym (ap (λ (os : List Object). firsts_onto merger (flat_map live_types os)) (splits objects i o lt is) ∙ onto_append merger (live_types o) (flat_map live_types (drop (i + 1) objects))) ∙ h
+cond_none : (kept : Bool) → cond kept false false ≡ false
+cond_none true = refl
+cond_none false = refl
 
-pub merges_on : (objects : List Object) (i : ℕ) (o : Object) (old new : List FunctionType) (maps : List (List ℕ)) (m : List ℕ) → i < length objects → o ≡ get_or objects i o → new ≡ firsts_onto old (live_types o) → LeadsToTypes new o m → MergesAll objects i old maps → MergesAll objects (i + 1) new (maps ++ m ∷ [])
-merges_on objects i o old new maps m lt is new-is leads h = record {
-  types = rw new-is (types_step objects i o old lt is h.types);
-  led = rw (grows_to objects i o lt is) (led_push new (take i objects) maps o m (rw new-is (led_stays old (live_types o) (take i objects) maps h.led)) leads);
-}
+-- with the type of one more function marked
+pub marks_more : (live : Live) (i : ℕ) (o : Object) (n : ℕ) (marks : List Bool) → length marks ≡ length o.types → get_or o.functions n 0 < length o.types → ((k : ℕ) → k < length o.types → marked marks k ≡ used_by live i o n k)
+    → (k : ℕ) → k < length o.types → marked (set marks (get_or o.functions n 0) (get_or marks (get_or o.functions n 0) false || keeps_function live i n)) k ≡ used_by live i o (n + 1) k
+marks_more live i o n marks len small each k lt =
+    let ty = get_or o.functions n 0 in
+    let new = get_or marks ty false || keeps_function live i n in
+    elim (cases_Bool (eqb ty k)) [
+      | inl same ↦
+          let is : ty ≡ k = eqb-true ty k same in
+          let at : marked (set marks ty new) k ≡ new = ap (marked (set marks ty new)) (sym is) ∙ get_or-set_same marks ty new false (omega (arith, len, small)) in
+          let before : get_or marks ty false ≡ used_by live i o n k = ap (λ (j : ℕ). get_or marks j false) is ∙ each k lt in
+          at ∙ ap (λ (b : Bool). b || keeps_function live i n) before ∙ sym (used_more live i o n k ∙ ap (λ (b : Bool). used_by live i o n k || cond (keeps_function live i n) b false) same ∙ ap (λ (b : Bool). used_by live i o n k || b) (cond_same (keeps_function live i n)))
+      | inr other ↦
+          let not : k ≢ ty = λ e. let there = eq-eqb ty k (sym e) in absurd cc in
+          get_or-set_other marks ty k new false not ∙ each k lt
+          ∙ sym (used_more live i o n k ∙ ap (λ (b : Bool). used_by live i o n k || cond (keeps_function live i n) b false) other ∙ ap (λ (b : Bool). used_by live i o n k || b) (cond_none (keeps_function live i n)) ∙ or_none (used_by live i o n k))
+    ]
 
-pub merges_full : (objects : List Object) (i : ℕ) (o : Object) (merger : List FunctionType) (maps : List (List ℕ)) (e : LinkError) → i < length objects → o ≡ get_or objects i o → MergesAll objects i merger maps → IsFull (firsts_onto merger (live_types o)) e → IsFull (output_types objects) e
-merges_full objects i o merger maps OutOfMemory lt is h f = tt
-merges_full objects i o merger maps (TooLarge what) lt is h f =
-    (f.0, omega (arith, f.1, ap length (types_step objects i o merger lt is h.types), grows_all (firsts_onto merger (live_types o)) (flat_map live_types (drop (i + 1) objects))))
-merges_full objects i o merger maps _ lt is h f = f
+-- ---- types
 
-pub merges_done : (objects : List Object) (i : ℕ) (merger : List FunctionType) (maps : List (List ℕ)) → length objects ≤ i → MergesAll objects i merger maps → (merger ≡ output_types objects) × AreLed merger objects maps
-merges_done objects i merger maps le h =
-    let none : drop i objects ≡ [] = drop_all i objects le in (
-      sym (ap (λ (os : List Object). firsts_onto merger (flat_map live_types os)) none) ∙ h.types,
-      subst (λ (os : List Object). AreLed merger os maps) (take_all i objects le) h.led,
-    )
+leads_stays : (before types locals : List FunctionType) (passes : ℕ → Bool) (indices : List ℕ) → LeadsToTypes before locals passes indices → LeadsToTypes (firsts_onto before types) locals passes indices
+leads_stays before types locals passes indices h = record { len = h.len; removed = h.removed; place = λ k d lt live. stays_all before types (get_or indices k 0) (get_or locals k d) (h.place k d lt live) }
+
+module _ (live : Live) where
+  led_stays : (before types : List FunctionType) (j : ℕ) (objects : List Object) (maps : List (List ℕ)) → AreLed before live j objects maps → AreLed (firsts_onto before types) live j objects maps
+  led_stays before types j [] [] h = tt
+  led_stays before types j [] (m ∷ maps) h = absurd h
+  led_stays before types j (o ∷ objects) [] h = absurd h
+  led_stays before types j (o ∷ objects) (m ∷ maps) h = (leads_stays before types o.types (is_live_type live j o) m h.0, led_stays before types (j + 1) objects maps h.1)
+
+  led_push : (types : List FunctionType) (j i : ℕ) (objects : List Object) (maps : List (List ℕ)) (o : Object) (m : List ℕ) → j + length objects ≡ i → AreLed types live j objects maps → LeadsToTypes types o.types (is_live_type live i o) m → AreLed types live j (objects ++ o ∷ []) (maps ++ m ∷ [])
+  led_push types j i [] [] o m at h new = let z : i ≡ j = omega (arith, at) in (subst (λ (n : ℕ). LeadsToTypes types o.types (is_live_type live n o) m) z new, tt)
+  led_push types j i [] (n ∷ maps) o m at h new = absurd h
+  led_push types j i (p ∷ objects) [] o m at h new = absurd h
+  led_push types j i (p ∷ objects) (n ∷ maps) o m at h new = (h.0, led_push types (j + 1) i objects maps o m (omega (arith, at)) h.1 new)
+
+  pub led_at : (types : List FunctionType) (j : ℕ) (objects : List Object) (maps : List (List ℕ)) (i : ℕ) (o : Object) (m : List ℕ) → AreLed types live j objects maps → slice_get objects i ≡ Some o → slice_get maps i ≡ Some m → LeadsToTypes types o.types (is_live_type live (j + i) o) m
+  led_at types j [] [] i o m h here there = absurd cc
+  led_at types j [] (n ∷ maps) i o m h here there = absurd h
+  led_at types j (p ∷ objects) [] i o m h here there = absurd h
+  led_at types j (p ∷ objects) (n ∷ maps) zero o m h here there = let a : p ≡ o = cc in let b : n ≡ m = cc in let z : j + 0 ≡ j = omega arith in rw (z, ← a, ← b) h.0
+  led_at types j (p ∷ objects) (n ∷ maps) (suc i) o m h here there = let z : j + suc i ≡ j + 1 + i = omega arith in rw z (led_at types (j + 1) objects maps i o m h.1 here there)
+
+  pub led_length : (types : List FunctionType) (j : ℕ) (objects : List Object) (maps : List (List ℕ)) → AreLed types live j objects maps → length maps ≡ length objects
+  led_length types j [] [] h = refl
+  led_length types j [] (n ∷ maps) h = absurd h
+  led_length types j (p ∷ objects) [] h = absurd h
+  led_length types j (p ∷ objects) (n ∷ maps) h = ap suc (led_length types (j + 1) objects maps h.1)
+
+  pub record MergesAll (objects : List Object) (i : ℕ) (merger : List FunctionType) (maps : List (List ℕ)) : Type 0 where
+    pub types : firsts_onto merger (types_from live i (drop i objects)) ≡ output_types live objects
+    pub led : AreLed merger live 0 (take i objects) maps
+
+  types_step : (objects : List Object) (i : ℕ) (o : Object) (merger : List FunctionType) → i < length objects → o ≡ get_or objects i o → firsts_onto merger (types_from live i (drop i objects)) ≡ output_types live objects
+      → firsts_onto (firsts_onto merger (live_types live i o)) (types_from live (i + 1) (drop (i + 1) objects)) ≡ output_types live objects
+  types_step objects i o merger lt is h =
+      sym (ap (λ (os : List Object). firsts_onto merger (types_from live i os)) (splits objects i o lt is) ∙ onto_append merger (live_types live i o) (types_from live (i + 1) (drop (i + 1) objects))) ∙ h
+
+  -- what an object's marks are for
+  live_by : (i : ℕ) (o : Object) (marks : List Bool) → AreMarked (length o.types) (is_live_type live i o) marks → types_where (marked marks) 0 o.types ≡ live_types live i o
+  live_by i o marks h = types_where_same (marked marks) (is_live_type live i o) 0 o.types (λ j le lt. h.each j (omega (arith, lt)))
+
+  pub merges_on : (objects : List Object) (i : ℕ) (o : Object) (marks : List Bool) (old new : List FunctionType) (maps : List (List ℕ)) (m : List ℕ) → i < length objects → o ≡ get_or objects i o → AreMarked (length o.types) (is_live_type live i o) marks
+      → new ≡ firsts_onto old (types_where (marked marks) 0 o.types) → LeadsToTypes new o.types (marked marks) m → MergesAll objects i old maps → MergesAll objects (i + 1) new (maps ++ m ∷ [])
+  merges_on objects i o marks old new maps m lt is by new-is leads h =
+      let same : new ≡ firsts_onto old (live_types live i o) = new-is ∙ ap (firsts_onto old) (live_by i o marks by) in
+      let led = leads_same new o.types (marked marks) (is_live_type live i o) m (λ j small. by.each j small) leads in
+      record {
+        types = rw same (types_step objects i o old lt is h.types);
+        led = rw (grows_to objects i o lt is) (led_push new 0 i (take i objects) maps o m (omega (arith, length-take i objects)) (rw same (led_stays old (live_types live i o) 0 (take i objects) maps h.led)) led);
+      }
+
+  pub merges_full : (objects : List Object) (i : ℕ) (o : Object) (marks : List Bool) (merger : List FunctionType) (maps : List (List ℕ)) (e : LinkError) → i < length objects → o ≡ get_or objects i o → AreMarked (length o.types) (is_live_type live i o) marks
+      → MergesAll objects i merger maps → IsFull (firsts_onto merger (types_where (marked marks) 0 o.types)) e → IsFull (output_types live objects) e
+  merges_full objects i o marks merger maps e lt is by h f =
+      let now = firsts_onto merger (live_types live i o) in
+      let f' : IsFull now e = rw (live_by i o marks by) at f in
+      full_longer now (output_types live objects) e (omega (arith, ap length (types_step objects i o merger lt is h.types), grows_all now (types_from live (i + 1) (drop (i + 1) objects)))) f'
+
+  pub merges_done : (objects : List Object) (i : ℕ) (merger : List FunctionType) (maps : List (List ℕ)) → length objects ≤ i → MergesAll objects i merger maps → (merger ≡ output_types live objects) × AreLed merger live 0 objects maps
+  merges_done objects i merger maps le h =
+      let none : drop i objects ≡ [] = drop_all i objects le in (
+        sym (ap (λ (os : List Object). firsts_onto merger (types_from live i os)) none) ∙ h.types,
+        subst (λ (os : List Object). AreLed merger live 0 os maps) (take_all i objects le) h.led,
+      )
 
 -- ---- the functions
 
-pub record SpacesOn (objects : List Object) (types : List FunctionType) (i : ℕ) (functions : List OutputFunction) : Type 0 where
-  pub room : length functions ≤ max_entries
-  pub origins : map origin_of functions ++ object_functions i (drop i objects) ≡ function_space objects
-  pub typed : AllByRecursion (HasItsType objects types) functions
+abbrev pub origin_of : OutputFunction → FunctionOrigin
+origin_of f = f.origin
 
-functions_step : (objects : List Object) (i : ℕ) (o : Object) (front : List FunctionOrigin) → i < length objects → o ≡ get_or objects i o → front ++ object_functions i (drop i objects) ≡ function_space objects
-    → front ++ (functions_from i 0 o.functions ++ object_functions (i + 1) (drop (i + 1) objects)) ≡ function_space objects
-functions_step objects i o front lt is h = sym (ap (λ (os : List Object). front ++ object_functions i os) (splits objects i o lt is)) ∙ h
+one_output : (kept : Bool) (f : ℕ → OutputFunction) (k : ℕ) → map f (cond kept (k ∷ []) []) ≡ cond kept (f k ∷ []) []
+one_output true f k = refl
+one_output false f k = refl
 
-pub spaces_on : (objects : List Object) (types : List FunctionType) (i : ℕ) (o : Object) (indices : List ℕ) (functions : List OutputFunction) → i < length objects → o ≡ get_or objects i o → IsFitting o → LeadsToTypes types o indices → length functions + length o.functions ≤ max_entries
-    → SpacesOn objects types i functions → SpacesOn objects types (i + 1) (functions ++ outputs_from i 0 o.functions indices)
-spaces_on objects types i o indices functions lt is fits leads room h =
-    let more = outputs_from i 0 o.functions indices in
-    let origins : map origin_of (functions ++ more) ≡ map origin_of functions ++ functions_from i 0 o.functions =
-    map-append origin_of functions more ∙ ap (λ (fs : List FunctionOrigin). map origin_of functions ++ fs) (outputs_origins i 0 o.functions indices) in
-    record {
-      room = omega (arith, room, ap length origins, length-map (functions ++ more) origin_of, length-append (map origin_of functions) (functions_from i 0 o.functions), length-map functions origin_of, length-functions_from i 0 o.functions);
-      origins = rw origins (append_assoc (map origin_of functions) (functions_from i 0 o.functions) (object_functions (i + 1) (drop (i + 1) objects)) ∙ functions_step objects i o (map origin_of functions) lt is h.origins);
-      typed = all_append (HasItsType objects types) functions more h.typed
-          (typed_outputs objects types i 0 o indices o.functions (object_at objects i o lt is) (λ j ty e. let z : 0 + j ≡ j = omega arith in rw z e) (functions_typed o fits) leads);
-    }
+module _ (live : Live) (i : ℕ) (functions indices : List ℕ) where
+  -- the first functions, with one more
+  pub outputs_more : (k : ℕ) → map (output_at i functions indices) (filter (keeps_function live i) (range_with_len 0 (k + 1))) ≡ map (output_at i functions indices) (filter (keeps_function live i) (range_with_len 0 k)) ++ output_where live i k (get_or indices (get_or functions k 0) 0)
+  outputs_more k =
+      ap (map (output_at i functions indices)) (kept_more (keeps_function live i) k)
+      ∙ map-append (output_at i functions indices) (filter (keeps_function live i) (range_with_len 0 k)) (cond (keeps_function live i k) (k ∷ []) [])
+      ∙ ap (λ (fs : List OutputFunction). map (output_at i functions indices) (filter (keeps_function live i) (range_with_len 0 k)) ++ fs) (one_output (keeps_function live i k) (output_at i functions indices) k)
 
-pub spaces_crowded : (objects : List Object) (types : List FunctionType) (i : ℕ) (o : Object) (functions : List OutputFunction) → i < length objects → o ≡ get_or objects i o → SpacesOn objects types i functions → max_entries < length functions + length o.functions → max_entries < length (function_space objects)
-spaces_crowded objects types i o functions lt is h over =
-    let rest = object_functions (i + 1) (drop (i + 1) objects) in
-    omega (arith, over, ap length (functions_step objects i o (map origin_of functions) lt is h.origins), length-append (map origin_of functions) (functions_from i 0 o.functions ++ rest), length-append (functions_from i 0 o.functions) rest, length-functions_from i 0 o.functions, length-map functions origin_of)
+  -- they are no more than all
+  pub outputs-le : (k : ℕ) → k ≤ length functions → length (map (output_at i functions indices) (filter (keeps_function live i) (range_with_len 0 k))) ≤ length (outputs_in live i functions indices)
+  outputs-le k le =
+      omega (arith, kept-le (keeps_function live i) (length functions) k le, length-map (filter (keeps_function live i) (range_with_len 0 k)) (output_at i functions indices), length-map (filter (keeps_function live i) (range_with_len 0 (length functions))) (output_at i functions indices))
 
-pub spaces_done : (objects : List Object) (types : List FunctionType) (i : ℕ) (functions : List OutputFunction) → length objects ≤ i → SpacesOn objects types i functions → map origin_of functions ≡ function_space objects
-spaces_done objects types i functions le h =
-    sym (ap (λ (os : List Object). map origin_of functions ++ object_functions i os) (drop_all i objects le) ∙ append-nil (map origin_of functions)) ∙ h.origins
+  pub outputs_on : (k : ℕ) (before now : List OutputFunction) → now ≡ before ++ map (output_at i functions indices) (filter (keeps_function live i) (range_with_len 0 k))
+      → now ++ output_where live i k (get_or indices (get_or functions k 0) 0) ≡ before ++ map (output_at i functions indices) (filter (keeps_function live i) (range_with_len 0 (k + 1)))
+  outputs_on k before now h =
+      let so_far = map (output_at i functions indices) (filter (keeps_function live i) (range_with_len 0 k)) in
+      let one = output_where live i k (get_or indices (get_or functions k 0) 0) in
+      ap (λ (fs : List OutputFunction). fs ++ one) h ∙ append_assoc before so_far one ∙ ap (λ (fs : List OutputFunction). before ++ fs) (sym (outputs_more k))
+
+  pub outputs_full : (k : ℕ) (before now : List OutputFunction) (e : LinkError) → k < length functions → now ≡ before ++ map (output_at i functions indices) (filter (keeps_function live i) (range_with_len 0 k))
+      → IsFull (now ++ output_where live i k (get_or indices (get_or functions k 0) 0)) e → IsFull (before ++ outputs_in live i functions indices) e
+  outputs_full k before now e lt h f =
+      let more = map (output_at i functions indices) (filter (keeps_function live i) (range_with_len 0 (k + 1))) in
+      full_longer (now ++ output_where live i k (get_or indices (get_or functions k 0) 0)) (before ++ outputs_in live i functions indices) e
+      (omega (arith, ap length (outputs_on k before now h), length-append before more, length-append before (outputs_in live i functions indices), outputs-le (k + 1) (omega (arith, lt)))) f
+
+  outputs_origins : (ks : List ℕ) → map origin_of (map (output_at i functions indices) ks) ≡ map (origin.Object i) ks
+  outputs_origins [] = refl
+  outputs_origins (k ∷ ks) = ap (λ (fs : List FunctionOrigin). origin.Object i k ∷ fs) (outputs_origins ks)
+
+-- each of a range that passes is what it is to be
+pub each_kept : {X : Type 0} (P : X → Type 0) (f : ℕ → X) (p : ℕ → Bool) (a n : ℕ) → ((k : ℕ) → k < a + n → p k ≡ true → P (f k)) → AllByRecursion P (map f (filter p (range_with_len a n)))
+each_kept P f p a zero h = tt
+each_kept P f p a (suc n) h =
+    elim (cases_Bool (p a)) [
+      | inl pass ↦ rw pass (h a (omega arith) pass, each_kept P f p (a + 1) n (λ k lt. h k (omega (arith, lt))))
+      | inr fail ↦ rw fail (each_kept P f p (a + 1) n (λ k lt. h k (omega (arith, lt))))
+    ]
+
+-- a kept function has a type that an index leads to
+typed_one : (live : Live) (objects : List Object) (types : List FunctionType) (i k : ℕ) (o : Object) (indices : List ℕ) → slice_get objects i ≡ Some o → types_exist (length o.types) o.functions ≡ true → LeadsToTypes types o.types (is_live_type live i o) indices → k < length o.functions → keeps_function live i k ≡ true
+    → HasItsType objects types (output_at i o.functions indices k)
+typed_one live objects types i k o indices here exist leads within kept =
+    let ty = get_or o.functions k 0 in
+    let unit : slice_get o.functions k ≡ Some ty = slice_get-get_or o.functions k 0 within in
+    let small : ty < length o.types = below_all (length o.types) o.functions k exist within in
+    let z : k < 0 + length o.functions = omega (arith, within) in
+    let used : is_live_type live i o ty ≡ true = kept_any (keeps_function live i) (λ function. eqb (get_or o.functions function 0) ty) 0 (length o.functions) k (omega arith) z kept (eq-eqb ty ty refl) in
+    let d : FunctionType = record { params = []; results = [] } in
+    (get_or o.types ty d, leads.place ty d small used, rw (here, unit) (slice_get-get_or o.types ty d small))
+
+pub all_append : {X : Type 0} (P : X → Type 0) (xs ys : List X) → AllByRecursion P xs → AllByRecursion P ys → AllByRecursion P (xs ++ ys)
+all_append P [] ys h k = k
+all_append P (x ∷ xs) ys h k = (h.0, all_append P xs ys h.1 k)
+
+module _ (live : Live) where
+  pub record SpacesOn (objects : List Object) (types : List FunctionType) (i : ℕ) (functions : List OutputFunction) : Type 0 where
+    pub room : length functions ≤ max_entries
+    pub origins : map origin_of functions ++ functions_from live i (drop i objects) ≡ function_space live objects
+    pub typed : AllByRecursion (HasItsType objects types) functions
+
+  functions_step : (objects : List Object) (i : ℕ) (o : Object) (front : List FunctionOrigin) → i < length objects → o ≡ get_or objects i o → front ++ functions_from live i (drop i objects) ≡ function_space live objects
+      → front ++ (map (origin.Object i) (kept_functions live i o) ++ functions_from live (i + 1) (drop (i + 1) objects)) ≡ function_space live objects
+  functions_step objects i o front lt is h = sym (ap (λ (os : List Object). front ++ functions_from live i os) (splits objects i o lt is)) ∙ h
+
+  with_origins : (i : ℕ) (o : Object) (indices : List ℕ) (functions : List OutputFunction) → map origin_of (functions ++ outputs_in live i o.functions indices) ≡ map origin_of functions ++ map (origin.Object i) (kept_functions live i o)
+  with_origins i o indices functions =
+      map-append origin_of functions (outputs_in live i o.functions indices)
+      ∙ ap (λ (fs : List FunctionOrigin). map origin_of functions ++ fs) (outputs_origins live i o.functions indices (kept_functions live i o))
+
+  pub spaces_on : (objects : List Object) (types : List FunctionType) (i : ℕ) (o : Object) (indices : List ℕ) (functions : List OutputFunction) → i < length objects → o ≡ get_or objects i o → IsFitting o → LeadsToTypes types o.types (is_live_type live i o) indices
+      → length (functions ++ outputs_in live i o.functions indices) ≤ max_entries → SpacesOn objects types i functions → SpacesOn objects types (i + 1) (functions ++ outputs_in live i o.functions indices)
+  spaces_on objects types i o indices functions lt is fits leads room h =
+      record {
+        room = room;
+        origins = rw (with_origins i o indices functions) (append_assoc (map origin_of functions) (map (origin.Object i) (kept_functions live i o)) (functions_from live (i + 1) (drop (i + 1) objects)) ∙ functions_step objects i o (map origin_of functions) lt is h.origins);
+        typed = all_append (HasItsType objects types) functions (outputs_in live i o.functions indices) h.typed
+            (each_kept (HasItsType objects types) (output_at i o.functions indices) (keeps_function live i) 0 (length o.functions)
+            (λ k small kept. typed_one live objects types i k o indices (object_at objects i o lt is) (functions_typed o fits) leads (omega (arith, small)) kept));
+      }
+
+  pub spaces_full : (objects : List Object) (types : List FunctionType) (i : ℕ) (o : Object) (indices : List ℕ) (functions : List OutputFunction) (e : LinkError) → i < length objects → o ≡ get_or objects i o → SpacesOn objects types i functions
+      → IsFull (functions ++ outputs_in live i o.functions indices) e → IsFull (function_space live objects) e
+  spaces_full objects types i o indices functions e lt is h f =
+      let mine = map (origin.Object i) (kept_functions live i o) in
+      let rest = functions_from live (i + 1) (drop (i + 1) objects) in
+      full_longer (functions ++ outputs_in live i o.functions indices) (function_space live objects) e
+      (omega (
+        arith,
+        ap length (functions_step objects i o (map origin_of functions) lt is h.origins),
+        ap length (with_origins i o indices functions),
+        length-map (functions ++ outputs_in live i o.functions indices) origin_of,
+        length-append (map origin_of functions) (mine ++ rest),
+        length-append (map origin_of functions) mine,
+        length-append mine rest,
+      )) f
+
+  pub spaces_done : (objects : List Object) (types : List FunctionType) (i : ℕ) (functions : List OutputFunction) → length objects ≤ i → SpacesOn objects types i functions → map origin_of functions ≡ function_space live objects
+  spaces_done objects types i functions le h =
+      sym (ap (λ (os : List Object). map origin_of functions ++ functions_from live i os) (drop_all i objects le) ∙ append-nil (map origin_of functions)) ∙ h.origins
 
 -- ---- the maps
 
-range_more : (a k : ℕ) → range_with_len a (suc k) ≡ range_with_len a k ++ (a + k) ∷ []
-range_more a zero = let z : a + 0 ≡ a = omega arith in rw z refl
-range_more a (suc k) = let z : a + suc k ≡ a + 1 + k = omega arith in rw z (ap (λ (xs : List ℕ). a ∷ xs) (range_more (a + 1) k))
+slice_get_behind : {X : Type 0} (xs ys : List X) (k : ℕ) → slice_get (xs ++ ys) (length xs + k) ≡ slice_get ys k
+slice_get_behind [] ys k = let z : 0 + k ≡ k = omega arith in rw z refl
+slice_get_behind (x ∷ xs) ys k = let z : suc (length xs) + k ≡ suc (length xs + k) = omega arith in rw z (slice_get_behind xs ys k)
 
-pub range_one_more : (a k : ℕ) → range_with_len a (k + 1) ≡ range_with_len a k ++ (a + k) ∷ []
-range_one_more a k = rw add-one (range_more a k)
+-- with one more function
+pub below_more : (live : Live) (i k : ℕ) → kept_below live i (k + 1) ≡ kept_below live i k + kept_here live i k
+below_more live i k =
+    let kept = filter (keeps_function live i) (range_with_len 0 k) in
+    ap length (kept_more (keeps_function live i) k) ∙ length-append kept (cond (keeps_function live i k) (k ∷ []) []) ∙ ap (λ (n : ℕ). length kept + n) (one (keeps_function live i k))
+  where
+    one : (b : Bool) → length (cond b (k ∷ []) []) ≡ cond b 1 0
+    one true = refl
+    one false = refl
 
-range_length : (a k : ℕ) → length (range_with_len a k) ≡ k
-range_length a zero = refl
-range_length a (suc k) = ap suc (range_length (a + 1) k)
+pub below-le : (live : Live) (i n k : ℕ) → k ≤ n → kept_below live i k ≤ kept_below live i n
+below-le live i n k le = kept-le (keeps_function live i) n k le
 
-range_at : (a k j : ℕ) → j < k → get_or (range_with_len a k) j 0 ≡ a + j
-range_at a zero j lt = absurd (omega arith)
-range_at a (suc k) zero lt = let z : a + 0 ≡ a = omega arith in rw z refl
-range_at a (suc k) (suc j) lt = let z : a + suc j ≡ a + 1 + j = omega arith in rw z (range_at (a + 1) k j (omega arith))
+pub indices_more : (live : Live) (i k first : ℕ) → indices_in live i (k + 1) first ≡ indices_in live i k first ++ index_at live i k (first + kept_below live i k) ∷ []
+indices_more live i k first = map-range_with_len_more (λ j. index_at live i j (first + kept_below live i j)) 0 k k (omega arith)
 
-pub record MapsOn (objects : List Object) (i base : ℕ) (maps : List (List ℕ)) : Type 0 where
-  pub front : List FunctionOrigin
-  pub is_front : front ++ object_functions i (drop i objects) ≡ function_space objects
-  pub len : length front ≡ base
-  pub lead : AreMaps (function_space objects) 0 (take i objects) maps
+-- a kept function stands behind the kept ones before it
+kept_place : (live : Live) (i k n : ℕ) (rest : List FunctionOrigin) → k < n → keeps_function live i k ≡ true
+    → slice_get (map (origin.Object i) (filter (keeps_function live i) (range_with_len 0 n)) ++ rest) (kept_below live i k) ≡ Some (origin.Object i k)
+kept_place live i k n rest lt kept =
+    let p = keeps_function live i in
+    let before = filter p (range_with_len 0 k) in
+    let behind = filter p (range_with_len k (n - k)) in
+    let split : map (origin.Object i) (filter p (range_with_len 0 n)) ++ rest ≡ map (origin.Object i) before ++ (map (origin.Object i) behind ++ rest) =
+    ap (λ (ks : List ℕ). map (origin.Object i) ks ++ rest) (kept_split p n k (omega (arith, lt))) ∙ ap (λ (fs : List FunctionOrigin). fs ++ rest) (map-append (origin.Object i) before behind)
+    ∙ append_assoc (map (origin.Object i) before) (map (origin.Object i) behind) rest in
+    let z : kept_below live i k ≡ length (map (origin.Object i) before) + 0 = omega (arith, length-map before (origin.Object i)) in
+    let first : slice_get (map (origin.Object i) behind) 0 ≡ Some (origin.Object i k) = slice_get-map (origin.Object i) behind 0 ∙ rw (kept_from p k (n - k) (omega (arith, lt)) kept) refl in
+    ap (λ (fs : List FunctionOrigin). slice_get fs (kept_below live i k)) split
+    ∙ ap (slice_get (map (origin.Object i) before ++ (map (origin.Object i) behind ++ rest))) z
+    ∙ slice_get_behind (map (origin.Object i) before) (map (origin.Object i) behind ++ rest) 0
+    ∙ front (map (origin.Object i) behind) first
+  where
+    front : (fs : List FunctionOrigin) → slice_get fs 0 ≡ Some (origin.Object i k) → slice_get (fs ++ rest) 0 ≡ Some (origin.Object i k)
+    front [] e = absurd cc
+    front (f ∷ fs) e = e
 
-pub maps_at_start : (objects : List Object) → MapsOn objects 0 0 []
-maps_at_start objects = record { front = []; is_front = refl; len = refl; lead = tt }
+-- the index of that number
+index_is : (live : Live) (i k n first : ℕ) → k < n → get_or (indices_in live i n first) k 0 ≡ index_at live i k (first + kept_below live i k)
+index_is live i k n first lt = get_or-map-range_with_len (λ j. index_at live i j (first + kept_below live i j)) 0 n k k 0 lt (omega arith)
 
-maps_push : (space : List FunctionOrigin) (j i : ℕ) (objects : List Object) (o : Object) (maps : List (List ℕ)) (m : List ℕ) → j + length objects ≡ i → AreMaps space j objects maps → LeadsToPlaces space i o m → AreMaps space j (objects ++ o ∷ []) (maps ++ m ∷ [])
-maps_push space j i [] o [] m at h new = let z : i ≡ j = omega (arith, at) in (subst (λ (n : ℕ). LeadsToPlaces space n o m) z new, tt)
-maps_push space j i [] o (n ∷ maps) m at h new = absurd h
-maps_push space j i (p ∷ objects) o [] m at h new = absurd h
-maps_push space j i (p ∷ objects) o (n ∷ maps) m at h new = (h.0, maps_push space (j + 1) i objects o maps m (omega (arith, at)) h.1 new)
-
-pub maps_room : (objects : List Object) (i : ℕ) (o : Object) (base : ℕ) (maps : List (List ℕ)) → i < length objects → o ≡ get_or objects i o → length (function_space objects) ≤ max_entries → MapsOn objects i base maps → base + length o.functions ≤ max_entries
-maps_room objects i o base maps lt is room h =
-    let rest = object_functions (i + 1) (drop (i + 1) objects) in
-    omega (arith, room, h.len, ap length (functions_step objects i o h.front lt is h.is_front), length-append h.front (functions_from i 0 o.functions ++ rest), length-append (functions_from i 0 o.functions) rest, length-functions_from i 0 o.functions)
-
-leads_to_places : (front : List FunctionOrigin) (i : ℕ) (o : Object) (rest : List FunctionOrigin) → imported_functions o ≡ 0 → LeadsToPlaces (front ++ (functions_from i 0 o.functions ++ rest)) i o (range_with_len (length front) (length o.functions))
-leads_to_places front i o rest none = record {
-  len = omega (arith, none, range_length (length front) (length o.functions));
-  place = λ unit lt.
-      let z : 0 + unit ≡ unit = omega arith in
-      rw (none, z, range_at (length front) (length o.functions) unit lt) (slice_get_behind front (functions_from i 0 o.functions ++ rest) unit ∙ function_at i 0 o.functions rest unit lt ∙ rw z refl);
-}
-
-pub maps_on : (objects : List Object) (i : ℕ) (o : Object) (base : ℕ) (maps : List (List ℕ)) (m : List ℕ) → i < length objects → o ≡ get_or objects i o → imported_functions o ≡ 0 → m ≡ range_with_len base (length o.functions) → MapsOn objects i base maps → MapsOn objects (i + 1) (base + length o.functions) (maps ++ m ∷ [])
-maps_on objects i o base maps m lt is none m-is h =
-    let rest = object_functions (i + 1) (drop (i + 1) objects) in
-    let space = functions_step objects i o h.front lt is h.is_front in
-    let leads : LeadsToPlaces (function_space objects) i o m =
-    rw (m-is, ← h.len) (subst (λ (fs : List FunctionOrigin). LeadsToPlaces fs i o (range_with_len (length h.front) (length o.functions))) space (leads_to_places h.front i o rest none)) in
+leads_to_places : (live : Live) (front : List FunctionOrigin) (i : ℕ) (o : Object) (rest : List FunctionOrigin) → imported_functions o ≡ 0
+    → LeadsToPlaces (front ++ (map (origin.Object i) (kept_functions live i o) ++ rest)) live i o (indices_in live i (length o.functions) (length front))
+leads_to_places live front i o rest none =
+    let n = length o.functions in
     record {
-      front = h.front ++ functions_from i 0 o.functions;
-      is_front = append_assoc h.front (functions_from i 0 o.functions) rest ∙ space;
-      len = omega (arith, h.len, length-append h.front (functions_from i 0 o.functions), length-functions_from i 0 o.functions);
-      lead = rw (grows_to objects i o lt is) (maps_push (function_space objects) 0 i (take i objects) o maps m (omega (arith, length-take i objects)) h.lead leads);
+      len = omega (arith, none, length-map-range_with_len (λ j. index_at live i j (length front + kept_below live i j)) 0 n);
+      place = λ k lt kept.
+          let z : 0 + k ≡ k = omega arith in
+          rw (none, z, index_is live i k n (length front) lt, kept)
+          (slice_get_behind front (map (origin.Object i) (kept_functions live i o) ++ rest) (kept_below live i k) ∙ kept_place live i k n rest lt kept);
+      removed = λ k lt dropped.
+          let z : 0 + k ≡ k = omega arith in
+          rw (none, z, index_is live i k n (length front) lt, dropped) refl;
     }
 
-pub maps_done : (objects : List Object) (i base : ℕ) (maps : List (List ℕ)) → length objects ≤ i → MapsOn objects i base maps → AreMaps (function_space objects) 0 objects maps
-maps_done objects i base maps le h = subst (λ (os : List Object). AreMaps (function_space objects) 0 os maps) (take_all i objects le) h.lead
+module _ (live : Live) where
+  pub record MapsOn (objects : List Object) (i next : ℕ) (maps : List (List ℕ)) : Type 0 where
+    pub front : List FunctionOrigin
+    pub is_front : front ++ functions_from live i (drop i objects) ≡ function_space live objects
+    pub len : length front ≡ next
+    pub lead : AreMaps (function_space live objects) live 0 (take i objects) maps
 
-leads_at : (space : List FunctionOrigin) (j : ℕ) (objects : List Object) (maps : List (List ℕ)) (i : ℕ) (o : Object) (m : List ℕ) → AreMaps space j objects maps → slice_get objects i ≡ Some o → slice_get maps i ≡ Some m → LeadsToPlaces space (j + i) o m
-leads_at space j [] [] i o m h here there = absurd cc
-leads_at space j [] (n ∷ maps) i o m h here there = absurd h
-leads_at space j (p ∷ objects) [] i o m h here there = absurd h
-leads_at space j (p ∷ objects) (n ∷ maps) zero o m h here there = let a : p ≡ o = cc in let b : n ≡ m = cc in let z : j + 0 ≡ j = omega arith in rw (z, ← a, ← b) h.0
-leads_at space j (p ∷ objects) (n ∷ maps) (suc i) o m h here there = let z : j + suc i ≡ j + 1 + i = omega arith in rw z (leads_at space (j + 1) objects maps i o m h.1 here there)
+  pub maps_at_start : (objects : List Object) → MapsOn objects 0 0 []
+  maps_at_start objects = record { front = []; is_front = refl; len = refl; lead = tt }
 
-pub maps_length : (space : List FunctionOrigin) (j : ℕ) (objects : List Object) (maps : List (List ℕ)) → AreMaps space j objects maps → length maps ≡ length objects
-maps_length space j [] [] h = refl
-maps_length space j [] (n ∷ maps) h = absurd h
-maps_length space j (p ∷ objects) [] h = absurd h
-maps_length space j (p ∷ objects) (n ∷ maps) h = ap suc (maps_length space (j + 1) objects maps h.1)
+  maps_push : (space : List FunctionOrigin) (j i : ℕ) (objects : List Object) (o : Object) (maps : List (List ℕ)) (m : List ℕ) → j + length objects ≡ i → AreMaps space live j objects maps → LeadsToPlaces space live i o m → AreMaps space live j (objects ++ o ∷ []) (maps ++ m ∷ [])
+  maps_push space j i [] o [] m at h new = let z : i ≡ j = omega (arith, at) in (subst (λ (n : ℕ). LeadsToPlaces space live n o m) z new, tt)
+  maps_push space j i [] o (n ∷ maps) m at h new = absurd h
+  maps_push space j i (p ∷ objects) o [] m at h new = absurd h
+  maps_push space j i (p ∷ objects) o (n ∷ maps) m at h new = (h.0, maps_push space (j + 1) i objects o maps m (omega (arith, at)) h.1 new)
 
-functions_within : (j : ℕ) (objects : List Object) (i : ℕ) (o : Object) → slice_get objects i ≡ Some o → length o.functions ≤ length (object_functions j objects)
-functions_within j [] i o here = absurd cc
-functions_within j (p ∷ objects) zero o here = let a : p ≡ o = cc in rw (← a) (omega (arith, length-append (functions_from j 0 p.functions) (object_functions (j + 1) objects), length-functions_from j 0 p.functions))
-functions_within j (p ∷ objects) (suc i) o here = omega (arith, functions_within (j + 1) objects i o here, length-append (functions_from j 0 p.functions) (object_functions (j + 1) objects))
+  mine-length : (i : ℕ) (o : Object) → length (map (origin.Object i) (kept_functions live i o)) ≡ kept_below live i (length o.functions)
+  mine-length i o = length-map (kept_functions live i o) (origin.Object i)
 
--- ---- the fixups
+  pub maps_room : (objects : List Object) (i : ℕ) (o : Object) (next : ℕ) (maps : List (List ℕ)) → i < length objects → o ≡ get_or objects i o → length (function_space live objects) ≤ max_entries → MapsOn objects i next maps → next + kept_below live i (length o.functions) ≤ max_entries
+  maps_room objects i o next maps lt is room h =
+      let mine = map (origin.Object i) (kept_functions live i o) in
+      let rest = functions_from live (i + 1) (drop (i + 1) objects) in
+      omega (arith, room, h.len, ap length (functions_step live objects i o h.front lt is h.is_front), length-append h.front (mine ++ rest), length-append mine rest, mine-length i o)
 
-pub has_map : (objects : List Object) (i : ℕ) (o : Object) (maps : List (List ℕ)) (m : List ℕ) → i < length objects → o ≡ get_or objects i o → m ≡ get_or maps i m → IsFitting o → is_planned o ≡ true → length (function_space objects) ≤ max_entries → AreMaps (function_space objects) 0 objects maps → HasMap m o
-has_map objects i o maps m lt is m-is fits planned room all =
-    let here = object_at objects i o lt is in
-    let there = map_at maps i m (omega (arith, lt, maps_length (function_space objects) 0 objects maps all)) m-is in
-    record {
-      whole = fits;
-      planned = planned;
-      len = omega (arith, nothing_imported o planned, (leads_at (function_space objects) 0 objects maps i o m all here there).len);
-      room = omega (arith, room, functions_within 0 objects i o here);
-    }
+  pub maps_on : (objects : List Object) (i : ℕ) (o : Object) (next : ℕ) (maps : List (List ℕ)) (m : List ℕ) → i < length objects → o ≡ get_or objects i o → imported_functions o ≡ 0 → m ≡ indices_in live i (length o.functions) next
+      → MapsOn objects i next maps → MapsOn objects (i + 1) (next + kept_below live i (length o.functions)) (maps ++ m ∷ [])
+  maps_on objects i o next maps m lt is none m-is h =
+      let mine = map (origin.Object i) (kept_functions live i o) in
+      let rest = functions_from live (i + 1) (drop (i + 1) objects) in
+      let space = functions_step live objects i o h.front lt is h.is_front in
+      let leads : LeadsToPlaces (function_space live objects) live i o m =
+      rw (m-is, ← h.len) (subst (λ (fs : List FunctionOrigin). LeadsToPlaces fs live i o (indices_in live i (length o.functions) (length h.front))) space (leads_to_places live h.front i o rest none)) in
+      record {
+        front = h.front ++ mine;
+        is_front = append_assoc h.front mine rest ∙ space;
+        len = omega (arith, h.len, length-append h.front mine, mine-length i o);
+        lead = rw (grows_to objects i o lt is) (maps_push (function_space live objects) 0 i (take i objects) o maps m (omega (arith, length-take i objects)) h.lead leads);
+      }
 
-pub fixups_on : (objects : List Object) (i : ℕ) (o : Object) (maps : List (List ℕ)) (m : List ℕ) (fixups : List Fixup) → i < length objects → o ≡ get_or objects i o → m ≡ get_or maps i m → IsFitting o → is_planned o ≡ true → AreMaps (function_space objects) 0 objects maps
-    → AreFixups (function_space objects) 0 (take i objects) fixups → AreFixups (function_space objects) 0 (take (i + 1) objects) (fixups ++ fixups_from m i o o.code_relocations o.code_sites)
-fixups_on objects i o maps m fixups lt is m-is fits planned all h =
-    let space = function_space objects in
-    let here = object_at objects i o lt is in
-    let there = map_at maps i m (omega (arith, lt, maps_length space 0 objects maps all)) m-is in
-    let z : 0 + i ≡ i = omega arith in
-    let leads : LeadsToPlaces space i o m = rw z at (leads_at space 0 objects maps i o m all here there) in
-    rw (grows_to objects i o lt is) (fixups_push space 0 i (take i objects) o fixups (fixups_from m i o o.code_relocations o.code_sites) (omega (arith, length-take i objects)) h
-    (fixups_are space i o m o.code_relocations o.code_sites fits planned (holds o planned).relocations (code_sited o fits) leads))
+  pub maps_done : (objects : List Object) (i next : ℕ) (maps : List (List ℕ)) → length objects ≤ i → MapsOn objects i next maps → AreMaps (function_space live objects) live 0 objects maps
+  maps_done objects i next maps le h = subst (λ (os : List Object). AreMaps (function_space live objects) live 0 os maps) (take_all i objects le) h.lead
 
-pub fixups_done : (objects : List Object) (i : ℕ) (fixups : List Fixup) → length objects ≤ i → AreFixups (function_space objects) 0 (take i objects) fixups → AreFixups (function_space objects) 0 objects fixups
-fixups_done objects i fixups le h = subst (λ (os : List Object). AreFixups (function_space objects) 0 os fixups) (take_all i objects le) h
+  pub leads_at : (space : List FunctionOrigin) (j : ℕ) (objects : List Object) (maps : List (List ℕ)) (i : ℕ) (o : Object) (m : List ℕ) → AreMaps space live j objects maps → slice_get objects i ≡ Some o → slice_get maps i ≡ Some m → LeadsToPlaces space live (j + i) o m
+  leads_at space j [] [] i o m h here there = absurd cc
+  leads_at space j [] (n ∷ maps) i o m h here there = absurd h
+  leads_at space j (p ∷ objects) [] i o m h here there = absurd h
+  leads_at space j (p ∷ objects) (n ∷ maps) zero o m h here there = let a : p ≡ o = cc in let b : n ≡ m = cc in let z : j + 0 ≡ j = omega arith in rw (z, ← a, ← b) h.0
+  leads_at space j (p ∷ objects) (n ∷ maps) (suc i) o m h here there = let z : j + suc i ≡ j + 1 + i = omega arith in rw z (leads_at space (j + 1) objects maps i o m h.1 here there)
 
--- ---- bodies and debug sections
+  pub maps_length : (space : List FunctionOrigin) (j : ℕ) (objects : List Object) (maps : List (List ℕ)) → AreMaps space live j objects maps → length maps ≡ length objects
+  maps_length space j [] [] h = refl
+  maps_length space j [] (n ∷ maps) h = absurd h
+  maps_length space j (p ∷ objects) [] h = absurd h
+  maps_length space j (p ∷ objects) (n ∷ maps) h = ap suc (maps_length space (j + 1) objects maps h.1)
 
-pub bodies_on : (objects : List Object) (i : ℕ) (o : Object) (bodies whole : List Body) → i < length objects → o ≡ get_or objects i o → bodies ++ object_bodies i (drop i objects) ≡ whole → (bodies ++ map (body_in i) o.bodies) ++ object_bodies (i + 1) (drop (i + 1) objects) ≡ whole
-bodies_on objects i o bodies whole lt is h = append_assoc bodies (map (body_in i) o.bodies) (object_bodies (i + 1) (drop (i + 1) objects)) ∙ sym (ap (λ (os : List Object). bodies ++ object_bodies i os) (splits objects i o lt is)) ∙ h
+-- ---- debug sections
 
 pub debug_on : (objects : List Object) (i : ℕ) (o : Object) (sections whole : List DebugInput) → i < length objects → o ≡ get_or objects i o → sections ++ object_debug_sections i (drop i objects) ≡ whole → (sections ++ map (debug_in i) o.debug_sections) ++ object_debug_sections (i + 1) (drop (i + 1) objects) ≡ whole
 debug_on objects i o sections whole lt is h = append_assoc sections (map (debug_in i) o.debug_sections) (object_debug_sections (i + 1) (drop (i + 1) objects)) ∙ sym (ap (λ (os : List Object). sections ++ object_debug_sections i os) (splits objects i o lt is)) ∙ h
 
 -- ---- the step
 
-pub room_clear : (objects : List Object) → length (output_types objects) ≤ max_entries → length (function_space objects) ≤ max_entries → Clear (IsTooLarge objects)
-room_clear objects types functions = record { none = λ e h. elim h.1 [ inl over ↦ absurd (omega arith) | inr over ↦ absurd (omega arith) ] }
+abbrev pub OneLive : Type 0
+OneLive = (link : Link) (a b : Live) → IsLiveOf link a → IsLiveOf link b → a ≡ b
 
-pub refuses_types : (objects : List Object) (e : LinkError) → IsFull (output_types objects) e → Refuses (IsTooLarge objects) e
-refuses_types objects OutOfMemory f = refuses_memory (IsTooLarge objects) OutOfMemory refl
-refuses_types objects (TooLarge what) f = refuses_for (IsTooLarge objects) (TooLarge what) (ap TooLarge f.0, inl f.1)
-refuses_types objects _ f = absurd f
+pub room_clear : (link : Link) (live : Live) → OneLive → IsLiveOf link live → length (output_types live link.objects) ≤ max_entries → length (function_space live link.objects) ≤ max_entries → Clear (IsTooLarge link)
+room_clear link live one kept types functions = record {
+  none = λ e h.
+      let same : h.live ≡ live = one link h.live live h.kept kept in
+      elim (rw same at h.over) [ inl over ↦ absurd (omega arith) | inr over ↦ absurd (omega arith) ];
+}
 
-pub refuses_functions : (objects : List Object) (e : LinkError) → IsFull (function_space objects) e → Refuses (IsTooLarge objects) e
-refuses_functions objects OutOfMemory f = refuses_memory (IsTooLarge objects) OutOfMemory refl
-refuses_functions objects (TooLarge what) f = refuses_for (IsTooLarge objects) (TooLarge what) (ap TooLarge f.0, inr f.1)
-refuses_functions objects _ f = absurd f
+pub refuses_types : (link : Link) (live : Live) (e : LinkError) → IsLiveOf link live → IsFull (output_types live link.objects) e → Refuses (IsTooLarge link) e
+refuses_types link live OutOfMemory kept f = refuses_memory (IsTooLarge link) OutOfMemory refl
+refuses_types link live (TooLarge what) kept f = refuses_for (IsTooLarge link) (TooLarge what) (record { live = live; kept = kept; told = ap TooLarge f.0; over = inl f.1 })
+refuses_types link live _ kept f = absurd f
+
+pub refuses_functions : (link : Link) (live : Live) (e : LinkError) → IsLiveOf link live → IsFull (function_space live link.objects) e → Refuses (IsTooLarge link) e
+refuses_functions link live OutOfMemory kept f = refuses_memory (IsTooLarge link) OutOfMemory refl
+refuses_functions link live (TooLarge what) kept f = refuses_for (IsTooLarge link) (TooLarge what) (record { live = live; kept = kept; told = ap TooLarge f.0; over = inr f.1 })
+refuses_functions link live _ kept f = absurd f
 
 -- ---- what holds of all objects
 

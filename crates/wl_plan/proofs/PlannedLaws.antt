@@ -1,5 +1,5 @@
 -- Laws of objects that fit together and are planned: what they name is their own.
-use Rattle.std.proofs.Common.{◌≡◌, ◌<◌, ◌-◌, ◌+◌, ◌||◌, ◌&&◌, ℕ, zero, suc, Bool, true, false, not, eqb, ltb, leb, List, [], ◌∷◌, length, get_or, map, Option, Some, None, refl, ap, take, inl, inr, arith, slice_get}
+use Rattle.std.proofs.Common.{◌≡◌, ◌<◌, ◌≤◌, ◌-◌, ◌+◌, ◌||◌, ◌&&◌, ℕ, zero, suc, Bool, true, false, not, eqb, ltb, leb, List, [], ◌∷◌, length, get_or, map, Option, Some, None, refl, ap, take, inl, inr, arith, slice_get}
 use Rattle.std.specs.List.{list_all, list_any}
 use Rattle.std.proofs.lemmas.Bool.{eqb-true, ltb-true, cases_Bool}
 use Rattle.std.proofs.lemmas.List.{length-map}
@@ -8,15 +8,20 @@ use Rattle.wl_linking.specs.Symbols.{Symbol, is_undefined, is_weak, is_data, has
 use Rattle.wl_linking.specs.Object.{Object}
 use Rattle.wl_linking.specs.Spaces.{spaces_of, symbol_exists, thing_exists, number_exists}
 use Rattle.wl_linking.specs.Fitting.{IsFitting}
-use Rattle.wl_linking.specs.Sites.{PieceOf, AreSites, body_piece}
+use Rattle.wl_linking.specs.Sites.{PieceOf, AreSites}
+use Rattle.wl_linking.specs.declared.relocation_type.RelocationType.{RelocationType}
+use Rattle.wl_linking.specs.declared.relocation_type.RelocationType.TheVariants.{FunctionIndexLeb, TableIndexSleb, TableIndexI32, MemoryAddrLeb, MemoryAddrSleb, MemoryAddrI32, TypeIndexLeb, GlobalIndexLeb, MemoryAddrRelSleb, TableIndexRelSleb, GlobalIndexI32, TableNumberLeb, MemoryAddrTlsSleb, FunctionIndexI32}
 use Rattle.wl_linking.specs.declared.relocations.WasmRelocation.{WasmRelocation}
 use Rattle.wl_linking.specs.declared.sites.Site.{Site}
 use Rattle.wl_linking.specs.declared.symbols.WasmSymbolKind.{WasmSymbolKind}
 use Rattle.wl_linking.specs.declared.symbols.WasmSymbolKind.TheVariants.{Func, Data, Global, Section, Event, Table}
+use Rattle.wl_live.specs.Entry.{is_function_kind}
 use Rattle.wl_plan.specs.Types.{types_exist}
-use Rattle.wl_plan.specs.Space.{object_globals}
+use Rattle.wl_live.specs.Live.{Live}
+use Rattle.wl_plan.specs.Space.{globals_from, max_entries}
+use Rattle.wl_plan.specs.Building.{AreSmallSites}
 use Rattle.wl_plan.specs.Maps.{imported_functions}
-use Rattle.wl_plan.specs.Planned.{are_some, is_unplanned_kind, is_unplanned_symbol, is_function_index, is_function_kind, is_function_symbol, is_unplanned_relocation, unplanned, is_planned, AllPlanned, IsNotYet}
+use Rattle.wl_plan.specs.Planned.{are_some, is_unplanned_kind, is_unplanned_symbol, is_function_index, is_function_symbol, is_unplanned_relocation, unplanned, is_planned, AllPlanned, IsNotYet}
 use Rattle.wl_linking.specs.Steps.{Clear}
 use Rattle.wl_module.specs.declared.error.Form.TheVariants.{NotYet}
 use Rattle.wl_linking.specs.declared.error.LinkError.TheVariants.{Unsupported}
@@ -57,6 +62,7 @@ none_held held k none lt = none_at (λ b. b) held k (get_or held k true) none (s
 pub record Holds (o : Object) : Type 0 where
   pub imports : o.imports ≡ []
   pub globals : o.globals ≡ []
+  pub segments : o.segments ≡ []
   pub symbols : list_any is_unplanned_symbol o.symbols ≡ false
   pub relocations : list_any (is_unplanned_relocation o.symbols) o.code_relocations ≡ false
 
@@ -66,19 +72,20 @@ holds o planned =
     record {
       imports = no_more o.imports (none_held (unplanned o) 0 none (omega arith));
       globals = no_more o.globals (none_held (unplanned o) 2 none (omega arith));
-      symbols = none_held (unplanned o) 8 none (omega arith);
-      relocations = none_held (unplanned o) 9 none (omega arith);
+      segments = no_more o.segments (none_held (unplanned o) 4 none (omega arith));
+      symbols = none_held (unplanned o) 7 none (omega arith);
+      relocations = none_held (unplanned o) 8 none (omega arith);
     }
 
 pub nothing_imported : (o : Object) → is_planned o ≡ true → imported_functions o ≡ 0
 nothing_imported o planned = rw (holds o planned).imports refl
 
 -- no object has globals of its own
-pub no_globals : (i : ℕ) (objects : List Object) → AllPlanned objects → object_globals i objects ≡ []
-no_globals i [] all = refl
-no_globals i (o ∷ objects) all =
+pub no_globals : (live : Live) (i : ℕ) (objects : List Object) → AllPlanned objects → globals_from live i objects ≡ []
+no_globals live i [] all = refl
+no_globals live i (o ∷ objects) all =
     let each = both (is_planned o) (list_all is_planned objects) all in
-    rw ((holds o each.0).globals, no_globals (i + 1) objects each.1) refl
+    rw ((holds o each.0).globals, no_globals live (i + 1) objects each.1) refl
 
 -- ---- the functions that relocations name
 
@@ -96,68 +103,86 @@ function_below o s Section is planned exists none = absurd cc
 function_below o s Event is planned exists none = absurd cc
 function_below o s Table is planned exists none = absurd cc
 
--- a planned relocation has the symbol of one of the object's functions
+-- the symbol of one of the object's functions
+pub record IsOwnFunction (o : Object) (s : Symbol) : Type 0 where
+  pub kind : s.kind ≡ Func
+  pub defined : is_undefined s ≡ false
+  pub within : s.index < length o.functions
+
+pub defined_function : (o : Object) (s : Symbol) (n : ℕ) → IsFitting o → is_planned o ≡ true → slice_get o.symbols n ≡ Some s → is_function_kind s.kind ≡ true → IsOwnFunction o s
+defined_function o s n fits planned at is =
+    let own = function_below o s s.kind is (none_at is_unplanned_symbol o.symbols n s (holds o planned).symbols at) (all_at (symbol_exists (spaces_of o)) o.symbols n s (symbols_exist o fits) at) (nothing_imported o planned) in
+    record { kind = is_func s.kind is; defined = own.0; within = own.1 }
+  where
+    is_func : (k : WasmSymbolKind) → is_function_kind k ≡ true → k ≡ Func
+    is_func Func e = refl
+    is_func Data e = absurd cc
+    is_func Global e = absurd cc
+    is_func Section e = absurd cc
+    is_func Event e = absurd cc
+    is_func Table e = absurd cc
+
+-- a planned relocation has such a symbol
 pub record NamesFunction (o : Object) (r : WasmRelocation) : Type 0 where
   pub symbol : Symbol
   pub at : slice_get o.symbols r.index ≡ Some symbol
+  pub kind : symbol.kind ≡ Func
   pub defined : is_undefined symbol ≡ false
   pub within : symbol.index < length o.functions
 
 pub function_named : (o : Object) (r : WasmRelocation) → IsFitting o → is_planned o ≡ true → is_unplanned_relocation o.symbols r ≡ false → NamesFunction o r
 function_named o r fits planned here =
-    by_symbol (slice_get o.symbols r.index) refl (not_not (is_function_symbol (slice_get o.symbols r.index)) (neither (not (is_function_index r.ty)) (not (is_function_symbol (slice_get o.symbols r.index))) here).1)
+    by_symbol (slice_get o.symbols r.index) refl (not_true (is_function_symbol (slice_get o.symbols r.index)) (neither (not (is_function_index r.ty)) (not (is_function_symbol (slice_get o.symbols r.index))) here).1)
   where
-    not_not : (b : Bool) → not b ≡ false → b ≡ true
-    not_not b e = not_true b e
-
     by_symbol : (found : Option Symbol) → slice_get o.symbols r.index ≡ found → is_function_symbol found ≡ true → NamesFunction o r
     by_symbol None at is = absurd cc
     by_symbol (Some s) at is =
-        let own = function_below o s s.kind is (none_at is_unplanned_symbol o.symbols r.index s (holds o planned).symbols at) (all_at (symbol_exists (spaces_of o)) o.symbols r.index s (symbols_exist o fits) at) (nothing_imported o planned) in
-        record { symbol = s; at = at; defined = own.0; within = own.1 }
+        let own = defined_function o s r.index fits planned at is in
+        record { symbol = s; at = at; kind = own.kind; defined = own.defined; within = own.within }
 
--- the relocation of that number has such a symbol
-named_at : (o : Object) (i : ℕ) (d : WasmRelocation) → IsFitting o → is_planned o ≡ true → i < length o.code_relocations → NamesFunction o (get_or o.code_relocations i d)
-named_at o i d fits planned lt =
-    let r = get_or o.code_relocations i d in
-    function_named o r fits planned (none_at (is_unplanned_relocation o.symbols) o.code_relocations i r (holds o planned).relocations (slice_get-get_or o.code_relocations i d lt))
-
--- it names one of the symbols
-pub symbol_within : (o : Object) (i : ℕ) (d : WasmRelocation) → IsFitting o → is_planned o ≡ true → i < length o.code_relocations → (get_or o.code_relocations i d).index < length o.symbols
-symbol_within o i d fits planned lt = let n = named_at o i d fits planned lt in slice_get_within o.symbols (get_or o.code_relocations i d).index n.symbol n.at
-
--- whose number is that of one of the object's functions
-pub function_within : (o : Object) (i : ℕ) (d : WasmRelocation) (e : Symbol) → IsFitting o → is_planned o ≡ true → i < length o.code_relocations → (get_or o.symbols (get_or o.code_relocations i d).index e).index < length o.functions
-function_within o i d e fits planned lt = let n = named_at o i d fits planned lt in rw (get_or_from_slice_get o.symbols (get_or o.code_relocations i d).index n.symbol e n.at) n.within
+-- it takes the number of a function
+pub takes_function : (o : Object) (r : WasmRelocation) → is_unplanned_relocation o.symbols r ≡ false → r.ty ≡ FunctionIndexLeb
+takes_function o r here = by_type r.ty (not_true (is_function_index r.ty) (neither (not (is_function_index r.ty)) (not (is_function_symbol (slice_get o.symbols r.index))) here).0)
+  where
+    by_type : (ty : RelocationType) → is_function_index ty ≡ true → ty ≡ FunctionIndexLeb
+    by_type FunctionIndexLeb e = refl
+    by_type TableIndexSleb e = absurd cc
+    by_type TableIndexI32 e = absurd cc
+    by_type MemoryAddrLeb e = absurd cc
+    by_type MemoryAddrSleb e = absurd cc
+    by_type MemoryAddrI32 e = absurd cc
+    by_type TypeIndexLeb e = absurd cc
+    by_type GlobalIndexLeb e = absurd cc
+    by_type MemoryAddrRelSleb e = absurd cc
+    by_type TableIndexRelSleb e = absurd cc
+    by_type GlobalIndexI32 e = absurd cc
+    by_type TableNumberLeb e = absurd cc
+    by_type MemoryAddrTlsSleb e = absurd cc
+    by_type FunctionIndexI32 e = absurd cc
 
 -- ---- the sites of relocations
 
--- each relocation of code has a site in one of the bodies
-pub code_sited : (o : Object) → IsFitting o → AreSites (map body_piece o.bodies) o.code_relocations o.code_sites
-code_sited o fits = fits.code.sited
-
-as_many_in : (pieces : List PieceOf) (rs : List WasmRelocation) (ss : List Site) → AreSites pieces rs ss → length ss ≡ length rs
+pub as_many_in : (pieces : List PieceOf) (rs : List WasmRelocation) (ss : List Site) → AreSites pieces rs ss → length ss ≡ length rs
 as_many_in pieces [] [] h = refl
 as_many_in pieces [] (s ∷ ss) h = absurd h
 as_many_in pieces (r ∷ rs) [] h = absurd h
 as_many_in pieces (r ∷ rs) (s ∷ ss) h = ap suc (as_many_in pieces rs ss h.1)
 
--- there are as many sites as relocations
-pub as_many_sites : (o : Object) → IsFitting o → length o.code_sites ≡ length o.code_relocations
-as_many_sites o fits = as_many_in (map body_piece o.bodies) o.code_relocations o.code_sites (code_sited o fits)
+-- each site lies in one of so few pieces
+pub small_in : (pieces : List PieceOf) (rs : List WasmRelocation) (ss : List Site) → length pieces ≤ max_entries → AreSites pieces rs ss → AreSmallSites ss
+small_in pieces [] [] few h = tt
+small_in pieces [] (s ∷ ss) few h = absurd h
+small_in pieces (r ∷ rs) [] few h = absurd h
+small_in pieces (r ∷ rs) (s ∷ ss) few h = (omega (arith, few, slice_get_within pieces s.unit h.0.piece h.0.here), small_in pieces rs ss few h.1)
 
-site_in : (pieces : List PieceOf) (rs : List WasmRelocation) (ss : List Site) (i : ℕ) (d : Site) → AreSites pieces rs ss → i < length ss → (get_or ss i d).unit < length pieces
-site_in pieces [] [] i d h lt = absurd (omega arith)
-site_in pieces [] (s ∷ ss) i d h lt = absurd h
-site_in pieces (r ∷ rs) [] i d h lt = absurd (omega arith)
-site_in pieces (r ∷ rs) (s ∷ ss) zero d h lt = slice_get_within pieces s.unit h.0.piece h.0.here
-site_in pieces (r ∷ rs) (s ∷ ss) (suc i) d h lt = site_in pieces rs ss i d h.1 (omega arith)
+-- without segments no relocation has a field in data
+no_data : (rs : List WasmRelocation) (ss : List Site) → AreSites [] rs ss → rs ≡ []
+no_data [] ss h = refl
+no_data (r ∷ rs) [] h = absurd h
+no_data (r ∷ rs) (s ∷ ss) h = absurd (let there = h.0.here in cc)
 
--- a site lies in the body of one of the object's functions
-pub site_within : (o : Object) (i : ℕ) (d : Site) → IsFitting o → i < length o.code_sites → (get_or o.code_sites i d).unit < length o.functions
-site_within o i d fits lt =
-    let within = site_in (map body_piece o.bodies) o.code_relocations o.code_sites i d (code_sited o fits) lt in
-    omega (arith, within, length-map o.bodies body_piece, as_many_bodies o fits)
+pub nothing_in_data : (o : Object) → IsFitting o → is_planned o ≡ true → o.data_relocations ≡ []
+nothing_in_data o fits planned = no_data o.data_relocations o.data_sites (rw (holds o planned).segments at fits.data_.sited)
 
 -- ---- the step
 

@@ -3,7 +3,9 @@ pub mod Space
 pub mod Globals
 pub mod Planned
 pub mod Maps
+pub mod Relocations
 pub mod Fixups
+pub mod Entry
 pub mod Plan
 pub mod Faults
 pub mod Objects

@@ -5,15 +5,19 @@ use Rattle.wl_linking.specs.declared.error.LinkError.{LinkError}
 use Rattle.wl_symbols.specs.declared.args.WasmArgs.{WasmArgs}
 use Rattle.wl_linking.specs.Steps.{Clear}
 use Rattle.wl_symbols.specs.Link.{Link, link_of}
+use Rattle.wl_live.specs.Live.{Live, IsLiveOf}
 use Rattle.wl_plan.specs.Objects.{AreObjects, IsBadObject}
 use Rattle.wl_plan.specs.Faults.{link_fault}
 use Rattle.wl_plan.specs.Plan.{IsPlan}
 use Rattle.wl_plan.specs.declared.layout.LinkPlan.{LinkPlan}
 
--- the plan of a link, to which no step has a cause
+-- the plan of a link, to which no step has a cause: a unit is kept where collection is off, and else exactly where a chain of
+-- references leads to it from a root
 pub record IsPlanOf (link : Link) (plan : LinkPlan) : Type 0 where
   pub clear : Clear (link_fault link)
-  pub is_plan : IsPlan link plan
+  pub live : Live
+  pub kept : IsLiveOf link live
+  pub is_plan : IsPlan link live plan
 
 -- the plan of the objects that these bytes are
 pub record IsLinkPlan (objects : List (List ℕ)) (args : WasmArgs) (plan : LinkPlan) : Type 0 where

@@ -1,13 +1,13 @@
 -- What objects may hold for a plan of them.
 use Rattle.std.specs.Prelude.{◌≡◌, ℕ, ◌==◌, ◌||◌, Bool, true, false, not, List, [], ◌∷◌, length, take, Option, Some, None, slice_get}
 use Rattle.std.specs.List.{list_any, list_all}
-use Rattle.wl_module.specs.Bodies.{Body}
 use Rattle.wl_module.specs.declared.error.Form.TheVariants.{NotYet}
 use Rattle.std.specs.Option.{is_some}
 use Rattle.wl_symbols.specs.declared.args.WasmArgs.{WasmArgs}
 use Rattle.wl_symbols.specs.declared.args.TheConstants.{DEFAULT_STACK_SIZE}
 use Rattle.wl_linking.specs.Symbols.{Symbol, is_undefined, is_weak}
 use Rattle.wl_linking.specs.Object.{Object}
+use Rattle.wl_live.specs.Entry.{is_function_kind}
 use Rattle.wl_linking.specs.declared.error.LinkError.{LinkError}
 use Rattle.wl_linking.specs.declared.error.LinkError.TheVariants.{Unsupported}
 use Rattle.wl_linking.specs.declared.relocation_type.RelocationType.{RelocationType}
@@ -19,10 +19,6 @@ use Rattle.wl_linking.specs.declared.symbols.WasmSymbolKind.TheVariants.{Func, S
 -- there are some of these
 abbrev pub are_some : {X : Type 0} → List X → Bool
 are_some xs = not (length xs == 0)
-
--- a body with 0xfc, the first byte of the bulk memory operators (core specification, "Memory Instructions")
-abbrev pub holds_bulk_memory : Body → Bool
-holds_bulk_memory body = list_any (λ b. b == 0xfc) body.bytes
 
 -- a symbol that is neither that of a section nor that of a function that its object defines and doesn't call weak
 abbrev pub is_unplanned_kind : WasmSymbolKind → Symbol → Bool
@@ -38,11 +34,7 @@ abbrev pub is_function_index : RelocationType → Bool
 is_function_index FunctionIndexLeb = true
 is_function_index _ = false
 
--- a symbol that stands for a function
-abbrev pub is_function_kind : WasmSymbolKind → Bool
-is_function_kind Func = true
-is_function_kind _ = false
-
+-- there is a symbol, and it stands for a function
 abbrev pub is_function_symbol : Option Symbol → Bool
 is_function_symbol None = false
 is_function_symbol (Some s) = is_function_kind s.kind
@@ -61,7 +53,6 @@ unplanned o =
     ∷ are_some o.segments
     ∷ are_some o.init_funcs
     ∷ are_some o.features
-    ∷ list_any holds_bulk_memory o.bodies
     ∷ list_any is_unplanned_symbol o.symbols
     ∷ list_any (is_unplanned_relocation o.symbols) o.code_relocations
     ∷ []
@@ -81,9 +72,7 @@ IsNotYet objects e = (i : ℕ) × (o : Object) × (e ≡ Unsupported i NotYet) �
 -- what the words may not ask for yet, a test each
 abbrev pub unplanned_options : WasmArgs → List Bool
 unplanned_options args =
-    args.gc_sections
-    ∷ is_some args.entry
-    ∷ are_some args.export_symbols
+    are_some args.export_symbols
     ∷ args.export_dynamic
     ∷ args.allow_undefined
     ∷ args.shared_memory

@@ -1,7 +1,9 @@
--- The spaces of the output: what isn't imported, numbered in a row. The place of an entry is its index.
-use Rattle.std.specs.Prelude.{◌≡◌, ℕ, ◌+◌, List, [], ◌∷◌, ◌++◌, Some, slice_get}
-use Rattle.wl_module.specs.Globals.{DefinedGlobal}
+-- The spaces of the output: what is kept and isn't imported, numbered in a row. The place of an entry is its index.
+use Rattle.std.specs.Prelude.{◌≡◌, ℕ, ◌+◌, Bool, List, [], ◌∷◌, ◌++◌, map, filter, length, Some, slice_get}
+use Rattle.std.specs.List.{range_with_len}
 use Rattle.wl_linking.specs.Object.{Object}
+use Rattle.wl_live.specs.Live.{Live, is_live}
+use Rattle.wl_live.specs.declared.units.WasmGcUnit.TheVariants.{DefinedFunction, DefinedGlobal}
 use Rattle.wl_plan.specs.declared.layout.FunctionOrigin.{FunctionOrigin}
 use Rattle.wl_plan.specs.declared.layout.FunctionOrigin.TheVariants as origin
 use Rattle.wl_plan.specs.declared.layout.GlobalOrigin.{GlobalOrigin}
@@ -18,19 +20,22 @@ StandOnce {X} entries = (i k : ℕ) (x : X) → slice_get entries i ≡ Some x �
 
 -- ---- functions
 
--- the functions of an object, the first of which has number k there
-abbrev pub functions_from : ℕ → ℕ → List ℕ → List FunctionOrigin
-functions_from object k [] = []
-functions_from object k (ty ∷ functions) = origin.Object object k ∷ functions_from object (k + 1) functions
+-- object i keeps its function of that number
+abbrev pub keeps_function : Live → ℕ → ℕ → Bool
+keeps_function live i function = is_live live (record { object = i; unit = DefinedFunction function })
 
--- the functions of these objects, the first of which has number i
-abbrev pub object_functions : ℕ → List Object → List FunctionOrigin
-object_functions i [] = []
-object_functions i (o ∷ objects) = functions_from i 0 o.functions ++ object_functions (i + 1) objects
+-- the numbers of the functions that object i keeps
+abbrev pub kept_functions : Live → ℕ → Object → List ℕ
+kept_functions live i o = filter (keeps_function live i) (range_with_len 0 (length o.functions))
 
--- the function space: the functions of all objects
-abbrev pub function_space : List Object → List FunctionOrigin
-function_space objects = object_functions 0 objects
+-- the kept functions of these objects, the first of which has number i
+abbrev pub functions_from : Live → ℕ → List Object → List FunctionOrigin
+functions_from live i [] = []
+functions_from live i (o ∷ objects) = map (origin.Object i) (kept_functions live i o) ++ functions_from live (i + 1) objects
+
+-- the function space: the kept functions of all objects
+abbrev pub function_space : Live → List Object → List FunctionOrigin
+function_space live objects = functions_from live 0 objects
 
 -- ---- globals
 
@@ -38,16 +43,19 @@ function_space objects = object_functions 0 objects
 abbrev pub made_globals : List GlobalOrigin
 made_globals = global_origin.Made StackPointer ∷ []
 
--- the globals of an object, the first of which has number k there
-abbrev pub globals_from : ℕ → ℕ → List DefinedGlobal → List GlobalOrigin
-globals_from object k [] = []
-globals_from object k (g ∷ globals) = global_origin.Object object k ∷ globals_from object (k + 1) globals
+-- object i keeps its global of that number
+abbrev pub keeps_global : Live → ℕ → ℕ → Bool
+keeps_global live i global = is_live live (record { object = i; unit = DefinedGlobal global })
 
--- the globals of these objects, the first of which has number i
-abbrev pub object_globals : ℕ → List Object → List GlobalOrigin
-object_globals i [] = []
-object_globals i (o ∷ objects) = globals_from i 0 o.globals ++ object_globals (i + 1) objects
+-- the numbers of the globals that object i keeps
+abbrev pub kept_globals : Live → ℕ → Object → List ℕ
+kept_globals live i o = filter (keeps_global live i) (range_with_len 0 (length o.globals))
 
--- the global space: what the linker makes, and then the globals of all objects
-abbrev pub global_space : List Object → List GlobalOrigin
-global_space objects = made_globals ++ object_globals 0 objects
+-- the kept globals of these objects, the first of which has number i
+abbrev pub globals_from : Live → ℕ → List Object → List GlobalOrigin
+globals_from live i [] = []
+globals_from live i (o ∷ objects) = map (global_origin.Object i) (kept_globals live i o) ++ globals_from live (i + 1) objects
+
+-- the global space: what the linker makes, and then the kept globals of all objects
+abbrev pub global_space : Live → List Object → List GlobalOrigin
+global_space live objects = made_globals ++ globals_from live 0 objects

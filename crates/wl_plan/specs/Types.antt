@@ -1,10 +1,12 @@
--- The types of the output: those of the functions, each once, by first occurrence.
-use Rattle.std.specs.Prelude.{ℕ, ◌+◌, ◌==◌, ◌&&◌, Bool, nat_lt, List, [], ◌∷◌, ◌++◌, if◌then◌else◌}
-use Rattle.std.specs.List.{list_any, list_all, flat_map}
+-- The types of the output: those of the kept functions, each once, by first occurrence.
+use Rattle.std.specs.Prelude.{ℕ, ◌+◌, ◌==◌, ◌&&◌, Bool, nat_lt, List, [], ◌∷◌, ◌++◌, if◌then◌else◌, slice_index}
+use Rattle.std.specs.List.{list_any, list_all}
 use Rattle.std.specs.Cmp.Lexicographic.{pointwise}
 use Rattle.wl_module.specs.Types.{FunctionType, value_type_code}
 use Rattle.wl_module.specs.declared.types.ValType.{ValType}
 use Rattle.wl_linking.specs.Object.{Object}
+use Rattle.wl_live.specs.Live.{Live}
+use Rattle.wl_plan.specs.Space.{kept_functions}
 
 -- the same value type
 abbrev pub same_value : ValType → ValType → Bool
@@ -27,15 +29,24 @@ firsts_onto seen (ty ∷ types) = firsts_onto (add_new seen ty) types
 abbrev pub types_exist : ℕ → List ℕ → Bool
 types_exist count functions = list_all (λ t. nat_lt t count) functions
 
--- those of the types, the first of which has number k, that a function has
-abbrev pub used_from : ℕ → List FunctionType → List ℕ → List FunctionType
-used_from k [] functions = []
-used_from k (ty ∷ types) functions = (if list_any (λ f. f == k) functions then ty ∷ [] else []) ++ used_from (k + 1) types functions
+-- a function that object i keeps has its type of that number
+abbrev pub is_live_type : Live → ℕ → Object → ℕ → Bool
+is_live_type live i o ty = list_any (λ function. slice_index o.functions function == ty) (kept_functions live i o)
 
--- the types of an object's functions, by their number
-abbrev pub live_types : Object → List FunctionType
-live_types o = used_from 0 o.types o.functions
+-- those of the types, the first of which has number k, that pass
+abbrev pub types_where : (ℕ → Bool) → ℕ → List FunctionType → List FunctionType
+types_where passes k [] = []
+types_where passes k (ty ∷ types) = (if passes k then ty ∷ [] else []) ++ types_where passes (k + 1) types
+
+-- the types of the kept functions of object i, by their number
+abbrev pub live_types : Live → ℕ → Object → List FunctionType
+live_types live i o = types_where (is_live_type live i o) 0 o.types
+
+-- those of these objects, the first of which has number i
+abbrev pub types_from : Live → ℕ → List Object → List FunctionType
+types_from live i [] = []
+types_from live i (o ∷ objects) = live_types live i o ++ types_from live (i + 1) objects
 
 -- the types of the output
-abbrev pub output_types : List Object → List FunctionType
-output_types objects = firsts_onto [] (flat_map live_types objects)
+abbrev pub output_types : Live → List Object → List FunctionType
+output_types live objects = firsts_onto [] (types_from live 0 objects)

@@ -1,21 +1,23 @@
 //! The bodies of the functions, and the debug sections beside them.
 
 ghost use Rattle.std.specs.Prelude.{◌≡◌, ◌++◌, map, OnOk, IfOk};
-ghost use Rattle.wl_plan.specs.Plan.{object_bodies, object_debug_sections};
-ghost use Rattle.wl_plan.specs.Building.{body_in, debug_in};
+ghost use Rattle.std.specs.List.{AllByRecursion, AllZip};
+ghost use Rattle.wl_plan.specs.Plan.{function_origins, IsBodyOf, object_debug_sections};
+ghost use Rattle.wl_plan.specs.Building.{HasBody, placed_body, debug_in};
 
+use crate::layout::{FunctionOrigin, OutputFunction};
 use std::alloc::{AllocError, Global};
 use std::borrow::CowSlice;
 use wl_linking::{DebugSectionInput, File};
 use wl_module::WasmFunctionBody;
 
 /// The same body, of that object.
-fn body_of<'a>(
+fn copy_body<'a>(
     alloc: Global,
     object: usize,
     body: &WasmFunctionBody<'a>,
 ) -> Result<WasmFunctionBody<'a>, AllocError>
-    ensures { IfOk result (λ copy. copy ≡ body_in object body.now) }
+    ensures { IfOk result (λ copy. copy ≡ placed_body object body.now) }
 {
     let bytes = match &body.bytes {
         CowSlice::Borrowed(bytes) => CowSlice::Borrowed(*bytes),
@@ -28,19 +30,37 @@ fn body_of<'a>(
     })
 }
 
-/// Adds the bodies of an object.
-fn push_bodies<'a>(
+/// The body of a function.
+fn body_of<'a>(
     alloc: Global,
-    bodies: &mut Vec<WasmFunctionBody<'a>>,
-    object: usize,
-    more: &[WasmFunctionBody<'a>],
-) -> Result<(), AllocError>
-    ensures { OnOk result (bodies.new.items ≡ bodies.old.items ++ map (body_in object) more.now) }
+    files: &[File<'a>],
+    origin: FunctionOrigin,
+) -> Result<WasmFunctionBody<'a>, AllocError>
+    requires { HasBody files.now origin }
+    ensures { IfOk result (IsBodyOf files.now origin) }
 {
-    for body in more {
-        bodies.push(body_of(alloc, object, body)?)?;
+    match origin {
+        FunctionOrigin::Object { object, unit } => {
+            copy_body(alloc, object, &files[object].bodies()[unit as usize])
+        }
     }
-    Ok(())
+}
+
+/// A body for each of these functions.
+pub(crate) fn all_bodies<'a>(
+    alloc: Global,
+    files: &[File<'a>],
+    functions: &[OutputFunction],
+) -> Result<Vec<WasmFunctionBody<'a>>, AllocError>
+    requires { AllByRecursion (HasBody files.now) (function_origins functions.now) }
+    ensures { IfOk result
+        (λ bodies. AllZip (IsBodyOf files.now) (function_origins functions.now) bodies.items) }
+{
+    let mut bodies = Vec::new(alloc);
+    for function in functions {
+        bodies.push(body_of(alloc, files, function.origin)?)?;
+    }
+    Ok(bodies)
 }
 
 /// Adds the debug sections of an object.
@@ -60,20 +80,6 @@ fn push_debug_sections<'a>(
         })?;
     }
     Ok(())
-}
-
-/// The bodies of all objects.
-pub(crate) fn all_bodies<'a>(
-    alloc: Global,
-    files: &[File<'a>],
-) -> Result<Vec<WasmFunctionBody<'a>>, AllocError>
-    ensures { IfOk result (λ bodies. bodies.items ≡ object_bodies 0 files.now) }
-{
-    let mut bodies = Vec::new(alloc);
-    for (object, file) in files.iter().enumerate() {
-        push_bodies(alloc, &mut bodies, object, file.bodies())?;
-    }
-    Ok(bodies)
 }
 
 /// The debug sections of all objects.

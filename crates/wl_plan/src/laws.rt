@@ -11,23 +11,26 @@ ghost use Rattle.wl_linking.specs.Fitting.{IsFitting};
 ghost use Rattle.wl_linking.specs.declared.error.LinkError.{LinkError as SpecError};
 ghost use Rattle.wl_symbols.specs.declared.args.WasmArgs.{WasmArgs as SpecArgs};
 ghost use Rattle.wl_symbols.specs.Link.{Link};
+ghost use Rattle.wl_live.specs.Live.{Live};
 ghost use Rattle.wl_plan.specs.Faults.{link_fault};
 ghost use Rattle.wl_plan.specs.LinkPlan.{IsPlanOf, IsLinkPlan, HasLinkFault};
 ghost use Rattle.wl_plan.specs.declared.layout.LinkPlan.{LinkPlan as SpecPlan};
 
 use wl_bytes::shortest_form_is_one;
 use wl_linking::object_or_fault;
+use wl_live::live_sets_are_one;
 
-/// Each output type stands once, and some function has it.
+/// Each output type stands once, and some kept function has it.
 pub fn types_stand_once()
-    ensures once { (objects : List Object) → StandOnce (output_types objects) }
-    ensures used { (objects : List Object) (i : ℕ) (ty : FunctionType)
-        → slice_get (output_types objects) i ≡ Some ty → IsFunctionsType objects ty }
+    ensures once { (live : Live) (objects : List Object) → StandOnce (output_types live objects) }
+    ensures used { (live : Live) (objects : List Object) (i : ℕ) (ty : FunctionType)
+        → slice_get (output_types live objects) i ≡ Some ty
+        → IsFunctionsType objects (function_space live objects) ty }
 {}
 
 /// No function has two indices.
 pub fn functions_stand_once()
-    ensures { (objects : List Object) → StandOnce (function_space objects) }
+    ensures { (live : Live) (objects : List Object) → StandOnce (function_space live objects) }
 {}
 
 /// A link of objects that fit together has one plan at most, and none where a step has a cause.
@@ -38,6 +41,7 @@ pub fn plan_or_fault()
         → IsPlanOf link plan → link_fault link e → ⊥ }
 {
     shortest_form_is_one();
+    live_sets_are_one();
 }
 
 /// The bytes of objects have one plan at most, and never both a plan and a cause of a refusal.

@@ -2,6 +2,7 @@
 #![tactic(auto)]
 
 mod bodies;
+mod entry;
 mod fixups;
 mod globals;
 mod laws;
@@ -12,6 +13,7 @@ mod merge;
 mod objects;
 mod plan;
 mod planned;
+mod relocated;
 mod spaces;
 mod types;
 

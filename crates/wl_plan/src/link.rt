@@ -14,6 +14,7 @@ use crate::plan::plan_objects;
 use crate::planned::{check_options, check_planned};
 use std::alloc::Global;
 use wl_linking::{FileList, LinkError, parse_wasm_module};
+use wl_live::{check_entry, collect_live};
 use wl_module::ReadError;
 use wl_symbols::{SymbolTable, WasmArgs};
 
@@ -52,11 +53,12 @@ fn parse_objects<'a>(alloc: Global, objects: &'a ObjectList) -> Result<FileList<
 /// # Errors
 /// `DuplicateSymbol` where two symbols that other objects can name have one name; then
 /// `Unsupported` with `NotYet` for the first object, or for options, that can't be planned; then
-/// `TooLarge` where a space would get more than 4294967294 entries.
+/// `EntryNotDefined` where an entry is asked for that no object defines; then what
+/// [`collect_live`] refuses; then `TooLarge` where a space would get more than 4294967294 entries.
 pub fn plan_files<'a>(
     alloc: Global,
     files: &FileList<'a>,
-    args: &WasmArgs,
+    args: &'a WasmArgs,
 ) -> Result<LinkPlan<'a>, LinkError>
     ensures ok { IfOk result (IsPlanOf (link_of files.now args.now)) }
     ensures err { IfErr result (Refuses (link_fault (link_of files.now args.now))) }
@@ -64,7 +66,9 @@ pub fn plan_files<'a>(
     let symbols = SymbolTable::build(alloc, files, args)?;
     check_planned(files)?;
     check_options(args)?;
-    let plan = plan_objects(alloc, &symbols)?;
+    check_entry(alloc, &symbols)?;
+    let live = collect_live(alloc, files, &symbols, args)?;
+    let plan = plan_objects(alloc, &symbols, &live, args)?;
     Ok(plan)
 }
 

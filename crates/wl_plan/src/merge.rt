@@ -1,33 +1,40 @@
-//! The types of an object's functions among the output types.
+//! The types of an object's kept functions among the output types.
 
 ghost use Rattle.std.specs.Prelude.{◌≡◌, ◌≤◌, length, true, false, IfOk, IfErr, Some, slice_get, if◌then◌else◌};
-ghost use Rattle.wl_plan.specs.Types.{types_exist};
-ghost use Rattle.wl_plan.specs.Types.{add_new, firsts_onto, live_types};
 ghost use Rattle.std.specs.List.{AllByRecursion};
 ghost use Rattle.wl_linking.specs.Fitting.{IsWhole};
-ghost use Rattle.wl_plan.specs.Types.{output_types};
-ghost use Rattle.wl_plan.specs.Merging.{IsFull, AreUsed, LeadsToTypes, AreMerged};
+ghost use Rattle.wl_plan.specs.Space.{max_entries};
+ghost use Rattle.wl_plan.specs.Types.{types_exist, add_new, firsts_onto, is_live_type, types_where, output_types};
+ghost use Rattle.wl_plan.specs.Merging.{IsFull, marked, AreMarked, LeadsToTypes, AreMerged};
 ghost use Rattle.wl_plan.specs.declared.types.TheConstants.{WASM_DEAD_INDEX};
 
 use crate::types::{TypeMerger, WASM_DEAD_INDEX};
 use std::alloc::{AllocError, Global};
 use wl_linking::{File, ItemList, LinkError};
+use wl_live::{LiveSet, WasmGcUnit};
 use wl_module::FuncType;
 
-/// Which of so many types a function has.
-fn used_types(alloc: Global, count: usize, functions: &[u32]) -> Result<Vec<bool>, AllocError>
-    requires { types_exist count functions.now ≡ true }
-    ensures len { IfOk result (λ used. length used.items ≡ count) }
-    ensures marks { IfOk result (λ used. AreUsed count functions.now used.items) }
+/// Which of an object's types a function has that is kept.
+fn mark_types(
+    alloc: Global,
+    live: &LiveSet,
+    object: usize,
+    file: &File<'_>,
+) -> Result<Vec<bool>, AllocError>
+    requires few { length file.now.functions ≤ max_entries }
+    requires types { types_exist (length file.now.types) file.now.functions ≡ true }
+    ensures { IfOk result (λ marks.
+        AreMarked (length file.now.types) (is_live_type live.now object file.now) marks.items) }
 {
-    let mut used = vec![in alloc; false; count]?;
-    for ty in functions {
-        used[*ty as usize] = true;
+    let mut marks = vec![in alloc; false; file.types().len()]?;
+    for (function, ty) in file.functions().iter().enumerate() {
+        let kept = live.is_live(object, WasmGcUnit::DefinedFunction(function as u32));
+        marks[*ty as usize] |= kept;
     }
-    Ok(used)
+    Ok(marks)
 }
 
-/// The place of a type among the output types, where a function has it.
+/// The place of a type among the output types, where a kept function has it.
 fn merge_type(merger: &mut TypeMerger, ty: &FuncType, used: bool) -> Result<u32, LinkError>
     ensures merged { IfOk result
         (λ index. merger.new ≡ (if used then add_new merger.old ty.now else merger.old)) }
@@ -42,23 +49,24 @@ fn merge_type(merger: &mut TypeMerger, ty: &FuncType, used: bool) -> Result<u32,
     }
 }
 
-/// Merges the types of an object's functions, and answers where each local type went.
+/// Merges the marked ones of an object's types, and answers where each of them went.
 fn merge_types(
     alloc: Global,
     merger: &mut TypeMerger,
-    file: &File<'_>,
+    types: &[FuncType],
+    marks: &[bool],
 ) -> Result<Vec<u32>, LinkError>
-    requires { types_exist (length file.now.types) file.now.functions ≡ true }
+    requires { length marks.now ≡ length types.now }
     ensures merged { IfOk result
-        (λ indices. merger.new ≡ firsts_onto merger.old (live_types file.now)) }
-    ensures places { IfOk result (λ indices. LeadsToTypes merger.new file.now indices.items) }
-    ensures err { IfErr result (IsFull (firsts_onto merger.old (live_types file.now))) }
+        (λ indices. merger.new ≡ firsts_onto merger.old (types_where (marked marks.now) 0 types.now)) }
+    ensures places { IfOk result
+        (λ indices. LeadsToTypes merger.new types.now (marked marks.now) indices.items) }
+    ensures err { IfErr result
+        (IsFull (firsts_onto merger.old (types_where (marked marks.now) 0 types.now))) }
 {
-    let types = file.types();
-    let used = used_types(alloc, types.len(), file.functions())?;
     let mut indices = Vec::new(alloc);
     for (local, ty) in types.iter().enumerate() {
-        let index = merge_type(merger, ty, used[local])?;
+        let index = merge_type(merger, ty, marks[local])?;
         indices.push(index)?;
     }
     Ok(indices)
@@ -71,19 +79,25 @@ pub(crate) struct MergedTypes {
     pub(crate) indices: Vec<ItemList<u32>>,
 }
 
-/// Merges the types of the functions of all objects.
+/// Merges the types of the kept functions of all objects.
 ///
 /// # Errors
 /// `TooLarge` where there would be more than 4294967294 of them.
-pub(crate) fn merge_all(alloc: Global, files: &[File<'_>]) -> Result<MergedTypes, LinkError>
+pub(crate) fn merge_all(
+    alloc: Global,
+    files: &[File<'_>],
+    live: &LiveSet,
+) -> Result<MergedTypes, LinkError>
     requires { AllByRecursion IsWhole files.now }
-    ensures ok { IfOk result (AreMerged files.now) }
-    ensures err { IfErr result (IsFull (output_types files.now)) }
+    ensures ok { IfOk result (AreMerged live.now files.now) }
+    ensures err { IfErr result (IsFull (output_types live.now files.now)) }
 {
     let mut merger = TypeMerger::new(alloc);
     let mut indices = Vec::new(alloc);
-    for file in files {
-        let local = merge_types(alloc, &mut merger, file)?;
+    for (object, file) in files.iter().enumerate() {
+        file.stands_for_an_object();
+        let marks = mark_types(alloc, live, object, file)?;
+        let local = merge_types(alloc, &mut merger, file.types(), &marks)?;
         indices.push(ItemList::new(local))?;
     }
     Ok(MergedTypes { merger, indices })

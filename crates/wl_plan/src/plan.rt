@@ -1,35 +1,27 @@
 //! The plan of objects that can be planned, part by part.
 
-ghost use Rattle.std.specs.Prelude.{◌≡◌, [], ◌∷◌, OnOk, IfOk, IfErr};
-ghost use Rattle.wl_plan.specs.Planned.{AllPlanned};
-ghost use Rattle.wl_plan.specs.Plan.{IsPlan, memory_export};
-ghost use Rattle.wl_plan.specs.Faults.{IsTooLarge};
+ghost use Rattle.std.specs.Prelude.{◌≡◌, OnOk, IfOk, IfErr};
 ghost use Rattle.wl_linking.specs.Steps.{Clear, Refuses};
+ghost use Rattle.wl_live.specs.Live.{IsLiveOf};
+ghost use Rattle.wl_live.specs.Entry.{IsEntryFault};
+ghost use Rattle.wl_plan.specs.Planned.{AllPlanned};
+ghost use Rattle.wl_plan.specs.Plan.{IsPlan};
+ghost use Rattle.wl_plan.specs.Faults.{IsTooLarge};
 
 use crate::bodies::{all_bodies, all_debug_sections};
+use crate::entry::exports;
 use crate::fixups::all_fixups;
 use crate::globals::made_globals;
 use crate::layout::{LinkPlan, WasmLayout};
 use crate::maps::index_maps;
 use crate::merge::merge_all;
+use crate::relocated::kept_relocations;
 use crate::spaces::function_space;
-use std::alloc::{AllocError, Global};
+use std::alloc::Global;
 use wl_linking::{ItemList, LinkError};
-use wl_module::{ExternalKind, MemoryType, OutputExport};
-use wl_symbols::SymbolTable;
-
-/// The exports: the memory.
-fn exports<'a>(alloc: Global) -> Result<ItemList<OutputExport<'a>>, AllocError>
-    ensures { IfOk result (λ exports. exports ≡ memory_export ∷ []) }
-{
-    let mut exports = Vec::new(alloc);
-    exports.push(OutputExport {
-        name: "memory",
-        kind: ExternalKind::Memory,
-        index: 0,
-    })?;
-    Ok(ItemList::new(exports))
-}
+use wl_live::{LiveSet, live_sets_are_one, live_units_are_closed};
+use wl_module::MemoryType;
+use wl_symbols::{SymbolTable, WasmArgs};
 
 /// The memory of a module none of whose objects has one: two pages.
 const MEMORY: MemoryType = MemoryType {
@@ -38,34 +30,42 @@ const MEMORY: MemoryType = MemoryType {
     shared: false,
 };
 
-/// The plan of the objects of this table, where every unit is kept.
+/// The plan of the objects of this table, where these units are kept.
 ///
 /// # Errors
 /// `TooLarge` where a space would get more than 4294967294 entries.
 pub(crate) fn plan_objects<'a>(
     alloc: Global,
     symbols: &SymbolTable<'_, 'a>,
+    live: &LiveSet,
+    args: &'a WasmArgs,
 ) -> Result<LinkPlan<'a>, LinkError>
-    requires { AllPlanned symbols.now.objects }
-    ensures ok { IfOk result (IsPlan symbols.now) }
-    ensures clear { OnOk result (Clear (IsTooLarge symbols.now.objects)) }
-    ensures err { IfErr result (Refuses (IsTooLarge symbols.now.objects)) }
+    requires fit { args.now ≡ symbols.now.args }
+    requires kept { IsLiveOf symbols.now live.now }
+    requires planned { AllPlanned symbols.now.objects }
+    requires entry { Clear (IsEntryFault symbols.now) }
+    ensures ok { IfOk result (IsPlan symbols.now live.now) }
+    ensures clear { OnOk result (Clear (IsTooLarge symbols.now)) }
+    ensures err { IfErr result (Refuses (IsTooLarge symbols.now)) }
 {
+    live_sets_are_one();
+    live_units_are_closed();
     let files = symbols.files().as_slice();
-    let merged = merge_all(alloc, files)?;
-    let functions = function_space(alloc, files, &merged)?;
-    let maps = index_maps(alloc, files, merged.indices)?;
-    let fixups = all_fixups(alloc, files, maps.as_slice())?;
+    let merged = merge_all(alloc, files, live)?;
+    let functions = function_space(alloc, files, live, &merged)?;
+    let maps = index_maps(alloc, files, live, merged.indices)?;
+    let relocations = kept_relocations(alloc, files, live)?;
+    let fixups = all_fixups(alloc, files, maps.as_slice(), &relocations)?;
     Ok(LinkPlan {
         layout: WasmLayout {
             output_types: merged.merger.into_types(),
             imports: ItemList::empty(alloc),
+            function_bodies: ItemList::new(all_bodies(alloc, files, &functions)?),
             function_type_indices: ItemList::new(functions),
-            function_bodies: ItemList::new(all_bodies(alloc, files)?),
             globals: made_globals(alloc)?,
             memory: Some(MEMORY),
             table: None,
-            exports: exports(alloc)?,
+            exports: exports(alloc, symbols, args, maps.as_slice())?,
             start_function: None,
             debug_sections: ItemList::new(all_debug_sections(alloc, files)?),
             object_index_maps: maps,

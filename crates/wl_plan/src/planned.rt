@@ -2,32 +2,14 @@
 
 ghost use Rattle.std.specs.Prelude.{◌≡◌, OnOk, IfErr};
 ghost use Rattle.std.specs.List.{list_any};
-ghost use Rattle.wl_plan.specs.Planned.{holds_bulk_memory, is_unplanned_symbol, is_unplanned_relocation, is_planned, AllPlanned, IsNotYet, asks_for_unplanned, IsUnplannedOption};
+ghost use Rattle.wl_plan.specs.Planned.{is_unplanned_symbol, is_unplanned_relocation, is_planned, AllPlanned, IsNotYet, asks_for_unplanned, IsUnplannedOption};
 ghost use Rattle.wl_linking.specs.Steps.{Clear, Refuses};
 
-use memchr::memchr;
 use wl_linking::{
     File, FileList, LinkError, RelocationType, WasmRelocation, WasmSymbol, WasmSymbolKind,
 };
-use wl_module::{Form, WasmFunctionBody};
+use wl_module::Form;
 use wl_symbols::{DEFAULT_STACK_SIZE, WasmArgs};
-
-/// The first byte of the bulk memory operators.
-const BULK_MEMORY: u8 = 0xfc;
-
-/// The body has that byte, which may begin a bulk memory operator.
-fn holds_bulk_memory(body: &WasmFunctionBody<'_>) -> bool
-    ensures { result ≡ holds_bulk_memory body.now }
-{
-    memchr(BULK_MEMORY, &body.bytes).is_some()
-}
-
-/// Some body has it.
-fn hold_bulk_memory(bodies: &[WasmFunctionBody<'_>]) -> bool
-    ensures { result ≡ list_any holds_bulk_memory bodies.now }
-{
-    bodies.iter().any(|body| holds_bulk_memory(body))
-}
 
 /// The symbol is neither that of a section nor that of a function that the object defines and
 /// doesn't call weak.
@@ -84,16 +66,14 @@ fn is_planned(file: &File<'_>) -> bool
         || !file.segments().is_empty()
         || !file.init_funcs().is_empty()
         || !file.target_features().is_empty()
-        || hold_bulk_memory(file.bodies())
         || hold_unplanned_symbols(file.symbols())
         || hold_unplanned_relocations(file.symbols(), file.code_relocations());
     !unplanned
 }
 
 /// Sees that the objects hold what can be planned alone: types, functions, sections of elements,
-/// data counts and debug sections, bodies without bulk memory operators, symbols of sections and of
-/// functions that their object defines and doesn't call weak, and relocations that take the number
-/// of a function in five bytes.
+/// data counts and debug sections, symbols of sections and of functions that their object defines
+/// and doesn't call weak, and relocations that take the number of a function in five bytes.
 ///
 /// # Errors
 /// `Unsupported` with `NotYet` for the first object that holds something else.
@@ -113,15 +93,12 @@ pub(crate) fn check_planned(files: &FileList<'_>) -> Result<(), LinkError>
     Ok(())
 }
 
-/// The words ask for what can't be planned yet: to drop units, an entry, exports, to leave names to
-/// the host, shared memory, another place or size of the stack, another memory, features, or to
-/// leave sections out.
+/// The words ask for what can't be planned yet: exports, to leave names to the host, shared memory,
+/// another place or size of the stack, another memory, features, or to leave sections out.
 fn asks_for_unplanned(args: &WasmArgs) -> bool
     ensures { result ≡ asks_for_unplanned args.now }
 {
-    args.gc_sections
-        || args.entry.is_some()
-        || !args.export_symbols.is_empty()
+    !args.export_symbols.is_empty()
         || args.export_dynamic
         || args.allow_undefined
         || args.shared_memory

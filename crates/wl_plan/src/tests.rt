@@ -22,13 +22,18 @@ const TYPED: &[u8; 36] = b"\0asm\x01\0\0\0\
     \x03\x03\x02\x01\x02\
     \x0a\x07\x02\x02\0\x0b\x02\0\x0b";
 
-/// The words of a plan that keeps every unit and has no entry.
-fn plain_args(alloc: Global) -> Result<WasmArgs, Fail> {
+/// What these words ask for.
+fn args_of(alloc: Global, texts: &[&str]) -> Result<WasmArgs, Fail> {
     let mut words = Vec::new(alloc);
-    for word in ["--no-gc-sections", "--no-entry", "a.o"] {
-        words.push(String::from_str(alloc, word)?)?;
+    for text in texts {
+        words.push(String::from_str(alloc, text)?)?;
     }
     Ok(WasmArgs::parse(alloc, &words)?)
+}
+
+/// The words of a plan that keeps every unit and has no entry.
+fn plain_args(alloc: Global) -> Result<WasmArgs, Fail> {
+    args_of(alloc, &["--no-gc-sections", "--no-entry", "a.o"])
 }
 
 /// These objects.
@@ -103,5 +108,19 @@ fn a_call_leads_to_its_object(rt: HostRuntime) -> Result<(), Fail> {
         },
     };
     assert_eq!(rt; plan.fixups.as_slice(), [fixup].as_slice());
+    Ok(())
+}
+
+#[test]
+fn what_the_entry_does_not_call_is_dropped(rt: HostRuntime) -> Result<(), Fail> {
+    let alloc = rt.alloc();
+    let objects = objects_of(&rt, alloc, &[CALLS.as_slice(), TYPED])?;
+    let args = args_of(alloc, &["--entry=b", "a.o"])?;
+    let plan = plan_link(alloc, &objects, &args).ok().expect(&rt, "a plan");
+    let layout = &plan.layout;
+    assert_eq!(rt; layout.function_type_indices.as_slice().len(), 1);
+    assert_eq!(rt; layout.function_bodies.as_slice().len(), 1);
+    assert_eq!(rt; layout.exports.as_slice().len(), 2);
+    assert!(rt; plan.fixups.as_slice().is_empty());
     Ok(())
 }

@@ -106,6 +106,13 @@ impl<'f, 'a> SymbolTable<'f, 'a> {
         self.files
     }
 
+    /// The options that it was built under.
+    pub fn args(&self) -> &'f WasmArgs
+        ensures { result.now ≡ self.now.args }
+    {
+        self.args
+    }
+
     /// What a name stands for: the first strong symbol that has it; else the first weak one; else
     /// what the linker makes under it; else the first undefined one. Nothing where none of them is.
     pub fn lookup(&self, name: &str) -> Option<Definition>

@@ -1,6 +1,10 @@
-use Rattle.wl_plan.specs.Plan.{object_bodies}
-use Rattle.wl_plan.proofs.PlanLaws.{bodies_on}
+use Rattle.wl_plan.proofs.FixupLaws.{body_at, bodies_more}
+use Rattle.wl_plan.specs.declared.layout.FunctionOrigin.TheVariants as origin
 use Rattle.wl_plan.proofs.bodies.all_bodies.Goals as goal
 
-pub loop-object-preserved : goal.loop-object-preserved
-loop-object-preserved c = rw (c.in_ok-push_bodies.ensures, c.bodies.ensures) (bodies_on c.args.files.now c.loop-object.object c.index-files-object.result c.loop-object.bodies.items (object_bodies 0 c.args.files.now) c.loop-object-test.true c.index-files-object.is c.loop-object.invariant)
+pub body_of-requires : goal.body_of-requires
+body_of-requires c = body_at c.args.files.now c.args.functions.now c.loop-function.function-index (record { type_index = 0; origin = origin.Object 0 0 }) c.requires c.loop-function-test.true
+
+pub loop-function-preserved : goal.loop-function-preserved
+loop-function-preserved c =
+    rw c.in_ok-push.ensures.items (bodies_more c.args.files.now c.args.functions.now c.loop-function.function-index (record { type_index = 0; origin = origin.Object 0 0 }) c.loop-function.bodies.items c.in_ok-body_of.field-0 c.loop-function-test.true c.in_ok-body_of.ensures c.loop-function.invariant)

@@ -1,6 +1,7 @@
-use Rattle.std.proofs.Common.{◌≡◌, ◌++◌, drop}
-use Rattle.wl_plan.specs.Plan.{object_bodies}
+use Rattle.std.proofs.Common.{take}
+use Rattle.std.specs.List.{AllZip}
+use Rattle.wl_plan.specs.Plan.{function_origins, IsBodyOf}
 use Rattle.wl_plan.proofs.bodies.all_bodies.Given as goal
 
-abbrev pub invariant-loop-object : goal.invariant-loop-object
-invariant-loop-object l = l.bodies.items ++ object_bodies l.object (drop l.object l.files) ≡ object_bodies 0 l.files
+abbrev pub invariant-loop-function : goal.invariant-loop-function
+invariant-loop-function l = AllZip (IsBodyOf l.files) (take l.function-index (function_origins l.functions)) l.bodies.items

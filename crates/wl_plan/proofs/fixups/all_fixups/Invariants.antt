@@ -1,7 +1,9 @@
-use Rattle.std.proofs.Common.{take}
-use Rattle.wl_plan.specs.Space.{function_space}
-use Rattle.wl_plan.specs.Fixups.{AreFixups}
+use Rattle.std.proofs.Common.{◌≡◌, ◌++◌, drop, map}
+use Rattle.wl_plan.specs.Plan.{function_maps}
+use Rattle.wl_plan.specs.Building.{fixup_by}
 use Rattle.wl_plan.proofs.fixups.all_fixups.Given as goal
 
-abbrev pub invariant-loop-object : goal.invariant-loop-object
-invariant-loop-object l = AreFixups (function_space l.files) 0 (take l.object l.files) l.fixups.items
+abbrev pub invariant-loop-relocated : goal.invariant-loop-relocated
+invariant-loop-relocated l =
+    l.fixups.items ++ map (fixup_by l.files (function_maps l.maps)) (drop l.relocated-index l.relocations)
+    ≡ map (fixup_by l.files (function_maps l.maps)) l.relocations

@@ -6,5 +6,5 @@ use Rattle.wl_plan.proofs.maps.index_maps.Given as goal
 abbrev pub invariant-loop-type_indices : goal.invariant-loop-type_indices
 invariant-loop-type_indices l = record {
   types : type_maps l.maps.items ≡ l.yielded;
-  on : MapsOn l.files (length l.maps.items) l.base (function_maps l.maps.items);
+  on : MapsOn l.live l.files (length l.maps.items) l.next (function_maps l.maps.items);
 }

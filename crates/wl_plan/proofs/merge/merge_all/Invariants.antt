@@ -1,5 +1,5 @@
 use Rattle.wl_plan.proofs.PlanLaws.{MergesAll}
 use Rattle.wl_plan.proofs.merge.merge_all.Given as goal
 
-abbrev pub invariant-loop-file : goal.invariant-loop-file
-invariant-loop-file l = MergesAll l.files l.file-index l.merger l.indices.items
+abbrev pub invariant-loop-object : goal.invariant-loop-object
+invariant-loop-object l = MergesAll l.live l.files l.object l.merger l.indices.items

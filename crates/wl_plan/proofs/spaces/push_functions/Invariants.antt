@@ -1,6 +1,11 @@
-use Rattle.std.proofs.Common.{◌≡◌, ◌++◌, drop}
-use Rattle.wl_plan.specs.Building.{outputs_from}
+use Rattle.std.proofs.Common.{◌≡◌, ◌≤◌, ◌++◌, map, filter, length}
+use Rattle.std.specs.List.{range_with_len}
+use Rattle.wl_plan.specs.Space.{keeps_function, max_entries}
+use Rattle.wl_plan.specs.Building.{output_at}
 use Rattle.wl_plan.proofs.spaces.push_functions.Given as goal
 
-abbrev pub invariant-loop-unit : goal.invariant-loop-unit
-invariant-loop-unit l = l.functions.items ++ outputs_from l.object l.unit (drop l.unit l.local) l.indices ≡ l.initial.functions.items ++ outputs_from l.object 0 l.local l.indices
+abbrev pub invariant-loop-function : goal.invariant-loop-function
+invariant-loop-function l = record {
+  room : length l.functions.items ≤ max_entries;
+  items : l.functions.items ≡ l.initial.functions.items ++ map (output_at l.object l.local l.indices) (filter (keeps_function l.live l.object) (range_with_len 0 l.function));
+}

@@ -1,0 +1,13 @@
+pub mod NumberingLaws
+pub mod ReachLaws
+pub mod OrdinalLaws
+pub mod JoinLaws
+pub mod ExistLaws
+pub mod RootLaws
+pub mod ReferenceLaws
+pub mod FactLaws
+pub mod FaultLaws
+pub mod RefusalLaws
+pub mod KeptLaws
+pub mod OneLaws
+pub mod DenseLaws

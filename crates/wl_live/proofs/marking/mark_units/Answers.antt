@@ -1,0 +1,14 @@
+use Rattle.std.proofs.Common.{◌≡◌, ◌∙◌, ap, true, false, rules, replicate, ℕ}
+use Rattle.wl_live.proofs.ReferenceLaws.{live_all, live_reached}
+use Rattle.wl_live.proofs.marking.mark_units.Goals as goal
+
+pub returns-then-not-args-clause-marks : goal.returns-then-not-args-clause-marks
+returns-then-not-args-clause-marks g c =
+    let off : c.args.args.now.gc_sections ≡ false = search rules in
+    live_all c.args.symbols.now c.args.numbers.now c.in_ok-marks.marks c.requires.units (rw c.requires.args at off) (c.in_ok-marks.ensures ∙ ap (λ (n : ℕ). replicate n true) c.total.ensures)
+
+pub returns-clause-marks : goal.returns-clause-marks
+returns-clause-marks g c =
+    let on : c.args.args.now.gc_sections ≡ true = search rules in
+    live_reached c.numbers_are_one.ensures.one c.args.symbols.now c.args.numbers.now c.args.facts.now c.in_ok-marks-2.marks c.requires.units c.requires.facts (rw c.requires.args at on) c.in_ok-marks-2.ensures.each
+    (rw (c.deref.ensures.value, c.in_ok-references.ensures, c.deref-2.ensures.value, c.in_ok-roots.ensures) at c.in_ok-marks-2.ensures.marks)

@@ -1,0 +1,6 @@
+use Rattle.std.proofs.Common.{take}
+use Rattle.wl_live.specs.Live.{HasNoKept}
+use Rattle.wl_live.proofs.refusals.kept_fault.Given as goal
+
+abbrev pub invariant-loop-fault : goal.invariant-loop-fault
+invariant-loop-fault l = HasNoKept l.live l.object (take l.fault-index l.faults)

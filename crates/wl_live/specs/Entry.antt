@@ -1,0 +1,36 @@
+-- The function at which the program starts.
+use Rattle.std.specs.Prelude.{◌≡◌, ℕ, ◌&&◌, Bool, true, false, not, List, Option, Some, None}
+use Rattle.std.specs.Option.{option_map_or}
+use Rattle.wl_linking.specs.Symbols.{Symbol as LinkedSymbol, is_undefined}
+use Rattle.wl_linking.specs.declared.symbols.WasmSymbolKind.{WasmSymbolKind}
+use Rattle.wl_linking.specs.declared.symbols.WasmSymbolKind.TheVariants as symbol
+use Rattle.wl_linking.specs.declared.error.LinkError.{LinkError}
+use Rattle.wl_linking.specs.declared.error.LinkError.TheVariants.{EntryNotDefined}
+use Rattle.wl_symbols.specs.Link.{Link}
+use Rattle.wl_symbols.specs.Entries.{symbol_in}
+use Rattle.wl_symbols.specs.Names.{named}
+use Rattle.wl_symbols.specs.declared.entry.Definition.{Definition}
+use Rattle.wl_symbols.specs.declared.entry.Definition.TheVariants.{Symbol, Made}
+
+-- the symbol is a function's
+abbrev pub is_function_kind : WasmSymbolKind → Bool
+is_function_kind symbol.Func = true
+is_function_kind _ = false
+
+-- the symbol is a function that its object defines
+abbrev pub is_defined_function : LinkedSymbol → Bool
+is_defined_function s = is_function_kind s.kind && not (is_undefined s)
+
+-- this is a function that an object defines
+abbrev pub gives_function : Link → Option Definition → Bool
+gives_function link None = false
+gives_function link (Some (Made m)) = false
+gives_function link (Some (Symbol object number)) =
+    option_map_or is_defined_function (symbol_in link.objects object number) false
+
+-- an entry is asked for, and its name stands for no function that an object defines
+pub record IsEntryFault (link : Link) (e : LinkError) : Type 0 where
+  pub name : List ℕ
+  pub asked : link.args.entry ≡ Some name
+  pub missing : gives_function link (named link name) ≡ false
+  pub told : e ≡ EntryNotDefined name

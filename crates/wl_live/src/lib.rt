@@ -1,0 +1,33 @@
+//! Which units of the objects are kept: functions, globals, segments and imports, each kept or left
+//! out by itself.
+//!
+//! [`collect_live`] keeps what a chain of references leads to from what is kept by itself, and the
+//! [`LiveSet`] tells it. [`facts`] gathers what an object says of its units, whatever names stand
+//! for; [`collect_live_from`] goes on from there.
+#![tactic(auto)]
+
+mod collecting;
+mod definitions;
+mod entry;
+mod faults;
+mod laws;
+mod live_set;
+mod marking;
+mod numbers;
+mod object_facts;
+mod references;
+mod refusals;
+mod roots;
+#[cfg(test)]
+mod tests;
+mod units;
+
+pub use collecting::{collect_live, collect_live_counted, collect_live_from};
+pub use entry::check_entry;
+pub use laws::{
+    kept_units_are_closed, live_sets_are_one, live_units_are_closed, ordinals_are_dense,
+    undecoded_bodies_refer_to_none,
+};
+pub use live_set::LiveSet;
+pub use object_facts::{ObjectFacts, facts};
+pub use units::{LinkUnit, WasmGcUnit, wasm_gc_unit_for_symbol};

@@ -1,0 +1,127 @@
+//! Marks for the units that are kept.
+
+ghost use Rattle.std.specs.Prelude.{◌≡◌, ◌≤◌, ◌+◌, ◌++◌, length, IfOk, OnOk};
+ghost use Rattle.std.specs.Option.{option_to_list};
+ghost use Rattle.wl_live.specs.Units.{units_of, unit_number_if, total_of};
+ghost use Rattle.wl_live.specs.Facts.{AreAllFacts};
+ghost use Rattle.wl_live.specs.Table.{edge_of, found, most_steps};
+ghost use Rattle.wl_live.specs.Live.{IsLiveOf, UnitsReached};
+
+use crate::numbers::UnitNumbers;
+use crate::object_facts::ObjectFacts;
+use crate::references::{Reference, collect_references};
+use crate::roots::collect_roots;
+use crate::units::LinkUnit;
+use std::alloc::{AllocError, Global};
+use std::sync::ledger::Ledger;
+use wl_ops::numbers_are_one;
+use wl_reach::{Edge, Graph, Marks, reach_counted};
+use wl_steps::Steps;
+use wl_symbols::{SymbolTable, WasmArgs};
+
+/// The edge of a reference, where both units exist.
+fn edge_of(numbers: &UnitNumbers, reference: Reference) -> Option<Edge>
+    ensures { result ≡ edge_of numbers.now reference }
+{
+    let from = numbers.number(reference.from)?;
+    let to = numbers.number(reference.to)?;
+    Some(Edge { from, to })
+}
+
+/// Adds an edge, if there is one.
+fn push_edge(edges: &mut Vec<Edge>, edge: Option<Edge>) -> Result<(), AllocError>
+    ensures { OnOk result (edges.new.items ≡ edges.old.items ++ option_to_list edge) }
+{
+    if let Some(edge) = edge {
+        edges.push(edge)?;
+    }
+    Ok(())
+}
+
+/// The edges of the references.
+fn collect_edges(
+    alloc: Global,
+    numbers: &UnitNumbers,
+    references: &[Reference],
+) -> Result<Vec<Edge>, AllocError>
+    ensures { IfOk result (λ v. v.items ≡ found (edge_of numbers.now) references.now) }
+{
+    let mut edges = Vec::new(alloc);
+    for reference in references {
+        push_edge(&mut edges, edge_of(numbers, *reference))?;
+    }
+    Ok(edges)
+}
+
+/// Adds a number, if there is one.
+fn push_number(list: &mut Vec<usize>, number: Option<usize>) -> Result<(), AllocError>
+    ensures { OnOk result (list.new.items ≡ list.old.items ++ option_to_list number) }
+{
+    if let Some(number) = number {
+        list.push(number)?;
+    }
+    Ok(())
+}
+
+/// The numbers of the units that exist.
+fn collect_numbers(
+    alloc: Global,
+    numbers: &UnitNumbers,
+    units: &[LinkUnit],
+) -> Result<Vec<usize>, AllocError>
+    ensures { IfOk result (λ v. v.items ≡ found (unit_number_if numbers.now) units.now) }
+{
+    let mut list = Vec::new(alloc);
+    for unit in units {
+        push_number(&mut list, numbers.number(*unit))?;
+    }
+    Ok(list)
+}
+
+/// Marks the units that a chain of references leads to from a root.
+fn reach_units<L: Ledger>(
+    alloc: Global,
+    numbers: &UnitNumbers,
+    references: &[Reference],
+    roots: &[LinkUnit],
+    steps: &mut Steps<L>,
+) -> Result<Marks, AllocError>
+    ensures each { IfOk result (λ m. length m ≡ total_of numbers.now) }
+    ensures marks { IfOk result (UnitsReached numbers.now references.now roots.now) }
+    ensures cost { steps.new ≤ steps.old + (total_of numbers.now
+        + length (found (edge_of numbers.now) references.now)) }
+{
+    let edges = collect_edges(alloc, numbers, references)?;
+    let graph = Graph::new(alloc, numbers.total(), &edges)?;
+    let starts = collect_numbers(alloc, numbers, roots)?;
+    let marks = reach_counted(alloc, &graph, &starts, steps)?;
+    Ok(marks)
+}
+
+/// Marks the units that are kept.
+pub(crate) fn mark_units<L: Ledger>(
+    alloc: Global,
+    symbols: &SymbolTable<'_, '_>,
+    args: &WasmArgs,
+    numbers: &UnitNumbers,
+    facts: &[ObjectFacts],
+    steps: &mut Steps<L>,
+) -> Result<Marks, AllocError>
+    requires args { args.now ≡ symbols.now.args }
+    requires units { numbers.now ≡ units_of symbols.now.objects }
+    requires facts { AreAllFacts symbols.now.objects facts.now }
+    ensures each { IfOk result (λ m. length m ≡ total_of numbers.now) }
+    ensures marks { IfOk result
+        (λ m. IsLiveOf symbols.now (record { units = numbers.now; marks = m })) }
+    ensures cost { steps.new ≤ steps.old + most_steps symbols.now facts.now }
+{
+    numbers_are_one();
+    if !args.gc_sections {
+        let marks = Marks::filled(alloc, numbers.total())?;
+        return Ok(marks);
+    }
+    let references = collect_references(alloc, symbols, numbers, facts)?;
+    let roots = collect_roots(alloc, symbols, numbers)?;
+    let marks = reach_units(alloc, numbers, &references, &roots, steps)?;
+    Ok(marks)
+}

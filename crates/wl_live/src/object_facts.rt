@@ -1,0 +1,225 @@
+//! What an object says of its units, whatever names stand for.
+
+ghost use Rattle.std.specs.Prelude.{◌≡◌, ℕ, ◌<◌, ◌^◌, ◌++◌, length, IfOk, OnOk, Some, slice_get};
+ghost use Rattle.wl_linking.specs.declared.sites.Site.{Site as SiteRecord};
+ghost use Rattle.wl_live.specs.Facts.{use_of, section_uses, uses_of, slot_unit, slot_use, slot_uses, AreFacts, AreAllFacts};
+
+use crate::faults::{BodyFacts, collect_faults};
+use crate::units::{UnitCounts, WasmGcUnit, counts_of, sibling_of, unit_in};
+use std::alloc::{AllocError, Global};
+use std::marker::Model;
+use wl_linking::{File, FileList, ItemList, Site, WasmRelocation, WasmSymbol, whole_objects};
+use wl_module::ReadError;
+
+/// A unit uses a symbol: by a relocation in it, or as the import slot of an undefined symbol.
+#[derive(Clone, Copy, Debug, PartialEq, Eq)]
+pub(crate) struct SymbolUse {
+    pub(crate) unit: WasmGcUnit,
+    /// The symbol's number in the object.
+    pub(crate) symbol: u32,
+}
+
+/// The number of a segment stands in a body.
+#[derive(Clone, Copy, Debug, PartialEq, Eq)]
+pub(crate) struct SegmentUse {
+    pub(crate) function: u32,
+    pub(crate) segment: u32,
+}
+
+/// A unit can't be kept.
+#[derive(Clone, Copy, Debug, PartialEq, Eq)]
+pub(crate) struct UnitFault {
+    pub(crate) unit: WasmGcUnit,
+    pub(crate) error: ReadError,
+}
+
+/// What an object says of its units, whatever names stand for: which symbols they use, which
+/// segments bodies number, and why units can't be kept. Clauses see it as `Facts`.
+#[derive(Drop)]
+pub struct ObjectFacts {
+    uses: ItemList<SymbolUse>,
+    slots: ItemList<SymbolUse>,
+    segments: ItemList<SegmentUse>,
+    faults: ItemList<UnitFault>,
+}
+
+impl Model for ObjectFacts {
+    ghost use Rattle.wl_live.specs.Facts.{Facts};
+
+    ghost Value = { Facts };
+
+    ghost view = { λ f. record {
+      uses = f.uses;
+      slots = f.slots;
+      segments = f.segments;
+      faults = f.faults;
+    } };
+}
+
+impl ObjectFacts {
+    /// Which symbols the relocations in units name.
+    pub(crate) fn uses(&self) -> &[SymbolUse]
+        ensures { result.now ≡ self.now.uses }
+    {
+        self.uses.as_slice()
+    }
+
+    /// Which symbols import slots have.
+    pub(crate) fn slots(&self) -> &[SymbolUse]
+        ensures { result.now ≡ self.now.slots }
+    {
+        self.slots.as_slice()
+    }
+
+    /// Which segments bodies number.
+    pub(crate) fn segments(&self) -> &[SegmentUse]
+        ensures { result.now ≡ self.now.segments }
+    {
+        self.segments.as_slice()
+    }
+
+    /// Why units can't be kept.
+    pub(crate) fn faults(&self) -> &[UnitFault]
+        ensures { result.now ≡ self.now.faults }
+    {
+        self.faults.as_slice()
+    }
+}
+
+/// Adds a relocation in a unit of that kind, unless it is against a type.
+fn push_use(
+    list: &mut Vec<SymbolUse>,
+    kind: WasmGcUnit,
+    relocation: &WasmRelocation,
+    site: &Site,
+) -> Result<(), AllocError>
+    requires { site.now.unit < 2 ^ 32 }
+    ensures { OnOk result
+        (list.new.items ≡ list.old.items ++ use_of kind relocation.now site.now) }
+{
+    if !relocation.ty.names_a_type() {
+        list.push(SymbolUse {
+            unit: sibling_of(kind, site.unit as u32),
+            symbol: relocation.index,
+        })?;
+    }
+    Ok(())
+}
+
+/// Adds the relocations of a section, whose fields lie in units of that kind.
+fn push_uses(
+    list: &mut Vec<SymbolUse>,
+    kind: WasmGcUnit,
+    relocations: &[WasmRelocation],
+    sites: &[Site],
+) -> Result<(), AllocError>
+    requires each { length sites.now ≡ length relocations.now }
+    requires units { (k : ℕ) (s : SiteRecord) → slice_get sites.now k ≡ Some s → s.unit < 2 ^ 32 }
+    ensures { OnOk result
+        (list.new.items ≡ list.old.items ++ section_uses kind relocations.now sites.now) }
+{
+    for i in 0..relocations.len() {
+        push_use(list, kind, &relocations[i], &sites[i])?;
+    }
+    Ok(())
+}
+
+/// Which symbols the relocations of an object name, code before data.
+fn collect_uses(alloc: Global, file: &File<'_>) -> Result<Vec<SymbolUse>, AllocError>
+    ensures { IfOk result (λ v. v.items ≡ uses_of file.now) }
+{
+    file.stands_for_an_object();
+    whole_objects();
+    let mut list = Vec::new(alloc);
+    let functions = WasmGcUnit::DefinedFunction(0);
+    push_uses(
+        &mut list,
+        functions,
+        file.code_relocations(),
+        file.code_sites(),
+    )?;
+    let segments = WasmGcUnit::DataSegment(0);
+    push_uses(
+        &mut list,
+        segments,
+        file.data_relocations(),
+        file.data_sites(),
+    )?;
+    Ok(list)
+}
+
+/// The import slot of a symbol, if it is undefined.
+fn slot_of(counts: UnitCounts, symbol: &WasmSymbol<'_>) -> Option<WasmGcUnit>
+    ensures { result ≡ slot_unit counts symbol.now }
+{
+    if symbol.is_undefined() {
+        unit_in(counts, symbol)
+    } else {
+        None
+    }
+}
+
+/// Adds the import slot of a symbol, if it has one.
+fn push_slot(
+    list: &mut Vec<SymbolUse>,
+    counts: UnitCounts,
+    number: u32,
+    symbol: &WasmSymbol<'_>,
+) -> Result<(), AllocError>
+    ensures { OnOk result
+        (list.new.items ≡ list.old.items ++ slot_use counts number symbol.now) }
+{
+    if let Some(unit) = slot_of(counts, symbol) {
+        list.push(SymbolUse {
+            unit,
+            symbol: number,
+        })?;
+    }
+    Ok(())
+}
+
+/// Which symbols the import slots of an object have.
+fn collect_slots(alloc: Global, file: &File<'_>) -> Result<Vec<SymbolUse>, AllocError>
+    ensures { IfOk result (λ v. v.items ≡ slot_uses file.now) }
+{
+    file.stands_for_an_object();
+    let counts = counts_of(file);
+    let mut list = Vec::new(alloc);
+    let listed = file.symbols();
+    for (i, symbol) in listed.iter().enumerate() {
+        push_slot(&mut list, counts, i as u32, symbol)?;
+    }
+    Ok(list)
+}
+
+/// What an object says of its units.
+///
+/// # Errors
+/// `AllocError` where memory runs out.
+pub fn facts(alloc: Global, file: &File<'_>) -> Result<ObjectFacts, AllocError>
+    ensures { IfOk result (AreFacts file.now) }
+{
+    let uses = collect_uses(alloc, file)?;
+    let slots = collect_slots(alloc, file)?;
+    let BodyFacts { segments, faults } = collect_faults(alloc, file)?;
+    Ok(ObjectFacts {
+        uses: ItemList::new(uses),
+        slots: ItemList::new(slots),
+        segments: ItemList::new(segments),
+        faults: ItemList::new(faults),
+    })
+}
+
+/// What each object says of its units.
+///
+/// # Errors
+/// `AllocError` where memory runs out.
+pub(crate) fn all_facts(alloc: Global, files: &FileList<'_>) -> Result<Vec<ObjectFacts>, AllocError>
+    ensures { IfOk result (λ v. AreAllFacts files.now v.items) }
+{
+    let mut list = Vec::new(alloc);
+    for file in files.as_slice() {
+        list.push(facts(alloc, file)?)?;
+    }
+    Ok(list)
+}

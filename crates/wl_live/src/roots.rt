@@ -1,0 +1,341 @@
+//! Which units are kept by themselves.
+
+ghost use Rattle.std.specs.Prelude.{◌≡◌, ◌<◌, ◌^◌, ◌++◌, length, IfOk, OnOk, if◌then◌else◌, [], None, flat_map};
+ghost use Rattle.std.specs.Option.{option_to_list};
+ghost use Rattle.wl_linking.specs.Symbols.{has_flag, is_weak};
+ghost use Rattle.wl_module.specs.declared.imports.ExternalKind.TheVariants as ExternalKind;
+ghost use Rattle.wl_symbols.specs.Entries.{symbol_in};
+ghost use Rattle.wl_symbols.specs.Texts.{texts};
+ghost use Rattle.wl_live.specs.Definitions.{unit_at, other_unit};
+ghost use Rattle.wl_live.specs.Roots.{export_unit, is_kept_symbol, is_itself, is_exportable, is_candidate, is_root_symbol};
+ghost use Rattle.wl_live.specs.Table.{placed, export_roots, symbol_roots, init_root, init_roots, object_roots, roots_from, forced_roots, entry_unit, roots};
+
+use crate::definitions::{definition_at, find_symbol, named_unit, other_unit, unit_at};
+use crate::numbers::UnitNumbers;
+use crate::units::{LinkUnit, UnitCounts, WasmGcUnit, defined, imported};
+use bitflags::Flags;
+use std::alloc::{AllocError, Global};
+use wl_linking::{File, SymbolFlags, WasmInitFunc, WasmSymbol, WasmSymbolKind};
+use wl_module::{ExternalKind, OutputExport};
+use wl_symbols::{Definition, SymbolTable};
+
+/// Adds a unit, if there is one.
+fn push_unit(list: &mut Vec<LinkUnit>, unit: Option<LinkUnit>) -> Result<(), AllocError>
+    ensures { OnOk result (list.new.items ≡ list.old.items ++ option_to_list unit) }
+{
+    if let Some(unit) = unit {
+        list.push(unit)?;
+    }
+    Ok(())
+}
+
+/// The function that is exported under an index, which counts imported ones first.
+fn function_under(counts: UnitCounts, index: u32) -> Option<WasmGcUnit>
+    ensures { result ≡ export_unit counts ExternalKind.Func index }
+{
+    match imported(counts.function_imports, index) {
+        Some(index) => Some(WasmGcUnit::FunctionImport(index)),
+        None => {
+            let index = defined(counts.function_imports, counts.functions, index)?;
+            Some(WasmGcUnit::DefinedFunction(index))
+        }
+    }
+}
+
+/// The global that is exported under an index, which counts imported ones first.
+fn global_under(counts: UnitCounts, index: u32) -> Option<WasmGcUnit>
+    ensures { result ≡ export_unit counts ExternalKind.Global index }
+{
+    match imported(counts.global_imports, index) {
+        Some(index) => Some(WasmGcUnit::GlobalImport(index)),
+        None => {
+            let index = defined(counts.global_imports, counts.globals, index)?;
+            Some(WasmGcUnit::DefinedGlobal(index))
+        }
+    }
+}
+
+/// The unit of an export.
+fn export_unit(counts: UnitCounts, export: &OutputExport<'_>) -> Option<WasmGcUnit>
+    ensures { result ≡ export_unit counts export.now.kind export.now.index }
+{
+    match export.kind {
+        ExternalKind::Func => function_under(counts, export.index),
+        ExternalKind::Global => global_under(counts, export.index),
+        ExternalKind::Table | ExternalKind::Memory => None,
+    }
+}
+
+/// Adds a unit of an object, if there is one.
+fn push_placed(
+    list: &mut Vec<LinkUnit>,
+    object: usize,
+    unit: Option<WasmGcUnit>,
+) -> Result<(), AllocError>
+    ensures { OnOk result (list.new.items ≡ list.old.items ++ placed object unit) }
+{
+    if let Some(unit) = unit {
+        list.push(LinkUnit { object, unit })?;
+    }
+    Ok(())
+}
+
+/// Adds what an object exports.
+fn push_exports(
+    list: &mut Vec<LinkUnit>,
+    numbers: &UnitNumbers,
+    object: usize,
+    exports: &[OutputExport<'_>],
+) -> Result<(), AllocError>
+    ensures { OnOk result
+        (list.new.items ≡ list.old.items ++ export_roots numbers.now object exports.now) }
+{
+    for export in exports {
+        push_placed(list, object, export_unit(numbers.counts(object), export))?;
+    }
+    Ok(())
+}
+
+/// Whether a symbol is kept for the host.
+fn is_exported(symbol: &WasmSymbol<'_>) -> bool
+    ensures { result ≡ has_flag symbol.now.flags 0x20 }
+{
+    symbol.flags.contains(SymbolFlags::EXPORTED)
+}
+
+/// Whether a symbol is kept by itself.
+fn is_not_stripped(symbol: &WasmSymbol<'_>) -> bool
+    ensures { result ≡ has_flag symbol.now.flags 0x80 }
+{
+    symbol.flags.contains(SymbolFlags::NO_STRIP)
+}
+
+/// Whether a symbol is kept for the host, or by itself.
+fn is_kept_symbol(symbol: &WasmSymbol<'_>) -> bool
+    ensures { result ≡ is_kept_symbol symbol.now }
+{
+    is_exported(symbol) || is_not_stripped(symbol)
+}
+
+/// Whether a symbol stands for itself.
+fn is_itself(definition: Option<Definition>, object: usize, symbol: u32) -> bool
+    ensures { result ≡ is_itself definition object symbol }
+{
+    match definition {
+        None | Some(Definition::Made(_)) => false,
+        Some(
+            Definition::Symbol {
+                object: o,
+                symbol: k,
+            },
+        ) => o == object && k == symbol,
+    }
+}
+
+/// Whether symbols of that kind can be exported.
+fn is_exportable(kind: WasmSymbolKind) -> bool
+    ensures { result ≡ is_exportable kind }
+{
+    match kind {
+        WasmSymbolKind::Func | WasmSymbolKind::Data | WasmSymbolKind::Global => true,
+        WasmSymbolKind::Section | WasmSymbolKind::Event | WasmSymbolKind::Table => false,
+    }
+}
+
+/// Whether a symbol is a definition that others see, that isn't kept for the host anyway, and that
+/// stands for itself.
+fn is_candidate(
+    symbols: &SymbolTable<'_, '_>,
+    object: usize,
+    number: u32,
+    symbol: &WasmSymbol<'_>,
+) -> bool
+    ensures { result ≡ is_candidate symbols.now object number symbol.now }
+{
+    is_exportable(symbol.kind)
+        && !symbol.is_undefined()
+        && !symbol.is_local()
+        && !symbol.is_hidden()
+        && !is_exported(symbol)
+        && is_itself(definition_at(symbols, object, number), object, number)
+}
+
+/// Whether a symbol is kept, as itself or as one of all candidates.
+fn is_root_symbol(
+    symbols: &SymbolTable<'_, '_>,
+    object: usize,
+    number: u32,
+    symbol: &WasmSymbol<'_>,
+) -> bool
+    ensures { result ≡ is_root_symbol symbols.now object number symbol.now }
+{
+    is_kept_symbol(symbol)
+        || symbols.args().export_dynamic && is_candidate(symbols, object, number, symbol)
+}
+
+/// Adds the unit of a symbol, if it is kept.
+fn push_symbol(
+    list: &mut Vec<LinkUnit>,
+    numbers: &UnitNumbers,
+    object: usize,
+    symbol: &WasmSymbol<'_>,
+    is_root: bool,
+) -> Result<(), AllocError>
+    ensures { OnOk result (list.new.items ≡ list.old.items
+        ++ (if is_root then option_to_list (unit_at numbers.now object symbol.now) else [])) }
+{
+    if is_root {
+        push_unit(list, unit_at(numbers, object, symbol))?;
+    }
+    Ok(())
+}
+
+/// Adds the symbols of an object that are kept.
+fn push_symbols(
+    list: &mut Vec<LinkUnit>,
+    symbols: &SymbolTable<'_, '_>,
+    numbers: &UnitNumbers,
+    object: usize,
+    file: &File<'_>,
+) -> Result<(), AllocError>
+    ensures { OnOk result (list.new.items
+        ≡ list.old.items ++ symbol_roots symbols.now numbers.now object 0 file.now.symbols) }
+{
+    file.stands_for_an_object();
+    let listed = file.symbols();
+    for (i, symbol) in listed.iter().enumerate() {
+        let is_root = is_root_symbol(symbols, object, i as u32, symbol);
+        push_symbol(list, numbers, object, symbol, is_root)?;
+    }
+    Ok(())
+}
+
+/// The unit of what an object defines in place of an init function that is weak.
+fn weak_unit(
+    symbols: &SymbolTable<'_, '_>,
+    numbers: &UnitNumbers,
+    object: usize,
+    number: u32,
+    symbol: &WasmSymbol<'_>,
+) -> Option<LinkUnit>
+    ensures { result ≡ (if is_weak symbol.now
+        then other_unit symbols.now numbers.now object number else None) }
+{
+    if symbol.is_weak() {
+        other_unit(symbols, numbers, object, number)
+    } else {
+        None
+    }
+}
+
+/// Adds a function that runs at the start, and where it is weak also what an object defines in its
+/// place.
+fn push_init(
+    list: &mut Vec<LinkUnit>,
+    symbols: &SymbolTable<'_, '_>,
+    numbers: &UnitNumbers,
+    object: usize,
+    number: u32,
+) -> Result<(), AllocError>
+    ensures { OnOk result (list.new.items ≡ list.old.items
+        ++ init_root symbols.now numbers.now object number
+        (symbol_in symbols.now.objects object number)) }
+{
+    let Some(symbol) = find_symbol(symbols, object, number) else {
+        return Ok(());
+    };
+    push_unit(list, unit_at(numbers, object, symbol))?;
+    let other = weak_unit(symbols, numbers, object, number, symbol);
+    push_unit(list, other)
+}
+
+/// Adds the functions of an object that run at the start.
+fn push_inits(
+    list: &mut Vec<LinkUnit>,
+    symbols: &SymbolTable<'_, '_>,
+    numbers: &UnitNumbers,
+    object: usize,
+    functions: &[WasmInitFunc],
+) -> Result<(), AllocError>
+    ensures { OnOk result (list.new.items
+        ≡ list.old.items ++ init_roots symbols.now numbers.now object functions.now) }
+{
+    for function in functions {
+        push_init(list, symbols, numbers, object, function.symbol_index)?;
+    }
+    Ok(())
+}
+
+/// Adds what an object keeps by itself.
+fn push_object(
+    list: &mut Vec<LinkUnit>,
+    symbols: &SymbolTable<'_, '_>,
+    numbers: &UnitNumbers,
+    object: usize,
+    file: &File<'_>,
+) -> Result<(), AllocError>
+    ensures { OnOk result (list.new.items
+        ≡ list.old.items ++ object_roots symbols.now numbers.now object file.now) }
+{
+    push_exports(list, numbers, object, file.exports())?;
+    push_symbols(list, symbols, numbers, object, file)?;
+    push_inits(list, symbols, numbers, object, file.init_funcs())
+}
+
+/// Adds what the objects keep by themselves.
+fn push_objects(
+    list: &mut Vec<LinkUnit>,
+    symbols: &SymbolTable<'_, '_>,
+    numbers: &UnitNumbers,
+) -> Result<(), AllocError>
+    ensures { OnOk result (list.new.items
+        ≡ list.old.items ++ roots_from symbols.now numbers.now 0 symbols.now.objects) }
+{
+    let files = symbols.files().as_slice();
+    for (object, file) in files.iter().enumerate() {
+        push_object(list, symbols, numbers, object, file)?;
+    }
+    Ok(())
+}
+
+/// Adds the units of names that are to be exported.
+fn push_forced(
+    list: &mut Vec<LinkUnit>,
+    symbols: &SymbolTable<'_, '_>,
+    numbers: &UnitNumbers,
+    names: &[String],
+) -> Result<(), AllocError>
+    ensures { OnOk result (list.new.items
+        ≡ list.old.items ++ forced_roots symbols.now numbers.now (texts names.now)) }
+{
+    for name in names {
+        push_unit(list, named_unit(symbols, numbers, name.as_str()))?;
+    }
+    Ok(())
+}
+
+/// The unit of the entry.
+fn entry_unit(symbols: &SymbolTable<'_, '_>, numbers: &UnitNumbers) -> Option<LinkUnit>
+    ensures { result ≡ entry_unit symbols.now numbers.now }
+{
+    match &symbols.args().entry {
+        Some(name) => named_unit(symbols, numbers, name.as_str()),
+        None => None,
+    }
+}
+
+/// The units that are kept by themselves.
+pub(crate) fn collect_roots(
+    alloc: Global,
+    symbols: &SymbolTable<'_, '_>,
+    numbers: &UnitNumbers,
+) -> Result<Vec<LinkUnit>, AllocError>
+    ensures { IfOk result (λ v. v.items ≡ roots symbols.now numbers.now) }
+{
+    let mut list = Vec::new(alloc);
+    push_objects(&mut list, symbols, numbers)?;
+    let forced = symbols.args().force_export_symbol_names();
+    push_forced(&mut list, symbols, numbers, forced)?;
+    push_unit(&mut list, entry_unit(symbols, numbers))?;
+    Ok(list)
+}
