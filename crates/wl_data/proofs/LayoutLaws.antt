@@ -11,7 +11,7 @@ use Rattle.wl_data.specs.declared.pass.Frontier.{Frontier}
 use Rattle.wl_data.specs.declared.pass.Pass.{Pass}
 use Rattle.wl_data.specs.Segments.{KeptData, SegmentLayout}
 use Rattle.wl_data.specs.Spans.{AreInRow, IsLeastAligned}
-use Rattle.wl_data.specs.Layouts.{CanBePlaced, is_chosen, in_block, in_memory, block_alignment, PlacedData, span_of, spans_of, memory_spans, block_spans, ArePlaced, StandsThere, PassesAt, IsLayoutOf, AreLayoutsOf, AreLaidOut, PassesRoom, HasNoRoom}
+use Rattle.wl_data.specs.Layouts.{CanBePlaced, is_chosen, goes_to_block, goes_to_memory, block_alignment, PlacedData, span_of, spans_of, memory_spans, block_spans, ArePlaced, StandsThere, PassesAt, IsLayoutOf, AreLayoutsOf, AreLaidOut, PassesRoom, HasNoRoom}
 use Rattle.wl_data.specs.DataPlaces.{AreObjectsLaid, in_one_row}
 use Rattle.wl_data.proofs.Multiples.{least_found}
 use Rattle.wl_data.proofs.SpanLaws.{row_append, row_one, need_of, Need}
@@ -24,31 +24,31 @@ one_in test al st e = rw e refl
 one_out : (test : KeptData → Bool) (al : KeptData → ℕ) (st : PlacedData) → test st.segment ≡ false → spans_of test al (st ∷ []) ≡ []
 one_out test al st e = rw e refl
 
-no_memory : (pass : Pass) (s : KeptData) → in_block pass s ≡ true → in_memory pass s ≡ false
+no_memory : (pass : Pass) (s : KeptData) → goes_to_block pass s ≡ true → goes_to_memory pass s ≡ false
 no_memory pass s e = rw e refl
 
-pub block_stands : (pass : Pass) (s : KeptData) (start : Frontier) (place end : ℕ) → in_block pass s ≡ true → IsLeastAligned (block_alignment s) start.block place → end ≡ place + length s.payload → StandsThere pass start (record { memory = start.memory; block = end }) (record { segment = s; place = place })
+pub block_stands : (pass : Pass) (s : KeptData) (start : Frontier) (place end : ℕ) → goes_to_block pass s ≡ true → IsLeastAligned (block_alignment s) start.block place → end ≡ place + length s.payload → StandsThere pass start (record { memory = start.memory; block = end }) (record { segment = s; place = place })
 block_stands pass s start place end e l is =
     let st : PlacedData = record { segment = s; place = place } in
     record {
-      memory = rw (one_out (in_memory pass) (λ x. x.alignment) st (no_memory pass s e)) refl;
-      block = rw (one_in (in_block pass) block_alignment st e) (l, is);
+      memory = rw (one_out (goes_to_memory pass) (λ x. x.alignment) st (no_memory pass s e)) refl;
+      block = rw (one_in (goes_to_block pass) block_alignment st e) (l, is);
     }
 
-pub memory_stands : (pass : Pass) (s : KeptData) (start : Frontier) (place end : ℕ) → in_block pass s ≡ false → in_memory pass s ≡ true → IsLeastAligned s.alignment start.memory place → end ≡ place + length s.payload → StandsThere pass start (record { memory = end; block = start.block }) (record { segment = s; place = place })
+pub memory_stands : (pass : Pass) (s : KeptData) (start : Frontier) (place end : ℕ) → goes_to_block pass s ≡ false → goes_to_memory pass s ≡ true → IsLeastAligned s.alignment start.memory place → end ≡ place + length s.payload → StandsThere pass start (record { memory = end; block = start.block }) (record { segment = s; place = place })
 memory_stands pass s start place end n e l is =
     let st : PlacedData = record { segment = s; place = place } in
     record {
-      memory = rw (one_in (in_memory pass) (λ x. x.alignment) st e) (l, is);
-      block = rw (one_out (in_block pass) block_alignment st n) refl;
+      memory = rw (one_in (goes_to_memory pass) (λ x. x.alignment) st e) (l, is);
+      block = rw (one_out (goes_to_block pass) block_alignment st n) refl;
     }
 
-pub nowhere_stands : (pass : Pass) (s : KeptData) (start : Frontier) (place : ℕ) → in_block pass s ≡ false → in_memory pass s ≡ false → StandsThere pass start start (record { segment = s; place = place })
+pub nowhere_stands : (pass : Pass) (s : KeptData) (start : Frontier) (place : ℕ) → goes_to_block pass s ≡ false → goes_to_memory pass s ≡ false → StandsThere pass start start (record { segment = s; place = place })
 nowhere_stands pass s start place n e =
     let st : PlacedData = record { segment = s; place = place } in
     record {
-      memory = rw (one_out (in_memory pass) (λ x. x.alignment) st e) refl;
-      block = rw (one_out (in_block pass) block_alignment st n) refl;
+      memory = rw (one_out (goes_to_memory pass) (λ x. x.alignment) st e) refl;
+      block = rw (one_out (goes_to_block pass) block_alignment st n) refl;
     }
 
 pub some_alignment : (s : KeptData) → 0 < s.alignment → 0 < block_alignment s
@@ -58,7 +58,7 @@ some_alignment s p = at (length s.payload == 0)
     at true = omega arith
     at false = p
 
-pub block_passes : (pass : Pass) (s : KeptData) (start : Frontier) → in_block pass s ≡ true → 0 < s.alignment → 2 ^ 32 ≤ next_multiple_of start.block (block_alignment s) + length s.payload → PassesAt pass s start
+pub block_passes : (pass : Pass) (s : KeptData) (start : Frontier) → goes_to_block pass s ≡ true → 0 < s.alignment → 2 ^ 32 ≤ next_multiple_of start.block (block_alignment s) + length s.payload → PassesAt pass s start
 block_passes pass s start e p past =
     let place = next_multiple_of start.block (block_alignment s) in
     record {
@@ -68,7 +68,7 @@ block_passes pass s start e p past =
       past = inr past;
     }
 
-pub memory_passes : (pass : Pass) (s : KeptData) (start : Frontier) → in_block pass s ≡ false → in_memory pass s ≡ true → 0 < s.alignment → 2 ^ 32 ≤ next_multiple_of start.memory s.alignment + length s.payload → PassesAt pass s start
+pub memory_passes : (pass : Pass) (s : KeptData) (start : Frontier) → goes_to_block pass s ≡ false → goes_to_memory pass s ≡ true → 0 < s.alignment → 2 ^ 32 ≤ next_multiple_of start.memory s.alignment + length s.payload → PassesAt pass s start
 memory_passes pass s start n e p past =
     let place = next_multiple_of start.memory s.alignment in
     record {
@@ -94,8 +94,8 @@ spans_of-append test al xs ys =
 pub standing_append : (pass : Pass) (xs ys : List KeptData) (a b c : Frontier) (s t : List PlacedData) → ArePlaced pass xs a b s → ArePlaced pass ys b c t → ArePlaced pass (xs ++ ys) a c (s ++ t)
 standing_append pass xs ys a b c s t p q = record {
   chosen = map-append (λ (x : PlacedData). x.segment) s t ∙ ap (λ (l : List KeptData). l ++ map (λ (x : PlacedData). x.segment) t) p.chosen ∙ ap (λ (l : List KeptData). filter (is_chosen pass) xs ++ l) q.chosen ∙ sym (filter-append (is_chosen pass) xs ys);
-  memory = rw (spans_of-append (in_memory pass) (λ x. x.alignment) s t) (row_append a.memory (memory_spans pass s) (memory_spans pass t) b.memory c.memory p.memory q.memory);
-  block = rw (spans_of-append (in_block pass) block_alignment s t) (row_append a.block (block_spans pass s) (block_spans pass t) b.block c.block p.block q.block);
+  memory = rw (spans_of-append (goes_to_memory pass) (λ x. x.alignment) s t) (row_append a.memory (memory_spans pass s) (memory_spans pass t) b.memory c.memory p.memory q.memory);
+  block = rw (spans_of-append (goes_to_block pass) block_alignment s t) (row_append a.block (block_spans pass s) (block_spans pass t) b.block c.block p.block q.block);
 }
 
 layouts_append : (pass : Pass) (s t : List PlacedData) (l m : List SegmentLayout) → AreLayoutsOf pass s l → AreLayoutsOf pass t m → AreLayoutsOf pass (s ++ t) (l ++ m)
@@ -139,7 +139,7 @@ same_row test al s t a b c e p q =
 pub same_end : (pass : Pass) (xs : List KeptData) (a b c : Frontier) (s t : List PlacedData) → ArePlaced pass xs a b s → ArePlaced pass xs a c t → (b.memory ≡ c.memory) × (b.block ≡ c.block)
 same_end pass xs a b c s t p q =
     let same = p.chosen ∙ sym q.chosen in
-    (same_row (in_memory pass) (λ x. x.alignment) s t a.memory b.memory c.memory same p.memory q.memory, same_row (in_block pass) block_alignment s t a.block b.block c.block same p.block q.block)
+    (same_row (goes_to_memory pass) (λ x. x.alignment) s t a.memory b.memory c.memory same p.memory q.memory, same_row (goes_to_block pass) block_alignment s t a.block b.block c.block same p.block q.block)
 
 -- where all have room the frontier passes nothing
 pub no_pass : (pass : Pass) (xs : List KeptData) (a b : Frontier) (l : List SegmentLayout) → AreLaidOut pass xs a b l → b.memory < 2 ^ 32 → b.block < 2 ^ 32 → Clear (HasNoRoom pass xs a)
@@ -162,7 +162,7 @@ record IsPlace (pass : Pass) (xs : List KeptData) (a : Frontier) : Type 0 where
 one_place : (pass : Pass) (s : KeptData) (a : Frontier) → CanBePlaced s → IsPlace pass (s ∷ []) a
 one_place pass s a sound = chosen (is_chosen pass s) refl
   where
-    inside : (b m : Bool) → in_block pass s ≡ b → in_memory pass s ≡ m → is_chosen pass s ≡ true → IsPlace pass (s ∷ []) a
+    inside : (b m : Bool) → goes_to_block pass s ≡ b → goes_to_memory pass s ≡ m → is_chosen pass s ≡ true → IsPlace pass (s ∷ []) a
     inside true m e f c =
         let place = next_multiple_of a.block (block_alignment s) in
         record {
@@ -190,7 +190,7 @@ one_place pass s a sound = chosen (is_chosen pass s) refl
     }
 
     chosen : (b : Bool) → is_chosen pass s ≡ b → IsPlace pass (s ∷ []) a
-    chosen true c = inside (in_block pass s) (in_memory pass s) refl refl c
+    chosen true c = inside (goes_to_block pass s) (goes_to_memory pass s) refl refl c
     chosen false c = record { placed = []; end = a; stand = none_standing pass a s c; memory = omega arith; block = omega arith }
 
 some_place : (pass : Pass) (xs : List KeptData) (a : Frontier) → AllByRecursion CanBePlaced xs → IsPlace pass xs a
@@ -276,7 +276,7 @@ row_none test al (s ∷ st) none =
     let e : test s.segment ≡ false = none s.segment in
     rw e (row_none test al st none)
 
-no_block : (pass : Pass) (s : KeptData) → pass.has_block ≡ false → in_block pass s ≡ false
+no_block : (pass : Pass) (s : KeptData) → pass.has_block ≡ false → goes_to_block pass s ≡ false
 no_block pass s e = rw e refl
 
 pub laid_in_memory : (pass : Pass) (xs : List KeptData) (a b : Frontier) (l : List SegmentLayout) → pass.has_block ≡ false → AreLaidOut pass xs a b l → AreLaidOut pass xs a (record { memory = b.memory; block = a.block }) l
@@ -285,7 +285,7 @@ laid_in_memory pass xs a b l e p = record {
   stand = record {
     chosen = p.stand.chosen;
     memory = p.stand.memory;
-    block = rw (row_none (in_block pass) block_alignment p.placed (λ s. no_block pass s e)) refl;
+    block = rw (row_none (goes_to_block pass) block_alignment p.placed (λ s. no_block pass s e)) refl;
   };
   laid = p.laid;
 }

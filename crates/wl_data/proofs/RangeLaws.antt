@@ -1,12 +1,12 @@
 -- Addresses that are taken one behind the other.
-use Rattle.std.proofs.Common.{◌≡◌, ℕ, ◌+◌, ◌<◌, ◌≤◌, Bool, true, false, List, [], ◌∷◌, ◌++◌, length, map, refl, sym, ap, ◌∙◌, subst, arith, not, ◌&&◌, ◌||◌, zero, suc, Some}
+use Rattle.std.proofs.Common.{◌≡◌, ℕ, ◌+◌, ◌≤◌, Bool, true, false, List, [], ◌∷◌, ◌++◌, length, map, refl, sym, ap, ◌∙◌, subst, arith, not, ◌&&◌, ◌||◌, zero, suc, Some}
 use Rattle.std.specs.Prelude.{filter, slice_get, ◌==◌}
 use Rattle.wl_data.specs.declared.pass.Frontier.{Frontier}
 use Rattle.wl_data.specs.declared.pass.Pass.{Pass}
 use Rattle.wl_data.specs.Segments.{KeptData, SegmentLayout}
 use Rattle.wl_data.specs.Spans.{Span, AreInRow}
-use Rattle.wl_data.specs.Layouts.{in_block, in_memory, is_shared, is_passive, is_common, output_offset, block_alignment, PlacedData, span_of, spans_of, memory_spans, block_spans, IsLayoutOf, AreLayoutsOf, AreLaidOut}
-use Rattle.wl_data.specs.DataPlaces.{AddressRange, ComeInOrder, ShareNothing, lies_in_memory, range_of}
+use Rattle.wl_data.specs.Layouts.{goes_to_block, goes_to_memory, is_shared_init, block_alignment, PlacedData, span_of, spans_of, memory_spans, block_spans, IsLayoutOf, AreLayoutsOf, AreLaidOut}
+use Rattle.wl_data.specs.DataPlaces.{AddressRange, ComeInOrder, ShareNothing, lies_in_memory, addresses_of}
 
 -- ---- ranges in order
 
@@ -50,10 +50,10 @@ memory_test false true false f g = refl
 memory_test false false true f g = let z : false ≡ true = g refl in absurd cc
 memory_test false false false f g = refl
 
-not_both : (pass : Pass) (s : KeptData) → in_block pass s ≡ true → in_memory pass s ≡ false
+not_both : (pass : Pass) (s : KeptData) → goes_to_block pass s ≡ true → goes_to_memory pass s ≡ false
 not_both pass s e = rw e refl
 
-shared_in_memory : (pass : Pass) (s : KeptData) → is_shared pass s ≡ true → in_memory pass s ≡ true
+shared_in_memory : (pass : Pass) (s : KeptData) → is_shared_init pass s ≡ true → goes_to_memory pass s ≡ true
 shared_in_memory pass s e = at pass.has_block s.tls s.active pass.shared_init (length s.payload == 0) e
   where
     at : (block tls active shared empty : Bool) → (shared && ((active && not tls) && not empty)) ≡ true → (not (block && tls) && active) ≡ true
@@ -69,21 +69,21 @@ shared_in_memory pass s e = at pass.has_block s.tls s.active pass.shared_init (l
     at false tls false false empty h = absurd (let z : false ≡ true = h in cc)
 
 -- a layout lies in the memory where its segment goes there
-lies_is : (pass : Pass) (s : PlacedData) (l : SegmentLayout) → IsLayoutOf pass s l → lies_in_memory l ≡ in_memory pass s.segment
+lies_is : (pass : Pass) (s : PlacedData) (l : SegmentLayout) → IsLayoutOf pass s l → lies_in_memory l ≡ goes_to_memory pass s.segment
 lies_is pass s l i =
     rw (i.tls_template, i.passive, i.shared_init)
-    (memory_test (in_memory pass s.segment) (in_block pass s.segment) (is_shared pass s.segment) (not_both pass s.segment) (shared_in_memory pass s.segment))
+    (memory_test (goes_to_memory pass s.segment) (goes_to_block pass s.segment) (is_shared_init pass s.segment) (not_both pass s.segment) (shared_in_memory pass s.segment))
 
-range_is : (pass : Pass) (al : KeptData → ℕ) (s : PlacedData) (l : SegmentLayout) → IsLayoutOf pass s l → (in_memory pass s.segment || in_block pass s.segment) ≡ true → range_of l ≡ span_range (span_of al s)
+range_is : (pass : Pass) (al : KeptData → ℕ) (s : PlacedData) (l : SegmentLayout) → IsLayoutOf pass s l → (goes_to_memory pass s.segment || goes_to_block pass s.segment) ≡ true → addresses_of l ≡ span_range (span_of al s)
 range_is pass al s l i e =
     let offset : l.output_memory_offset ≡ s.place = i.output_memory_offset ∙ rw e refl in
     rw (offset, i.payload) refl
 
-memory_range_is : (pass : Pass) (s : PlacedData) (l : SegmentLayout) → IsLayoutOf pass s l → in_memory pass s.segment ≡ true → range_of l ≡ span_range (span_of (λ x. x.alignment) s)
+memory_range_is : (pass : Pass) (s : PlacedData) (l : SegmentLayout) → IsLayoutOf pass s l → goes_to_memory pass s.segment ≡ true → addresses_of l ≡ span_range (span_of (λ x. x.alignment) s)
 memory_range_is pass s l i e = range_is pass (λ x. x.alignment) s l i (rw e refl)
 
-block_range_is : (pass : Pass) (s : PlacedData) (l : SegmentLayout) → IsLayoutOf pass s l → in_block pass s.segment ≡ true → range_of l ≡ span_range (span_of block_alignment s)
-block_range_is pass s l i e = range_is pass block_alignment s l i (either (in_memory pass s.segment) (in_block pass s.segment) e)
+block_range_is : (pass : Pass) (s : PlacedData) (l : SegmentLayout) → IsLayoutOf pass s l → goes_to_block pass s.segment ≡ true → addresses_of l ≡ span_range (span_of block_alignment s)
+block_range_is pass s l i e = range_is pass block_alignment s l i (either (goes_to_memory pass s.segment) (goes_to_block pass s.segment) e)
   where
     either : (m b : Bool) → b ≡ true → (m || b) ≡ true
     either true b h = refl
@@ -92,30 +92,30 @@ block_range_is pass s l i e = range_is pass block_alignment s l i (either (in_me
 -- the ranges of the layouts that pass a test, which is that of their segments, are those of the spans
 ranges_are : (pass : Pass) (told : SegmentLayout → Bool) (test : KeptData → Bool) (al : KeptData → ℕ) (st : List PlacedData) (ls : List SegmentLayout)
     → ((s : PlacedData) (l : SegmentLayout) → IsLayoutOf pass s l → told l ≡ test s.segment)
-    → ((s : PlacedData) (l : SegmentLayout) → IsLayoutOf pass s l → test s.segment ≡ true → range_of l ≡ span_range (span_of al s))
-    → AreLayoutsOf pass st ls → map range_of (filter told ls) ≡ map span_range (spans_of test al st)
+    → ((s : PlacedData) (l : SegmentLayout) → IsLayoutOf pass s l → test s.segment ≡ true → addresses_of l ≡ span_range (span_of al s))
+    → AreLayoutsOf pass st ls → map addresses_of (filter told ls) ≡ map span_range (spans_of test al st)
 ranges_are pass told test al [] [] f g p = refl
 ranges_are pass told test al [] (l ∷ ls) f g p = absurd p
 ranges_are pass told test al (s ∷ st) [] f g p = absurd p
 ranges_are pass told test al (s ∷ st) (l ∷ ls) f g p = at (test s.segment) refl (ranges_are pass told test al st ls f g p.1)
   where
-    at : (b : Bool) → test s.segment ≡ b → map range_of (filter told ls) ≡ map span_range (spans_of test al st)
-        → map range_of (filter told (l ∷ ls)) ≡ map span_range (spans_of test al (s ∷ st))
+    at : (b : Bool) → test s.segment ≡ b → map addresses_of (filter told ls) ≡ map span_range (spans_of test al st)
+        → map addresses_of (filter told (l ∷ ls)) ≡ map span_range (spans_of test al (s ∷ st))
     at true e rest =
         let t : told l ≡ true = f s l p.0 ∙ e in
         let r = g s l p.0 e in
-        rw (t, e) (ap (λ (x : AddressRange). x ∷ map range_of (filter told ls)) r ∙ ap (λ (xs : List AddressRange). span_range (span_of al s) ∷ xs) rest)
+        rw (t, e) (ap (λ (x : AddressRange). x ∷ map addresses_of (filter told ls)) r ∙ ap (λ (xs : List AddressRange). span_range (span_of al s) ∷ xs) rest)
     at false e rest =
         let t : told l ≡ false = f s l p.0 ∙ e in
         rw (t, e) rest
 
 -- the layouts of a pass come in order in the memory, and in the block
-pub laid_in_order : (pass : Pass) (xs : List KeptData) (a b : Frontier) (ls : List SegmentLayout) → AreLaidOut pass xs a b ls → ComeInOrder a.memory (map range_of (filter lies_in_memory ls)) b.memory
+pub laid_in_order : (pass : Pass) (xs : List KeptData) (a b : Frontier) (ls : List SegmentLayout) → AreLaidOut pass xs a b ls → ComeInOrder a.memory (map addresses_of (filter lies_in_memory ls)) b.memory
 laid_in_order pass xs a b ls p =
-    let same = ranges_are pass lies_in_memory (in_memory pass) (λ x. x.alignment) p.placed ls (lies_is pass) (memory_range_is pass) p.laid in
+    let same = ranges_are pass lies_in_memory (goes_to_memory pass) (λ x. x.alignment) p.placed ls (lies_is pass) (memory_range_is pass) p.laid in
     subst (λ (r : List AddressRange). ComeInOrder a.memory r b.memory) (sym same) (row_in_order a.memory (memory_spans pass p.placed) b.memory p.stand.memory)
 
-pub block_in_order : (pass : Pass) (xs : List KeptData) (a b : Frontier) (ls : List SegmentLayout) → AreLaidOut pass xs a b ls → ComeInOrder a.block (map range_of (filter (λ (l : SegmentLayout). l.tls_template) ls)) b.block
+pub block_in_order : (pass : Pass) (xs : List KeptData) (a b : Frontier) (ls : List SegmentLayout) → AreLaidOut pass xs a b ls → ComeInOrder a.block (map addresses_of (filter (λ (l : SegmentLayout). l.tls_template) ls)) b.block
 block_in_order pass xs a b ls p =
-    let same = ranges_are pass (λ (l : SegmentLayout). l.tls_template) (in_block pass) block_alignment p.placed ls (λ s l i. i.tls_template) (block_range_is pass) p.laid in
+    let same = ranges_are pass (λ (l : SegmentLayout). l.tls_template) (goes_to_block pass) block_alignment p.placed ls (λ s l i. i.tls_template) (block_range_is pass) p.laid in
     subst (λ (r : List AddressRange). ComeInOrder a.block r b.block) (sym same) (row_in_order a.block (block_spans pass p.placed) b.block p.stand.block)

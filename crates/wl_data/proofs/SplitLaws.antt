@@ -1,13 +1,12 @@
 -- The layout of segments in one row is made of layouts of its parts.
-use Rattle.std.proofs.Common.{◌≡◌, ℕ, ◌+◌, Bool, true, false, List, [], ◌∷◌, ◌++◌, length, map, refl, sym, ap, ◌∙◌, subst}
+use Rattle.std.proofs.Common.{◌≡◌, ℕ, ◌+◌, List, [], ◌∷◌, ◌++◌, map, refl, sym, ap, ◌∙◌, subst}
 use Rattle.std.specs.Prelude.{filter}
-use Rattle.std.proofs.lemmas.List.{map-append}
 use Rattle.std.proofs.lemmas.List.Elements.{filter-append}
 use Rattle.wl_data.specs.declared.pass.Frontier.{Frontier}
 use Rattle.wl_data.specs.declared.pass.Pass.{Pass}
 use Rattle.wl_data.specs.Segments.{KeptData, SegmentLayout}
 use Rattle.wl_data.specs.Spans.{Span, AreInRow}
-use Rattle.wl_data.specs.Layouts.{is_chosen, in_block, in_memory, block_alignment, PlacedData, memory_spans, block_spans, ArePlaced, AreLayoutsOf, AreLaidOut}
+use Rattle.wl_data.specs.Layouts.{is_chosen, goes_to_block, goes_to_memory, block_alignment, PlacedData, memory_spans, block_spans, ArePlaced, AreLayoutsOf, AreLaidOut}
 use Rattle.wl_data.specs.DataPlaces.{AreObjectsLaid, in_one_row}
 use Rattle.wl_data.proofs.LayoutLaws.{spans_of-append, frontier_is}
 
@@ -79,9 +78,9 @@ laid_parts : (pass : Pass) (xs ys : List KeptData) (a c : Frontier) (l : List Se
 laid_parts pass xs ys a c l p =
     let parts = parts_of p.placed (filter (is_chosen pass) xs) (filter (is_chosen pass) ys) (p.stand.chosen ∙ filter-append (is_chosen pass) xs ys) in
     let memory_whole : memory_spans pass p.placed ≡ memory_spans pass parts.front ++ memory_spans pass parts.back =
-    ap (memory_spans pass) parts.whole ∙ spans_of-append (in_memory pass) (λ s. s.alignment) parts.front parts.back in
+    ap (memory_spans pass) parts.whole ∙ spans_of-append (goes_to_memory pass) (λ s. s.alignment) parts.front parts.back in
     let block_whole : block_spans pass p.placed ≡ block_spans pass parts.front ++ block_spans pass parts.back =
-    ap (block_spans pass) parts.whole ∙ spans_of-append (in_block pass) block_alignment parts.front parts.back in
+    ap (block_spans pass) parts.whole ∙ spans_of-append (goes_to_block pass) block_alignment parts.front parts.back in
     let memory = row_parts a.memory (memory_spans pass parts.front) (memory_spans pass parts.back) c.memory (subst (λ (s : List Span). AreInRow a.memory s c.memory) memory_whole p.stand.memory) in
     let block = row_parts a.block (block_spans pass parts.front) (block_spans pass parts.back) c.block (subst (λ (s : List Span). AreInRow a.block s c.block) block_whole p.stand.block) in
     let laid = layout_parts pass parts.front parts.back l (subst (λ (s : List PlacedData). AreLayoutsOf pass s l) parts.whole p.laid) in

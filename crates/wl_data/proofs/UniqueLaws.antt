@@ -8,7 +8,7 @@ use Rattle.wl_data.specs.declared.pass.Pass.{Pass}
 use Rattle.wl_data.specs.Segments.{KeptData, SegmentLayout}
 use Rattle.wl_data.specs.Spans.{Span}
 use Rattle.wl_data.specs.Sizes.{IsMemoryName, IsMemoryPlace, Destination, IsDestinationAs, HasSegmentSize}
-use Rattle.wl_data.specs.Layouts.{in_block, in_memory, block_alignment, PlacedData, span_of, spans_of, memory_spans, block_spans, output_offset, destination_of, is_passive, is_shared, IsLayoutOf, AreLayoutsOf, AreLaidOut}
+use Rattle.wl_data.specs.Layouts.{goes_to_block, goes_to_memory, block_alignment, PlacedData, span_of, spans_of, memory_spans, block_spans, output_offset, destination_of, is_passive, is_shared_init, IsLayoutOf, AreLayoutsOf, AreLaidOut}
 use Rattle.wl_data.proofs.LayoutLaws.{same_rows}
 
 -- a number has one shortest form of each sign
@@ -84,7 +84,7 @@ layout_one forms pass s t a b seg off i j =
     let there : HasSegmentSize (destination_of b) (length b.payload) a.encoded_output_size = rw (← passive, ← memory, ← offset, ← payload) i.encoded_output_size in
     layout_is a b (i.segment_index ∙ ap (λ (x : KeptData). x.original) seg ∙ sym j.segment_index) payload (i.payload_start ∙ ap (λ (x : KeptData). x.payload_start) seg ∙ sym j.payload_start)
     memory offset (size_one forms (destination_of b) (length b.payload) a.encoded_output_size b.encoded_output_size there j.encoded_output_size) passive
-    (i.tls_template ∙ ap (in_block pass) seg ∙ sym j.tls_template) (i.shared_init ∙ ap (is_shared pass) seg ∙ sym j.shared_init)
+    (i.tls_template ∙ ap (goes_to_block pass) seg ∙ sym j.tls_template) (i.shared_init ∙ ap (is_shared_init pass) seg ∙ sym j.shared_init)
 
 layouts_one : FormsAreOne → (pass : Pass) (s t : List PlacedData) (l m : List SegmentLayout) → map (λ (x : PlacedData). x.segment) s ≡ map (λ (x : PlacedData). x.segment) t → memory_spans pass s ≡ memory_spans pass t → block_spans pass s ≡ block_spans pass t
     → AreLayoutsOf pass s l → AreLayoutsOf pass t m → l ≡ m
@@ -100,9 +100,9 @@ layouts_one forms pass (s ∷ ss) (t ∷ ts) (x ∷ l) (y ∷ m) e f g p q =
     let rest : map (λ (x : PlacedData). x.segment) ss ≡ map (λ (x : PlacedData). x.segment) ts = cc in
     let u : PlacedData = record { segment = s.segment; place = t.place } in
     let same : t ≡ u = ap (λ (x : KeptData). same_place x t.place) (sym seg) in
-    let mem = row_head (in_memory pass) (λ x. x.alignment) s.segment s.place t.place ss ts (f ∙ ap (λ (z : PlacedData). memory_spans pass (z ∷ ts)) same) in
-    let blo = row_head (in_block pass) block_alignment s.segment s.place t.place ss ts (g ∙ ap (λ (z : PlacedData). block_spans pass (z ∷ ts)) same) in
-    let off : output_offset pass s ≡ output_offset pass t = offset_same (in_memory pass s.segment) (in_block pass s.segment) s.place t.place mem.1 blo.1 ∙ ap (output_offset pass) (sym same) in
+    let mem = row_head (goes_to_memory pass) (λ x. x.alignment) s.segment s.place t.place ss ts (f ∙ ap (λ (z : PlacedData). memory_spans pass (z ∷ ts)) same) in
+    let blo = row_head (goes_to_block pass) block_alignment s.segment s.place t.place ss ts (g ∙ ap (λ (z : PlacedData). block_spans pass (z ∷ ts)) same) in
+    let off : output_offset pass s ≡ output_offset pass t = offset_same (goes_to_memory pass s.segment) (goes_to_block pass s.segment) s.place t.place mem.1 blo.1 ∙ ap (output_offset pass) (sym same) in
     let head = layout_one forms pass s t x y seg off p.0 q.0 in
     let tail = layouts_one forms pass ss ts l m rest mem.0 blo.0 p.1 q.1 in
     ap (λ (z : SegmentLayout). z ∷ l) head ∙ ap (λ (z : List SegmentLayout). y ∷ z) tail
@@ -111,5 +111,5 @@ pub laid_same : FormsAreOne → (pass : Pass) (xs : List KeptData) (a b c : Fron
 laid_same forms pass xs a b c l m p q =
     let same = p.stand.chosen ∙ sym q.stand.chosen in
     layouts_one forms pass p.placed q.placed l m same
-    (same_rows (in_memory pass) (λ x. x.alignment) p.placed q.placed a.memory b.memory c.memory same p.stand.memory q.stand.memory)
-    (same_rows (in_block pass) block_alignment p.placed q.placed a.block b.block c.block same p.stand.block q.stand.block) p.laid q.laid
+    (same_rows (goes_to_memory pass) (λ x. x.alignment) p.placed q.placed a.memory b.memory c.memory same p.stand.memory q.stand.memory)
+    (same_rows (goes_to_block pass) block_alignment p.placed q.placed a.block b.block c.block same p.stand.block q.stand.block) p.laid q.laid

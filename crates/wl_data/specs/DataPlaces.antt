@@ -1,5 +1,5 @@
 -- Where the data of all objects lies.
-use Rattle.std.specs.Prelude.{◌≡◌, ◌≤◌, ◌<◌, ℕ, ◌+◌, ◌==◌, ◌&&◌, ◌||◌, not, max, Bool, true, false, if◌then◌else◌, List, [], ◌∷◌, ◌++◌, length, filter, map, Some, slice_get}
+use Rattle.std.specs.Prelude.{◌≡◌, ◌≤◌, ◌<◌, ℕ, ◌+◌, ◌&&◌, ◌||◌, not, max, Bool, true, false, if◌then◌else◌, List, [], ◌∷◌, ◌++◌, length, filter, map, Some, slice_get}
 use Rattle.std.specs.Int.{next_multiple_of}
 use Rattle.std.specs.List.{list_any, flat_map}
 use Rattle.wl_data.specs.declared.options.DataOptions.{DataOptions}
@@ -14,7 +14,8 @@ abbrev pub in_one_row : {X : Type 0} → List (List X) → List X
 in_one_row {X} objects = flat_map (λ (o : List X). o) objects
 
 -- the segments of each object by itself, from frontier to frontier
-abbrev pub AreObjectsLaid : Pass → List (List KeptData) → Frontier → Frontier → List (List SegmentLayout) → Type 0
+abbrev pub AreObjectsLaid : Pass → List (List KeptData) → Frontier → Frontier
+    → List (List SegmentLayout) → Type 0
 AreObjectsLaid pass [] start end [] = end ≡ start
 AreObjectsLaid pass (segments ∷ objects) start end (layouts ∷ rest) =
     (middle : Frontier) × AreLaidOut pass segments start middle layouts
@@ -53,7 +54,8 @@ tls_start d end =
 -- where the data of the thread begins; the start of all data where there is none
 abbrev pub tls_base : DataInput → ℕ → ℕ
 tls_base d end =
-    if has_tls d then (if d.options.shared_tls then 0 else tls_start d end) else data_start d.options
+    if has_tls d then (if d.options.shared_tls then 0 else tls_start d end)
+    else data_start d.options
 
 -- ---- where data ends
 
@@ -81,9 +83,10 @@ tls_align d = if d.options.shared_tls then greatest_alignment (tls_segments d) e
 
 -- ---- the whole
 
--- the layouts of all objects: those of the data that all threads have in common, up to a middle, and
--- behind that those of the data of which each thread has its own
-pub record ArePlaces (d : DataInput) (common own : List (List SegmentLayout)) (middle end : Frontier) : Type 0 where
+-- the layouts of all objects: those of the data that all threads have in common, up to a middle,
+-- and behind that those of the data of which each thread has its own
+pub record ArePlaces (d : DataInput) (common own : List (List SegmentLayout))
+    (middle end : Frontier) : Type 0 where
   pub common_laid : AreObjectsLaid (pass_over d.options false) d.objects
       (record { memory = data_start d.options; block = 0 }) middle common
   pub own_laid : AreObjectsLaid (pass_over d.options true) d.objects
@@ -106,14 +109,14 @@ ComeInOrder start (r ∷ ranges) end =
 abbrev pub lies_in_memory : SegmentLayout → Bool
 lies_in_memory l = not l.tls_template && (not l.passive || l.shared_init)
 
-abbrev pub range_of : SegmentLayout → AddressRange
-range_of l = record {
+abbrev pub addresses_of : SegmentLayout → AddressRange
+addresses_of l = record {
   first = l.output_memory_offset;
   behind = l.output_memory_offset + length l.payload;
 }
 
 abbrev pub segment_ranges : List (List SegmentLayout) → List AddressRange
-segment_ranges layouts = map range_of (filter lies_in_memory (in_one_row layouts))
+segment_ranges layouts = map addresses_of (filter lies_in_memory (in_one_row layouts))
 
 abbrev pub flag_ranges : DataInput → ℕ → List AddressRange
 flag_ranges d end =
@@ -128,19 +131,21 @@ last_stack o end =
     if o.stack_first then []
     else record { first = behind_data end; behind = stack_top end o.stack_size } ∷ []
 
--- all that lies in the memory, by address: the stack that stands first, the data of all threads, that
--- of one thread, the flag, the stack that stands last
-abbrev pub memory_ranges : DataInput → List (List SegmentLayout) → List (List SegmentLayout) → ℕ → List AddressRange
+-- all that lies in the memory, by address: the stack that stands first, the data of all threads,
+-- that of one thread, the flag, the stack that stands last
+abbrev pub memory_ranges : DataInput → List (List SegmentLayout) → List (List SegmentLayout) → ℕ
+    → List AddressRange
 memory_ranges d common own end =
     first_stack d.options ++ segment_ranges common ++ segment_ranges own ++ flag_ranges d end
     ++ last_stack d.options (data_end d end)
 
 -- what lies in the block of each thread
 abbrev pub block_ranges : List (List SegmentLayout) → List AddressRange
-block_ranges layouts = map range_of (filter (λ (l : SegmentLayout). l.tls_template) (in_one_row layouts))
+block_ranges layouts =
+    map addresses_of (filter (λ (l : SegmentLayout). l.tls_template) (in_one_row layouts))
 
 -- no two of them share an address
 abbrev pub ShareNothing : List AddressRange → Type 0
 ShareNothing ranges =
-    (i k : ℕ) (r s : AddressRange) → i < k → slice_get ranges i ≡ Some r → slice_get ranges k ≡ Some s
-    → r.behind ≤ s.first
+    (i k : ℕ) (r s : AddressRange) → i < k → slice_get ranges i ≡ Some r
+    → slice_get ranges k ≡ Some s → r.behind ≤ s.first

@@ -23,12 +23,12 @@ abbrev pub is_chosen : Pass → KeptData → Bool
 is_chosen pass s = if pass.tls then s.tls else not s.tls
 
 -- with a block of each thread's own data, all data of threads goes there
-abbrev pub in_block : Pass → KeptData → Bool
-in_block pass s = pass.has_block && s.tls
+abbrev pub goes_to_block : Pass → KeptData → Bool
+goes_to_block pass s = pass.has_block && s.tls
 
 -- the other active ones go into the memory
-abbrev pub in_memory : Pass → KeptData → Bool
-in_memory pass s = not (in_block pass s) && s.active
+abbrev pub goes_to_memory : Pass → KeptData → Bool
+goes_to_memory pass s = not (goes_to_block pass s) && s.active
 
 -- in a block an empty segment stands at the end before it, as it is
 abbrev pub block_alignment : KeptData → ℕ
@@ -48,16 +48,17 @@ abbrev pub spans_of : (KeptData → Bool) → (KeptData → ℕ) → List Placed
 spans_of test alignment placed = map (span_of alignment) (filter (λ s. test s.segment) placed)
 
 abbrev pub memory_spans : Pass → List PlacedData → List Span
-memory_spans pass = spans_of (in_memory pass) (λ s. s.alignment)
+memory_spans pass = spans_of (goes_to_memory pass) (λ s. s.alignment)
 
 abbrev pub block_spans : Pass → List PlacedData → List Span
-block_spans pass = spans_of (in_block pass) block_alignment
+block_spans pass = spans_of (goes_to_block pass) block_alignment
 
 -- ---- a pass over segments
 
--- The chosen ones stand in order, those in the memory in a row there, and those in the block in a row
--- there, both from frontier to frontier.
-pub record ArePlaced (pass : Pass) (segments : List KeptData) (start end : Frontier) (placed : List PlacedData) : Type 0 where
+-- The chosen ones stand in order, those in the memory in a row there, and those in the block in a
+-- row there, both from frontier to frontier.
+pub record ArePlaced (pass : Pass) (segments : List KeptData) (start end : Frontier)
+    (placed : List PlacedData) : Type 0 where
   pub chosen : map (λ (s : PlacedData). s.segment) placed ≡ filter (is_chosen pass) segments
   pub memory : AreInRow start.memory (memory_spans pass placed) end.memory
   pub block : AreInRow start.block (block_spans pass placed) end.block
@@ -85,15 +86,15 @@ abbrev pub is_common : KeptData → Bool
 is_common s = (s.active && not s.tls) && not (length s.payload == 0)
 
 -- with shared memory the first thread copies those
-abbrev pub is_shared : Pass → KeptData → Bool
-is_shared pass s = pass.shared_init && is_common s
+abbrev pub is_shared_init : Pass → KeptData → Bool
+is_shared_init pass s = pass.shared_init && is_common s
 
 abbrev pub is_passive : Pass → KeptData → Bool
-is_passive pass s = not (in_memory pass s) || is_shared pass s
+is_passive pass s = not (goes_to_memory pass s) || is_shared_init pass s
 
 -- where the segment goes, 0 where it has no address
 abbrev pub output_offset : Pass → PlacedData → ℕ
-output_offset pass s = if in_memory pass s.segment || in_block pass s.segment then s.place else 0
+output_offset pass s = if goes_to_memory pass s.segment || goes_to_block pass s.segment then s.place else 0
 
 -- where a segment of the output goes
 abbrev pub destination_of : SegmentLayout → Destination
@@ -107,29 +108,34 @@ pub record IsLayoutOf (pass : Pass) (s : PlacedData) (l : SegmentLayout) : Type 
   pub payload_start : l.payload_start ≡ s.segment.payload_start
   pub output_memory_index : l.output_memory_index ≡ 0
   pub output_memory_offset : l.output_memory_offset ≡ output_offset pass s
-  pub encoded_output_size : HasSegmentSize (destination_of l) (length l.payload) l.encoded_output_size
+  pub encoded_output_size :
+      HasSegmentSize (destination_of l) (length l.payload) l.encoded_output_size
   pub passive : l.passive ≡ is_passive pass s.segment
-  pub tls_template : l.tls_template ≡ in_block pass s.segment
-  pub shared_init : l.shared_init ≡ is_shared pass s.segment
+  pub tls_template : l.tls_template ≡ goes_to_block pass s.segment
+  pub shared_init : l.shared_init ≡ is_shared_init pass s.segment
 
 -- each of the second list is that of the first at its place
 abbrev pub AreLayoutsOf : Pass → List PlacedData → List SegmentLayout → Type 0
 AreLayoutsOf pass [] [] = ⊤
-AreLayoutsOf pass (s ∷ placed) (l ∷ layouts) = IsLayoutOf pass s l × AreLayoutsOf pass placed layouts
+AreLayoutsOf pass (s ∷ placed) (l ∷ layouts) =
+    IsLayoutOf pass s l × AreLayoutsOf pass placed layouts
 AreLayoutsOf pass _ _ = ⊥
 
 -- what a pass makes of segments, from frontier to frontier
-pub record AreLaidOut (pass : Pass) (segments : List KeptData) (start end : Frontier) (layouts : List SegmentLayout) : Type 0 where
+pub record AreLaidOut (pass : Pass) (segments : List KeptData) (start end : Frontier)
+    (layouts : List SegmentLayout) : Type 0 where
   pub placed : List PlacedData
   pub stand : ArePlaced pass segments start end placed
   pub laid : AreLayoutsOf pass placed layouts
 
 -- the list grows by layouts that are so
-abbrev pub GrowsBy : (List SegmentLayout → Type 0) → List SegmentLayout → List SegmentLayout → Type 0
+abbrev pub GrowsBy : (List SegmentLayout → Type 0) → List SegmentLayout → List SegmentLayout
+    → Type 0
 GrowsBy Laid old new = (more : List SegmentLayout) × Laid more × (new ≡ old ++ more)
 
 -- what the output makes of one segment, which then stands
-pub record IsLaidOne (pass : Pass) (segment : KeptData) (start end : Frontier) (l : SegmentLayout) : Type 0 where
+pub record IsLaidOne (pass : Pass) (segment : KeptData) (start end : Frontier) (l : SegmentLayout)
+    : Type 0 where
   pub place : ℕ
   pub stands : StandsThere pass start end (record { segment = segment; place = place })
   pub laid : IsLayoutOf pass (record { segment = segment; place = place }) l

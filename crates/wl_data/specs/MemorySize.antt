@@ -1,5 +1,5 @@
 -- The size of the output's memory.
-use Rattle.std.specs.Prelude.{◌≡◌, ◌≢◌, ◌⊎◌, ◌≤◌, ◌<◌, ℕ, ◌*◌, ◌/◌, ◌%◌, ◌^◌, ◌==◌, ◌||◌, max, Bool, if◌then◌else◌, Option, Some, None, unwrap_or}
+use Rattle.std.specs.Prelude.{◌≡◌, ◌≢◌, ◌⊎◌, ◌<◌, ℕ, ◌*◌, ◌/◌, ◌%◌, ◌==◌, ◌||◌, max, Bool, if◌then◌else◌, Option, Some, None, unwrap_or}
 use Rattle.std.specs.Int.{div_ceil}
 use Rattle.wl_linking.specs.declared.error.LinkError.{LinkError}
 use Rattle.wl_linking.specs.declared.error.LinkError.TheVariants.{BadMemorySize}
@@ -32,7 +32,8 @@ stack_need data_end stack_size stack_first =
 
 -- the bytes that the data, the address from which it counts and the stack need
 abbrev pub needed_bytes : MemoryNeeds → ℕ
-needed_bytes n = max (max n.data_end n.memory_base) (stack_need n.data_end n.stack_size n.stack_first)
+needed_bytes n =
+    max (max n.data_end n.memory_base) (stack_need n.data_end n.stack_size n.stack_first)
 
 -- ---- what it becomes
 
@@ -49,14 +50,14 @@ new_maximum given None shared pages = if shared then Some (max (unwrap_or given 
 
 -- ---- refusals
 
--- so many bytes were asked for at first, and that is no whole number of pages, too many, or fewer than
--- are needed
+-- so many bytes were asked for at first, and that is no whole number of pages, too many, or fewer
+-- than are needed
 pub record IsBadInitial (asked : Option ℕ) (needed requested : ℕ) : Type 0 where
   pub asked_for : asked ≡ Some requested
   pub bad : (requested % PAGE_BYTES ≢ 0) ⊎ (MAX_INITIAL_BYTES < requested) ⊎ (requested < needed)
 
--- so many bytes were asked for at most, and that is no whole number of pages, too many, or fewer than
--- the memory has at first
+-- so many bytes were asked for at most, and that is no whole number of pages, too many, or fewer
+-- than the memory has at first
 pub record IsBadMaximum (asked : Option ℕ) (needed requested : ℕ) : Type 0 where
   pub asked_for : asked ≡ Some requested
   pub bad : (requested % PAGE_BYTES ≢ 0) ⊎ (MAX_BYTES < requested) ⊎ (requested < needed)
@@ -64,12 +65,14 @@ pub record IsBadMaximum (asked : Option ℕ) (needed requested : ℕ) : Type 0 w
 -- the size at first is refused, and so many bytes are needed
 abbrev pub IsInitialRefused : Option ℕ → ℕ → LinkError → Type 0
 IsInitialRefused asked needed e =
-    (requested : ℕ) × IsBadInitial asked needed requested × (e ≡ BadMemorySize Initial requested needed)
+    (requested : ℕ) × IsBadInitial asked needed requested
+    × (e ≡ BadMemorySize Initial requested needed)
 
 -- the greatest size is refused, and so many bytes are needed
 abbrev pub IsMaximumRefused : Option ℕ → ℕ → LinkError → Type 0
 IsMaximumRefused asked needed e =
-    (requested : ℕ) × IsBadMaximum asked needed requested × (e ≡ BadMemorySize Maximum requested needed)
+    (requested : ℕ) × IsBadMaximum asked needed requested
+    × (e ≡ BadMemorySize Maximum requested needed)
 
 -- why a memory of so many pages can't be made to hold what is needed and to have the sizes that are
 -- asked for at first and at most: the first of these that is the case

@@ -1,5 +1,5 @@
 -- How many bytes the output takes for what it holds.
-use Rattle.std.specs.Prelude.{◌≡◌, ◌≤◌, ◌<◌, ℕ, ◌+◌, ◌^◌, Bool, true, false, List, [], ◌∷◌, ◌++◌, length, sum_by, suc, zero}
+use Rattle.std.specs.Prelude.{◌≡◌, ◌≤◌, ℕ, ◌+◌, ◌^◌, Bool, true, false, List, [], ◌∷◌, ◌++◌, length, sum_by, suc, zero}
 use Rattle.std.specs.Int.{w32, cast_signed}
 use Rattle.std.specs.List.{list_any}
 use Rattle.wl_bytes.specs.Leb.{IsShortest, IsShortestSleb}
@@ -46,7 +46,8 @@ pub record IsSegmentHead (to : Destination) (len : ℕ) (text : List ℕ) : Type
 
 -- a segment of so many bytes takes so many in the output
 abbrev pub HasSegmentSize : Destination → ℕ → ℕ → Type 0
-HasSegmentSize to len size = (head : List ℕ) × IsSegmentHead to len head × (size ≡ length head + len)
+HasSegmentSize to len size =
+    (head : List ℕ) × IsSegmentHead to len head × (size ≡ length head + len)
 
 -- the size of a segment passes 32 bits
 abbrev pub IsHugeSegment : Destination → ℕ → LinkError → Type 0

@@ -11,7 +11,8 @@ pub fn align_up(end: u32, alignment: u32) -> Option<u32>
     ensures value { MatchOption result (2 ^ 32 ≤ next_multiple_of end alignment)
         (λ place. place ≡ next_multiple_of end alignment) }
     ensures least { IfSome result (IsLeastAligned alignment end) }
-    ensures none { IfNone result ((place : ℕ) → IsLeastAligned alignment end place → 2 ^ 32 ≤ place) }
+    ensures none { IfNone result ((place : ℕ) → IsLeastAligned alignment end place
+        → 2 ^ 32 ≤ place) }
 {
     end.checked_next_multiple_of(alignment)
 }

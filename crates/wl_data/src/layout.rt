@@ -4,7 +4,7 @@ ghost use Rattle.std.specs.Prelude.{◌≡◌, ◌≤◌, ◌<◌, ℕ, ◌+◌,
 ghost use Rattle.std.specs.Int.{next_multiple_of};
 ghost use Rattle.std.specs.List.{AllByRecursion};
 ghost use Rattle.wl_linking.specs.Steps.{Clear, Refuses};
-ghost use Rattle.wl_data.specs.Layouts.{CanBePlaced, is_chosen, in_block, in_memory, is_shared, StandsThere, PassesAt, IsLayoutOf, AreLaidOut, IsLaidOne, GrowsBy, HasNoRoom, HasNoRoomAt, frontier_of, frontier_left, pass_of};
+ghost use Rattle.wl_data.specs.Layouts.{CanBePlaced, is_chosen, goes_to_block, goes_to_memory, is_shared_init, StandsThere, PassesAt, IsLayoutOf, AreLaidOut, IsLaidOne, GrowsBy, HasNoRoom, HasNoRoomAt, frontier_of, frontier_left, pass_of};
 
 use crate::align::align_up;
 use crate::pass::{Frontier, Pass};
@@ -24,22 +24,22 @@ fn stretch_behind(cursor: u32, alignment: u32, len: u32) -> Option<(u32, u32)>
 }
 
 /// Whether the segment goes into the block of each thread.
-fn is_in_block(pass: Pass, segment: &KeptSegment<'_>) -> bool
-    ensures { result ≡ in_block pass segment.now }
+fn is_for_block(pass: Pass, segment: &KeptSegment<'_>) -> bool
+    ensures { result ≡ goes_to_block pass segment.now }
 {
     pass.has_block && segment.tls
 }
 
 /// Whether the segment goes into the memory.
-fn is_in_memory(pass: Pass, segment: &KeptSegment<'_>) -> bool
-    ensures { result ≡ in_memory pass segment.now }
+fn is_for_memory(pass: Pass, segment: &KeptSegment<'_>) -> bool
+    ensures { result ≡ goes_to_memory pass segment.now }
 {
-    !is_in_block(pass, segment) && segment.active
+    !is_for_block(pass, segment) && segment.active
 }
 
 /// Whether the segment is copied into the memory by the first thread.
-fn is_shared(pass: Pass, segment: &KeptSegment<'_>) -> bool
-    ensures { result ≡ is_shared pass segment.now }
+fn is_shared_init(pass: Pass, segment: &KeptSegment<'_>) -> bool
+    ensures { result ≡ is_shared_init pass segment.now }
 {
     pass.shared_init && segment.is_common()
 }
@@ -50,7 +50,7 @@ fn stand(pass: Pass, segment: &KeptSegment<'_>, frontier: Frontier) -> Option<(u
     ensures { MatchOption result (PassesAt pass segment.now frontier) (λ p.
         StandsThere pass frontier p.1 (record { segment = segment.now; place = p.0 })) }
 {
-    if is_in_block(pass, segment) {
+    if is_for_block(pass, segment) {
         let Some((place, end)) = stretch_behind(
             frontier.block,
             segment.block_alignment(),
@@ -66,7 +66,7 @@ fn stand(pass: Pass, segment: &KeptSegment<'_>, frontier: Frontier) -> Option<(u
             },
         ));
     }
-    if is_in_memory(pass, segment) {
+    if is_for_memory(pass, segment) {
         let Some((place, end)) = stretch_behind(
             frontier.memory,
             segment.alignment(),
@@ -95,9 +95,9 @@ fn layout_at<'a>(
     ensures ok { IfOk result (IsLayoutOf pass (record { segment = segment.now; place = place })) }
     ensures never { OnErr result ⊥ }
 {
-    let is_template = is_in_block(pass, segment);
-    let in_memory = is_in_memory(pass, segment);
-    let shared_init = is_shared(pass, segment);
+    let is_template = is_for_block(pass, segment);
+    let in_memory = is_for_memory(pass, segment);
+    let shared_init = is_shared_init(pass, segment);
     let passive = !in_memory || shared_init;
     let offset = if in_memory || is_template { place } else { 0 };
     let size = output_data_segment_encoded_size(segment.size(), offset, 0, passive)?;

@@ -28,7 +28,8 @@ fn name_size(memory_index: u32) -> u64
 
 /// How many bytes a place takes as a signed number of 32 bits.
 fn place_size(offset: u32) -> u64
-    ensures value { (text : List ℕ) × IsShortestSleb (cast_signed w32 offset) text × (result ≡ length text) }
+    ensures value { (text : List ℕ) × IsShortestSleb (cast_signed w32 offset) text
+        × (result ≡ length text) }
     ensures small { result ≤ 10 }
 {
     sleb_len(offset.cast_signed() as i64) as u64

@@ -1,7 +1,6 @@
 use Rattle.std.proofs.Common.{arith}
 use Rattle.std.proofs.lemmas.List.{take_all}
 use Rattle.std.proofs.lemmas.Result.{err_from_is_err_and}
-use Rattle.wl_data.specs.Layouts.{HasNoRoom}
 use Rattle.wl_data.proofs.LayoutLaws.{refuses_as, passes_there, laid_more, no_pass}
 use Rattle.wl_data.proofs.layout.lay_out.Goals as goal
 
