@@ -5,6 +5,7 @@ use Rattle.std.specs.Int.{next_multiple_of}
 use Rattle.std.specs.List.{AllByRecursion}
 use Rattle.std.proofs.lemmas.List.{map-append, take_more}
 use Rattle.wl_linking.specs.declared.error.LinkError.{LinkError}
+use Rattle.wl_linking.specs.declared.error.LinkError.TheVariants.{OutOfMemory}
 use Rattle.wl_linking.specs.Steps.{Clear, Refuses}
 use Rattle.std.proofs.lemmas.List.Elements.{filter-append}
 use Rattle.wl_data.specs.declared.pass.Frontier.{Frontier}
@@ -152,12 +153,12 @@ no_pass pass xs a b l p m n = record {
 
 -- ---- there is always a place
 
-record IsPlace (pass : Pass) (xs : List KeptData) (a : Frontier) : Type 0 where
-  placed : List PlacedData
-  end : Frontier
-  stand : ArePlaced pass xs a end placed
-  memory : a.memory ≤ end.memory
-  block : a.block ≤ end.block
+pub record IsPlace (pass : Pass) (xs : List KeptData) (a : Frontier) : Type 0 where
+  pub placed : List PlacedData
+  pub end : Frontier
+  pub stand : ArePlaced pass xs a end placed
+  pub memory : a.memory ≤ end.memory
+  pub block : a.block ≤ end.block
 
 one_place : (pass : Pass) (s : KeptData) (a : Frontier) → CanBePlaced s → IsPlace pass (s ∷ []) a
 one_place pass s a sound = chosen (is_chosen pass s) refl
@@ -193,7 +194,7 @@ one_place pass s a sound = chosen (is_chosen pass s) refl
     chosen true c = inside (goes_to_block pass s) (goes_to_memory pass s) refl refl c
     chosen false c = record { placed = []; end = a; stand = none_standing pass a s c; memory = omega arith; block = omega arith }
 
-some_place : (pass : Pass) (xs : List KeptData) (a : Frontier) → AllByRecursion CanBePlaced xs → IsPlace pass xs a
+pub some_place : (pass : Pass) (xs : List KeptData) (a : Frontier) → AllByRecursion CanBePlaced xs → IsPlace pass xs a
 some_place pass [] a all = record { placed = []; end = a; stand = record { chosen = refl; memory = refl; block = refl }; memory = omega arith; block = omega arith }
 some_place pass (x ∷ xs) a all =
     let first = one_place pass x a all.0 in
@@ -238,6 +239,12 @@ passes_one pass s a e p = record {
 
 pub refuses_as : (P Q : LinkError → Type 0) (e : LinkError) → (P e → Q e) → Refuses P e → Refuses Q e
 refuses_as P Q e f h = record { cause_is = λ not. f (h.cause_is not) }
+
+pub refuses_for : (P : LinkError → Type 0) (e : LinkError) → P e → Refuses P e
+refuses_for P e h = record { cause_is = λ not. h }
+
+pub refuses_memory : (P : LinkError → Type 0) (e : LinkError) → e ≡ OutOfMemory → Refuses P e
+refuses_memory P e is = record { cause_is = λ not. absurd (not is) }
 
 pub laid_one : (pass : Pass) (s : KeptData) (place : ℕ) (a b : Frontier) (l : SegmentLayout) → is_chosen pass s ≡ true → StandsThere pass a b (record { segment = s; place = place }) → IsLayoutOf pass (record { segment = s; place = place }) l → AreLaidOut pass (s ∷ []) a b (l ∷ [])
 laid_one pass s place a b l e p q = record {

@@ -7,3 +7,6 @@ pub mod UniqueLaws
 pub mod OrderLaws
 pub mod RangeLaws
 pub mod StepLaws
+pub mod QuestionLaws
+pub mod ObjectLaws
+pub mod EndLaws

@@ -25,11 +25,18 @@ first_in_order o = at o.stack_first
     at true = (omega arith, omega arith, omega arith)
     at false = omega arith
 
-tls_behind : (d : DataInput) (m : ℕ) → m ≤ tls_start d m
+pub tls_behind : (d : DataInput) (m : ℕ) → m ≤ tls_start d m
 tls_behind d m = at (has_tls d && not d.options.shared_tls)
   where
     at : (b : Bool) → m ≤ cond b (next_multiple_of m (greatest_alignment (tls_segments d))) m
     at true = up m (greatest_alignment (tls_segments d))
+    at false = omega arith
+
+pub end_behind : (d : DataInput) (m : ℕ) → m ≤ data_end d m
+end_behind d m = at (has_init d)
+  where
+    at : (b : Bool) → m ≤ cond b (flag_place m + 4) m
+    at true = omega (arith, up m 4)
     at false = omega arith
 
 flag_in_order : (d : DataInput) (m : ℕ) → ComeInOrder m (flag_ranges d m) (data_end d m)

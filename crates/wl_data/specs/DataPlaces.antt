@@ -1,12 +1,16 @@
 -- Where the data of all objects lies.
-use Rattle.std.specs.Prelude.{◌≡◌, ◌≤◌, ◌<◌, ℕ, ◌+◌, ◌&&◌, ◌||◌, not, max, Bool, true, false, if◌then◌else◌, List, [], ◌∷◌, ◌++◌, length, filter, map, Some, slice_get}
+use Rattle.std.specs.Prelude.{◌≡◌, ◌≤◌, ◌<◌, ℕ, ◌+◌, ◌&&◌, ◌||◌, not, max, Bool, true, false, if◌then◌else◌, List, [], ◌∷◌, ◌++◌, length, filter, map, Option, Some, None, slice_get, ◌⊎◌, ◌^◌}
 use Rattle.std.specs.Int.{next_multiple_of}
-use Rattle.std.specs.List.{list_any, flat_map}
+use Rattle.std.specs.List.{list_any, flat_map, AllByRecursion}
+use Rattle.wl_linking.specs.declared.error.LinkError.{LinkError}
+use Rattle.wl_linking.specs.declared.error.LinkError.TheVariants.{TooLarge}
+use Rattle.wl_linking.specs.declared.error.Quantity.TheVariants.{Address}
+use Rattle.wl_data.specs.declared.places.DataPlaces.{DataPlaces}
 use Rattle.wl_data.specs.declared.options.DataOptions.{DataOptions}
 use Rattle.wl_data.specs.declared.pass.Frontier.{Frontier}
 use Rattle.wl_data.specs.declared.pass.Pass.{Pass}
 use Rattle.wl_data.specs.Segments.{KeptData, SegmentLayout}
-use Rattle.wl_data.specs.Layouts.{AreLaidOut, is_common}
+use Rattle.wl_data.specs.Layouts.{CanBePlaced, PlacedData, ArePlaced, AreLaidOut, is_common}
 use Rattle.wl_data.specs.Stack.{behind_data, stack_top}
 
 -- the segments of all objects in a row
@@ -22,10 +26,17 @@ AreObjectsLaid pass (segments ∷ objects) start end (layouts ∷ rest) =
     × AreObjectsLaid pass objects middle end rest
 AreObjectsLaid pass _ start end _ = ⊥
 
+-- all segments of an object can be placed
+abbrev pub AllCanBePlaced : List KeptData → Type 0
+AllCanBePlaced segments = AllByRecursion CanBePlaced segments
+
 -- what places rest on: the kept segments, object by object, and what is asked for
 pub record DataInput : Type 0 where
   pub objects : List (List KeptData)
   pub options : DataOptions
+
+abbrev pub data_of : List (List KeptData) → DataOptions → DataInput
+data_of objects options = record { objects = objects; options = options }
 
 -- ---- where data begins
 
@@ -38,12 +49,19 @@ abbrev pub greatest_alignment : List KeptData → ℕ
 greatest_alignment [] = 1
 greatest_alignment (s ∷ segments) = max s.alignment (greatest_alignment segments)
 
--- the kept segments with data of which each thread has its own
+-- each thread has its own of it
+abbrev pub is_tls : KeptData → Bool
+is_tls s = s.tls
+
+-- the kept segments of which each thread has its own
 abbrev pub tls_segments : DataInput → List KeptData
-tls_segments d = filter (λ (s : KeptData). s.tls) (in_one_row d.objects)
+tls_segments d = filter is_tls (in_one_row d.objects)
+
+abbrev pub any_is_tls : List KeptData → Bool
+any_is_tls segments = list_any is_tls segments
 
 abbrev pub has_tls : DataInput → Bool
-has_tls d = list_any (λ (s : KeptData). s.tls) (in_one_row d.objects)
+has_tls d = list_any any_is_tls d.objects
 
 -- where those begin that stand behind the other data: at a multiple of all their alignments
 abbrev pub tls_start : DataInput → ℕ → ℕ
@@ -63,13 +81,20 @@ tls_base d end =
 abbrev pub pass_over : DataOptions → Bool → Pass
 pass_over o tls = record { tls = tls; shared_init = o.shared_memory; has_block = o.shared_tls }
 
+abbrev pub any_is_common : List KeptData → Bool
+any_is_common segments = list_any is_common segments
+
 -- the first thread has segments to copy
 abbrev pub has_init : DataInput → Bool
-has_init d = d.options.shared_memory && list_any is_common (in_one_row d.objects)
+has_init d = d.options.shared_memory && list_any any_is_common d.objects
 
 -- where the word stands that tells whether they are copied
 abbrev pub flag_place : ℕ → ℕ
 flag_place end = next_multiple_of end 4
+
+-- that place, where there is the word
+abbrev pub flag_of : DataInput → ℕ → Option ℕ
+flag_of d end = if has_init d then Some (flag_place end) else None
 
 abbrev pub data_end : DataInput → ℕ → ℕ
 data_end d end = if has_init d then flag_place end + 4 else end
@@ -91,6 +116,50 @@ pub record ArePlaces (d : DataInput) (common own : List (List SegmentLayout))
       (record { memory = data_start d.options; block = 0 }) middle common
   pub own_laid : AreObjectsLaid (pass_over d.options true) d.objects
       (record { memory = tls_start d middle.memory; block = middle.block }) end own
+
+-- the layouts of each object: those of the first list, and behind them those of the second
+abbrev pub by_object : {X : Type 0} → List (List X) → List (List X) → List (List X)
+by_object [] _ = []
+by_object (xs ∷ fronts) [] = xs ∷ fronts
+by_object (xs ∷ fronts) (ys ∷ backs) = (xs ++ ys) ∷ by_object fronts backs
+
+-- each object's list grows by layouts that are so
+abbrev pub GrowByObject : (List (List SegmentLayout) → Type 0) → List (List SegmentLayout)
+    → List (List SegmentLayout) → Type 0
+GrowByObject Laid old new =
+    (more : List (List SegmentLayout)) × Laid more × (new ≡ by_object old more)
+
+-- where the data of these objects lies
+pub record IsDataPlaces (d : DataInput) (p : DataPlaces) : Type 0 where
+  pub common : List (List SegmentLayout)
+  pub own : List (List SegmentLayout)
+  pub middle : Frontier
+  pub end : Frontier
+  pub places : ArePlaces d common own middle end
+  pub layouts : p.layouts ≡ by_object common own
+  pub data_start : p.data_start ≡ data_start d.options
+  pub tls_base : p.tls_base ≡ tls_base d middle.memory
+  pub tls_size : p.tls_size ≡ tls_size d end
+  pub tls_align : p.tls_align ≡ tls_align d
+  pub flag : p.flag ≡ flag_of d end.memory
+  pub data_end : p.data_end ≡ data_end d end.memory
+
+-- The data ends past the last address, in the memory or in the block of a thread. All that comes
+-- before the end lies below it, so this is so where any address is past the last one.
+pub record EndsPastMemory (d : DataInput) : Type 0 where
+  pub common : List PlacedData
+  pub own : List PlacedData
+  pub middle : Frontier
+  pub end : Frontier
+  pub common_stand : ArePlaced (pass_over d.options false) (in_one_row d.objects)
+      (record { memory = data_start d.options; block = 0 }) middle common
+  pub own_stand : ArePlaced (pass_over d.options true) (in_one_row d.objects)
+      (record { memory = tls_start d middle.memory; block = middle.block }) end own
+  pub past : (2 ^ 32 ≤ data_end d end.memory) ⊎ (2 ^ 32 ≤ end.block)
+
+-- the data would end past the last address
+abbrev pub IsPastMemory : DataInput → LinkError → Type 0
+IsPastMemory d e = (e ≡ TooLarge Address) × EndsPastMemory d
 
 -- ---- what lies where
 

@@ -30,6 +30,10 @@ goes_to_block pass s = pass.has_block && s.tls
 abbrev pub goes_to_memory : Pass → KeptData → Bool
 goes_to_memory pass s = not (goes_to_block pass s) && s.active
 
+-- its alignment where each thread has its own of it, else 1
+abbrev pub tls_alignment_of : KeptData → ℕ
+tls_alignment_of s = if s.tls then s.alignment else 1
+
 -- in a block an empty segment stands at the end before it, as it is
 abbrev pub block_alignment : KeptData → ℕ
 block_alignment s = if length s.payload == 0 then 1 else s.alignment

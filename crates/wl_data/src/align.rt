@@ -3,6 +3,19 @@
 ghost use Rattle.std.specs.Prelude.{◌≡◌, ◌<◌, ◌≤◌, ℕ, ◌^◌, IfSome, IfNone, MatchOption};
 ghost use Rattle.std.specs.Int.{next_multiple_of};
 ghost use Rattle.wl_data.specs.Spans.{IsLeastAligned};
+ghost use Rattle.wl_linking.specs.declared.error.LinkError.TheVariants.{TooLarge};
+ghost use Rattle.wl_linking.specs.declared.error.Quantity.TheVariants.{Address};
+
+use wl_linking::{LinkError, Quantity};
+
+/// The refusal of an address past the last one.
+pub(crate) fn past_last_address() -> LinkError
+    ensures { result ≡ TooLarge Address }
+{
+    LinkError::TooLarge {
+        what: Quantity::Address,
+    }
+}
 
 /// The least multiple of the alignment that isn't below `end`; none where that passes the last
 /// address.

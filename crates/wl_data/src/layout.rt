@@ -6,12 +6,12 @@ ghost use Rattle.std.specs.List.{AllByRecursion};
 ghost use Rattle.wl_linking.specs.Steps.{Clear, Refuses};
 ghost use Rattle.wl_data.specs.Layouts.{CanBePlaced, is_chosen, goes_to_block, goes_to_memory, is_shared_init, StandsThere, PassesAt, IsLayoutOf, AreLaidOut, IsLaidOne, GrowsBy, HasNoRoom, HasNoRoomAt, frontier_of, frontier_left, pass_of};
 
-use crate::align::align_up;
+use crate::align::{align_up, past_last_address};
 use crate::pass::{Frontier, Pass};
 use crate::segments::{KeptSegment, WasmDataSegmentLayout};
 use crate::sizes::output_data_segment_encoded_size;
 use std::alloc::Global;
-use wl_linking::{LinkError, Quantity};
+use wl_linking::LinkError;
 
 /// A place behind a cursor, and where so many bytes end that stand there.
 fn stretch_behind(cursor: u32, alignment: u32, len: u32) -> Option<(u32, u32)>
@@ -125,9 +125,7 @@ fn lay_one<'a>(
     ensures err { IfErr result (Refuses (HasNoRoomAt pass segment.now frontier.old)) }
 {
     let Some((place, end)) = stand(pass, segment, *frontier) else {
-        return Err(LinkError::TooLarge {
-            what: Quantity::Address,
-        });
+        return Err(past_last_address());
     };
     let layout = layout_at(pass, segment, place)?;
     *frontier = end;

@@ -13,6 +13,8 @@ mod memory;
 mod options;
 mod pass;
 mod placeable;
+mod places;
+mod placing;
 mod segments;
 mod sizes;
 mod stack;
@@ -26,6 +28,8 @@ pub use layout::layout_object_data;
 pub use memory::ensure_memory_covers;
 pub use options::DataOptions;
 pub use placeable::all_can_be_placed;
+pub use places::DataPlaces;
+pub use placing::place_all;
 pub use segments::{KeptSegment, SegmentLayouts, WasmDataAddress, WasmDataSegmentLayout};
 pub use sizes::{
     code_can_be_measured, compute_code_section_size, compute_data_section_size,

@@ -1,7 +1,8 @@
 //! Segments that are kept, and what the output makes of them.
 
-ghost use Rattle.std.specs.Prelude.{◌≡◌, length, IsTrue, ◌↔◌};
+ghost use Rattle.std.specs.Prelude.{◌≡◌, length, IsTrue, ◌↔◌, ◌++◌, OnOk};
 
+use std::alloc::AllocError;
 use std::marker::Model;
 
 /// Where a data symbol lies.
@@ -51,7 +52,7 @@ impl<'a> Model for KeptSegment<'a> {
 }
 
 impl<'a> KeptSegment<'a> {
-    ghost use Rattle.wl_data.specs.Layouts.{CanBePlaced, block_alignment, is_common};
+    ghost use Rattle.wl_data.specs.Layouts.{CanBePlaced, block_alignment, is_common, tls_alignment_of};
 
     /// How many bytes it has.
     pub(crate) fn size(&self) -> u32
@@ -80,6 +81,13 @@ impl<'a> KeptSegment<'a> {
         ensures { result ≡ is_common self.now }
     {
         self.active && !self.tls && !self.payload.is_empty()
+    }
+
+    /// Its alignment where each thread has its own of it, else 1.
+    pub(crate) fn tls_alignment(&self) -> u32
+        ensures { result ≡ tls_alignment_of self.now }
+    {
+        if self.tls { self.alignment } else { 1 }
     }
 
     /// Its alignment in a block of data of each thread, where an empty one needs none.
@@ -157,6 +165,14 @@ impl<'a> SegmentLayouts<'a> {
         ensures { result ≡ items.entry.items }
     {
         SegmentLayouts { items }
+    }
+
+    /// Puts more segments at the end; where memory runs out it stays as it was.
+    pub(crate) fn append(&mut self, more: Vec<WasmDataSegmentLayout<'a>>) -> Result<(), AllocError>
+        ensures ok { OnOk result (self.new ≡ self.old ++ more.entry.items) }
+    {
+        let mut items = more;
+        self.items.append(&mut items)
     }
 
     /// The segments as a slice.

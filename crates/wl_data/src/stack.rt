@@ -6,7 +6,7 @@ ghost use Rattle.wl_linking.specs.Steps.{Clear, Step, NoStep};
 ghost use Rattle.wl_data.specs.Stack.{behind_data, stack_top, stack_start, heap_start, AnswersUpTo, IsBadStackSize, IsStackTooHigh};
 ghost use Rattle.wl_data.specs.declared.memory.TheConstants.{PAGE_BYTES};
 
-use crate::align::align_up;
+use crate::align::{align_up, past_last_address};
 use crate::memory::PAGE_BYTES;
 use wl_linking::{LinkError, Quantity};
 
@@ -22,9 +22,7 @@ pub fn heap_base_after_data(data_end: u32) -> Result<u32, LinkError>
 {
     match align_up(data_end, STACK_ALIGNMENT) {
         Some(base) => Ok(base),
-        None => Err(LinkError::TooLarge {
-            what: Quantity::Address,
-        }),
+        None => Err(past_last_address()),
     }
 }
 
@@ -38,9 +36,7 @@ pub fn stack_high_after_data(data_end: u32, stack_size: u32) -> Result<u32, Link
     let base = align_up(data_end, STACK_ALIGNMENT);
     match base.and_then(|base| base.checked_add(stack_size)) {
         Some(top) => Ok(top),
-        None => Err(LinkError::TooLarge {
-            what: Quantity::Address,
-        }),
+        None => Err(past_last_address()),
     }
 }
 
