@@ -27,7 +27,7 @@ pub use laws::{
 pub use layout::layout_object_data;
 pub use memory::ensure_memory_covers;
 pub use options::DataOptions;
-pub use placeable::all_can_be_placed;
+pub use placeable::{all_can_be_placed, objects_can_be_placed};
 pub use places::DataPlaces;
 pub use placing::place_all;
 pub use segments::{KeptSegment, SegmentLayouts, WasmDataAddress, WasmDataSegmentLayout};

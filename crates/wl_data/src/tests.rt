@@ -1,15 +1,16 @@
 //! Tests.
 
 use crate::{
-    KeptSegment, SegmentLayouts, all_can_be_placed, compute_code_section_size,
-    compute_data_section_size, ensure_memory_covers, ensure_stack_size_aligned, heap_base_address,
-    heap_base_after_data, heap_end_from_initial_pages, layout_object_data, output_data_has_passive,
-    output_data_segment_count, output_data_segment_encoded_size, stack_high_after_data,
-    stack_pointer_init,
+    DataOptions, DataPlaces, KeptSegment, SegmentLayouts, all_can_be_placed, code_can_be_measured,
+    compute_code_section_size, compute_data_section_size, data_can_be_measured,
+    ensure_memory_covers, ensure_stack_size_aligned, heap_base_address, heap_base_after_data,
+    heap_end_from_initial_pages, layout_object_data, objects_can_be_placed,
+    output_data_has_passive, output_data_segment_count, output_data_segment_encoded_size,
+    place_all, segments_can_be_numbered, stack_high_after_data, stack_pointer_init,
 };
 use std::borrow::CowSlice;
 use std::test::Fail;
-use wl_linking::{LinkError, MemoryBound, Quantity};
+use wl_linking::{Items, LinkError, MemoryBound, Quantity};
 use wl_module::{MemoryType, WasmFunctionBody};
 
 /// A memory of one page.
@@ -104,6 +105,7 @@ fn sizes_are_those_of_the_format(rt: HostRuntime) -> Result<(), Fail> {
             object_index: 0,
         },
     ]?;
+    assert!(rt; code_can_be_measured(&bodies));
     assert_eq!(rt; compute_code_section_size(&bodies), 6);
     assert_eq!(rt; compute_code_section_size(&[]), 0);
     assert_eq!(rt; compute_data_section_size(&[]), 0);
@@ -136,14 +138,15 @@ fn segments_stand_in_a_row(rt: HostRuntime) -> Result<(), Fail> {
     let Ok(layouts) = laid else {
         return Err(Fail::from("no layout"));
     };
-    assert_eq!(rt; layouts.len(), 3);
-    assert_eq!(rt; layouts[0].output_memory_offset, 1024);
-    assert_eq!(rt; layouts[1].output_memory_offset, 1028);
-    assert!(rt; layouts[2].passive);
-    assert_eq!(rt; memory, 1032);
+    let offsets = [1024, 1028, 0];
+    for (layout, want) in layouts.iter().zip(offsets.as_slice()) {
+        assert_eq!(rt; layout.output_memory_offset, *want);
+    }
+    assert_eq!(rt; (layouts.len(), memory), (3, 1032));
     let objects = vec![in rt.alloc(); SegmentLayouts::new(layouts)]?;
-    assert_eq!(rt; objects.len(), 1);
     assert!(rt; output_data_has_passive(&objects));
+    assert!(rt; segments_can_be_numbered(&objects) && data_can_be_measured(&objects));
+    assert_eq!(rt; compute_data_section_size(&objects), 25);
     Ok(())
 }
 
@@ -155,24 +158,18 @@ fn data_of_threads_has_a_block(rt: HostRuntime) -> Result<(), Fail> {
         segment(b"d", false, true, 4),
         segment(b"e", true, false, 1),
     ]?;
-    let mut memory = 7;
-    let mut block = 0;
+    let (mut memory, mut block) = (7, 0);
     assert!(rt; all_can_be_placed(&segments));
-    let laid = layout_object_data(
-        rt.alloc(),
-        &segments,
-        &mut memory,
-        true,
-        true,
-        Some(&mut block),
-    );
+    let tls_cursor = Some(&mut block);
+    let laid = layout_object_data(rt.alloc(), &segments, &mut memory, true, true, tls_cursor);
     let Ok(layouts) = laid else {
         return Err(Fail::from("no layout"));
     };
-    assert_eq!(rt; layouts.len(), 3);
-    assert_eq!(rt; layouts[1].output_memory_offset, 3);
-    assert_eq!(rt; layouts[2].output_memory_offset, 4);
-    assert_eq!(rt; (memory, block), (7, 5));
+    let offsets = [0, 3, 4];
+    for (layout, want) in layouts.iter().zip(offsets.as_slice()) {
+        assert_eq!(rt; layout.output_memory_offset, *want);
+    }
+    assert_eq!(rt; (layouts.len(), memory, block), (3, 7, 5));
     Ok(())
 }
 
@@ -194,5 +191,61 @@ fn no_cursor_passes_the_last_address(rt: HostRuntime) -> Result<(), Fail> {
         )
     );
     assert_eq!(rt; memory, 4294967290);
+    Ok(())
+}
+
+/// Places one object's segments, from address 1024 on.
+fn place<'a>(
+    rt: &HostRuntime,
+    segments: Vec<KeptSegment<'a>>,
+    shared: bool,
+) -> Result<DataPlaces<'a>, Fail> {
+    let objects = vec![in rt.alloc(); Items::new(segments)]?;
+    if !objects_can_be_placed(&objects) {
+        return Err(Fail::from("a segment that can't be placed"));
+    }
+    let options = DataOptions {
+        memory_base: 1024,
+        stack_first: false,
+        stack_size: 65536,
+        shared_memory: shared,
+        shared_tls: shared,
+    };
+    match place_all(rt.alloc(), &objects, options) {
+        Ok(places) => Ok(places),
+        Err(_) => Err(Fail::from("no places")),
+    }
+}
+
+#[test]
+fn data_of_threads_begins_at_its_alignment(rt: HostRuntime) -> Result<(), Fail> {
+    let segments = vec![in rt.alloc();
+        segment(b"01234567", true, true, 8),
+        segment(b"hello", true, false, 1),
+    ]?;
+    let places = place(&rt, segments, false)?;
+    assert_eq!(rt;
+        (places.data_start, places.tls_base, places.data_end),
+        (1024, 1032, 1040)
+    );
+    assert_eq!(rt;
+        (places.tls_size, places.tls_align, places.flag),
+        (0, 0, None)
+    );
+    Ok(())
+}
+
+#[test]
+fn the_flag_stands_behind_shared_data(rt: HostRuntime) -> Result<(), Fail> {
+    let segments = vec![in rt.alloc();
+        segment(b"abcde", true, false, 1),
+        segment(b"xyz", true, true, 2),
+    ]?;
+    let places = place(&rt, segments, true)?;
+    assert_eq!(rt;
+        (places.flag, places.data_end, places.tls_base),
+        (Some(1032), 1036, 0)
+    );
+    assert_eq!(rt; (places.tls_size, places.tls_align), (3, 2));
     Ok(())
 }
