@@ -10,3 +10,4 @@ pub mod StepLaws
 pub mod QuestionLaws
 pub mod ObjectLaws
 pub mod EndLaws
+pub mod PlacesLaws

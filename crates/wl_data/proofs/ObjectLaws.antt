@@ -12,7 +12,7 @@ use Rattle.wl_data.proofs.LayoutLaws.{objects_laid, passes_on, passes_behind}
 
 -- ---- one row
 
-row_append : {X : Type 0} (xs ys : List (List X)) → in_one_row (xs ++ ys) ≡ in_one_row xs ++ in_one_row ys
+pub row_append : {X : Type 0} (xs ys : List (List X)) → in_one_row (xs ++ ys) ≡ in_one_row xs ++ in_one_row ys
 row_append {X} xs ys = flat_map-append (λ (o : List X). o) xs ys
 
 pub row_more : {X : Type 0} (objects : List (List X)) (i : ℕ) (o : List X) → i < length objects → o ≡ get_or objects i o → in_one_row (take (i + 1) objects) ≡ in_one_row (take i objects) ++ o

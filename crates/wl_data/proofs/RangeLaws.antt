@@ -1,6 +1,8 @@
 -- Addresses that are taken one behind the other.
 use Rattle.std.proofs.Common.{◌≡◌, ℕ, ◌+◌, ◌≤◌, Bool, true, false, List, [], ◌∷◌, ◌++◌, length, map, refl, sym, ap, ◌∙◌, subst, arith, not, ◌&&◌, ◌||◌, zero, suc, Some}
 use Rattle.std.specs.Prelude.{filter, slice_get, ◌==◌}
+use Rattle.std.proofs.lemmas.List.{map-append}
+use Rattle.std.proofs.lemmas.List.Elements.{filter-append}
 use Rattle.wl_data.specs.declared.pass.Frontier.{Frontier}
 use Rattle.wl_data.specs.declared.pass.Pass.{Pass}
 use Rattle.wl_data.specs.Segments.{KeptData, SegmentLayout}
@@ -68,8 +70,15 @@ shared_in_memory pass s e = at pass.has_block s.tls s.active pass.shared_init (l
     at false tls false true empty h = absurd (let z : false ≡ true = h in cc)
     at false tls false false empty h = absurd (let z : false ≡ true = h in cc)
 
+-- the ranges of those that pass a test
+abbrev pub taken : (SegmentLayout → Bool) → List SegmentLayout → List AddressRange
+taken test ls = map addresses_of (filter test ls)
+
+pub taken-append : (test : SegmentLayout → Bool) (xs ys : List SegmentLayout) → taken test (xs ++ ys) ≡ taken test xs ++ taken test ys
+taken-append test xs ys = ap (map addresses_of) (filter-append test xs ys) ∙ map-append addresses_of (filter test xs) (filter test ys)
+
 -- a layout lies in the memory where its segment goes there
-lies_is : (pass : Pass) (s : PlacedData) (l : SegmentLayout) → IsLayoutOf pass s l → lies_in_memory l ≡ goes_to_memory pass s.segment
+pub lies_is : (pass : Pass) (s : PlacedData) (l : SegmentLayout) → IsLayoutOf pass s l → lies_in_memory l ≡ goes_to_memory pass s.segment
 lies_is pass s l i =
     rw (i.tls_template, i.passive, i.shared_init)
     (memory_test (goes_to_memory pass s.segment) (goes_to_block pass s.segment) (is_shared_init pass s.segment) (not_both pass s.segment) (shared_in_memory pass s.segment))

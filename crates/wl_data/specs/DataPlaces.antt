@@ -1,7 +1,7 @@
 -- Where the data of all objects lies.
-use Rattle.std.specs.Prelude.{◌≡◌, ◌≤◌, ◌<◌, ℕ, ◌+◌, ◌&&◌, ◌||◌, not, max, Bool, true, false, if◌then◌else◌, List, [], ◌∷◌, ◌++◌, length, filter, map, Option, Some, None, slice_get, ◌⊎◌, ◌^◌}
+use Rattle.std.specs.Prelude.{◌≡◌, ◌≢◌, ◌≤◌, ◌<◌, ℕ, ◌+◌, ◌%◌, ◌&&◌, ◌||◌, not, max, Bool, true, false, if◌then◌else◌, List, [], ◌∷◌, ◌++◌, length, filter, map, Option, Some, None, slice_get, ◌⊎◌, ◌^◌, IsPermutation}
 use Rattle.std.specs.Int.{next_multiple_of}
-use Rattle.std.specs.List.{list_any, flat_map, AllByRecursion}
+use Rattle.std.specs.List.{list_any, flat_map, AllByRecursion, AllZip}
 use Rattle.wl_linking.specs.declared.error.LinkError.{LinkError}
 use Rattle.wl_linking.specs.declared.error.LinkError.TheVariants.{TooLarge}
 use Rattle.wl_linking.specs.declared.error.Quantity.TheVariants.{Address}
@@ -163,6 +163,27 @@ IsPastMemory d e = (e ≡ TooLarge Address) × EndsPastMemory d
 
 -- ---- what lies where
 
+-- a segment whose bytes are in the memory: put there when a module starts, or by the first thread
+abbrev pub lies_in_memory : SegmentLayout → Bool
+lies_in_memory l = not l.tls_template && (not l.passive || l.shared_init)
+
+-- the layout is that of the segment, at a multiple of its alignment where it has an address
+pub record HasLayout (s : KeptData) (l : SegmentLayout) : Type 0 where
+  pub segment_index : l.segment_index ≡ s.original
+  pub payload : l.payload ≡ s.payload
+  pub payload_start : l.payload_start ≡ s.payload_start
+  pub memory : lies_in_memory l ≡ true → l.output_memory_offset % s.alignment ≡ 0
+  pub block : l.tls_template ≡ true → length s.payload ≢ 0
+      → l.output_memory_offset % s.alignment ≡ 0
+
+-- an object's segments as the output has them: those that all threads have in common come first
+abbrev pub in_output_order : List KeptData → List KeptData
+in_output_order segments = filter (λ (s : KeptData). not s.tls) segments ++ filter is_tls segments
+
+-- each of them has its layout
+abbrev pub HaveLayouts : List KeptData → List SegmentLayout → Type 0
+HaveLayouts segments layouts = AllZip HasLayout (in_output_order segments) layouts
+
 -- the addresses from a first one on, up to the one behind the last
 pub record AddressRange : Type 0 where
   pub first : ℕ
@@ -174,9 +195,16 @@ ComeInOrder start [] end = start ≤ end
 ComeInOrder start (r ∷ ranges) end =
     (start ≤ r.first) × (r.first ≤ r.behind) × ComeInOrder r.behind ranges end
 
--- a segment whose bytes are in the memory: put there when a module starts, or by the first thread
-abbrev pub lies_in_memory : SegmentLayout → Bool
-lies_in_memory l = not l.tls_template && (not l.passive || l.shared_init)
+-- in some order they do
+abbrev pub StandApart : List AddressRange → Type 0
+StandApart ranges =
+    (row : List AddressRange) × (end : ℕ) × IsPermutation ranges row × ComeInOrder 0 row end
+
+-- each ends where or before a later one begins
+abbrev pub ShareNothing : List AddressRange → Type 0
+ShareNothing ranges =
+    (i k : ℕ) (r s : AddressRange) → i < k → slice_get ranges i ≡ Some r
+    → slice_get ranges k ≡ Some s → r.behind ≤ s.first
 
 abbrev pub addresses_of : SegmentLayout → AddressRange
 addresses_of l = record {
@@ -184,14 +212,20 @@ addresses_of l = record {
   behind = l.output_memory_offset + length l.payload;
 }
 
-abbrev pub segment_ranges : List (List SegmentLayout) → List AddressRange
-segment_ranges layouts = map addresses_of (filter lies_in_memory (in_one_row layouts))
+-- what segments take of the memory
+abbrev pub segment_ranges : List SegmentLayout → List AddressRange
+segment_ranges layouts = map addresses_of (filter lies_in_memory layouts)
 
-abbrev pub flag_ranges : DataInput → ℕ → List AddressRange
-flag_ranges d end =
-    if has_init d then record { first = flag_place end; behind = flag_place end + 4 } ∷ [] else []
+-- what they take of the block of each thread
+abbrev pub block_ranges : List SegmentLayout → List AddressRange
+block_ranges layouts = map addresses_of (filter (λ (l : SegmentLayout). l.tls_template) layouts)
 
--- the stack, first or behind the data, which ends there
+-- what the word takes that tells whether segments were copied
+abbrev pub flag_ranges : Option ℕ → List AddressRange
+flag_ranges None = []
+flag_ranges (Some place) = record { first = place; behind = place + 4 } ∷ []
+
+-- what the stack takes that stands first, or behind the data, which ends there
 abbrev pub first_stack : DataOptions → List AddressRange
 first_stack o = if o.stack_first then record { first = 0; behind = o.stack_size } ∷ [] else []
 
@@ -200,21 +234,8 @@ last_stack o end =
     if o.stack_first then []
     else record { first = behind_data end; behind = stack_top end o.stack_size } ∷ []
 
--- all that lies in the memory, by address: the stack that stands first, the data of all threads,
--- that of one thread, the flag, the stack that stands last
-abbrev pub memory_ranges : DataInput → List (List SegmentLayout) → List (List SegmentLayout) → ℕ
-    → List AddressRange
-memory_ranges d common own end =
-    first_stack d.options ++ segment_ranges common ++ segment_ranges own ++ flag_ranges d end
-    ++ last_stack d.options (data_end d end)
-
--- what lies in the block of each thread
-abbrev pub block_ranges : List (List SegmentLayout) → List AddressRange
-block_ranges layouts =
-    map addresses_of (filter (λ (l : SegmentLayout). l.tls_template) (in_one_row layouts))
-
--- no two of them share an address
-abbrev pub ShareNothing : List AddressRange → Type 0
-ShareNothing ranges =
-    (i k : ℕ) (r s : AddressRange) → i < k → slice_get ranges i ≡ Some r
-    → slice_get ranges k ≡ Some s → r.behind ≤ s.first
+-- all that is taken of the memory: by the stack, by these segments, by the word at that place, where
+-- there is one, and the data ends there
+abbrev pub memory_ranges : DataOptions → List SegmentLayout → Option ℕ → ℕ → List AddressRange
+memory_ranges o layouts flag end =
+    first_stack o ++ segment_ranges layouts ++ flag_ranges flag ++ last_stack o end

@@ -1,12 +1,14 @@
 //! What callers may count on: functions with an empty body, each of which states a law of places.
 
-ghost use Rattle.std.specs.Prelude.{◌≡◌, ◌<◌, ◌≤◌, ℕ, List};
+ghost use Rattle.std.specs.Prelude.{◌≡◌, ◌++◌, ℕ, List};
+ghost use Rattle.std.specs.List.{AllZip};
 ghost use Rattle.wl_data.specs.Segments.{KeptData, SegmentLayout};
 ghost use Rattle.wl_data.specs.Spans.{Span, AreInRow, IsApart};
 ghost use Rattle.wl_data.specs.Layouts.{PlacedData, ArePlaced, AreLaidOut, memory_spans, block_spans};
-ghost use Rattle.wl_data.specs.DataPlaces.{AreObjectsLaid, in_one_row, DataInput, ArePlaces, memory_ranges, block_ranges, data_end, data_start, tls_start, ComeInOrder, ShareNothing, AddressRange};
+ghost use Rattle.wl_data.specs.DataPlaces.{AreObjectsLaid, in_one_row, DataInput, ArePlaces, IsDataPlaces, HaveLayouts, memory_ranges, block_ranges, flag_of, data_end, ComeInOrder, StandApart, ShareNothing, AddressRange};
 ghost use Rattle.wl_data.specs.declared.pass.Frontier.{Frontier as SpecFrontier};
 ghost use Rattle.wl_data.specs.declared.pass.Pass.{Pass as SpecPass};
+ghost use Rattle.wl_data.specs.declared.places.DataPlaces.{DataPlaces as SpecPlaces};
 
 use wl_bytes::shortest_form_is_one;
 
@@ -50,17 +52,35 @@ pub fn objects_are_laid_as_one()
         × AreObjectsLaid pass objects start end layouts }
 {}
 
+/// The data of all objects lies in one way.
+pub fn places_are_one()
+    ensures { (d : DataInput) (places other : SpecPlaces) → IsDataPlaces d places
+        → IsDataPlaces d other → places ≡ other }
+{
+    shortest_form_is_one();
+}
+
+/// Each segment of each object has its layout: those that all threads have in common come first,
+/// and each stands at a multiple of its alignment, but an empty one of a block.
+pub fn segments_have_layouts()
+    ensures { (d : DataInput) (places : SpecPlaces) → IsDataPlaces d places
+        → AllZip HaveLayouts d.objects places.layouts }
+{}
+
 /// The stack that stands first, the data that threads have in common, that of one thread, the flag
-/// and the stack behind the data stand one after the other, and no two share a byte; nor do the
-/// segments in the block of each thread.
-pub fn places_share_nothing()
+/// and the stack behind the data stand one after the other in the memory, and the segments of a
+/// block do there. What stands so shares no byte.
+pub fn places_stand_apart()
     ensures order { (d : DataInput) (common own : List (List SegmentLayout))
         (middle end : SpecFrontier) → ArePlaces d common own middle end
-        → (top : ℕ) × ComeInOrder 0 (memory_ranges d common own end.memory) top }
-    ensures memory { (d : DataInput) (common own : List (List SegmentLayout))
-        (middle end : SpecFrontier) → ArePlaces d common own middle end
-        → ShareNothing (memory_ranges d common own end.memory) }
-    ensures block { (d : DataInput) (common own : List (List SegmentLayout))
-        (middle end : SpecFrontier) → ArePlaces d common own middle end
-        → ShareNothing (block_ranges own) }
+        → (top : ℕ) × ComeInOrder 0 (memory_ranges d.options
+        (in_one_row common ++ in_one_row own) (flag_of d end.memory)
+        (data_end d end.memory)) top }
+    ensures memory { (d : DataInput) (places : SpecPlaces) → IsDataPlaces d places
+        → StandApart (memory_ranges d.options (in_one_row places.layouts) places.flag
+        places.data_end) }
+    ensures block { (d : DataInput) (places : SpecPlaces) → IsDataPlaces d places
+        → StandApart (block_ranges (in_one_row places.layouts)) }
+    ensures nothing { (start end : ℕ) (ranges : List AddressRange)
+        → ComeInOrder start ranges end → ShareNothing ranges }
 {}

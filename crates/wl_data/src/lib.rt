@@ -21,8 +21,8 @@ mod stack;
 
 pub use align::{align_up, least_multiple_is_one};
 pub use laws::{
-    layout_is_one, objects_are_laid_as_one, places_share_nothing, segments_are_apart,
-    spans_are_apart,
+    layout_is_one, objects_are_laid_as_one, places_are_one, places_stand_apart, segments_are_apart,
+    segments_have_layouts, spans_are_apart,
 };
 pub use layout::layout_object_data;
 pub use memory::ensure_memory_covers;
