@@ -4,6 +4,7 @@ use Rattle.std.specs.Prelude.{filter, ◌==◌, IsPermutation}
 use Rattle.std.specs.List.{AllZip}
 use Rattle.std.proofs.lemmas.Bool.Decides.{nat_tests}
 use Rattle.std.proofs.lemmas.List.Sorted.{IsPermutation-refl, IsPermutation-append_comm, IsPermutation-append_left, IsPermutation-append_right, IsPermutation-trans}
+use Rattle.wl_data.specs.declared.options.DataOptions.{DataOptions}
 use Rattle.wl_data.specs.declared.pass.Frontier.{Frontier}
 use Rattle.wl_data.specs.declared.pass.Pass.{Pass}
 use Rattle.wl_data.specs.declared.places.DataPlaces.{DataPlaces}
@@ -71,19 +72,28 @@ head_of test al s st a c r = at (test s.segment) refl
 not_zero : (n : ℕ) → n ≢ 0 → (n == 0) ≡ false
 not_zero n ne = grind (arith, nat_tests)
 
-layout_for : (pass : Pass) (s : PlacedData) (l : SegmentLayout) → IsLayoutOf pass s l → (goes_to_memory pass s.segment ≡ true → s.place % s.segment.alignment ≡ 0)
-    → (goes_to_block pass s.segment ≡ true → s.place % block_alignment s.segment ≡ 0) → HasLayout s.segment l
-layout_for pass s l i f g = record {
+layout_for : (o : DataOptions) (tls : Bool) (s : PlacedData) (l : SegmentLayout) → IsLayoutOf (pass_over o tls) s l → (goes_to_memory (pass_over o tls) s.segment ≡ true → s.place % s.segment.alignment ≡ 0)
+    → (goes_to_block (pass_over o tls) s.segment ≡ true → s.place % block_alignment s.segment ≡ 0) → HasLayout o s.segment l
+layout_for o tls s l i f g = record {
   segment_index = i.segment_index;
   payload = i.payload;
   payload_start = i.payload_start;
+  output_memory_index = i.output_memory_index;
+  encoded_output_size = i.encoded_output_size;
+  passive = i.passive;
+  tls_template = i.tls_template;
+  shared_init = i.shared_init;
+  nowhere = λ e n.
+      let memory : goes_to_memory (pass_over o tls) s.segment ≡ false = sym (lies_is (pass_over o tls) s l i) ∙ e in
+      let block : goes_to_block (pass_over o tls) s.segment ≡ false = sym i.tls_template ∙ n in
+      i.output_memory_offset ∙ rw (memory, block) refl;
   memory = λ e.
-      let there : goes_to_memory pass s.segment ≡ true = sym (lies_is pass s l i) ∙ e in
+      let there : goes_to_memory (pass_over o tls) s.segment ≡ true = sym (lies_is (pass_over o tls) s l i) ∙ e in
       let offset : l.output_memory_offset ≡ s.place = i.output_memory_offset ∙ rw there refl in
       rw offset (f there);
   block = λ e some.
-      let there : goes_to_block pass s.segment ≡ true = sym i.tls_template ∙ e in
-      let offset : l.output_memory_offset ≡ s.place = i.output_memory_offset ∙ either (goes_to_memory pass s.segment) (goes_to_block pass s.segment) there in
+      let there : goes_to_block (pass_over o tls) s.segment ≡ true = sym i.tls_template ∙ e in
+      let offset : l.output_memory_offset ≡ s.place = i.output_memory_offset ∙ either (goes_to_memory (pass_over o tls) s.segment) (goes_to_block (pass_over o tls) s.segment) there in
       rw offset (full (length s.segment.payload) some (g there));
 }
   where
@@ -96,19 +106,19 @@ layout_for pass s l i f g = record {
         let none : (n == 0) ≡ false = not_zero n ne in
         rw none at h
 
-laid_for : (pass : Pass) (st : List PlacedData) (ls : List SegmentLayout) (a b c d : ℕ) → AreInRow a (memory_spans pass st) b → AreInRow c (block_spans pass st) d → AreLayoutsOf pass st ls
-    → AllZip HasLayout (map (λ (s : PlacedData). s.segment) st) ls
-laid_for pass [] [] a b c d p q h = tt
-laid_for pass [] (l ∷ ls) a b c d p q h = absurd h
-laid_for pass (s ∷ st) [] a b c d p q h = absurd h
-laid_for pass (s ∷ st) (l ∷ ls) a b c d p q h =
-    let memory = head_of (goes_to_memory pass) (λ x. x.alignment) s st a b p in
-    let block = head_of (goes_to_block pass) block_alignment s st c d q in
-    (layout_for pass s l h.0 memory.0 block.0, laid_for pass st ls memory.1.0 b block.1.0 d memory.1.1 block.1.1 h.1)
+laid_for : (o : DataOptions) (tls : Bool) (st : List PlacedData) (ls : List SegmentLayout) (a b c d : ℕ) → AreInRow a (memory_spans (pass_over o tls) st) b → AreInRow c (block_spans (pass_over o tls) st) d
+    → AreLayoutsOf (pass_over o tls) st ls → AllZip (HasLayout o) (map (λ (s : PlacedData). s.segment) st) ls
+laid_for o tls [] [] a b c d p q h = tt
+laid_for o tls [] (l ∷ ls) a b c d p q h = absurd h
+laid_for o tls (s ∷ st) [] a b c d p q h = absurd h
+laid_for o tls (s ∷ st) (l ∷ ls) a b c d p q h =
+    let memory = head_of (goes_to_memory (pass_over o tls)) (λ x. x.alignment) s st a b p in
+    let block = head_of (goes_to_block (pass_over o tls)) block_alignment s st c d q in
+    (layout_for o tls s l h.0 memory.0 block.0, laid_for o tls st ls memory.1.0 b block.1.0 d memory.1.1 block.1.1 h.1)
 
-pass_for : (pass : Pass) (segments : List KeptData) (a b : Frontier) (ls : List SegmentLayout) → AreLaidOut pass segments a b ls → AllZip HasLayout (filter (is_chosen pass) segments) ls
-pass_for pass segments a b ls p =
-    subst (λ (xs : List KeptData). AllZip HasLayout xs ls) p.stand.chosen (laid_for pass p.placed ls a.memory b.memory a.block b.block p.stand.memory p.stand.block p.laid)
+pass_for : (o : DataOptions) (tls : Bool) (segments : List KeptData) (a b : Frontier) (ls : List SegmentLayout) → AreLaidOut (pass_over o tls) segments a b ls → AllZip (HasLayout o) (filter (is_chosen (pass_over o tls)) segments) ls
+pass_for o tls segments a b ls p =
+    subst (λ (xs : List KeptData). AllZip (HasLayout o) xs ls) p.stand.chosen (laid_for o tls p.placed ls a.memory b.memory a.block b.block p.stand.memory p.stand.block p.laid)
 
 zip_append : {A B : Type 0} (R : A → B → Type 0) (xs us : List A) (ys vs : List B) → AllZip R xs ys → AllZip R us vs → AllZip R (xs ++ us) (ys ++ vs)
 zip_append R [] us [] vs p q = q
@@ -116,22 +126,21 @@ zip_append R [] us (y ∷ ys) vs p q = absurd p
 zip_append R (x ∷ xs) us [] vs p q = absurd p
 zip_append R (x ∷ xs) us (y ∷ ys) vs p q = (p.0, zip_append R xs us ys vs p.1 q)
 
-objects_for : (d : DataInput) (objects : List (List KeptData)) (a b e f : Frontier) (cs os : List (List SegmentLayout)) → AreObjectsLaid (pass_over d.options false) objects a b cs → AreObjectsLaid (pass_over d.options true) objects e f os
-    → AllZip HaveLayouts objects (by_object cs os)
-objects_for d [] a b e f [] os p q = tt
-objects_for d [] a b e f (c ∷ cs) os p q = absurd p
-objects_for d (o ∷ objects) a b e f [] os p q = absurd p
-objects_for d (o ∷ objects) a b e f (c ∷ cs) [] p q = absurd q
-objects_for d (o ∷ objects) a b e f (c ∷ cs) (x ∷ os) p q = (
-  zip_append HasLayout (filter (is_chosen (pass_over d.options false)) o) (filter (is_chosen (pass_over d.options true)) o) c x (pass_for (pass_over d.options false) o a p.0 c p.1) (pass_for (pass_over d.options true) o e q.0 x q.1),
-  objects_for d objects p.0 b q.0 f cs os p.2 q.2,
-)
+objects_for : (o : DataOptions) (objects : List (List KeptData)) (a b e f : Frontier) (cs os : List (List SegmentLayout)) → AreObjectsLaid (pass_over o false) objects a b cs → AreObjectsLaid (pass_over o true) objects e f os
+    → AllZip (HaveLayouts o) objects (by_object cs os)
+objects_for o [] a b e f [] os p q = tt
+objects_for o [] a b e f (c ∷ cs) os p q = absurd p
+objects_for o (x ∷ objects) a b e f [] os p q = absurd p
+objects_for o (x ∷ objects) a b e f (c ∷ cs) [] p q = absurd q
+objects_for o (x ∷ objects) a b e f (c ∷ cs) (w ∷ os) p q =
+    (zip_append (HasLayout o) (filter (is_chosen (pass_over o false)) x) (filter (is_chosen (pass_over o true)) x) c w (pass_for o false x a p.0 c p.1) (pass_for o true x e q.0 w q.1),
+    objects_for o objects p.0 b q.0 f cs os p.2 q.2)
 
-pub places_for : (d : DataInput) (p : DataPlaces) → IsDataPlaces d p → AllZip HaveLayouts d.objects p.layouts
+pub places_for : (d : DataInput) (p : DataPlaces) → IsDataPlaces d p → AllZip (HaveLayouts d.options) d.objects p.layouts
 places_for d p h =
     let start : Frontier = record { memory = data_start d.options; block = 0 } in
     let there : Frontier = record { memory = tls_start d h.middle.memory; block = h.middle.block } in
-    rw h.layouts (objects_for d d.objects start h.middle there h.end h.common h.own h.places.common_laid h.places.own_laid)
+    rw h.layouts (objects_for d.options d.objects start h.middle there h.end h.common h.own h.places.common_laid h.places.own_laid)
 
 -- ---- no two share an address
 

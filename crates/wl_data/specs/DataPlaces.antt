@@ -10,7 +10,8 @@ use Rattle.wl_data.specs.declared.options.DataOptions.{DataOptions}
 use Rattle.wl_data.specs.declared.pass.Frontier.{Frontier}
 use Rattle.wl_data.specs.declared.pass.Pass.{Pass}
 use Rattle.wl_data.specs.Segments.{KeptData, SegmentLayout}
-use Rattle.wl_data.specs.Layouts.{CanBePlaced, PlacedData, ArePlaced, AreLaidOut, is_common}
+use Rattle.wl_data.specs.Sizes.{HasSegmentSize}
+use Rattle.wl_data.specs.Layouts.{CanBePlaced, goes_to_block, PlacedData, ArePlaced, is_common, is_shared_init, is_passive, destination_of, AreLaidOut}
 use Rattle.wl_data.specs.Stack.{behind_data, stack_top}
 
 -- the segments of all objects in a row
@@ -35,6 +36,7 @@ pub record DataInput : Type 0 where
   pub objects : List (List KeptData)
   pub options : DataOptions
 
+-- these objects and options together
 abbrev pub data_of : List (List KeptData) → DataOptions → DataInput
 data_of objects options = record { objects = objects; options = options }
 
@@ -57,9 +59,11 @@ is_tls s = s.tls
 abbrev pub tls_segments : DataInput → List KeptData
 tls_segments d = filter is_tls (in_one_row d.objects)
 
+-- each thread has its own of some of them
 abbrev pub any_is_tls : List KeptData → Bool
 any_is_tls segments = list_any is_tls segments
 
+-- each thread has its own of some kept segment
 abbrev pub has_tls : DataInput → Bool
 has_tls d = list_any any_is_tls d.objects
 
@@ -81,6 +85,7 @@ tls_base d end =
 abbrev pub pass_over : DataOptions → Bool → Pass
 pass_over o tls = record { tls = tls; shared_init = o.shared_memory; has_block = o.shared_tls }
 
+-- all threads have some of them in common, which has bytes in the memory
 abbrev pub any_is_common : List KeptData → Bool
 any_is_common segments = list_any is_common segments
 
@@ -96,6 +101,7 @@ flag_place end = next_multiple_of end 4
 abbrev pub flag_of : DataInput → ℕ → Option ℕ
 flag_of d end = if has_init d then Some (flag_place end) else None
 
+-- where all data ends, of which the segments end there
 abbrev pub data_end : DataInput → ℕ → ℕ
 data_end d end = if has_init d then flag_place end + 4 else end
 
@@ -103,6 +109,7 @@ data_end d end = if has_init d then flag_place end + 4 else end
 abbrev pub tls_size : DataInput → Frontier → ℕ
 tls_size d end = if d.options.shared_tls then end.block else 0
 
+-- and its alignment
 abbrev pub tls_align : DataInput → ℕ
 tls_align d = if d.options.shared_tls then greatest_alignment (tls_segments d) else 0
 
@@ -168,10 +175,17 @@ abbrev pub lies_in_memory : SegmentLayout → Bool
 lies_in_memory l = not l.tls_template && (not l.passive || l.shared_init)
 
 -- the layout is that of the segment, at a multiple of its alignment where it has an address
-pub record HasLayout (s : KeptData) (l : SegmentLayout) : Type 0 where
+pub record HasLayout (o : DataOptions) (s : KeptData) (l : SegmentLayout) : Type 0 where
   pub segment_index : l.segment_index ≡ s.original
   pub payload : l.payload ≡ s.payload
   pub payload_start : l.payload_start ≡ s.payload_start
+  pub output_memory_index : l.output_memory_index ≡ 0
+  pub encoded_output_size :
+      HasSegmentSize (destination_of l) (length l.payload) l.encoded_output_size
+  pub passive : l.passive ≡ is_passive (pass_over o s.tls) s
+  pub tls_template : l.tls_template ≡ goes_to_block (pass_over o s.tls) s
+  pub shared_init : l.shared_init ≡ is_shared_init (pass_over o s.tls) s
+  pub nowhere : lies_in_memory l ≡ false → l.tls_template ≡ false → l.output_memory_offset ≡ 0
   pub memory : lies_in_memory l ≡ true → l.output_memory_offset % s.alignment ≡ 0
   pub block : l.tls_template ≡ true → length s.payload ≢ 0
       → l.output_memory_offset % s.alignment ≡ 0
@@ -181,8 +195,8 @@ abbrev pub in_output_order : List KeptData → List KeptData
 in_output_order segments = filter (λ (s : KeptData). not s.tls) segments ++ filter is_tls segments
 
 -- each of them has its layout
-abbrev pub HaveLayouts : List KeptData → List SegmentLayout → Type 0
-HaveLayouts segments layouts = AllZip HasLayout (in_output_order segments) layouts
+abbrev pub HaveLayouts : DataOptions → List KeptData → List SegmentLayout → Type 0
+HaveLayouts o segments layouts = AllZip (HasLayout o) (in_output_order segments) layouts
 
 -- the addresses from a first one on, up to the one behind the last
 pub record AddressRange : Type 0 where
@@ -206,6 +220,7 @@ ShareNothing ranges =
     (i k : ℕ) (r s : AddressRange) → i < k → slice_get ranges i ≡ Some r
     → slice_get ranges k ≡ Some s → r.behind ≤ s.first
 
+-- the addresses of a segment's bytes
 abbrev pub addresses_of : SegmentLayout → AddressRange
 addresses_of l = record {
   first = l.output_memory_offset;

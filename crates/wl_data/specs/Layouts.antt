@@ -43,6 +43,7 @@ pub record PlacedData : Type 0 where
   pub segment : KeptData
   pub place : ℕ
 
+-- it as a stretch, with that alignment
 abbrev pub span_of : (KeptData → ℕ) → PlacedData → Span
 span_of alignment s =
     record { alignment = alignment s.segment; size = length s.segment.payload; place = s.place }
@@ -51,9 +52,11 @@ span_of alignment s =
 abbrev pub spans_of : (KeptData → Bool) → (KeptData → ℕ) → List PlacedData → List Span
 spans_of test alignment placed = map (span_of alignment) (filter (λ s. test s.segment) placed)
 
+-- those in the memory
 abbrev pub memory_spans : Pass → List PlacedData → List Span
 memory_spans pass = spans_of (goes_to_memory pass) (λ s. s.alignment)
 
+-- those in the block
 abbrev pub block_spans : Pass → List PlacedData → List Span
 block_spans pass = spans_of (goes_to_block pass) block_alignment
 
@@ -93,6 +96,7 @@ is_common s = (s.active && not s.tls) && not (length s.payload == 0)
 abbrev pub is_shared_init : Pass → KeptData → Bool
 is_shared_init pass s = pass.shared_init && is_common s
 
+-- it goes nowhere by itself
 abbrev pub is_passive : Pass → KeptData → Bool
 is_passive pass s = not (goes_to_memory pass s) || is_shared_init pass s
 
@@ -173,6 +177,7 @@ abbrev pub block_end : Option (MutBor ℕ) → ℕ
 block_end None = 0
 block_end (Some cursor) = cursor.now
 
+-- there is a block
 abbrev pub has_cursor : Option (MutBor ℕ) → Bool
 has_cursor None = false
 has_cursor (Some cursor) = true
@@ -185,6 +190,7 @@ frontier_of memory tls_cursor = record { memory = memory; block = block_end tls_
 abbrev pub frontier_left : ℕ → Unit {0} ⊎ ((MutBor ℕ × Unit {0}) ⊎ ⊥) → Frontier
 frontier_left memory tls_cursor = record { memory = memory; block = block_left tls_cursor }
 
+-- the pass that a call asks for
 abbrev pub pass_of : Bool → Bool → Option (MutBor ℕ) → Pass
 pass_of want_tls shared_init tls_cursor =
     record { tls = want_tls; shared_init = shared_init; has_block = has_cursor tls_cursor }

@@ -17,6 +17,7 @@ pub record MemoryNeeds : Type 0 where
   pub stack_size : ℕ
   pub stack_first : Bool
 
+-- these four together
 abbrev pub needs_of : ℕ → ℕ → ℕ → Bool → MemoryNeeds
 needs_of data_end memory_base stack_size stack_first = record {
   data_end = data_end;

@@ -64,7 +64,7 @@ pub fn places_are_one()
 /// and each stands at a multiple of its alignment, but an empty one of a block.
 pub fn segments_have_layouts()
     ensures { (d : DataInput) (places : SpecPlaces) → IsDataPlaces d places
-        → AllZip HaveLayouts d.objects places.layouts }
+        → AllZip (HaveLayouts d.options) d.objects places.layouts }
 {}
 
 /// The stack that stands first, the data that threads have in common, that of one thread, the flag
