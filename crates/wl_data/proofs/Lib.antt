@@ -1,0 +1,13 @@
+pub mod Multiples
+pub mod SpanLaws
+pub mod LayoutLaws
+pub mod SplitLaws
+pub mod SizeLaws
+pub mod UniqueLaws
+pub mod OrderLaws
+pub mod RangeLaws
+pub mod StepLaws
+pub mod QuestionLaws
+pub mod ObjectLaws
+pub mod EndLaws
+pub mod PlacesLaws
