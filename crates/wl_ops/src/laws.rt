@@ -1,11 +1,11 @@
 //! What callers may count on: functions with an empty body, each of which states a law of what
 //! bodies spell.
 
-ghost use Rattle.std.specs.Prelude.{◌≤◌, ℕ, List, length, Option};
+ghost use Rattle.std.specs.Prelude.{◌≡◌, ◌≤◌, ℕ, List, length, Option, Ok};
 ghost use Rattle.wl_module.specs.Lists.{AreFew};
 ghost use Rattle.wl_module.specs.Outcome.{AreAlternatives};
 ghost use Rattle.wl_ops.specs.declared.op.Op.{Op as OpRecord};
-ghost use Rattle.wl_ops.specs.Decoding.{AreTaken, DecodeFault, list_items};
+ghost use Rattle.wl_ops.specs.Decoding.{AreTaken, DecodeFault, list_items, body_of};
 ghost use Rattle.wl_ops.specs.declared.op.DataIndexImm.{DataIndexImm as Number};
 ghost use Rattle.wl_ops.specs.Numbers.{HasNumbers, AreTold, NumbersFault};
 ghost use Rattle.wl_ops.specs.Rewriting.{Rewrites};
@@ -19,6 +19,12 @@ pub fn operators_or_fault()
 /// Each body has one list of numbers or one fault that is told, and never both.
 pub fn numbers_or_fault()
     ensures { AreAlternatives AreTold NumbersFault }
+{}
+
+/// The operators that reading a body computes are those that it spells: so the operators of bytes
+/// that are written out can be computed.
+pub fn computed_operators_are_spelled()
+    ensures { (ops : List OpRecord) (body : List ℕ) → body_of body ≡ Ok ops → AreTaken ops body }
 {}
 
 /// A body has at least as many bytes as operators and immediates together.
