@@ -5,7 +5,7 @@ ghost use Rattle.std.specs.Prelude.{◌≡◌, ◌≤◌, ℕ, List, length, Opt
 ghost use Rattle.wl_module.specs.Lists.{AreFew};
 ghost use Rattle.wl_module.specs.Outcome.{AreAlternatives};
 ghost use Rattle.wl_ops.specs.declared.op.Op.{Op as OpRecord};
-ghost use Rattle.wl_ops.specs.Decoding.{AreTaken, DecodeFault, list_items, body_of};
+ghost use Rattle.wl_ops.specs.Decoding.{AreOps, AreTaken, DecodeFault, list_items, body_of};
 ghost use Rattle.wl_ops.specs.declared.op.DataIndexImm.{DataIndexImm as Number};
 ghost use Rattle.wl_ops.specs.Numbers.{HasNumbers, AreTold, NumbersFault};
 ghost use Rattle.wl_ops.specs.Rewriting.{Rewrites};
@@ -19,6 +19,12 @@ pub fn operators_or_fault()
 /// Each body has one list of numbers or one fault that is told, and never both.
 pub fn numbers_or_fault()
     ensures { AreAlternatives AreTold NumbersFault }
+{}
+
+/// A body spells one list of operators at most, also where some of them are refused.
+pub fn operators_are_one()
+    ensures { (ops other : List OpRecord) (body : List ℕ)
+        → AreOps ops body → AreOps other body → ops ≡ other }
 {}
 
 /// The operators that reading a body computes are those that it spells: so the operators of bytes

@@ -12,7 +12,7 @@ use Rattle.wl_synth.specs.declared.parts.TlsPointerFixup.{TlsPointerFixup}
 use Rattle.wl_synth.specs.declared.parts.TlsGotFixup.{TlsGotFixup}
 use Rattle.wl_synth.specs.Wat as wat
 use Rattle.wl_synth.specs.Bodies.{const, place_ops, clear_ops, template_ops, pointer_ops, got_ops, ThreadBlock, init_tls_ops}
-use Rattle.wl_synth.specs.Machine.{Value, I32, wrapped, World, State, Label, Outcome, Going, Done, FitsWidth, overlay, i32_bytes, push_found, set_global, instruction, exec, step, go, entered}
+use Rattle.wl_synth.specs.Machine.{Value, I32, wrapped, World, State, Label, Outcome, Going, Done, overlay, i32_bytes, push_found, set_global, instruction, exec, step, go, entered}
 use Rattle.wl_synth.specs.Memory.{segment_bytes, FitsSegment, overlaid}
 use Rattle.wl_synth.specs.ThreadLocal.{moved_by, IsWordGlobal, CanInitTls}
 use Rattle.wl_synth.proofs.RunLaws.{then_go}
@@ -245,12 +245,6 @@ clear_by w s m gl base size false e given lt le =
 
 -- ---- the whole body
 
--- a value at a place is one of those of which all have their widths
-width_at : (vs : List Value) (i : ℕ) (v : Value) → slice_get vs i ≡ Some v → AllByRecursion FitsWidth vs → FitsWidth v
-width_at [] i v e a = absurd cc
-width_at (x ∷ vs) zero v e a = let same : x ≡ v = cc in subst FitsWidth same a.0
-width_at (x ∷ vs) (suc i) v e a = width_at vs i v e a.1
-
 -- the block with its templates and pointers
 abbrev pub block_of : State → ℕ → ThreadBlock → List ℕ
 block_of s base b = pointed base b.pointers (overlaid s.segments b.templates (replicate b.size 0))
@@ -274,8 +268,7 @@ tls_runs w s base b r short =
     let block = overlaid s.segments b.templates zeros in
     let fits = resized s.segments b.templates b.size (length zeros) many r.templates in
     let kept : length block ≡ b.size = laid_size s.segments b.templates zeros fits ∙ many in
-    let base_fits : base < 2 ^ 32 = width_at s.locals 0 (I32 base) r.given r.state.locals in
-    let small : base + b.size ≤ 2 ^ 32 = omega (arith, r.state.memory, r.room) in
+    let small : base + b.size ≤ 2 ^ 32 = omega (arith, r.pages, r.room) in
     let there : slice_get gl g ≡ Some (I32 base) = slice_same s.globals g (I32 base) (slice_get_within s.globals g (I32 r.base_global.0) r.base_global.1) in
     let m1 = overlay base zeros m in
     let m2 = overlay base block m in
@@ -289,7 +282,7 @@ tls_runs w s base b r short =
     next w (tl t [] m s.globals) (tl t (I32 base ∷ []) m s.globals) (wat.local_get 0) (wat.global_set g ∷ []) (get_local w t [] m s.globals (I32 base) r.given)
     ∙ put_global w t [] m s.globals g base r.base_global in
     let a = clear_by w t m gl base b.size (eqb b.size 0) refl r.given short r.room in
-    let f = templates w t m zeros gl base b.templates r.given base_fits room1 small1 short1 fits in
+    let f = templates w t m zeros gl base b.templates r.given r.is_word room1 small1 short1 fits in
     let c = pointers w t m block gl base g b.pointers there room2 small2 (subst (λ (k : ℕ). AllByRecursion (λ (f : TlsPointerFixup). f.dest + 4 ≤ k) b.pointers) (sym kept) r.pointers) in
     let d = gots w t m3 gl base g b.got there (keep_all w s.globals g base g b.got r.got) in
     let p1 = wat.local_get 0 ∷ wat.global_set g ∷ [] in

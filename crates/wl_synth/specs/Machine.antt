@@ -1,6 +1,5 @@
 -- A machine that runs bodies without loops by their operators (core specification, "Execution"; behind 0xfe the threads proposal).
-use Rattle.std.specs.Prelude.{◌≡◌, ℕ, ℤ, pos, negsuc, zero, suc, ◌+◌, ◌-◌, ◌*◌, ◌/◌, ◌%◌, ◌≤◌, ◌<◌, ◌^◌, ◌==◌, nat_le, min, Bool, true, false, ◌&&◌, if◌then◌else◌, List, [], ◌∷◌, ◌++◌, length, take, drop, reverse, replicate, slice_get, slice_set, Option, Some, None}
-use Rattle.std.specs.List.{AllByRecursion}
+use Rattle.std.specs.Prelude.{◌≡◌, ℕ, ℤ, pos, negsuc, zero, suc, ◌+◌, ◌-◌, ◌*◌, ◌/◌, ◌%◌, ◌==◌, nat_le, min, Bool, true, false, ◌&&◌, if◌then◌else◌, List, [], ◌∷◌, ◌++◌, length, take, drop, reverse, replicate, slice_get, slice_set, Option, Some, None}
 use Rattle.wl_module.specs.declared.types.ValType.{ValType}
 use Rattle.wl_module.specs.declared.types.ValType.TheVariants.{I32 as I32Type, I64 as I64Type}
 use Rattle.wl_module.specs.Types.{FunctionType}
@@ -14,11 +13,6 @@ use Rattle.wl_ops.specs.Standing.{stretch}
 pub data Value : Type 0 where
   I32 : ℕ → Value
   I64 : ℕ → Value
-
--- the number is one of its bits
-abbrev pub FitsWidth : Value → Type 0
-FitsWidth (I32 n) = n < 2 ^ 32
-FitsWidth (I64 n) = n < 2 ^ 64
 
 -- two values of one width
 abbrev pub same_width : Value → Value → Bool
@@ -105,12 +99,6 @@ pub record World : Type 0 where
   pub is_shared : Bool
   pub answer : List Call → List Value
   pub waiting : ℕ → ℕ
-
--- What each state of a module for wasm32 has: numbers of their widths, and a memory of at most 65536 pages.
-pub record IsWasm32 (s : State) : Type 0 where
-  pub locals : AllByRecursion FitsWidth s.locals
-  pub globals : AllByRecursion FitsWidth s.globals
-  pub memory : length s.memory ≤ 65536 * 65536
 
 -- a function goes on, or it has ended; `Stuck` is no outcome
 pub data Outcome : Type 0 where

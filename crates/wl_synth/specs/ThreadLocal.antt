@@ -1,11 +1,11 @@
 -- What a run of the body does that makes a thread's block.
-use Rattle.std.specs.Prelude.{◌≡◌, ◌≢◌, ◌+◌, ◌≤◌, ℕ, ℤ, true, List, [], ◌∷◌, length, replicate, slice_get, slice_set, Option, Some}
+use Rattle.std.specs.Prelude.{◌≡◌, ◌≢◌, ◌+◌, ◌*◌, ◌^◌, ◌<◌, ◌≤◌, ℕ, ℤ, true, List, [], ◌∷◌, length, replicate, slice_get, slice_set, Option, Some}
 use Rattle.std.specs.List.{AllByRecursion}
 use Rattle.wl_ops.specs.Standing.{stretch}
 use Rattle.wl_synth.specs.declared.parts.TlsPointerFixup.{TlsPointerFixup}
 use Rattle.wl_synth.specs.declared.parts.TlsGotFixup.{TlsGotFixup}
 use Rattle.wl_synth.specs.Bodies.{ThreadBlock}
-use Rattle.wl_synth.specs.Machine.{Value, I32, wrapped, i32_sum, World, State, IsWasm32, i32_at, overlay}
+use Rattle.wl_synth.specs.Machine.{Value, I32, wrapped, i32_sum, World, State, i32_at, overlay}
 use Rattle.wl_synth.specs.Memory.{FitsSegment, overlaid, ShareNoByte}
 
 -- ---- pointers and globals
@@ -30,10 +30,12 @@ IsWordGlobal w globals k = (n : ℕ) × (slice_get globals k ≡ Some (I32 n)) �
 
 -- ---- the run
 
--- The base is the parameter, the block at it lies in memory, and the copies and the pointers in it; each copy is as long as
--- its segment, and no two pointers share a byte. The globals can hold addresses, and none is named twice.
+-- The base, a number of 32 bits, is the parameter. The block at it lies in memory, which has at most 65536 pages, and the
+-- copies and the pointers lie in the block; each copy is as long as its segment, and no two pointers share a byte. The
+-- globals can hold addresses, and none is named twice.
 pub record CanInitTls (w : World) (s : State) (base : ℕ) (b : ThreadBlock) : Type 0 where
-  pub state : IsWasm32 s
+  pub is_word : base < 2 ^ 32
+  pub pages : length s.memory ≤ 65536 * 65536
   pub given : slice_get s.locals 0 ≡ Some (I32 base)
   pub room : base + b.size ≤ length s.memory
   pub templates : AllByRecursion (FitsSegment s.segments b.size) b.templates

@@ -7,14 +7,22 @@ ghost use Rattle.wl_module.specs.Types.{FunctionType};
 ghost use Rattle.wl_synth.specs.declared.parts.PassiveSegmentCopy.{PassiveSegmentCopy};
 ghost use Rattle.wl_synth.specs.Encoding.{IsEncoded};
 ghost use Rattle.wl_synth.specs.Bodies.{call_sequence_ops, wrapper_ops, init_memory_ops, ThreadBlock, init_tls_ops};
-ghost use Rattle.wl_synth.specs.Machine.{World, State, Done, have_types, Runs};
+ghost use Rattle.wl_synth.specs.Machine.{World, State, Outcome, Done, have_types, Runs};
 ghost use Rattle.wl_synth.specs.Calls.{AnswerByType, HasResults, MakesCalls, wrapped_calls, Wraps, TrapsAtOnce, DoesNothing};
 ghost use Rattle.wl_synth.specs.Memory.{CanInitMemory, InitsMemory};
 ghost use Rattle.wl_synth.specs.ThreadLocal.{CanInitTls, IsInitialized};
 ghost use Rattle.wl_synth.specs.Facts.{RunsOthers};
 
 use crate::calls::{EMPTY_FUNCTION_BODY, UNREACHABLE_FUNCTION_BODY};
-use wl_ops::computed_operators_are_spelled;
+use wl_ops::{computed_operators_are_spelled, operators_are_one};
+
+/// A run of a body has one outcome at most.
+pub fn runs_have_one_outcome()
+    ensures { (w : World) (results : ℕ) (body : List ℕ) (s : State) (o other : Outcome)
+        → Runs w results body s o → Runs w results body s other → o ≡ other }
+{
+    operators_are_one();
+}
 
 /// A sequence of calls makes exactly these calls, in order, and ends with an empty stack.
 pub fn call_sequence_makes_its_calls()
