@@ -1,22 +1,21 @@
 -- What a thread's block and its globals hold in the end.
-use Rattle.std.proofs.Common.{◌≡◌, ◌≢◌, ℕ, zero, suc, ◌+◌, ◌*◌, ◌/◌, ◌%◌, ◌<◌, ◌≤◌, ◌^◌, ℤ, List, [], ◌∷◌, length, Option, Some, refl, sym, ap, subst, ◌∙◌, arith, inl, inr}
+use Rattle.std.proofs.Common.{◌≡◌, ◌≢◌, ℕ, ◌+◌, ◌<◌, ◌≤◌, ◌^◌, List, [], ◌∷◌, length, Some, refl, sym, ap, subst, ◌∙◌, arith}
 use Rattle.std.specs.Prelude.{replicate, slice_get, slice_set}
 use Rattle.std.specs.List.{AllByRecursion}
 use Rattle.std.proofs.lemmas.List.{length-replicate}
 use Rattle.std.proofs.lemmas.Option.{slice_get_within}
-use Rattle.wl_synth.specs.declared.parts.PassiveSegmentCopy.{PassiveSegmentCopy}
 use Rattle.wl_synth.specs.declared.parts.TlsPointerFixup.{TlsPointerFixup}
 use Rattle.wl_synth.specs.declared.parts.TlsGotFixup.{TlsGotFixup}
 use Rattle.wl_synth.specs.Bodies.{ThreadBlock, init_tls_ops}
 use Rattle.wl_synth.specs.Encoding.{IsEncoded}
 use Rattle.wl_ops.specs.Standing.{stretch}
-use Rattle.wl_synth.specs.Machine.{Value, I32, wrapped, World, State, Done, overlay, i32_bytes, i32_of, i32_at, entered, Runs}
-use Rattle.wl_synth.specs.Memory.{FitsSegment, overlaid, ShareNoByte}
+use Rattle.wl_synth.specs.Machine.{Value, I32, World, State, Done, overlay, i32_bytes, i32_of, i32_at, Runs}
+use Rattle.wl_synth.specs.Memory.{overlaid, ShareNoByte}
 use Rattle.wl_synth.specs.ThreadLocal.{moved_by, AreWordsApart, NameDistinct, CanInitTls, IsInitialized}
 use Rattle.wl_synth.proofs.BoundLaws.{size_is_word}
 use Rattle.wl_synth.proofs.MemoryLaws.{write_size, resized}
 use Rattle.wl_synth.proofs.LaidLaws.{written_apart, written_there, laid_size}
-use Rattle.wl_synth.proofs.TlsLaws.{pointed, slice_same, slice_other, with_got, GotFits, keep, keep_all, block_of, tls_runs}
+use Rattle.wl_synth.proofs.TlsLaws.{pointed, slice_same, slice_other, with_got, GotFits, keep_all, block_of, tls_runs}
 
 -- ---- pointers
 

@@ -1,6 +1,6 @@
 -- What becomes of a body that was written: it ends with `end`, and decodes to its operators.
-use Rattle.std.proofs.Common.{◌≡◌, ◌≢◌, ℕ, zero, suc, pos, true, false, List, [], ◌∷◌, ◌++◌, Option, Some, None, Result, Ok, Err, MatchResult, refl, sym, subst, ◌∙◌, replicate}
-use Rattle.std.specs.List.{flat_map, AllByRecursion, Contains}
+use Rattle.std.proofs.Common.{◌≡◌, ℕ, zero, suc, true, List, [], ◌∷◌, ◌++◌, Some, None, Result, Ok, Err, MatchResult, refl, sym, ap, subst, ◌∙◌, replicate}
+use Rattle.std.specs.List.{flat_map}
 use Rattle.std.proofs.lemmas.List.Elements.{All-from_recursion, All-contains}
 use Rattle.wl_ops.specs.declared.op.Op.{Op}
 use Rattle.wl_ops.specs.Decoding.{is_ended}
@@ -23,6 +23,10 @@ pub made_result : {V : Type 0} (view : V → List ℕ) (r : Result V SynthError)
     → MatchResult r (λ v. IsWritten ops (view v)) (EncodeFault ops) → MatchResult r (λ v. IsEncoded all (view v)) (EncodeFault all)
 made_result view (Ok v) ops all same e m = encoded all (view v) e (subst (λ (x : List Op). IsWritten x (view v)) same m)
 made_result view (Err d) ops all same e m = subst (λ (x : List Op). EncodeFault x d) same m
+
+-- a list that is added to is the front as it was, and what was added
+pub added : (piece front old new : List Op) → old ≡ front → new ≡ old ++ piece → new ≡ front ++ piece
+added piece front old new e f = f ∙ ap (λ (x : List Op). x ++ piece) e
 
 -- ---- operators without a constant that is too great
 

@@ -1,8 +1,7 @@
 -- Constants that are in range are numbers of 32 bits.
-use Rattle.std.proofs.Common.{◌≡◌, ℕ, ◌<◌, ◌≤◌, ◌^◌, Bool, true, false, cond, eqb, List, [], ◌∷◌, ◌++◌, None, refl, subst, ap, arith, inl, inr}
+use Rattle.std.proofs.Common.{◌≡◌, ℕ, ◌<◌, ◌^◌, Bool, true, false, cond, eqb, List, [], ◌∷◌, ◌++◌, None, refl, subst, arith, inl, inr}
 use Rattle.std.specs.List.{flat_map, AllByRecursion}
 use Rattle.std.proofs.lemmas.Bool.{cases_lt, lt-ltb, eqb-true}
-use Rattle.wl_ops.specs.declared.op.Op.{Op}
 use Rattle.wl_synth.specs.declared.parts.PassiveSegmentCopy.{PassiveSegmentCopy}
 use Rattle.wl_synth.specs.Wat as wat
 use Rattle.wl_synth.specs.Bodies.{const, copy_ops, drop_ops, claim_ops, release_ops, wait_ops, init_memory_ops, ThreadBlock, clear_ops, template_ops, pointer_ops, got_ops, init_tls_ops}

@@ -1,8 +1,7 @@
 -- The machine on bodies that no call here makes, and on the two short ones.
-use Rattle.std.proofs.Common.{◌≡◌, ℕ, pos, List, [], ◌∷◌, Result, Ok, refl, replicate, rules}
+use Rattle.std.proofs.Common.{◌≡◌, ℕ, pos, List, [], ◌∷◌, Ok, refl, replicate, rules}
 use Rattle.wl_bytes.specs.Grammar.{times_at}
 use Rattle.wl_bytes.specs.Reading.{leb_len_from, take_at, leb_at, u32_at, byte_at, signed_at}
-use Rattle.wl_module.specs.declared.error.ReadError.{ReadError}
 use Rattle.wl_ops.specs.declared.op.Op.{Op}
 use Rattle.wl_ops.specs.Table.{shape_of}
 use Rattle.wl_ops.specs.Immediates.{single_at, immediate_at, immediates_at}
@@ -10,7 +9,7 @@ use Rattle.wl_ops.specs.Operators.{sub_at, head_at, taken_shape, op_at}
 use Rattle.wl_ops.specs.Decoding.{AreTaken, local_at, rest_of, ops_of, body_of}
 use Rattle.wl_synth.specs.Wat as wat
 use Rattle.wl_synth.specs.Bodies.{const}
-use Rattle.wl_synth.specs.Machine.{I32, World, State, Label, instruction, step}
+use Rattle.wl_synth.specs.Machine.{World, State, Label, instruction, step}
 use Rattle.wl_synth.specs.Calls.{TrapsAtOnce, DoesNothing}
 use Rattle.wl_synth.specs.Facts.{filling, leaving, with_memory, RunsOthers}
 

@@ -1,13 +1,13 @@
 -- The whole run of the body that lays segments in memory.
-use Rattle.std.proofs.Common.{◌≡◌, ◌≢◌, ℕ, zero, suc, ◌+◌, ◌<◌, ◌≤◌, ◌^◌, List, [], ◌∷◌, ◌++◌, length, refl, sym, ap, ◌∙◌, arith, append_assoc}
+use Rattle.std.proofs.Common.{◌≡◌, ◌≢◌, ℕ, zero, suc, List, [], ◌∷◌, ◌++◌, length, refl, ap, ◌∙◌, append_assoc}
 use Rattle.std.specs.List.{flat_map}
 use Rattle.wl_ops.specs.declared.op.Op.{Op}
 use Rattle.wl_synth.specs.declared.parts.PassiveSegmentCopy.{PassiveSegmentCopy}
 use Rattle.wl_synth.specs.Wat as wat
 use Rattle.wl_synth.specs.Bodies.{copy_ops, drop_ops, claim_ops, release_ops, wait_ops, init_memory_ops}
-use Rattle.wl_synth.specs.Machine.{World, State, Outcome, Going, Done, Waits, overlay, i32_bytes, i32_at, is_word, go, entered}
+use Rattle.wl_synth.specs.Machine.{World, State, Outcome, Going, Done, Waits, overlay, i32_bytes, i32_at, go}
 use Rattle.wl_synth.specs.Encoding.{IsEncoded}
-use Rattle.wl_synth.specs.Memory.{overlaid, without, CanInitMemory, done_with, InitsMemory}
+use Rattle.wl_synth.specs.Memory.{overlaid, CanInitMemory, done_with, InitsMemory}
 use Rattle.wl_synth.proofs.RunLaws.{then_go}
 use Rattle.wl_synth.proofs.BoundLaws.{memory_words}
 use Rattle.wl_synth.proofs.MemoryLaws.{stage, one_open, two_open, three_open, is_word_there, write_size, resized, all_copies, passes, claim_zero, claim_one, claim_more, release, release_last, release_more, wait_last, waiting, waits_on, drops_end}

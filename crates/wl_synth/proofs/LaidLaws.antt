@@ -1,12 +1,11 @@
 -- What memory holds after writes.
-use Rattle.std.proofs.Common.{◌≡◌, ℕ, zero, suc, ◌+◌, ◌-◌, ◌<◌, ◌≤◌, List, [], ◌∷◌, ◌++◌, length, take, drop, Option, Some, None, refl, sym, ap, subst, ◌∙◌, arith, append_assoc, length-append, inl, inr}
-use Rattle.std.specs.Prelude.{◌⊎◌}
+use Rattle.std.proofs.Common.{◌≡◌, ℕ, ◌+◌, ◌-◌, ◌≤◌, List, [], ◌∷◌, ◌++◌, length, take, drop, Option, refl, sym, ap, subst, ◌∙◌, arith, append_assoc, length-append, inl, inr}
 use Rattle.std.specs.List.{AllByRecursion}
-use Rattle.std.proofs.lemmas.List.{length-take, length-drop, length-take-le, drop-append-le, take-append-le, take-append-drop}
+use Rattle.std.proofs.lemmas.List.{length-drop, length-take-le, drop-append-le, take-append-le, take-append-drop}
 use Rattle.std.proofs.Math.Seq.{take-append_seam, drop-append_seam, drop-append-add}
 use Rattle.wl_synth.specs.declared.parts.PassiveSegmentCopy.{PassiveSegmentCopy}
 use Rattle.wl_ops.specs.Standing.{stretch}
-use Rattle.wl_synth.specs.Machine.{State, overlay, i32_bytes, i32_of, i32_at}
+use Rattle.wl_synth.specs.Machine.{State, overlay, i32_bytes, i32_of}
 use Rattle.wl_synth.specs.Memory.{segment_bytes, FitsSegment, overlaid, ShareNoByte, AreClear, AreDisjoint, AreLaid}
 use Rattle.wl_synth.proofs.MemoryLaws.{write_size, copied_size, resized}
 

@@ -1,19 +1,19 @@
 -- The run of the body that lays segments in memory.
-use Rattle.std.proofs.Common.{◌≡◌, ℕ, zero, suc, ◌+◌, ◌-◌, ◌*◌, ◌/◌, ◌%◌, ◌<◌, ◌≤◌, ◌^◌, ℤ, pos, negsuc, Bool, true, false, cond, ltb, leb, eqb, List, [], ◌∷◌, ◌++◌, length, map, take, drop, Option, Some, None, refl, sym, ap, subst, ◌∙◌, arith, append_assoc, length-append, inl, inr, add-zero, min}
-use Rattle.std.specs.Prelude.{replicate, ◌&&◌, ◌⊎◌, slice_get, slice_set}
+use Rattle.std.proofs.Common.{◌≡◌, ℕ, suc, ◌+◌, ◌%◌, ◌<◌, ◌≤◌, ◌^◌, negsuc, Bool, true, false, cond, leb, eqb, List, [], ◌∷◌, ◌++◌, length, take, drop, Option, Some, None, refl, sym, ap, subst, ◌∙◌, arith, length-append, add-zero}
+use Rattle.std.specs.Prelude.{slice_get, slice_set}
 use Rattle.std.specs.List.{flat_map, AllByRecursion}
-use Rattle.std.proofs.lemmas.List.{append-nil, length-take, length-drop, length-take-le}
-use Rattle.std.proofs.lemmas.Bool.{eq-eqb, le-leb, eqb-true, ne_eqb}
+use Rattle.std.proofs.lemmas.List.{length-drop, length-take-le}
+use Rattle.std.proofs.lemmas.Bool.{eq-eqb, le-leb, ne_eqb}
 use Rattle.std.proofs.lemmas.Option.{slice_get-get_or, slice_get_within}
 use Rattle.std.proofs.Math.ListN.{length-set}
 use Rattle.std.proofs.Math.Seq.{take-length}
 use Rattle.wl_ops.specs.declared.op.Op.{Op}
 use Rattle.wl_synth.specs.declared.parts.PassiveSegmentCopy.{PassiveSegmentCopy}
 use Rattle.wl_synth.specs.Wat as wat
-use Rattle.wl_synth.specs.Bodies.{const, copy_ops, drop_ops, claim_ops, release_ops, wait_ops, init_memory_ops}
-use Rattle.wl_synth.specs.Machine.{Value, I32, I64, World, State, Label, Outcome, Going, Done, Trap, Waits, Stuck, overlay, i32_bytes, i32_at, woken, is_word, copied, dropped, instruction, exec, step, go, entered}
+use Rattle.wl_synth.specs.Bodies.{const, copy_ops, drop_ops, claim_ops, release_ops, wait_ops}
+use Rattle.wl_synth.specs.Machine.{Value, I32, I64, World, State, Label, Outcome, Going, Done, Waits, overlay, i32_bytes, i32_at, woken, is_word, copied, dropped, instruction, step, go}
 use Rattle.wl_synth.specs.Memory.{segment_bytes, FitsSegment, overlaid, without}
-use Rattle.wl_synth.proofs.RunLaws.{go_on, then_go}
+use Rattle.wl_synth.proofs.RunLaws.{then_go}
 
 -- ---- single steps
 

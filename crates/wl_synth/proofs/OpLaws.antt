@@ -1,10 +1,9 @@
 -- What is spelled decodes to the operators.
-use Rattle.std.proofs.Common.{◌≡◌, ℕ, zero, suc, ◌+◌, ◌<◌, ◌≤◌, ◌^◌, ℤ, pos, negsuc, Bool, true, false, List, [], ◌∷◌, ◌++◌, length, map, Option, Some, None, refl, sym, ap, subst, ◌∙◌, arith, append_assoc, lit<, lit≤}
+use Rattle.std.proofs.Common.{◌≡◌, ℕ, ◌+◌, ◌<◌, ◌^◌, ℤ, pos, negsuc, Bool, true, false, List, [], ◌∷◌, ◌++◌, length, Option, Some, None, refl, sym, ap, subst, ◌∙◌, append_assoc, lit<, lit≤}
 use Rattle.std.proofs.lemmas.List.{append-nil, append_cancel_right}
-use Rattle.wl_bytes.specs.Cursor.{Cursor}
-use Rattle.wl_bytes.specs.Parse.{Takes, IsReadAgain}
+use Rattle.wl_bytes.specs.Parse.{IsReadAgain}
 use Rattle.wl_bytes.specs.Leb.{IsU32, IsSigned, s32_form, s33_form, s64_form, IsShortest, IsShortestSleb, IsWithin}
-use Rattle.wl_bytes.specs.Grammar.{Then, Items, Times}
+use Rattle.wl_bytes.specs.Grammar.{Items}
 use Rattle.wl_module.specs.Checks.{When}
 use Rattle.wl_ops.specs.declared.table.Single.TheVariants.{Number, Alignment, BlockType, Signed32, Signed64}
 use Rattle.wl_ops.specs.declared.table.Immediate.{Immediate}
@@ -13,10 +12,10 @@ use Rattle.wl_ops.specs.declared.table.Shape.{Shape}
 use Rattle.wl_ops.specs.declared.table.Shape.TheVariants.{Nothing, Block as BlockShape, Index, Indices, Branches, Memory, Int32, Int64}
 use Rattle.wl_ops.specs.declared.op.Op.{Op}
 use Rattle.wl_ops.specs.Table.{immediates, is_prefix, shape_of}
-use Rattle.wl_ops.specs.Immediates.{IsSingle, IsImmediate, AreImmediates, is_alignment, is_block_type}
+use Rattle.wl_ops.specs.Immediates.{IsSingle, AreImmediates, is_alignment}
 use Rattle.wl_ops.specs.Operators.{IsBehind, IsOp, is_taken}
 use Rattle.std.specs.List.{AllByRecursion}
-use Rattle.wl_ops.specs.Decoding.{is_ended, AreOps, AreTaken}
+use Rattle.wl_ops.specs.Decoding.{is_ended, AreTaken}
 use Rattle.wl_synth.specs.declared.operator.Operator.{Operator}
 use Rattle.wl_synth.specs.declared.operator.Operator.TheVariants.{Block, End, Br, BrTable, Call, Drop, LocalGet, GlobalGet, GlobalSet, I32Store, I32Const, I32Unsigned, I64Const, I32Add, MemoryInit, DataDrop, MemoryFill, MemoryAtomicNotify, MemoryAtomicWait32, I32AtomicStore, I32AtomicRmwCmpxchg}
 use Rattle.wl_synth.specs.Wat.{by_byte}

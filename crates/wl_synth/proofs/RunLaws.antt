@@ -1,5 +1,5 @@
 -- Runs, one part behind the other, and those of bodies that call functions.
-use Rattle.std.proofs.Common.{◌≡◌, ℕ, zero, suc, ◌+◌, Bool, true, false, List, [], ◌∷◌, ◌++◌, length, map, take, drop, reverse, Option, Some, None, refl, sym, ap, subst, ◌∙◌, arith, append_assoc, length-append}
+use Rattle.std.proofs.Common.{◌≡◌, ℕ, suc, Bool, true, false, List, [], ◌∷◌, ◌++◌, length, map, take, drop, reverse, Option, Some, refl, sym, ap, subst, ◌∙◌, arith, append_assoc, length-append}
 use Rattle.std.specs.Prelude.{replicate, ◌&&◌, slice_get}
 use Rattle.std.specs.List.{flat_map, AllByRecursion}
 use Rattle.std.proofs.lemmas.List.{append-nil, length-reverse, reverse-reverse, reverse-append}
@@ -10,7 +10,7 @@ use Rattle.wl_module.specs.Types.{FunctionType}
 use Rattle.wl_ops.specs.declared.op.Op.{Op}
 use Rattle.wl_synth.specs.Wat as wat
 use Rattle.wl_synth.specs.Bodies.{call_ops, call_sequence_ops, locals_from, wrapper_ops}
-use Rattle.wl_synth.specs.Machine.{Value, World, State, Label, Call, Outcome, Going, Done, has_type, have_types, instruction, exec, called, push_found, ended, step, stepped, go, entered}
+use Rattle.wl_synth.specs.Machine.{Value, World, State, Call, Outcome, Going, Done, has_type, have_types, instruction, called, push_found, ended, step, stepped, go, entered}
 use Rattle.wl_synth.specs.Calls.{plain_call, AnswerByType, HasResults, returned, wrapped_calls}
 
 -- a run over two parts is that over the one, and then over the other

@@ -1,18 +1,17 @@
 -- The run of the body that makes a thread's block.
-use Rattle.std.proofs.Common.{◌≡◌, ◌≢◌, ℕ, zero, suc, ◌+◌, ◌-◌, ◌%◌, ◌<◌, ◌≤◌, ◌^◌, ℤ, pos, negsuc, Bool, true, false, cond, eqb, List, [], ◌∷◌, ◌++◌, length, take, drop, Option, Some, None, refl, sym, ap, subst, ◌∙◌, arith, append_assoc, length-append, inl, inr, add-zero}
+use Rattle.std.proofs.Common.{◌≡◌, ◌≢◌, ℕ, zero, suc, ◌+◌, ◌%◌, ◌<◌, ◌≤◌, ◌^◌, Bool, true, false, cond, eqb, List, [], ◌∷◌, ◌++◌, length, take, drop, Option, Some, refl, sym, ap, subst, ◌∙◌, arith, append_assoc, inl, inr, add-zero}
 use Rattle.std.specs.Prelude.{replicate, slice_get, slice_set}
 use Rattle.std.specs.List.{flat_map, AllByRecursion}
 use Rattle.std.proofs.lemmas.Option.{slice_get_within}
-use Rattle.std.proofs.lemmas.List.{length-replicate, nil_from_length, append-nil, length-take-le, drop-append-le, take-append-le, take-append-drop}
-use Rattle.std.proofs.lemmas.Bool.{eq-eqb, le-leb, eqb-true, cases_lt}
+use Rattle.std.proofs.lemmas.List.{length-replicate, nil_from_length, length-take-le, drop-append-le, take-append-le, take-append-drop}
+use Rattle.std.proofs.lemmas.Bool.{le-leb, eqb-true, cases_lt}
 use Rattle.std.proofs.Math.Seq.{take-append-add, drop-append-add}
-use Rattle.wl_ops.specs.declared.op.Op.{Op}
 use Rattle.wl_synth.specs.declared.parts.PassiveSegmentCopy.{PassiveSegmentCopy}
 use Rattle.wl_synth.specs.declared.parts.TlsPointerFixup.{TlsPointerFixup}
 use Rattle.wl_synth.specs.declared.parts.TlsGotFixup.{TlsGotFixup}
 use Rattle.wl_synth.specs.Wat as wat
 use Rattle.wl_synth.specs.Bodies.{const, place_ops, clear_ops, template_ops, pointer_ops, got_ops, ThreadBlock, init_tls_ops}
-use Rattle.wl_synth.specs.Machine.{Value, I32, wrapped, World, State, Label, Outcome, Going, Done, overlay, i32_bytes, push_found, set_global, instruction, exec, step, go, entered}
+use Rattle.wl_synth.specs.Machine.{Value, I32, wrapped, World, State, Going, Done, overlay, i32_bytes, push_found, set_global, instruction, step, go, entered}
 use Rattle.wl_synth.specs.Memory.{segment_bytes, FitsSegment, overlaid}
 use Rattle.wl_synth.specs.ThreadLocal.{moved_by, IsWordGlobal, CanInitTls}
 use Rattle.wl_synth.proofs.RunLaws.{then_go}

@@ -1,6 +1,5 @@
 -- What runs of bodies that call functions do, and of the two short bodies.
-use Rattle.std.specs.Prelude.{◌≡◌, ℕ, true, List, [], ◌∷◌, ◌++◌, length, reverse, map, Option, Some}
-use Rattle.std.specs.List.{AllByRecursion}
+use Rattle.std.specs.Prelude.{◌≡◌, ℕ, true, List, [], ◌∷◌, ◌++◌, length, reverse, map, Some}
 use Rattle.wl_module.specs.Types.{FunctionType}
 use Rattle.wl_synth.specs.Machine.{Value, World, State, Call, Done, Trap, have_types, entered, Runs}
 

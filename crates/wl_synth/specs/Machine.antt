@@ -136,9 +136,9 @@ pub data Instruction : Type 0 where
   Unknown : Instruction
 
 -- with one number
-abbrev pub with_number : (ℕ → Instruction) → List ℤ → Instruction
-with_number f (pos n ∷ []) = f n
-with_number f _ = Unknown
+abbrev pub with_index : (ℕ → Instruction) → List ℤ → Instruction
+with_index f (pos n ∷ []) = f n
+with_index f _ = Unknown
 
 -- with one signed number
 abbrev pub with_signed : (ℤ → Instruction) → List ℤ → Instruction
@@ -170,13 +170,13 @@ plain_instruction code args =
     if code == 0x00 then Unreachable
     else if code == 0x02 then with_block_type args
     else if code == 0x0b then EndBlock
-    else if code == 0x0c then with_number Branch args
+    else if code == 0x0c then with_index Branch args
     else if code == 0x0e then BranchBy args
-    else if code == 0x10 then with_number CallFunction args
+    else if code == 0x10 then with_index CallFunction args
     else if code == 0x1a then DropValue
-    else if code == 0x20 then with_number GetLocal args
-    else if code == 0x23 then with_number GetGlobal args
-    else if code == 0x24 then with_number SetGlobal args
+    else if code == 0x20 then with_index GetLocal args
+    else if code == 0x23 then with_index GetGlobal args
+    else if code == 0x24 then with_index SetGlobal args
     else if code == 0x36 then with_offset (λ n. nat_le n 2) PutWord args
     else if code == 0x41 then with_signed PushWord args
     else if code == 0x42 then with_signed PushLong args
@@ -186,7 +186,7 @@ plain_instruction code args =
 abbrev pub bulk_instruction : ℕ → List ℤ → Instruction
 bulk_instruction sub args =
     if sub == 8 then with_segment CopySegment args
-    else if sub == 9 then with_number DropSegment args
+    else if sub == 9 then with_index DropSegment args
     else if sub == 11 then in_memory FillMemory args
     else Unknown
 

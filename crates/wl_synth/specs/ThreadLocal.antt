@@ -1,5 +1,5 @@
 -- What a run of the body does that makes a thread's block.
-use Rattle.std.specs.Prelude.{◌≡◌, ◌≢◌, ◌+◌, ◌*◌, ◌^◌, ◌<◌, ◌≤◌, ℕ, ℤ, true, List, [], ◌∷◌, length, replicate, slice_get, slice_set, Option, Some}
+use Rattle.std.specs.Prelude.{◌≡◌, ◌≢◌, ◌+◌, ◌*◌, ◌^◌, ◌<◌, ◌≤◌, ℕ, ℤ, true, List, [], ◌∷◌, length, replicate, slice_get, Option, Some}
 use Rattle.std.specs.List.{AllByRecursion}
 use Rattle.wl_ops.specs.Standing.{stretch}
 use Rattle.wl_synth.specs.declared.parts.TlsPointerFixup.{TlsPointerFixup}

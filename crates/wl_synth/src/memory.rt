@@ -27,7 +27,10 @@ fn push_copies(body: &mut BodyBuilder, copies: &[PassiveSegmentCopy]) -> Result<
 }
 
 /// Segments are dropped.
-fn push_drops(body: &mut BodyBuilder, copies: &[PassiveSegmentCopy]) -> Result<(), AllocError>
+fn push_segment_drops(
+    body: &mut BodyBuilder,
+    copies: &[PassiveSegmentCopy],
+) -> Result<(), AllocError>
     ensures { OnOk result (body.new ≡ body.old ++ flat_map drop_ops copies.now) }
 {
     for copy in copies {
@@ -104,7 +107,7 @@ pub fn encode_init_memory_body(
     push_copies(&mut body, copies)?;
     push_release(&mut body, flag)?;
     push_wait(&mut body, flag)?;
-    push_drops(&mut body, copies)?;
+    push_segment_drops(&mut body, copies)?;
     body.push(&[Operator::End])?;
     body.spell(alloc)
 }

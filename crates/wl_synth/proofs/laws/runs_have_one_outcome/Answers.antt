@@ -1,4 +1,4 @@
-use Rattle.std.proofs.Common.{List, ◌≡◌, ◌∙◌, sym, ap}
+use Rattle.std.proofs.Common.{List, ◌∙◌, sym, ap}
 use Rattle.wl_ops.specs.declared.op.Op.{Op}
 use Rattle.wl_synth.specs.Machine.{Going, go, entered}
 use Rattle.wl_synth.proofs.laws.runs_have_one_outcome.Goals as goal

@@ -1,4 +1,4 @@
-use Rattle.std.proofs.Common.{◌≡◌, ℕ, ◌<◌, ◌≤◌, ℤ, pos, negsuc, true, false, cond, ltb, List, [], ◌∷◌, Option, Some, None, Result, Ok, Err, OnOk, rules, arith, refl, ◌∙◌, lit≤, inl, inr, w32, w64, SFits}
+use Rattle.std.proofs.Common.{◌≡◌, ℕ, ℤ, pos, [], ◌∷◌, None, Result, Ok, Err, OnOk, rules, arith, ◌∙◌, inl, inr, w32, w64, SFits}
 use Rattle.std.proofs.lemmas.Int.{ints, to_z-of_z}
 use Rattle.std.proofs.lemmas.Bool.{cases_lt, lt-ltb}
 use Rattle.wl_bytes.specs.Leb.{IsWithin}
@@ -17,36 +17,36 @@ within_const n e =
     ]
 
 pub returns-in-MemoryInit : goal.returns-in-MemoryInit
-returns-in-MemoryInit c = rw c.in-MemoryInit.is c.push_numbers-in-MemoryInit.ensures
+returns-in-MemoryInit c = rw c.in-MemoryInit.is c.push_immediates-in-MemoryInit.ensures
 
 pub returns-in-DataDrop : goal.returns-in-DataDrop
-returns-in-DataDrop c = rw c.in-DataDrop.is c.push_numbers-in-DataDrop.ensures
+returns-in-DataDrop c = rw c.in-DataDrop.is c.push_immediates-in-DataDrop.ensures
 
 pub returns-in-MemoryFill : goal.returns-in-MemoryFill
-returns-in-MemoryFill c = rw c.in-MemoryFill.is c.push_numbers-in-MemoryFill.ensures
+returns-in-MemoryFill c = rw c.in-MemoryFill.is c.push_immediates-in-MemoryFill.ensures
 
 pub returns-in-MemoryAtomicNotify : goal.returns-in-MemoryAtomicNotify
-returns-in-MemoryAtomicNotify c = rw c.in-MemoryAtomicNotify.is c.push_numbers-in-MemoryAtomicNotify.ensures
+returns-in-MemoryAtomicNotify c = rw c.in-MemoryAtomicNotify.is c.push_immediates-in-MemoryAtomicNotify.ensures
 
 pub returns-in-MemoryAtomicWait32 : goal.returns-in-MemoryAtomicWait32
-returns-in-MemoryAtomicWait32 c = rw c.in-MemoryAtomicWait32.is c.push_numbers-in-MemoryAtomicWait32.ensures
+returns-in-MemoryAtomicWait32 c = rw c.in-MemoryAtomicWait32.is c.push_immediates-in-MemoryAtomicWait32.ensures
 
 pub returns-in-I32AtomicStore : goal.returns-in-I32AtomicStore
-returns-in-I32AtomicStore c = rw c.in-I32AtomicStore.is c.push_numbers-in-I32AtomicStore.ensures
+returns-in-I32AtomicStore c = rw c.in-I32AtomicStore.is c.push_immediates-in-I32AtomicStore.ensures
 
 pub returns-in-I32AtomicRmwCmpxchg : goal.returns-in-I32AtomicRmwCmpxchg
-returns-in-I32AtomicRmwCmpxchg c = rw c.in-I32AtomicRmwCmpxchg.is c.push_numbers-in-I32AtomicRmwCmpxchg.ensures
+returns-in-I32AtomicRmwCmpxchg c = rw c.in-I32AtomicRmwCmpxchg.is c.push_immediates-in-I32AtomicRmwCmpxchg.ensures
 
 pub returns-in-Block : goal.returns-in-Block
-returns-in-Block c = rw c.in-Block.is (on_ok c.push_signed.result (λ f. f 32 (search rules, search rules)) c.push_signed.ensures)
+returns-in-Block c = rw c.in-Block.is (on_ok c.push_signed_immediate.result (λ f. f 32 (search rules, search rules)) c.push_signed_immediate.ensures)
 
 pub returns-in-I32Unsigned : goal.returns-in-I32Unsigned
 returns-in-I32Unsigned c =
     let fits : SFits w64 c.from-in-I32Unsigned.result = search rules in
     let same = to_z-of_z w64 c.from-in-I32Unsigned.result fits ∙ c.from-in-I32Unsigned.ensures in
     let small = rw c.in-I32Unsigned.is at c.requires in
-    let done = rw same at c.push_signed-in-I32Unsigned.ensures in
-    rw c.in-I32Unsigned.is (on_ok c.push_signed-in-I32Unsigned.result (λ f. f 31 (within_const c.in-I32Unsigned.number small)) done)
+    let done = rw same at c.push_signed_immediate-in-I32Unsigned.ensures in
+    rw c.in-I32Unsigned.is (on_ok c.push_signed_immediate-in-I32Unsigned.result (λ f. f 31 (within_const c.in-I32Unsigned.number small)) done)
 
 within32 : (z : ℤ) → SFits w32 z → IsWithin 31 z
 within32 z f = (omega (arith, ints, f), omega (arith, ints, f))
@@ -59,12 +59,12 @@ returns-in-I32Const c =
     let small : SFits w32 c.in-I32Const.number = search rules in
     let fits : SFits w64 c.from.result = search rules in
     let same = to_z-of_z w64 c.from.result fits ∙ c.from.ensures ∙ to_z-of_z w32 c.in-I32Const.number small in
-    let done = rw same at c.push_signed-in-I32Const.ensures in
-    rw c.in-I32Const.is (on_ok c.push_signed-in-I32Const.result (λ f. f 31 (within32 c.in-I32Const.number small)) done)
+    let done = rw same at c.push_signed_immediate-in-I32Const.ensures in
+    rw c.in-I32Const.is (on_ok c.push_signed_immediate-in-I32Const.result (λ f. f 31 (within32 c.in-I32Const.number small)) done)
 
 pub returns-in-I64Const : goal.returns-in-I64Const
 returns-in-I64Const c =
     let fits : SFits w64 c.in-I64Const.number = search rules in
     let same = to_z-of_z w64 c.in-I64Const.number fits in
-    let done = rw same at c.push_signed-in-I64Const.ensures in
-    rw c.in-I64Const.is (on_ok c.push_signed-in-I64Const.result (λ f. f 63 (within64 c.in-I64Const.number fits)) done)
+    let done = rw same at c.push_signed_immediate-in-I64Const.ensures in
+    rw c.in-I64Const.is (on_ok c.push_signed_immediate-in-I64Const.result (λ f. f 63 (within64 c.in-I64Const.number fits)) done)

@@ -1,4 +1,4 @@
-use Rattle.std.proofs.Common.{◌≡◌, ℕ, List, ◌++◌, drop}
+use Rattle.std.proofs.Common.{ℕ, List, ◌++◌, drop}
 use Rattle.wl_synth.specs.Spelling.{AreSpelled, IsSpelledBody, as_ops}
 use Rattle.wl_synth.specs.Encoding.{AreInRange}
 use Rattle.wl_synth.proofs.spelling.spell.Given as goal
