@@ -5,7 +5,7 @@ use Rattle.wl_ops.specs.declared.op.Op.{Op}
 use Rattle.wl_synth.specs.declared.parts.PassiveSegmentCopy.{PassiveSegmentCopy}
 use Rattle.wl_synth.specs.Wat as wat
 use Rattle.wl_synth.specs.Bodies.{copy_ops, drop_ops, claim_ops, release_ops, wait_ops, init_memory_ops}
-use Rattle.wl_synth.specs.Machine.{World, State, Outcome, Going, Done, Waits, overlay, i32_bytes, i32_at, go}
+use Rattle.wl_synth.specs.Machine.{World, State, Progress, Going, Ended, Done, Waits, overlay, i32_bytes, i32_at, go}
 use Rattle.wl_synth.specs.Encoding.{IsEncoded}
 use Rattle.wl_synth.specs.Memory.{overlaid, CanInitMemory, done_with, InitsMemory}
 use Rattle.wl_synth.proofs.RunLaws.{then_go}
@@ -14,7 +14,7 @@ use Rattle.wl_synth.proofs.MemoryLaws.{stage, one_open, two_open, three_open, is
 use Rattle.wl_synth.proofs.LaidLaws.{all_laid, laid_size}
 
 -- five parts and the end
-pub in_parts : (w : World) (o p1 p2 p3 p4 q : Outcome) (a b c d e f : List Op) → go w o a ≡ p1 → go w p1 b ≡ p2 → go w p2 c ≡ p3 → go w p3 d ≡ p4 → go w p4 (e ++ f) ≡ q
+pub in_parts : (w : World) (o p1 p2 p3 p4 q : Progress) (a b c d e f : List Op) → go w o a ≡ p1 → go w p1 b ≡ p2 → go w p2 c ≡ p3 → go w p3 d ≡ p4 → go w p4 (e ++ f) ≡ q
     → go w o (a ++ b ++ c ++ d ++ e ++ f) ≡ q
 in_parts w o p1 p2 p3 p4 q a b c d e f h1 h2 h3 h4 h5 =
     ap (λ (x : List Op). go w o x) (append_assoc (a ++ b ++ c ++ d) e f)
@@ -51,7 +51,7 @@ inits_memory w s flag cs body e r =
         (
           ops,
           e.decodes.0,
-          in_parts w start (Going (stage s three_open [] claimed gs 0)) (Going (stage s three_open [] there gs 0)) (Going (stage s two_open [] last gs 1)) (Going (stage s one_open [] last gs 0)) (Done (done_with s cs last))
+          in_parts w start (Going (stage s three_open [] claimed gs 0)) (Going (stage s three_open [] there gs 0)) (Going (stage s two_open [] last gs 1)) (Going (stage s one_open [] last gs 0)) (Ended (Done (done_with s cs last)))
               (claim_ops flag) (flat_map copy_ops cs) (release_ops flag) (wait_ops flag) tail (wat.end ∷ [])
               (claim_zero w s m gs flag lt word zero_found)
               (all_copies w s three_open claimed gs cs fits words.1)
@@ -67,7 +67,7 @@ inits_memory w s flag cs body e r =
         (
           ops,
           e.decodes.0,
-          in_parts w start (Going (stage s three_open [] m gs 1)) (Going (stage s three_open [] m gs 1)) (Going (stage s two_open [] m gs 0)) (Waits (stage s two_open [] m gs 0)) (Waits (stage s two_open [] m gs 0))
+          in_parts w start (Going (stage s three_open [] m gs 1)) (Going (stage s three_open [] m gs 1)) (Going (stage s two_open [] m gs 0)) (Ended (Waits (stage s two_open [] m gs 0))) (Ended (Waits (stage s two_open [] m gs 0)))
               (claim_ops flag) (flat_map copy_ops cs) (release_ops flag) (wait_ops flag) tail (wat.end ∷ [])
               (claim_one w s m gs flag lt word one_found)
               (passes w s three_open m gs 0 cs)
@@ -80,7 +80,7 @@ inits_memory w s flag cs body e r =
           let more = two_at_least (i32_at flag m) no_zero no_one in (
             ops,
             e.decodes.0,
-            in_parts w start (Going (stage s two_open [] m gs 2)) (Going (stage s two_open [] m gs 2)) (Going (stage s two_open [] m gs 1)) (Going (stage s one_open [] m gs 0)) (Done (done_with s cs m))
+            in_parts w start (Going (stage s two_open [] m gs 2)) (Going (stage s two_open [] m gs 2)) (Going (stage s two_open [] m gs 1)) (Going (stage s one_open [] m gs 0)) (Ended (Done (done_with s cs m)))
                 (claim_ops flag) (flat_map copy_ops cs) (release_ops flag) (wait_ops flag) tail (wat.end ∷ [])
                 (claim_more w s m gs flag more.0 lt word more.1)
                 (passes w s two_open m gs 1 cs)

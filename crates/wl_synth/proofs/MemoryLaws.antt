@@ -11,7 +11,7 @@ use Rattle.wl_ops.specs.declared.op.Op.{Op}
 use Rattle.wl_synth.specs.declared.parts.PassiveSegmentCopy.{PassiveSegmentCopy}
 use Rattle.wl_synth.specs.Wat as wat
 use Rattle.wl_synth.specs.Bodies.{const, copy_ops, drop_ops, claim_ops, release_ops, wait_ops}
-use Rattle.wl_synth.specs.Machine.{Value, I32, I64, World, State, Label, Outcome, Going, Done, Waits, overlay, i32_bytes, i32_at, woken, is_word, copied, dropped, instruction, step, go}
+use Rattle.wl_synth.specs.Machine.{Value, I32, I64, World, State, Label, Progress, Going, Ended, Done, Waits, overlay, i32_bytes, i32_at, woken, is_word, copied, dropped, instruction, step, go}
 use Rattle.wl_synth.specs.Memory.{segment_bytes, FitsSegment, overlaid, without}
 use Rattle.wl_synth.proofs.RunLaws.{then_go}
 
@@ -19,7 +19,7 @@ use Rattle.wl_synth.proofs.RunLaws.{then_go}
 
 -- an operator that goes on, before others
 pub next : (w : World) (s t : State) (op : Op) (ops : List Op) → step w op s ≡ Going t → go w (Going s) (op ∷ ops) ≡ go w (Going t) ops
-next w s t op ops e = ap (λ (o : Outcome). go w o ops) e
+next w s t op ops e = ap (λ (o : Progress). go w o ops) e
 
 -- a state with all that the body changes
 abbrev pub stage : State → List Label → List Value → List ℕ → List (Option (List ℕ)) → ℕ → State
@@ -52,7 +52,7 @@ unfolding step instruction
 notify_is w s ls vs m gs a n e = rw (add-zero a, e) refl
 
 pub wait_is : (w : World) (s : State) (ls : List Label) (vs : List Value) (m : List ℕ) (gs : List (Option (List ℕ))) (a t v : ℕ) → w.is_shared ≡ true → is_word a m ≡ true → i32_at a m ≡ v
-    → step w wat.memory_atomic_wait32 (stage s ls (I64 t ∷ I32 v ∷ I32 a ∷ vs) m gs 0) ≡ Waits (stage s ls vs m gs 0)
+    → step w wat.memory_atomic_wait32 (stage s ls (I64 t ∷ I32 v ∷ I32 a ∷ vs) m gs 0) ≡ Ended (Waits (stage s ls vs m gs 0))
 unfolding step instruction
 wait_is w s ls vs m gs a t v shared e same = rw (add-zero a, shared, e, eq-eqb (i32_at a m) v same) refl
 
@@ -191,16 +191,16 @@ wait_last w s m gs flag = refl
 
 -- ---- waiting
 
-pub waits_on : (w : World) (t : State) (ops : List Op) → go w (Waits t) ops ≡ Waits t
+pub waits_on : (w : World) (t : State) (ops : List Op) → go w (Ended (Waits t)) ops ≡ Ended (Waits t)
 waits_on w t [] = refl
 waits_on w t (op ∷ ops) = waits_on w t ops
 
 pub waiting : (w : World) (s : State) (m : List ℕ) (gs : List (Option (List ℕ))) (flag : ℕ) → flag < 2 ^ 32 → w.is_shared ≡ true → is_word flag m ≡ true → i32_at flag m ≡ 1
-    → go w (Going (stage s two_open [] m gs 0)) (wait_ops flag) ≡ Waits (stage s two_open [] m gs 0)
+    → go w (Going (stage s two_open [] m gs 0)) (wait_ops flag) ≡ Ended (Waits (stage s two_open [] m gs 0))
 unfolding step instruction
 waiting w s m gs flag lt shared word e =
     next w (stage s two_open [] m gs 0) (stage s two_open (I32 flag ∷ []) m gs 0) (const flag) (const 1 ∷ wat.i64_const (negsuc 0) ∷ wat.memory_atomic_wait32 ∷ wat.drop ∷ wat.end ∷ []) (const_is w s two_open [] m gs flag lt)
-    ∙ ap (λ (o : Outcome). go w o (wat.drop ∷ wat.end ∷ [])) (wait_is w s two_open [] m gs flag 18446744073709551615 1 shared word e)
+    ∙ ap (λ (o : Progress). go w o (wat.drop ∷ wat.end ∷ [])) (wait_is w s two_open [] m gs flag 18446744073709551615 1 shared word e)
 
 -- ---- dropping segments
 
@@ -225,8 +225,8 @@ indices gs n (c ∷ cs) a = (slice_get_within gs c.segment_index (Some (segment_
 
 -- the end of the body
 pub drops_end : (w : World) (s : State) (m : List ℕ) (gs : List (Option (List ℕ))) (n : ℕ) (cs : List PassiveSegmentCopy) → AllByRecursion (FitsSegment gs n) cs
-    → go w (Going (stage s one_open [] m gs 0)) (flat_map drop_ops cs ++ wat.end ∷ []) ≡ Done (stage s [] [] m (without cs gs) 0)
+    → go w (Going (stage s one_open [] m gs 0)) (flat_map drop_ops cs ++ wat.end ∷ []) ≡ Ended (Done (stage s [] [] m (without cs gs) 0))
 unfolding step instruction
 drops_end w s m gs n cs a =
-    then_go w (Going (stage s one_open [] m gs 0)) (Going (stage s one_open [] m (without cs gs) 0)) (Done (stage s [] [] m (without cs gs) 0)) (flat_map drop_ops cs) (wat.end ∷ [])
+    then_go w (Going (stage s one_open [] m gs 0)) (Going (stage s one_open [] m (without cs gs) 0)) (Ended (Done (stage s [] [] m (without cs gs) 0))) (flat_map drop_ops cs) (wat.end ∷ [])
     (all_drops w s one_open m gs cs (indices gs n cs a)) refl

@@ -10,17 +10,17 @@ use Rattle.wl_module.specs.Types.{FunctionType}
 use Rattle.wl_ops.specs.declared.op.Op.{Op}
 use Rattle.wl_synth.specs.Wat as wat
 use Rattle.wl_synth.specs.Bodies.{call_ops, call_sequence_ops, locals_from, wrapper_ops}
-use Rattle.wl_synth.specs.Machine.{Value, World, State, Call, Outcome, Going, Done, has_type, have_types, instruction, called, push_found, ended, step, stepped, go, entered}
+use Rattle.wl_synth.specs.Machine.{Value, World, State, Call, Progress, Going, Ended, Done, has_type, have_types, instruction, called, push_found, at_end, step, stepped, go, entered}
 use Rattle.wl_synth.specs.Calls.{plain_call, AnswerByType, HasResults, returned, wrapped_calls}
 
 -- a run over two parts is that over the one, and then over the other
-pub go_on : (w : World) (o : Outcome) (xs ys : List Op) → go w o (xs ++ ys) ≡ go w (go w o xs) ys
+pub go_on : (w : World) (o : Progress) (xs ys : List Op) → go w o (xs ++ ys) ≡ go w (go w o xs) ys
 go_on w o [] ys = refl
 go_on w o (op ∷ xs) ys = go_on w (stepped w op o) xs ys
 
 -- one part is run, and then the other
-pub then_go : (w : World) (o p q : Outcome) (xs ys : List Op) → go w o xs ≡ p → go w p ys ≡ q → go w o (xs ++ ys) ≡ q
-then_go w o p q xs ys e f = go_on w o xs ys ∙ ap (λ (x : Outcome). go w x ys) e ∙ f
+pub then_go : (w : World) (o p q : Progress) (xs ys : List Op) → go w o xs ≡ p → go w p ys ≡ q → go w o (xs ++ ys) ≡ q
+then_go w o p q xs ys e f = go_on w o xs ys ∙ ap (λ (x : Progress). go w x ys) e ∙ f
 
 -- ---- calls
 
@@ -80,14 +80,14 @@ calls_run w s (c ∷ calls) st cs fits a =
 
 -- the function ends with as many values as it has results
 finish : (w : World) (s : State) (n : ℕ) (vs : List Value) (cs : List Call) → length vs ≡ n
-    → go w (Going (at (entered n s) vs cs)) (wat.end ∷ []) ≡ Done (record s { stack = vs; labels = []; calls = cs; skipped = 0 })
+    → go w (Going (at (entered n s) vs cs)) (wat.end ∷ []) ≡ Ended (Done (record s { stack = vs; labels = []; calls = cs; skipped = 0 }))
 unfolding step instruction
 finish w s n vs cs many =
-    subst (λ (k : ℕ). ended (record { results = k; below = [] } ∷ []) (at (entered k s) vs cs) ≡ Done (record s { stack = vs; labels = []; calls = cs; skipped = 0 })) many
+    subst (λ (k : ℕ). at_end (record { results = k; below = [] } ∷ []) (at (entered k s) vs cs) ≡ Ended (Done (record s { stack = vs; labels = []; calls = cs; skipped = 0 }))) many
     (rw (eq-eqb (length vs) (length vs) refl, append-nil vs) refl)
 
 pub sequence_runs : (w : World) (s : State) (calls : List (ℕ × ℕ)) → AnswerByType w → AllByRecursion (HasResults w) calls
-    → go w (Going (entered 0 s)) (call_sequence_ops calls) ≡ Done (returned s [] (map (λ p. plain_call p.0) calls))
+    → go w (Going (entered 0 s)) (call_sequence_ops calls) ≡ Ended (Done (returned s [] (map (λ p. plain_call p.0) calls)))
 sequence_runs w s calls fits a =
     let made = map (λ (p : ℕ × ℕ). plain_call p.0) calls in
     then_go w (Going (entered 0 s)) (Going (at (entered 0 s) [] (s.calls ++ made))) _ (flat_map call_ops calls) (wat.end ∷ [])
@@ -115,7 +115,7 @@ parameters w s front (v ∷ back) st cs e =
 pub wrapper_runs : (w : World) (s : State) (ctors original : ℕ) (t : FunctionType) → AnswerByType w → HasResults w (ctors, 0) → w.type_of original ≡ Some t
     → have_types s.locals t.params ≡ true
     → go w (Going (entered (length t.results) s)) (wrapper_ops ctors original (length t.params))
-    ≡ Done (returned s (w.answer (s.calls ++ wrapped_calls ctors original s)) (wrapped_calls ctors original s))
+    ≡ Ended (Done (returned s (w.answer (s.calls ++ wrapped_calls ctors original s)) (wrapped_calls ctors original s)))
 wrapper_runs w s ctors original type fits first is fit =
     let n = length type.results in
     let t = entered n s in
@@ -130,11 +130,11 @@ wrapper_runs w s ctors original type fits first is fit =
     let a = one_plain w t ctors 0 [] s.calls fits first in
     let b = rw (append-nil (reverse s.locals)) at (parameters w t [] s.locals [] one refl) in
     let c = rw (append-nil (reverse s.locals), append-nil results) at (one_call w t original type s.locals [] one is fit answer) in
-    let whole : go w (Going t) (wrapper_ops ctors original (length s.locals)) ≡ Done (record s { stack = results; labels = []; calls = two; skipped = 0 }) =
+    let whole : go w (Going t) (wrapper_ops ctors original (length s.locals)) ≡ Ended (Done (record s { stack = results; labels = []; calls = two; skipped = 0 })) =
     then_go w (Going t) (Going (at t results two)) _ ((wat.call ctors ∷ []) ++ locals_from 0 (length s.locals) ++ wat.call original ∷ []) (wat.end ∷ [])
     (then_go w (Going t) (Going (at t (reverse s.locals) one)) (Going (at t results two)) ((wat.call ctors ∷ []) ++ locals_from 0 (length s.locals)) (wat.call original ∷ [])
     (then_go w (Going t) (Going (at t [] one)) (Going (at t (reverse s.locals) one)) (wat.call ctors ∷ []) (locals_from 0 (length s.locals)) a b)
     c)
     (finish w s n results two many) in
-    subst (λ (k : ℕ). go w (Going t) (wrapper_ops ctors original k) ≡ Done (returned s (w.answer (s.calls ++ wrapped_calls ctors original s)) (wrapped_calls ctors original s))) given
-    (whole ∙ ap (λ (cs : List Call). Done (record s { stack = reverse (w.answer cs); labels = []; calls = cs; skipped = 0 })) same)
+    subst (λ (k : ℕ). go w (Going t) (wrapper_ops ctors original k) ≡ Ended (Done (returned s (w.answer (s.calls ++ wrapped_calls ctors original s)) (wrapped_calls ctors original s)))) given
+    (whole ∙ ap (λ (cs : List Call). Ended (Done (record s { stack = reverse (w.answer cs); labels = []; calls = cs; skipped = 0 }))) same)

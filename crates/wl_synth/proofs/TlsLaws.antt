@@ -11,7 +11,7 @@ use Rattle.wl_synth.specs.declared.parts.TlsPointerFixup.{TlsPointerFixup}
 use Rattle.wl_synth.specs.declared.parts.TlsGotFixup.{TlsGotFixup}
 use Rattle.wl_synth.specs.Wat as wat
 use Rattle.wl_synth.specs.Bodies.{const, place_ops, clear_ops, template_ops, pointer_ops, got_ops, ThreadBlock, init_tls_ops}
-use Rattle.wl_synth.specs.Machine.{Value, I32, wrapped, World, State, Going, Done, overlay, i32_bytes, push_found, set_global, instruction, step, go, entered}
+use Rattle.wl_synth.specs.Machine.{Value, I32, wrapped, World, State, Going, Ended, Done, overlay, i32_bytes, push_found, set_global, instruction, step, go, entered}
 use Rattle.wl_synth.specs.Memory.{segment_bytes, FitsSegment, overlaid}
 use Rattle.wl_synth.specs.ThreadLocal.{moved_by, IsWordGlobal, CanInitTls}
 use Rattle.wl_synth.proofs.RunLaws.{then_go}
@@ -249,13 +249,13 @@ abbrev pub block_of : State → ℕ → ThreadBlock → List ℕ
 block_of s base b = pointed base b.pointers (overlaid s.segments b.templates (replicate b.size 0))
 
 pub tls_runs : (w : World) (s : State) (base : ℕ) (b : ThreadBlock) → CanInitTls w s base b → b.size < 2 ^ 32
-    → go w (Going (entered 0 s)) (init_tls_ops b) ≡ Done (record s {
+    → go w (Going (entered 0 s)) (init_tls_ops b) ≡ Ended (Done (record s {
       stack = [];
       labels = [];
       skipped = 0;
       memory = overlay base (block_of s base b) s.memory;
       globals = with_got base b.got (slice_set s.globals b.base_global (I32 base));
-    })
+    }))
 unfolding step instruction
 tls_runs w s base b r short =
     let t = entered 0 s in

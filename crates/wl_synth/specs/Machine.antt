@@ -80,7 +80,7 @@ pub record Call : Type 0 where
   pub arguments : List Value
 
 -- A function that runs. On the stack, the topmost first, are the values of the innermost open block alone. Where `skipped`
--- isn't 0, operators are passed over up to the end that makes it 0.
+-- isn't 0, operators are passed over up to so many ends, and one more for each block that opens on the way.
 pub record State : Type 0 where
   pub stack : List Value
   pub locals : List Value
@@ -100,13 +100,17 @@ pub record World : Type 0 where
   pub answer : List Call → List Value
   pub waiting : ℕ → ℕ
 
--- a function goes on, or it has ended; `Stuck` is no outcome
+-- how a function ends: at its end, by a trap, or waiting for another thread
 pub data Outcome : Type 0 where
-  Going : State → Outcome
   Done : State → Outcome
   Trap : State → Outcome
   Waits : State → Outcome
-  Stuck : Outcome
+
+-- a function goes on, it has ended, or there is no outcome
+pub data Progress : Type 0 where
+  Going : State → Progress
+  Ended : Outcome → Progress
+  Stuck : Progress
 
 -- ---- the operators that the machine knows
 
@@ -211,65 +215,65 @@ abbrev pub with_stack : List Value → State → State
 with_stack stack s = record s { stack = stack }
 
 -- one more value
-abbrev pub pushed : Value → State → Outcome
+abbrev pub pushed : Value → State → Progress
 pushed v s = Going (with_stack (v ∷ s.stack) s)
 
 -- the value that was looked up, if there is one
-abbrev pub push_found : Option Value → State → Outcome
+abbrev pub push_found : Option Value → State → Progress
 push_found None s = Stuck
 push_found (Some v) s = pushed v s
 
 -- takes the topmost value
-abbrev pub take_from : List Value → (Value → State → Outcome) → State → Outcome
+abbrev pub take_from : List Value → (Value → State → Progress) → State → Progress
 take_from [] f s = Stuck
 take_from (v ∷ rest) f s = f v (with_stack rest s)
 
-abbrev pub take_value : (Value → State → Outcome) → State → Outcome
+abbrev pub take_value : (Value → State → Progress) → State → Progress
 take_value f s = take_from s.stack f s
 
 -- goes on with a number of 32 bits, of 64 bits
-abbrev pub if_word : (ℕ → State → Outcome) → Value → State → Outcome
+abbrev pub if_word : (ℕ → State → Progress) → Value → State → Progress
 if_word f (I32 n) s = f n s
 if_word f (I64 n) s = Stuck
 
-abbrev pub if_long : (ℕ → State → Outcome) → Value → State → Outcome
+abbrev pub if_long : (ℕ → State → Progress) → Value → State → Progress
 if_long f (I32 n) s = Stuck
 if_long f (I64 n) s = f n s
 
 -- takes one, two or three numbers of 32 bits, the topmost last
-abbrev pub take_word : (ℕ → State → Outcome) → State → Outcome
+abbrev pub take_word : (ℕ → State → Progress) → State → Progress
 take_word f s = take_value (if_word f) s
 
-abbrev pub take_two : (ℕ → ℕ → State → Outcome) → State → Outcome
+abbrev pub take_two : (ℕ → ℕ → State → Progress) → State → Progress
 take_two f s = take_word (λ b. take_word (λ a. f a b)) s
 
-abbrev pub take_three : (ℕ → ℕ → ℕ → State → Outcome) → State → Outcome
+abbrev pub take_three : (ℕ → ℕ → ℕ → State → Progress) → State → Progress
 take_three f s = take_word (λ c. take_two (λ a b. f a b c)) s
 
 -- ---- blocks
 
 -- what was left is a block, or the function
-abbrev pub left_block : List Label → State → Outcome
-left_block [] s = Done (record s { labels = [] })
+abbrev pub left_block : List Label → State → Progress
+left_block [] s = Ended (Done (record s { labels = [] }))
 left_block (l ∷ ls) s = Going (record s { labels = l ∷ ls })
 
 -- the innermost block ends, with as many values as it has to leave, which stay above those below it
-abbrev pub ended : List Label → State → Outcome
-ended [] s = Stuck
-ended (l ∷ ls) s = if length s.stack == l.results then left_block ls (with_stack (s.stack ++ l.below) s) else Stuck
+abbrev pub at_end : List Label → State → Progress
+at_end [] s = Stuck
+at_end (l ∷ ls) s = if length s.stack == l.results then left_block ls (with_stack (s.stack ++ l.below) s) else Stuck
 
 -- the target keeps the topmost values that it has to leave, and operators are passed over up to its end
-abbrev pub leave_to : List Label → ℕ → State → Outcome
+abbrev pub leave_to : List Label → ℕ → State → Progress
 leave_to [] n s = Stuck
 leave_to (l ∷ ls) n s =
     if nat_le l.results (length s.stack) then Going (record s { stack = take l.results s.stack; labels = l ∷ ls; skipped = suc n }) else Stuck
 
 -- to the n-th label, from the innermost on
-abbrev pub branch : ℕ → State → Outcome
+abbrev pub branch : ℕ → State → Progress
 branch n s = leave_to (drop n s.labels) n s
 
 -- to the i-th of some labels, or to the last one
-abbrev pub branch_among : List ℤ → ℕ → State → Outcome
+abbrev pub branch_among : List ℤ → ℕ → State → Progress
 branch_among [] i s = Stuck
 branch_among (negsuc n ∷ zs) i s = Stuck
 branch_among (pos n ∷ []) i s = branch n s
@@ -277,19 +281,19 @@ branch_among (pos n ∷ z ∷ zs) zero s = branch n s
 branch_among (pos n ∷ z ∷ zs) (suc i) s = branch_among (z ∷ zs) i s
 
 -- the labels stand behind their count
-abbrev pub branch_by : List ℤ → ℕ → State → Outcome
+abbrev pub branch_by : List ℤ → ℕ → State → Progress
 branch_by [] i s = Stuck
 branch_by (count ∷ zs) i s = branch_among zs i s
 
 -- ---- effects
 
 -- where the test fails, a trap
-abbrev pub unless_trap : Bool → State → Outcome → Outcome
+abbrev pub unless_trap : Bool → State → Progress → Progress
 unless_trap true s next = next
-unless_trap false s next = Trap s
+unless_trap false s next = Ended (Trap s)
 
 -- a call takes its arguments and is noted, and its results are left
-abbrev pub called : World → ℕ → Option FunctionType → State → Outcome
+abbrev pub called : World → ℕ → Option FunctionType → State → Progress
 called w f None s = Stuck
 called w f (Some t) s =
     let arguments = reverse (take (length t.params) s.stack) in
@@ -300,28 +304,28 @@ called w f (Some t) s =
     else Stuck
 
 -- a global that may be set takes a value of its width
-abbrev pub set_global : Bool → Option Value → ℕ → Value → State → Outcome
+abbrev pub set_global : Bool → Option Value → ℕ → Value → State → Progress
 set_global false old i v s = Stuck
 set_global true None i v s = Stuck
 set_global true (Some old) i v s = if same_width v old then Going (record s { globals = slice_set s.globals i v }) else Stuck
 
 -- bytes are written, unless they reach out of memory
-abbrev pub written : ℕ → List ℕ → State → Outcome
+abbrev pub written : ℕ → List ℕ → State → Progress
 written at bytes s = unless_trap (nat_le (at + length bytes) (length s.memory)) s (Going (record s { memory = overlay at bytes s.memory }))
 
 -- n bytes of a segment are copied
-abbrev pub copied : ℕ → ℕ → ℕ → Option (Option (List ℕ)) → State → Outcome
+abbrev pub copied : ℕ → ℕ → ℕ → Option (Option (List ℕ)) → State → Progress
 copied to from n None s = Stuck
 copied to from n (Some segment) s =
     unless_trap (nat_le (from + n) (length (left_bytes segment)) && nat_le (to + n) (length s.memory)) s
     (Going (record s { memory = overlay to (stretch from n (left_bytes segment)) s.memory }))
 
-abbrev pub dropped : ℕ → Option (Option (List ℕ)) → State → Outcome
+abbrev pub dropped : ℕ → Option (Option (List ℕ)) → State → Progress
 dropped k None s = Stuck
 dropped k (Some segment) s = Going (record s { segments = slice_set s.segments k None })
 
 -- n bytes are filled with the lowest byte of a number
-abbrev pub filled_with : ℕ → ℕ → ℕ → State → Outcome
+abbrev pub filled_with : ℕ → ℕ → ℕ → State → Progress
 filled_with n to v s =
     unless_trap (nat_le (to + n) (length s.memory)) s (Going (record s { memory = overlay to (replicate n (v % 256)) s.memory }))
 
@@ -330,7 +334,7 @@ abbrev pub is_word : ℕ → List ℕ → Bool
 is_word at memory = (at % 4 == 0) && nat_le (at + 4) (length memory)
 
 -- what is done at such a place, and else a trap
-abbrev pub at_word : ℕ → (State → Outcome) → State → Outcome
+abbrev pub at_word : ℕ → (State → Progress) → State → Progress
 at_word at f s = unless_trap (is_word at s.memory) s (f s)
 
 -- at most n of those who wait are woken; none waits where memory isn't shared
@@ -338,12 +342,12 @@ abbrev pub woken : World → ℕ → ℕ → ℕ
 woken w at n = if w.is_shared then min (w.waiting at) n else 0
 
 -- waits where the expected number stands, and else leaves 1; a trap where memory isn't shared
-abbrev pub waits_at : World → ℕ → ℕ → State → Outcome
+abbrev pub waits_at : World → ℕ → ℕ → State → Progress
 waits_at w at expected s =
-    unless_trap w.is_shared s (if i32_at at s.memory == expected then Waits s else pushed (I32 1) s)
+    unless_trap w.is_shared s (if i32_at at s.memory == expected then Ended (Waits s) else pushed (I32 1) s)
 
 -- where the old number stands the new one is written, and what stood there is left
-abbrev pub exchanged : ℕ → ℕ → ℕ → State → Outcome
+abbrev pub exchanged : ℕ → ℕ → ℕ → State → Progress
 exchanged at old new s =
     let found = i32_at at s.memory in
     Going (record s { stack = I32 found ∷ s.stack; memory = if found == old then overlay at (i32_bytes new) s.memory else s.memory })
@@ -351,10 +355,10 @@ exchanged at old new s =
 -- ---- steps
 
 -- an operator that isn't passed over
-abbrev pub exec : World → Instruction → State → Outcome
-exec w Unreachable s = Trap s
+abbrev pub exec : World → Instruction → State → Progress
+exec w Unreachable s = Ended (Trap s)
 exec w (OpenBlock results) s = Going (record s { stack = []; labels = record { results = results; below = s.stack } ∷ s.labels })
-exec w EndBlock s = ended s.labels s
+exec w EndBlock s = at_end s.labels s
 exec w (Branch n) s = branch n s
 exec w (BranchBy zs) s = take_word (branch_by zs) s
 exec w (CallFunction f) s = called w f (w.type_of f) s
@@ -376,37 +380,37 @@ exec w (Exchange offset) s = take_three (λ a old new. at_word (a + offset) (exc
 exec w Unknown s = Stuck
 
 -- the end that was looked for
-abbrev pub pass_end : ℕ → State → Outcome
-pass_end zero s = ended s.labels (record s { skipped = 0 })
+abbrev pub pass_end : ℕ → State → Progress
+pass_end zero s = at_end s.labels (record s { skipped = 0 })
 pass_end (suc n) s = Going (record s { skipped = suc n })
 
 -- an operator that is passed over, with n ends to come beside the one that is looked for
-abbrev pub pass : Instruction → ℕ → State → Outcome
+abbrev pub pass : Instruction → ℕ → State → Progress
 pass (OpenBlock results) n s = Going (record s { skipped = suc (suc n) })
 pass EndBlock n s = pass_end n s
 pass Unknown n s = Stuck
 pass i n s = Going (record s { skipped = suc n })
 
-abbrev pub exec_or_pass : World → Instruction → ℕ → State → Outcome
+abbrev pub exec_or_pass : World → Instruction → ℕ → State → Progress
 exec_or_pass w i zero s = exec w i s
 exec_or_pass w i (suc n) s = pass i n s
 
 -- one operator
-unfoldable pub step : World → Op → State → Outcome
+unfoldable pub step : World → Op → State → Progress
 step w op s = exec_or_pass w (instruction op) s.skipped s
 
 -- ---- runs
 
 -- one more operator; behind the function's end none may stand
-abbrev pub stepped : World → Op → Outcome → Outcome
+abbrev pub stepped : World → Op → Progress → Progress
 stepped w op (Going s) = step w op s
-stepped w op (Done s) = Stuck
-stepped w op (Trap s) = Trap s
-stepped w op (Waits s) = Waits s
+stepped w op (Ended (Done s)) = Stuck
+stepped w op (Ended (Trap s)) = Ended (Trap s)
+stepped w op (Ended (Waits s)) = Ended (Waits s)
 stepped w op Stuck = Stuck
 
 -- a step for each operator
-abbrev pub go : World → Outcome → List Op → Outcome
+abbrev pub go : World → Progress → List Op → Progress
 go w o [] = o
 go w o (op ∷ ops) = go w (stepped w op o) ops
 
@@ -416,4 +420,4 @@ entered results s = record s { stack = []; labels = record { results = results; 
 
 -- a body of a function with so many results, by its operators, has this outcome
 abbrev pub Runs : World → ℕ → List ℕ → State → Outcome → Type 0
-Runs w results body s o = (ops : List Op) × AreOps ops body × (go w (Going (entered results s)) ops ≡ o)
+Runs w results body s o = (ops : List Op) × AreOps ops body × (go w (Going (entered results s)) ops ≡ Ended o)
