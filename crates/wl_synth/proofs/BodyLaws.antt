@@ -64,7 +64,7 @@ wrapper_in_range call_ctors original n =
     range_append (first ++ locals_from 0 n ++ second) (wat.end ∷ [])
     (range_append (first ++ locals_from 0 n) second (range_append first (locals_from 0 n) (refl, tt) (locals_in_range 0 n)) (refl, tt)) (refl, tt)
 
-none_too_great : (ops : List Op) (e : SynthError) → AreInRange ops → EncodeFault ops e → e ≡ OutOfMemory
+pub none_too_great : (ops : List Op) (e : SynthError) → AreInRange ops → EncodeFault ops e → e ≡ OutOfMemory
 none_too_great ops OutOfMemory a f = refl
 none_too_great ops (Range v) a f =
     let none = All-contains (λ (op : Op). great_constant op ≡ None) ops f.0 (All-from_recursion (λ (op : Op). great_constant op ≡ None) ops a) f.1 in

@@ -2,6 +2,7 @@ pub mod SpellLaws
 pub mod OpLaws
 pub mod BodyLaws
 pub mod BoundLaws
+pub mod OneLaws
 pub mod RunLaws
 pub mod FactLaws
 pub mod MemoryLaws

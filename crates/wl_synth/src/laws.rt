@@ -1,11 +1,13 @@
-//! What callers may count on: functions with an empty body, each of which states a law of what
-//! bodies do when the machine runs them.
+//! What callers may count on: functions that do nothing, each of which states a law of made bodies,
+//! or of what bodies do when the machine runs them.
 
 ghost use Rattle.std.specs.Prelude.{◌≡◌, ℕ, true, List, [], Some, length};
 ghost use Rattle.std.specs.List.{AllByRecursion};
 ghost use Rattle.wl_module.specs.Types.{FunctionType};
 ghost use Rattle.wl_synth.specs.declared.parts.PassiveSegmentCopy.{PassiveSegmentCopy};
-ghost use Rattle.wl_synth.specs.Encoding.{IsEncoded};
+ghost use Rattle.wl_synth.specs.Encoding.{IsEncoded, EncodeFault};
+ghost use Rattle.wl_synth.specs.declared.error.SynthError.TheVariants.{Range};
+ghost use Rattle.wl_ops.specs.declared.op.Op.{Op};
 ghost use Rattle.wl_synth.specs.Bodies.{call_sequence_ops, wrapper_ops, init_memory_ops, ThreadBlock, init_tls_ops};
 ghost use Rattle.wl_synth.specs.Machine.{World, State, Outcome, Done, have_types, Runs};
 ghost use Rattle.wl_synth.specs.Calls.{AnswerByType, HasResults, MakesCalls, wrapped_calls, Wraps, TrapsAtOnce, DoesNothing};
@@ -14,7 +16,18 @@ ghost use Rattle.wl_synth.specs.ThreadLocal.{CanInitTls, IsInitialized};
 ghost use Rattle.wl_synth.specs.Facts.{RunsOthers};
 
 use crate::calls::{EMPTY_FUNCTION_BODY, UNREACHABLE_FUNCTION_BODY};
+use wl_bytes::shortest_form_is_one;
 use wl_ops::{computed_operators_are_spelled, operators_are_one};
+
+/// Operators have one body at most, and never both a body and a constant that is refused.
+pub fn body_or_fault()
+    ensures one { (ops : List Op) (body other : List ℕ)
+        → IsEncoded ops body → IsEncoded ops other → body ≡ other }
+    ensures either { (ops : List Op) (body : List ℕ) (number : ℕ)
+        → IsEncoded ops body → EncodeFault ops (Range number) → ⊥ }
+{
+    shortest_form_is_one();
+}
 
 /// A run of a body has one outcome at most.
 pub fn runs_have_one_outcome()
