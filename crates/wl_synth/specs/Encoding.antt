@@ -26,7 +26,8 @@ AreInRange ops = AllByRecursion (λ op. great_constant op ≡ None) ops
 
 -- ---- answers
 
--- A body spells the operators in their shortest form, their constants are in range, and it decodes to them.
+-- A body spells the operators in their shortest form, their constants are in range, and it decodes
+-- to them.
 pub record IsEncoded (ops : List Op) (body : List ℕ) : Type 0 where
   pub spelled : IsSpelledBody ops body
   pub in_range : AreInRange ops

@@ -1,4 +1,5 @@
--- A machine that runs bodies without loops by their operators (core specification, "Execution"; behind 0xfe the threads proposal).
+-- A machine that runs bodies without loops by their operators (core specification, "Execution"; for
+-- those behind 0xfe the threads proposal).
 use Rattle.std.specs.Prelude.{◌≡◌, ℕ, ℤ, pos, negsuc, zero, suc, ◌+◌, ◌-◌, ◌*◌, ◌/◌, ◌%◌, ◌==◌, nat_le, min, Bool, true, false, ◌&&◌, if◌then◌else◌, List, [], ◌∷◌, ◌++◌, length, take, drop, reverse, replicate, slice_get, slice_set, Option, Some, None}
 use Rattle.wl_module.specs.declared.types.ValType.{ValType}
 use Rattle.wl_module.specs.declared.types.ValType.TheVariants.{I32 as I32Type, I64 as I64Type}
@@ -79,8 +80,9 @@ pub record Call : Type 0 where
   pub function : ℕ
   pub arguments : List Value
 
--- A function that runs. On the stack, the topmost first, are the values of the innermost open block alone. Where `skipped`
--- isn't 0, operators are passed over up to so many ends, and one more for each block that opens on the way.
+-- A function that runs, with its parameters and other locals. On the stack, the topmost first, are
+-- the values of the innermost open block alone. Where `skipped` isn't 0, operators are passed over
+-- up to so many ends, and one more for each block that opens on the way.
 pub record State : Type 0 where
   pub stack : List Value
   pub locals : List Value
@@ -91,8 +93,8 @@ pub record State : Type 0 where
   pub calls : List Call
   pub skipped : ℕ
 
--- The module round a function: the types of functions, which globals may be set, whether memory is shared, what calls
--- answer by all that were made, and how many threads wait at a place in memory.
+-- The module round a function: the types of functions, which globals may be set, whether memory is
+-- shared, what calls answer by all that were made, and how many threads wait at a place in memory.
 pub record World : Type 0 where
   pub type_of : ℕ → Option FunctionType
   pub is_mutable : ℕ → Bool
@@ -260,13 +262,17 @@ left_block (l ∷ ls) s = Going (record s { labels = l ∷ ls })
 -- the innermost block ends, with as many values as it has to leave, which stay above those below it
 abbrev pub at_end : List Label → State → Progress
 at_end [] s = Stuck
-at_end (l ∷ ls) s = if length s.stack == l.results then left_block ls (with_stack (s.stack ++ l.below) s) else Stuck
+at_end (l ∷ ls) s =
+    if length s.stack == l.results then left_block ls (with_stack (s.stack ++ l.below) s) else Stuck
 
--- the target keeps the topmost values that it has to leave, and operators are passed over up to its end
+-- the target keeps the topmost values that it has to leave, and operators are passed over up to its
+-- end
 abbrev pub leave_to : List Label → ℕ → State → Progress
 leave_to [] n s = Stuck
 leave_to (l ∷ ls) n s =
-    if nat_le l.results (length s.stack) then Going (record s { stack = take l.results s.stack; labels = l ∷ ls; skipped = suc n }) else Stuck
+    if nat_le l.results (length s.stack)
+    then Going (record s { stack = take l.results s.stack; labels = l ∷ ls; skipped = suc n })
+    else Stuck
 
 -- to the n-th label, from the innermost on
 abbrev pub branch : ℕ → State → Progress
@@ -300,24 +306,31 @@ called w f (Some t) s =
     let calls = s.calls ++ record { function = f; arguments = arguments } ∷ [] in
     let results = w.answer calls in
     if have_types arguments t.params && have_types results t.results
-    then Going (record s { stack = reverse results ++ drop (length t.params) s.stack; calls = calls })
+    then Going (record s {
+      stack = reverse results ++ drop (length t.params) s.stack;
+      calls = calls;
+    })
     else Stuck
 
 -- a global that may be set takes a value of its width
 abbrev pub set_global : Bool → Option Value → ℕ → Value → State → Progress
 set_global false old i v s = Stuck
 set_global true None i v s = Stuck
-set_global true (Some old) i v s = if same_width v old then Going (record s { globals = slice_set s.globals i v }) else Stuck
+set_global true (Some old) i v s =
+    if same_width v old then Going (record s { globals = slice_set s.globals i v }) else Stuck
 
 -- bytes are written, unless they reach out of memory
 abbrev pub written : ℕ → List ℕ → State → Progress
-written at bytes s = unless_trap (nat_le (at + length bytes) (length s.memory)) s (Going (record s { memory = overlay at bytes s.memory }))
+written at bytes s =
+    unless_trap (nat_le (at + length bytes) (length s.memory)) s
+    (Going (record s { memory = overlay at bytes s.memory }))
 
 -- n bytes of a segment are copied
 abbrev pub copied : ℕ → ℕ → ℕ → Option (Option (List ℕ)) → State → Progress
 copied to from n None s = Stuck
 copied to from n (Some segment) s =
-    unless_trap (nat_le (from + n) (length (left_bytes segment)) && nat_le (to + n) (length s.memory)) s
+    unless_trap
+    (nat_le (from + n) (length (left_bytes segment)) && nat_le (to + n) (length s.memory)) s
     (Going (record s { memory = overlay to (stretch from n (left_bytes segment)) s.memory }))
 
 abbrev pub dropped : ℕ → Option (Option (List ℕ)) → State → Progress
@@ -327,7 +340,8 @@ dropped k (Some segment) s = Going (record s { segments = slice_set s.segments k
 -- n bytes are filled with the lowest byte of a number
 abbrev pub filled_with : ℕ → ℕ → ℕ → State → Progress
 filled_with n to v s =
-    unless_trap (nat_le (to + n) (length s.memory)) s (Going (record s { memory = overlay to (replicate n (v % 256)) s.memory }))
+    unless_trap (nat_le (to + n) (length s.memory)) s
+    (Going (record s { memory = overlay to (replicate n (v % 256)) s.memory }))
 
 -- four bytes at a multiple of 4 that lie in memory
 abbrev pub is_word : ℕ → List ℕ → Bool
@@ -341,23 +355,33 @@ at_word at f s = unless_trap (is_word at s.memory) s (f s)
 abbrev pub woken : World → ℕ → ℕ → ℕ
 woken w at n = if w.is_shared then min (w.waiting at) n else 0
 
--- waits where the expected number stands, and else leaves 1; a trap where memory isn't shared
+-- waits, whatever the timeout, where the expected number stands, and else leaves 1; a trap where
+-- memory isn't shared
 abbrev pub waits_at : World → ℕ → ℕ → State → Progress
 waits_at w at expected s =
-    unless_trap w.is_shared s (if i32_at at s.memory == expected then Ended (Waits s) else pushed (I32 1) s)
+    unless_trap w.is_shared s
+    (if i32_at at s.memory == expected then Ended (Waits s) else pushed (I32 1) s)
 
 -- where the old number stands the new one is written, and what stood there is left
 abbrev pub exchanged : ℕ → ℕ → ℕ → State → Progress
 exchanged at old new s =
     let found = i32_at at s.memory in
-    Going (record s { stack = I32 found ∷ s.stack; memory = if found == old then overlay at (i32_bytes new) s.memory else s.memory })
+    Going (record s {
+      stack = I32 found ∷ s.stack;
+      memory = if found == old then overlay at (i32_bytes new) s.memory else s.memory;
+    })
 
 -- ---- steps
+
+-- a block opens, which has no values yet
+abbrev pub opened : ℕ → State → State
+opened results s =
+    record s { stack = []; labels = record { results = results; below = s.stack } ∷ s.labels }
 
 -- an operator that isn't passed over
 abbrev pub exec : World → Instruction → State → Progress
 exec w Unreachable s = Ended (Trap s)
-exec w (OpenBlock results) s = Going (record s { stack = []; labels = record { results = results; below = s.stack } ∷ s.labels })
+exec w (OpenBlock results) s = Going (opened results s)
 exec w EndBlock s = at_end s.labels s
 exec w (Branch n) s = branch n s
 exec w (BranchBy zs) s = take_word (branch_by zs) s
@@ -373,10 +397,15 @@ exec w AddWords s = take_two (λ a b. pushed (I32 (i32_sum a b))) s
 exec w (CopySegment k) s = take_three (λ to from n. copied to from n (slice_get s.segments k)) s
 exec w (DropSegment k) s = dropped k (slice_get s.segments k) s
 exec w FillMemory s = take_three (λ to v n. filled_with n to v) s
-exec w (Notify offset) s = take_two (λ a n. at_word (a + offset) (pushed (I32 (woken w (a + offset) n)))) s
-exec w (Wait offset) s = take_value (if_long (λ timeout. take_two (λ a e. at_word (a + offset) (waits_at w (a + offset) e)))) s
-exec w (PutWordAtomic offset) s = take_two (λ a v. at_word (a + offset) (written (a + offset) (i32_bytes v))) s
-exec w (Exchange offset) s = take_three (λ a old new. at_word (a + offset) (exchanged (a + offset) old new)) s
+exec w (Notify offset) s =
+    take_two (λ a n. at_word (a + offset) (pushed (I32 (woken w (a + offset) n)))) s
+exec w (Wait offset) s =
+    take_value (if_long (λ timeout. take_two (λ a e.
+    at_word (a + offset) (waits_at w (a + offset) e)))) s
+exec w (PutWordAtomic offset) s =
+    take_two (λ a v. at_word (a + offset) (written (a + offset) (i32_bytes v))) s
+exec w (Exchange offset) s =
+    take_three (λ a old new. at_word (a + offset) (exchanged (a + offset) old new)) s
 exec w Unknown s = Stuck
 
 -- the end that was looked for
@@ -416,8 +445,10 @@ go w o (op ∷ ops) = go w (stepped w op o) ops
 
 -- a function with so many results is entered
 abbrev pub entered : ℕ → State → State
-entered results s = record s { stack = []; labels = record { results = results; below = [] } ∷ []; skipped = 0 }
+entered results s =
+    record s { stack = []; labels = record { results = results; below = [] } ∷ []; skipped = 0 }
 
 -- a body of a function with so many results, by its operators, has this outcome
 abbrev pub Runs : World → ℕ → List ℕ → State → Outcome → Type 0
-Runs w results body s o = (ops : List Op) × AreOps ops body × (go w (Going (entered results s)) ops ≡ Ended o)
+Runs w results body s o =
+    (ops : List Op) × AreOps ops body × (go w (Going (entered results s)) ops ≡ Ended o)

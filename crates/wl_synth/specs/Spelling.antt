@@ -10,9 +10,14 @@ use Rattle.wl_synth.specs.Wat as wat
 
 -- ---- immediates
 
--- how many bits a signed immediate has beside its sign: a constant, and the type of a block; none where immediates are unsigned
+-- how many bits a signed immediate has beside its sign: a constant, and the type of a block; none
+-- where immediates are unsigned
 abbrev pub signed_bits : ℕ → Option ℕ
-signed_bits code = if code == 0x41 then Some 31 else if code == 0x42 then Some 63 else if code == 0x02 then Some 32 else None
+signed_bits code =
+    if code == 0x41 then Some 31
+    else if code == 0x42 then Some 63
+    else if code == 0x02 then Some 32
+    else None
 
 -- the shortest spelling of an immediate of so many bits beside its sign, or of an unsigned one
 abbrev pub IsShortImmediate : Option ℕ → ℤ → List ℕ → Type 0
@@ -24,13 +29,15 @@ IsShortImmediate (Some bits) z text = IsWithin bits z × IsShortestSleb z text
 abbrev pub AreShortImmediates : Option ℕ → List ℤ → List ℕ → Type 0
 AreShortImmediates bits [] text = text ≡ []
 AreShortImmediates bits (z ∷ zs) text =
-    (front : List ℕ) × (back : List ℕ) × (text ≡ front ++ back) × IsShortImmediate bits z front × AreShortImmediates bits zs back
+    (front : List ℕ) × (back : List ℕ) × (text ≡ front ++ back)
+    × IsShortImmediate bits z front × AreShortImmediates bits zs back
 
 -- ---- operators
 
 -- a byte, and immediates behind it
 abbrev pub StandBehind : ℕ → Option ℕ → List ℤ → List ℕ → Type 0
-StandBehind code bits zs text = (back : List ℕ) × (text ≡ code ∷ back) × AreShortImmediates bits zs back
+StandBehind code bits zs text =
+    (back : List ℕ) × (text ≡ code ∷ back) × AreShortImmediates bits zs back
 
 -- the numbers behind the first byte: for some a number that tells the operator, and the immediates
 abbrev pub values_of : Op → List ℤ
@@ -43,7 +50,9 @@ IsSpelled op text = StandBehind op.code (signed_bits op.code) (values_of op) tex
 -- operators one behind the other
 abbrev pub AreSpelled : List Op → List ℕ → Type 0
 AreSpelled [] text = text ≡ []
-AreSpelled (op ∷ ops) text = (front : List ℕ) × (back : List ℕ) × (text ≡ front ++ back) × IsSpelled op front × AreSpelled ops back
+AreSpelled (op ∷ ops) text =
+    (front : List ℕ) × (back : List ℕ) × (text ≡ front ++ back)
+    × IsSpelled op front × AreSpelled ops back
 
 -- a body: no local declarations, and the operators
 abbrev pub IsSpelledBody : List Op → List ℕ → Type 0

@@ -30,9 +30,10 @@ IsWordGlobal w globals k = (n : ℕ) × (slice_get globals k ≡ Some (I32 n)) �
 
 -- ---- the run
 
--- The base, a number of 32 bits, is the parameter. The block at it lies in memory, which has at most 65536 pages, and the
--- copies and the pointers lie in the block; each copy is as long as its segment, and no two pointers share a byte. The
--- globals can hold addresses, and none is named twice.
+-- The base, a number of 32 bits, is the parameter. The block at it lies in memory, which has at
+-- most 65536 pages, and the copies and the pointers lie in the block. Each copy is as long as its
+-- segment, and no two pointers share a byte. The globals can hold addresses, and none is named
+-- twice.
 pub record CanInitTls (w : World) (s : State) (base : ℕ) (b : ThreadBlock) : Type 0 where
   pub is_word : base < 2 ^ 32
   pub pages : length s.memory ≤ 65536 * 65536
@@ -42,23 +43,35 @@ pub record CanInitTls (w : World) (s : State) (base : ℕ) (b : ThreadBlock) : T
   pub pointers : AllByRecursion (λ f. f.dest + 4 ≤ b.size) b.pointers
   pub apart : AreWordsApart b.pointers
   pub base_global : IsWordGlobal w s.globals b.base_global
-  pub got : AllByRecursion (λ f. IsWordGlobal w s.globals f.global × (f.global ≢ b.base_global)) b.got
+  pub got : AllByRecursion (λ f. IsWordGlobal w s.globals f.global × (f.global ≢ b.base_global))
+      b.got
   pub distinct : NameDistinct b.got
 
--- The block holds zeros, over them the templates, and over these the pointers, each the base and its offset.
-pub record IsBlock (segments : List (Option (List ℕ))) (base : ℕ) (b : ThreadBlock) (block : List ℕ) : Type 0 where
+-- The block holds zeros, over them the templates, and over these the pointers, each the base and
+-- its offset.
+pub record IsBlock (segments : List (Option (List ℕ))) (base : ℕ) (b : ThreadBlock)
+    (block : List ℕ) : Type 0 where
   pub same_length : length block ≡ b.size
   pub pointers : AllByRecursion (λ f. i32_at f.dest block ≡ moved_by base f.offset) b.pointers
   pub others : (p n : ℕ) → AllByRecursion (λ f. ShareNoByte p n f.dest 4) b.pointers
       → stretch p n block ≡ stretch p n (overlaid segments b.templates (replicate b.size 0))
 
--- The block stands at the base, and all other memory is as it was; the base global holds the base, and each other global
--- that was asked for the base and its own offset; no other global is changed, and nothing else.
+-- The block stands at the base, and all other memory is as it was. The base global holds the base,
+-- and each other global that was asked for the base and its own offset. No other global is changed,
+-- and nothing else.
 pub record IsInitialized (s : State) (base : ℕ) (b : ThreadBlock) (t : State) : Type 0 where
   pub block : List ℕ
   pub is_block : IsBlock s.segments base b block
   pub written : t.memory ≡ overlay base block s.memory
   pub base_is : slice_get t.globals b.base_global ≡ Some (I32 base)
-  pub got_are : AllByRecursion (λ f. slice_get t.globals f.global ≡ Some (I32 (moved_by base f.offset))) b.got
-  pub other_globals : (k : ℕ) → k ≢ b.base_global → AllByRecursion (λ f. f.global ≢ k) b.got → slice_get t.globals k ≡ slice_get s.globals k
-  pub rest : t ≡ record s { stack = []; labels = []; skipped = 0; memory = t.memory; globals = t.globals }
+  pub got_are :
+      AllByRecursion (λ f. slice_get t.globals f.global ≡ Some (I32 (moved_by base f.offset))) b.got
+  pub other_globals : (k : ℕ) → k ≢ b.base_global → AllByRecursion (λ f. f.global ≢ k) b.got
+      → slice_get t.globals k ≡ slice_get s.globals k
+  pub rest : t ≡ record s {
+    stack = [];
+    labels = [];
+    skipped = 0;
+    memory = t.memory;
+    globals = t.globals;
+  }

@@ -123,9 +123,12 @@ pub fn encode_init_tls_body(
     fixups: &[TlsPointerFixup],
     got_fixups: &[TlsGotFixup],
 ) -> Result<Vec<u8>, SynthError>
-    ensures { let block = thread_block tls_base_global tls_size copies.now fixups.now got_fixups.now in
-        MatchResult result (λ body. IsEncoded (init_tls_ops block) body.items)
-        (EncodeFault (init_tls_ops block)) }
+    ensures { MatchResult result
+        (λ body. IsEncoded (init_tls_ops
+        (thread_block tls_base_global tls_size copies.now fixups.now got_fixups.now))
+        body.items)
+        (EncodeFault (init_tls_ops
+        (thread_block tls_base_global tls_size copies.now fixups.now got_fixups.now))) }
 {
     let mut body = BodyBuilder::new(alloc);
     body.push(&[Operator::LocalGet(0), Operator::GlobalSet(tls_base_global)])?;
