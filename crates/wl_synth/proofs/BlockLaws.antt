@@ -1,6 +1,6 @@
 -- What a thread's block and its globals hold in the end.
-use Rattle.std.proofs.Common.{◌≡◌, ◌≢◌, ℕ, ◌+◌, ◌<◌, ◌≤◌, ◌^◌, List, [], ◌∷◌, length, Some, refl, sym, ap, subst, ◌∙◌, arith}
-use Rattle.std.specs.Prelude.{replicate, slice_get, slice_set}
+use Rattle.std.proofs.Common.{◌≡◌, ◌≢◌, ℕ, ◌+◌, ◌<◌, ◌≤◌, ◌^◌, ℤ, pos, negsuc, List, [], ◌∷◌, length, Some, refl, sym, ap, subst, ◌∙◌, arith}
+use Rattle.std.specs.Prelude.{◌+ℤ◌, replicate, slice_get, slice_set}
 use Rattle.std.specs.List.{AllByRecursion}
 use Rattle.std.proofs.lemmas.List.{length-replicate}
 use Rattle.std.proofs.lemmas.Option.{slice_get_within}
@@ -9,7 +9,7 @@ use Rattle.wl_synth.specs.declared.parts.TlsGotFixup.{TlsGotFixup}
 use Rattle.wl_synth.specs.Bodies.{ThreadBlock, init_tls_ops}
 use Rattle.wl_synth.specs.Encoding.{IsEncoded}
 use Rattle.wl_ops.specs.Standing.{stretch}
-use Rattle.wl_synth.specs.Machine.{Value, I32, World, State, Done, overlay, i32_bytes, i32_of, i32_at, Runs}
+use Rattle.wl_synth.specs.Machine.{Value, I32, wrapped, World, State, Done, overlay, i32_bytes, i32_of, i32_at, Runs}
 use Rattle.wl_synth.specs.Memory.{overlaid, ShareNoByte}
 use Rattle.wl_synth.specs.ThreadLocal.{moved_by, AreWordsApart, NameDistinct, CanInitTls, IsInitialized}
 use Rattle.wl_synth.proofs.BoundLaws.{size_is_word}
@@ -18,6 +18,10 @@ use Rattle.wl_synth.proofs.LaidLaws.{written_apart, written_there, laid_size}
 use Rattle.wl_synth.proofs.TlsLaws.{pointed, slice_same, slice_other, with_got, GotFits, keep_all, block_of, tls_runs}
 
 -- ---- pointers
+
+wrapped_fits : (z : ℤ) → wrapped 4294967296 z < 2 ^ 32
+wrapped_fits (pos n) = omega arith
+wrapped_fits (negsuc n) = omega arith
 
 number_back : (v : ℕ) → v < 2 ^ 32 → i32_of (i32_bytes v) ≡ v
 number_back v lt = omega arith
@@ -47,7 +51,7 @@ pointed_stand base (f ∷ fs) block a d =
     let more = overlay f.dest (i32_bytes v) block in
     let same : length more ≡ length block = write_size f.dest (i32_bytes v) block a.0 in
     let rest = subst (λ (k : ℕ). AllByRecursion (λ (f : TlsPointerFixup). f.dest + 4 ≤ k) fs) (sym same) a.1 in
-    let lt : v < 2 ^ 32 = omega arith in
+    let lt : v < 2 ^ 32 = wrapped_fits (pos base +ℤ f.offset) in
     (ap i32_of (pointed_clear base fs more f.dest 4 rest d.0 ∙ written_there f.dest 4 (i32_bytes v) block refl a.0) ∙ number_back v lt, pointed_stand base fs more rest d.1)
 
 -- ---- globals

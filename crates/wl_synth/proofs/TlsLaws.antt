@@ -1,17 +1,17 @@
 -- The run of the body that makes a thread's block.
-use Rattle.std.proofs.Common.{◌≡◌, ◌≢◌, ℕ, zero, suc, ◌+◌, ◌%◌, ◌<◌, ◌≤◌, ◌^◌, Bool, true, false, cond, eqb, List, [], ◌∷◌, ◌++◌, length, take, drop, Option, Some, refl, sym, ap, subst, ◌∙◌, arith, append_assoc, inl, inr, add-zero}
-use Rattle.std.specs.Prelude.{replicate, slice_get, slice_set}
+use Rattle.std.proofs.Common.{◌≡◌, ◌≢◌, ℕ, zero, suc, ◌+◌, ◌-◌, ◌%◌, ◌<◌, ◌≤◌, ◌^◌, ℤ, pos, negsuc, Bool, true, false, cond, eqb, ltb, List, [], ◌∷◌, ◌++◌, length, take, drop, Option, Some, refl, sym, ap, subst, ◌∙◌, arith, append_assoc, inl, inr, add-zero}
+use Rattle.std.specs.Prelude.{◌+ℤ◌, replicate, slice_get, slice_set}
 use Rattle.std.specs.List.{flat_map, AllByRecursion}
 use Rattle.std.proofs.lemmas.Option.{slice_get_within}
 use Rattle.std.proofs.lemmas.List.{length-replicate, nil_from_length, length-take-le, drop-append-le, take-append-le, take-append-drop}
-use Rattle.std.proofs.lemmas.Bool.{le-leb, eqb-true, cases_lt}
+use Rattle.std.proofs.lemmas.Bool.{ltb-true, ltb-false, le-leb, eqb-true, cases_lt}
 use Rattle.std.proofs.Math.Seq.{take-append-add, drop-append-add}
 use Rattle.wl_synth.specs.declared.parts.PassiveSegmentCopy.{PassiveSegmentCopy}
 use Rattle.wl_synth.specs.declared.parts.TlsPointerFixup.{TlsPointerFixup}
 use Rattle.wl_synth.specs.declared.parts.TlsGotFixup.{TlsGotFixup}
 use Rattle.wl_synth.specs.Wat as wat
 use Rattle.wl_synth.specs.Bodies.{const, place_ops, clear_ops, template_ops, pointer_ops, got_ops, ThreadBlock, init_tls_ops}
-use Rattle.wl_synth.specs.Machine.{Value, I32, wrapped, World, State, Going, Ended, Done, overlay, i32_bytes, push_found, set_global, instruction, step, go, entered}
+use Rattle.wl_synth.specs.Machine.{Value, I32, wrapped, i32_sum, World, State, Going, Ended, Done, overlay, i32_bytes, push_found, set_global, instruction, step, go, entered}
 use Rattle.wl_synth.specs.Memory.{segment_bytes, FitsSegment, overlaid}
 use Rattle.wl_synth.specs.ThreadLocal.{moved_by, IsWordGlobal, CanInitTls}
 use Rattle.wl_synth.proofs.RunLaws.{then_go}
@@ -132,6 +132,23 @@ templates w s m block gl base (c ∷ cs) given lt fits small short a =
     (one_template w s m block gl base c given lt fits small short a.0)
     (templates w s m more gl base cs given lt (rw size fits) (rw size small) (rw size short) (resized s.segments cs (length block) (length more) size a.1))
 
+-- ---- sums
+
+negative_sum : (base k : ℕ) (b : Bool) → ltb base (suc k) ≡ b → i32_sum base (wrapped 4294967296 (negsuc k)) ≡ wrapped 4294967296 (pos base +ℤ negsuc k)
+negative_sum base k true e =
+    let lt = ltb-true base (suc k) e in
+    let less : (base + (4294967295 - k % 4294967296)) % 4294967296 ≡ 4294967295 - (suc k - suc base) % 4294967296 = omega arith in
+    rw e less
+negative_sum base k false e =
+    let le = ltb-false base (suc k) e in
+    let more : (base + (4294967295 - k % 4294967296)) % 4294967296 ≡ (base - suc k) % 4294967296 = omega arith in
+    rw e more
+
+-- the sum of bits is the sum of the numbers
+moved_sum : (base : ℕ) (z : ℤ) → i32_sum base (wrapped 4294967296 z) ≡ moved_by base z
+moved_sum base (pos k) = omega arith
+moved_sum base (negsuc k) = negative_sum base k (ltb base (suc k)) refl
+
 -- ---- pointers
 
 -- the block with its pointers
@@ -147,7 +164,7 @@ one_pointer w s m block gl base g f there fits small le =
     let now = overlay base block m in
     let t = record s { globals = gl } in
     let a = base + f.dest in
-    let v = moved_by base f.offset in
+    let v = i32_sum base (wrapped 4294967296 f.offset) in
     let z = wrapped 4294967296 f.offset in
     let sum : (f.dest + base) % 4294967296 ≡ a = omega arith in
     let size : length now ≡ length m = write_size base block m fits in
@@ -159,6 +176,7 @@ one_pointer w s m block gl base g f there fits small le =
     ∙ next w (tl s (I32 z ∷ I32 base ∷ I32 a ∷ []) now gl) (tl s (I32 v ∷ I32 a ∷ []) now gl) wat.i32_add (wat.i32_store ∷ []) refl
     ∙ put_word w s [] now gl a v (omega (arith, size))
     ∙ ap (λ (x : List ℕ). Going (tl s [] x gl)) (nested base f.dest (i32_bytes v) block m le fits)
+    ∙ ap (λ (k : ℕ). Going (tl s [] (overlay base (overlay f.dest (i32_bytes k) block) m) gl)) (moved_sum base f.offset)
 
 pub pointers : (w : World) (s : State) (m block : List ℕ) (gl : List Value) (base g : ℕ) (fs : List TlsPointerFixup) → slice_get gl g ≡ Some (I32 base)
     → base + length block ≤ length m → base + length block ≤ 2 ^ 32 → AllByRecursion (λ f. f.dest + 4 ≤ length block) fs
@@ -211,9 +229,9 @@ one_got : (w : World) (s : State) (m : List ℕ) (gl : List Value) (base g : ℕ
     → go w (Going (tl s [] m gl)) (got_ops g f) ≡ Going (tl s [] m (slice_set gl f.global (I32 (moved_by base f.offset))))
 unfolding step instruction
 one_got w s m gl base g f there word =
-    let v = moved_by base f.offset in
+    let v = i32_sum base (wrapped 4294967296 f.offset) in
     next w (tl s [] m gl) (tl s (I32 base ∷ []) m gl) (wat.global_get g) (wat.i32_const f.offset ∷ wat.i32_add ∷ wat.global_set f.global ∷ []) (get_global w s [] m gl g (I32 base) there)
-    ∙ put_global w s [] m gl f.global v word
+    ∙ put_global w s [] m gl f.global v word ∙ ap (λ (k : ℕ). Going (tl s [] m (slice_set gl f.global (I32 k)))) (moved_sum base f.offset)
 
 pub gots : (w : World) (s : State) (m : List ℕ) (gl : List Value) (base g : ℕ) (fs : List TlsGotFixup) → slice_get gl g ≡ Some (I32 base) → GotFits w gl g fs
     → go w (Going (tl s [] m gl)) (flat_map (got_ops g) fs) ≡ Going (tl s [] m (with_got base fs gl))

@@ -1,18 +1,18 @@
 -- What a run of the body does that makes a thread's block.
-use Rattle.std.specs.Prelude.{◌≡◌, ◌≢◌, ◌+◌, ◌*◌, ◌^◌, ◌<◌, ◌≤◌, ℕ, ℤ, true, List, [], ◌∷◌, length, replicate, slice_get, Option, Some}
+use Rattle.std.specs.Prelude.{◌≡◌, ◌≢◌, ◌+◌, ◌*◌, ◌^◌, ◌<◌, ◌≤◌, ℕ, ℤ, pos, ◌+ℤ◌, true, List, [], ◌∷◌, length, replicate, slice_get, Option, Some}
 use Rattle.std.specs.List.{AllByRecursion}
 use Rattle.wl_ops.specs.Standing.{stretch}
 use Rattle.wl_synth.specs.declared.parts.TlsPointerFixup.{TlsPointerFixup}
 use Rattle.wl_synth.specs.declared.parts.TlsGotFixup.{TlsGotFixup}
 use Rattle.wl_synth.specs.Bodies.{ThreadBlock}
-use Rattle.wl_synth.specs.Machine.{Value, I32, wrapped, i32_sum, World, State, i32_at, overlay}
+use Rattle.wl_synth.specs.Machine.{Value, I32, wrapped, World, State, i32_at, overlay}
 use Rattle.wl_synth.specs.Memory.{FitsSegment, overlaid, ShareNoByte}
 
 -- ---- pointers and globals
 
--- the base and an offset of either sign, modulo 2 ^ 32
+-- the sum of the base and an offset of either sign, modulo 2 ^ 32
 abbrev pub moved_by : ℕ → ℤ → ℕ
-moved_by base offset = i32_sum base (wrapped 4294967296 offset)
+moved_by base offset = wrapped 4294967296 (pos base +ℤ offset)
 
 -- no pointer shares a byte with a later one
 abbrev pub AreWordsApart : List TlsPointerFixup → Type 0
