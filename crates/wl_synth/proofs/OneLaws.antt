@@ -1,9 +1,8 @@
 -- Operators have one body at most, and none where a constant is too great.
 use Rattle.std.proofs.Common.{◌≡◌, ℕ, ℤ, pos, negsuc, List, [], ◌∷◌, ◌++◌, Option, Some, None, sym, ap, ◌∙◌}
-use Rattle.std.specs.List.{Contains}
 use Rattle.wl_bytes.specs.Leb.{IsShortest, IsShortestSleb}
 use Rattle.wl_ops.specs.declared.op.Op.{Op}
-use Rattle.wl_synth.specs.Spelling.{IsShortImmediate, AreShortImmediates, StandBehind, IsSpelled, AreSpelled, IsSpelledBody, signed_bits, values_of}
+use Rattle.wl_synth.specs.Spelling.{IsShortImmediate, AreShortImmediates, IsSpelled, AreSpelled, signed_bits, values_of}
 use Rattle.wl_synth.specs.Encoding.{IsEncoded}
 
 -- Numbers have one shortest form each.
