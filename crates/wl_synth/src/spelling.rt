@@ -77,9 +77,13 @@ fn push_in_range(out: &mut Vec<u8>, operator: Operator) -> Result<(), AllocError
 fn great_constant_of(operator: Operator) -> Option<u32>
     ensures { result ≡ great_constant (as_op operator) }
 {
-    match operator {
-        Operator::I32Unsigned(number) if number > GREATEST => Some(number),
-        _ => None,
+    let Operator::I32Unsigned(number) = operator else {
+        return None;
+    };
+    if number > GREATEST {
+        Some(number)
+    } else {
+        None
     }
 }
 
