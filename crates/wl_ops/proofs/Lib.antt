@@ -1,3 +1,4 @@
+pub mod OneLaws
 pub mod OpLaws
 pub mod Pushing
 pub mod Passing

@@ -1,12 +1,12 @@
 //! What callers may count on: functions with an empty body, each of which states a law of what
 //! bodies spell.
 
-ghost use Rattle.std.specs.Prelude.{◌≡◌, ◌≤◌, ℕ, List, [], length, Option};
+ghost use Rattle.std.specs.Prelude.{◌≡◌, ◌≤◌, ℕ, List, [], length, Option, Ok};
 ghost use Rattle.wl_module.specs.Lists.{AreFew};
 ghost use Rattle.wl_module.specs.declared.error.ReadError.{ReadError as Fault};
 ghost use Rattle.wl_module.specs.Outcome.{AreAlternatives};
 ghost use Rattle.wl_ops.specs.declared.op.Op.{Op as OpRecord};
-ghost use Rattle.wl_ops.specs.Decoding.{AreTaken, DecodeFault, list_items};
+ghost use Rattle.wl_ops.specs.Decoding.{AreOps, AreTaken, DecodeFault, list_items, body_of};
 ghost use Rattle.wl_ops.specs.declared.op.DataIndexImm.{DataIndexImm as Number};
 ghost use Rattle.wl_ops.specs.Numbers.{HasNumbers, AreTold, NumbersFault};
 ghost use Rattle.wl_ops.specs.Rewriting.{LieWithin, Rewrites};
@@ -30,6 +30,18 @@ pub fn numbers_are_one()
     ensures within { (body : List ℕ) (numbers : List Number)
         → HasNumbers numbers body → LieWithin 0 numbers (length body) }
     ensures none { (body : List ℕ) (e : Fault) → NumbersFault e body → HasNumbers [] body }
+{}
+
+/// A body spells one list of operators at most, also where some of them are refused.
+pub fn operators_are_one()
+    ensures { (ops other : List OpRecord) (body : List ℕ)
+        → AreOps ops body → AreOps other body → ops ≡ other }
+{}
+
+/// The operators that reading a body computes are those that it spells: so the operators of bytes
+/// that are written out can be computed.
+pub fn computed_operators_are_spelled()
+    ensures { (ops : List OpRecord) (body : List ℕ) → body_of body ≡ Ok ops → AreTaken ops body }
 {}
 
 /// A body has at least as many bytes as operators and immediates together.

@@ -1,0 +1,12 @@
+pub mod SpellLaws
+pub mod OpLaws
+pub mod BodyLaws
+pub mod BoundLaws
+pub mod OneLaws
+pub mod RunLaws
+pub mod FactLaws
+pub mod MemoryLaws
+pub mod LaidLaws
+pub mod InitLaws
+pub mod TlsLaws
+pub mod BlockLaws

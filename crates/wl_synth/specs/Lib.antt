@@ -1,0 +1,9 @@
+pub mod Wat
+pub mod Bodies
+pub mod Spelling
+pub mod Encoding
+pub mod Machine
+pub mod Calls
+pub mod Memory
+pub mod ThreadLocal
+pub mod Facts
