@@ -6,7 +6,7 @@ ghost use Rattle.wl_data.specs.Layouts.{CanBePlaced};
 ghost use Rattle.wl_data.specs.DataPlaces.{AllCanBePlaced};
 
 use crate::segments::KeptSegment;
-use wl_linking::Items;
+use wl_linking::ItemList;
 
 /// Whether all these segments can be placed.
 pub fn all_can_be_placed(segments: &[KeptSegment<'_>]) -> bool
@@ -21,7 +21,7 @@ pub fn all_can_be_placed(segments: &[KeptSegment<'_>]) -> bool
 }
 
 /// Whether all segments of these objects can be placed.
-pub fn objects_can_be_placed(objects: &[Items<KeptSegment<'_>>]) -> bool
+pub fn objects_can_be_placed(objects: &[ItemList<KeptSegment<'_>>]) -> bool
     ensures { IsTrue result ↔ AllByRecursion AllCanBePlaced objects.now }
 {
     for object in objects {

@@ -1,14 +1,14 @@
 //! Where the data of all objects lies.
 
 use crate::segments::SegmentLayouts;
-use wl_linking::Items;
+use wl_linking::ItemList;
 
 /// Where the data of all objects lies.
 #[derive(Drop)]
 pub struct DataPlaces<'a> {
     /// The segments of each object as the output has them: first those that all threads have in
     /// common, then those of which each has its own.
-    pub layouts: Items<SegmentLayouts<'a>>,
+    pub layouts: ItemList<SegmentLayouts<'a>>,
     /// The address at which all of it begins.
     pub data_start: u32,
     /// The address from which that of data counts of which each thread has its own.

@@ -13,7 +13,7 @@ use crate::pass::{Frontier, Pass};
 use crate::places::DataPlaces;
 use crate::segments::{KeptSegment, SegmentLayouts};
 use std::alloc::Global;
-use wl_linking::{Items, LinkError};
+use wl_linking::{ItemList, LinkError};
 
 /// The word that tells whether segments were copied has four bytes, and stands at a multiple of
 /// as many.
@@ -33,7 +33,7 @@ fn tls_alignment_of(segments: &[KeptSegment<'_>]) -> u32
 }
 
 /// The greatest alignment of all segments of which each thread has its own, 1 without any.
-fn tls_alignment(objects: &[Items<KeptSegment<'_>>]) -> u32
+fn tls_alignment(objects: &[ItemList<KeptSegment<'_>>]) -> u32
     ensures some { 0 < result }
     ensures greatest { result ≡ greatest_alignment (filter is_tls (in_one_row objects.now)) }
 {
@@ -45,28 +45,28 @@ fn tls_alignment(objects: &[Items<KeptSegment<'_>>]) -> u32
 }
 
 /// Whether each thread has its own of one of an object's segments.
-fn any_is_tls(object: &Items<KeptSegment<'_>>) -> bool
+fn any_is_tls(object: &ItemList<KeptSegment<'_>>) -> bool
     ensures { result ≡ any_is_tls object.now }
 {
     object.as_slice().iter().any(|segment| segment.tls)
 }
 
 /// Whether each thread has its own of some segment.
-fn has_tls(objects: &[Items<KeptSegment<'_>>]) -> bool
+fn has_tls(objects: &[ItemList<KeptSegment<'_>>]) -> bool
     ensures { result ≡ list_any any_is_tls objects.now }
 {
     objects.iter().any(|object| any_is_tls(object))
 }
 
 /// Whether one of an object's segments has bytes in the memory that all threads have in common.
-fn any_is_common(object: &Items<KeptSegment<'_>>) -> bool
+fn any_is_common(object: &ItemList<KeptSegment<'_>>) -> bool
     ensures { result ≡ any_is_common object.now }
 {
     object.as_slice().iter().any(|segment| segment.is_common())
 }
 
 /// Whether some segment has bytes in the memory that all threads have in common.
-fn has_common(objects: &[Items<KeptSegment<'_>>]) -> bool
+fn has_common(objects: &[ItemList<KeptSegment<'_>>]) -> bool
     ensures { result ≡ list_any any_is_common objects.now }
 {
     objects.iter().any(|object| any_is_common(object))
@@ -97,7 +97,7 @@ fn data_start(options: DataOptions) -> u32
 }
 
 /// Where the segments begin that stand behind those that end there.
-fn tls_start(objects: &[Items<KeptSegment<'_>>], options: DataOptions, end: u32) -> Option<u32>
+fn tls_start(objects: &[ItemList<KeptSegment<'_>>], options: DataOptions, end: u32) -> Option<u32>
     ensures { MatchOption result (2 ^ 32 ≤ tls_start (data_of objects.now options) end)
         (λ start. start ≡ tls_start (data_of objects.now options) end) }
 {
@@ -109,7 +109,7 @@ fn tls_start(objects: &[Items<KeptSegment<'_>>], options: DataOptions, end: u32)
 
 /// The address from which that of data counts of which each thread has its own, which begins there
 /// where it stands behind the other data.
-fn tls_base(objects: &[Items<KeptSegment<'_>>], options: DataOptions, start: u32) -> u32
+fn tls_base(objects: &[ItemList<KeptSegment<'_>>], options: DataOptions, start: u32) -> u32
     ensures { (end : ℕ) → start ≡ tls_start (data_of objects.now options) end
         → result ≡ tls_base (data_of objects.now options) end }
 {
@@ -125,7 +125,7 @@ fn tls_base(objects: &[Items<KeptSegment<'_>>], options: DataOptions, start: u32
 /// Where the word stands that tells whether segments were copied, where there is one, and where
 /// the data ends, of which the segments end there.
 fn flag_and_end(
-    objects: &[Items<KeptSegment<'_>>],
+    objects: &[ItemList<KeptSegment<'_>>],
     options: DataOptions,
     end: u32,
 ) -> Option<(Option<u32>, u32)>
@@ -147,7 +147,7 @@ fn flag_and_end(
 fn lay_objects<'a>(
     alloc: Global,
     pass: Pass,
-    objects: &[Items<KeptSegment<'a>>],
+    objects: &[ItemList<KeptSegment<'a>>],
     frontier: &mut Frontier,
 ) -> Result<Vec<SegmentLayouts<'a>>, LinkError>
     requires { AllByRecursion AllCanBePlaced objects.now }
@@ -167,7 +167,7 @@ fn lay_objects<'a>(
 fn append_objects<'a>(
     alloc: Global,
     pass: Pass,
-    objects: &[Items<KeptSegment<'a>>],
+    objects: &[ItemList<KeptSegment<'a>>],
     layouts: &mut Vec<SegmentLayouts<'a>>,
     frontier: &mut Frontier,
 ) -> Result<(), LinkError>
@@ -197,7 +197,7 @@ fn append_objects<'a>(
 /// `TooLarge` where the data would end past the last address, in the memory or in the block.
 pub fn place_all<'a>(
     alloc: Global,
-    objects: &[Items<KeptSegment<'a>>],
+    objects: &[ItemList<KeptSegment<'a>>],
     options: DataOptions,
 ) -> Result<DataPlaces<'a>, LinkError>
     requires { AllByRecursion AllCanBePlaced objects.now }
@@ -222,7 +222,7 @@ pub fn place_all<'a>(
         return Err(past_last_address());
     };
     Ok(DataPlaces {
-        layouts: Items::new(layouts),
+        layouts: ItemList::new(layouts),
         data_start: start,
         tls_base: tls_base(objects, options, tls_start),
         tls_size: if options.shared_tls {

@@ -10,7 +10,7 @@ use crate::{
 };
 use std::borrow::CowSlice;
 use std::test::Fail;
-use wl_linking::{Items, LinkError, MemoryBound, Quantity};
+use wl_linking::{ItemList, LinkError, MemoryBound, Quantity};
 use wl_module::{MemoryType, WasmFunctionBody};
 
 /// A memory of one page.
@@ -200,7 +200,7 @@ fn place<'a>(
     segments: Vec<KeptSegment<'a>>,
     shared: bool,
 ) -> Result<DataPlaces<'a>, Fail> {
-    let objects = vec![in rt.alloc(); Items::new(segments)]?;
+    let objects = vec![in rt.alloc(); ItemList::new(segments)]?;
     if !objects_can_be_placed(&objects) {
         return Err(Fail::from("a segment that can't be placed"));
     }

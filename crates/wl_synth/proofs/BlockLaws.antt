@@ -8,7 +8,7 @@ use Rattle.wl_synth.specs.declared.parts.TlsPointerFixup.{TlsPointerFixup}
 use Rattle.wl_synth.specs.declared.parts.TlsGotFixup.{TlsGotFixup}
 use Rattle.wl_synth.specs.Bodies.{ThreadBlock, init_tls_ops}
 use Rattle.wl_synth.specs.Encoding.{IsEncoded}
-use Rattle.wl_ops.specs.Standing.{stretch}
+use Rattle.wl_ops.specs.Standing.{window}
 use Rattle.wl_synth.specs.Machine.{Value, I32, wrapped, World, State, Done, overlay, i32_bytes, i32_of, i32_at, Runs}
 use Rattle.wl_synth.specs.Memory.{overlaid, ShareNoByte}
 use Rattle.wl_synth.specs.ThreadLocal.{moved_by, AreWordsApart, NameDistinct, CanInitTls, IsInitialized}
@@ -34,7 +34,7 @@ pointed_size base (f ∷ fs) block a =
     pointed_size base fs more (subst (λ (k : ℕ). AllByRecursion (λ (f : TlsPointerFixup). f.dest + 4 ≤ k) fs) (sym same) a.1) ∙ same
 
 pub pointed_clear : (base : ℕ) (fs : List TlsPointerFixup) (block : List ℕ) (p n : ℕ) → AllByRecursion (λ f. f.dest + 4 ≤ length block) fs → AllByRecursion (λ f. ShareNoByte p n f.dest 4) fs
-    → stretch p n (pointed base fs block) ≡ stretch p n block
+    → window p n (pointed base fs block) ≡ window p n block
 pointed_clear base [] block p n a clear = refl
 pointed_clear base (f ∷ fs) block p n a clear =
     let bytes = i32_bytes (moved_by base f.offset) in

@@ -6,7 +6,7 @@ use Rattle.wl_module.specs.declared.types.ValType.TheVariants.{I32 as I32Type, I
 use Rattle.wl_module.specs.Types.{FunctionType}
 use Rattle.wl_ops.specs.declared.op.Op.{Op}
 use Rattle.wl_ops.specs.Decoding.{AreOps}
-use Rattle.wl_ops.specs.Standing.{stretch}
+use Rattle.wl_ops.specs.Standing.{window}
 
 -- ---- values
 
@@ -61,7 +61,7 @@ i32_of (b ∷ bs) = b + 256 * i32_of bs
 
 -- the number that stands at a place
 abbrev pub i32_at : ℕ → List ℕ → ℕ
-i32_at at memory = i32_of (stretch at 4 memory)
+i32_at at memory = i32_of (window at 4 memory)
 
 -- the bytes of a segment; a dropped one has none
 abbrev pub left_bytes : Option (List ℕ) → List ℕ
@@ -331,7 +331,7 @@ copied to from n None s = Stuck
 copied to from n (Some segment) s =
     unless_trap
     (nat_le (from + n) (length (left_bytes segment)) && nat_le (to + n) (length s.memory)) s
-    (Going (record s { memory = overlay to (stretch from n (left_bytes segment)) s.memory }))
+    (Going (record s { memory = overlay to (window from n (left_bytes segment)) s.memory }))
 
 abbrev pub dropped : ℕ → Option (Option (List ℕ)) → State → Progress
 dropped k None s = Stuck

@@ -1,7 +1,7 @@
 -- What a run of the body does that lays segments in shared memory.
 use Rattle.std.specs.Prelude.{◌≡◌, ◌≢◌, ◌⊎◌, ◌+◌, ◌≤◌, ◌%◌, ℕ, true, List, [], ◌∷◌, length, slice_get, slice_set, Option, Some, None}
 use Rattle.std.specs.List.{AllByRecursion}
-use Rattle.wl_ops.specs.Standing.{stretch}
+use Rattle.wl_ops.specs.Standing.{window}
 use Rattle.wl_synth.specs.declared.parts.PassiveSegmentCopy.{PassiveSegmentCopy}
 use Rattle.wl_synth.specs.Machine.{World, State, Done, Waits, i32_at, overlay, left_bytes, Runs}
 
@@ -68,10 +68,10 @@ pub record AreLaid (s : State) (flag : ℕ) (copies : List PassiveSegmentCopy) (
     Type 0 where
   pub stand :
       AllByRecursion
-      (λ c. stretch c.offset c.len memory ≡ segment_bytes s.segments c.segment_index) copies
+      (λ c. window c.offset c.len memory ≡ segment_bytes s.segments c.segment_index) copies
   pub flag_set : i32_at flag memory ≡ 2
   pub others : (p n : ℕ) → ShareNoByte p n flag 4 → AreClear copies p n
-      → stretch p n memory ≡ stretch p n s.memory
+      → window p n memory ≡ window p n s.memory
   pub same_length : length memory ≡ length s.memory
 
 -- the function ends with this memory and without the segments, and all else is as it was

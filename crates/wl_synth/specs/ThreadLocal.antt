@@ -1,7 +1,7 @@
 -- What a run of the body does that makes a thread's block.
 use Rattle.std.specs.Prelude.{◌≡◌, ◌≢◌, ◌+◌, ◌*◌, ◌^◌, ◌<◌, ◌≤◌, ℕ, ℤ, pos, ◌+ℤ◌, true, List, [], ◌∷◌, length, replicate, slice_get, Option, Some}
 use Rattle.std.specs.List.{AllByRecursion}
-use Rattle.wl_ops.specs.Standing.{stretch}
+use Rattle.wl_ops.specs.Standing.{window}
 use Rattle.wl_synth.specs.declared.parts.TlsPointerFixup.{TlsPointerFixup}
 use Rattle.wl_synth.specs.declared.parts.TlsGotFixup.{TlsGotFixup}
 use Rattle.wl_synth.specs.Bodies.{ThreadBlock}
@@ -54,7 +54,7 @@ pub record IsBlock (segments : List (Option (List ℕ))) (base : ℕ) (b : Threa
   pub same_length : length block ≡ b.size
   pub pointers : AllByRecursion (λ f. i32_at f.dest block ≡ moved_by base f.offset) b.pointers
   pub others : (p n : ℕ) → AllByRecursion (λ f. ShareNoByte p n f.dest 4) b.pointers
-      → stretch p n block ≡ stretch p n (overlaid segments b.templates (replicate b.size 0))
+      → window p n block ≡ window p n (overlaid segments b.templates (replicate b.size 0))
 
 -- The block stands at the base, and all other memory is as it was. The base global holds the base,
 -- and each other global that was asked for the base and its own offset. No other global is changed,
