@@ -20,7 +20,7 @@ use Rattle.wl_linking.specs.Placing.{Ascend}
 use Rattle.wl_linking.specs.Spaces.{NamesExist, NamesFault, spaces_of, counts_hold, core_names_exist, linked_names_exist}
 use Rattle.wl_linking.specs.Slots.{claims, SharesSlot, HasOneName, HasTwoNames, AgreeOnNames, SlotFault}
 use Rattle.wl_linking.specs.Sites.{PieceOf, AreInOrder, IsSite, AreSites, LiesBefore, AreApart, HasNoSite, HasOverlap, LieApart, FieldsFault, field_len, body_piece, segment_piece}
-use Rattle.wl_linking.specs.Fitting.{named_symbols, HasItems, IsFitting, PartsFault, IsObject, FirstItemsFault, ObjectFault}
+use Rattle.wl_linking.specs.Fitting.{Fields, object_of, HasItems, IsFitting, PartsFault, IsObject, FirstItemsFault, ObjectFault}
 use Rattle.wl_linking.specs.declared.parts.Parts.{Parts}
 use Rattle.wl_linking.specs.declared.relocations.WasmRelocation.{WasmRelocation}
 use Rattle.wl_linking.specs.declared.sites.Site.{Site}
@@ -163,32 +163,10 @@ fields_or_fault pieces rs up = by_both (sites_or_none pieces rs up) (apart_or_ov
 
 -- ---- the object of sound sections
 
--- the object of these parts, its relocations in this order
-abbrev object_with : List ℕ → List SectionHeader → Parts → List WasmRelocation → List WasmRelocation → List Site → List Site → Object
-object_with bytes headers parts code data_ code_sites data_sites = record {
-  bytes = bytes;
-  sections = headers;
-  types = parts.types;
-  imports = parts.imports;
-  functions = parts.functions;
-  memories = parts.memories;
-  globals = parts.globals;
-  exports = parts.exports;
-  data_counts = parts.data_counts;
-  bodies = parts.bodies;
-  segments = parts.segments;
-  segment_memories = parts.segment_memories;
-  segment_infos = parts.segment_infos;
-  init_funcs = parts.init_funcs;
-  symbols = named_symbols parts;
-  reloc_sections = parts.reloc_sections;
-  features = parts.features;
-  debug_sections = parts.debug_sections;
-  code_relocations = code;
-  code_sites = code_sites;
-  data_relocations = data_;
-  data_sites = data_sites;
-}
+-- these relocations, and these places of their fields
+abbrev fields : List WasmRelocation → List WasmRelocation → List Site → List Site → Fields
+fields code data_ code_sites data_sites =
+    record { code_relocations = code; code_sites = code_sites; data_relocations = data_; data_sites = data_sites }
 
 -- the items fit together, or don't
 abbrev FitsOrNot : List ℕ → List SectionHeader → Parts → Type 0
@@ -197,12 +175,12 @@ FitsOrNot bytes headers parts = ((o : Object) × HasItems bytes headers parts o 
 -- fields of code at fault are a fault of the parts
 pub code_fault : (bytes : List ℕ) (headers : List SectionHeader) (parts : Parts) (rs : List WasmRelocation) (e : ReadError) → AreInOrder parts.code_relocations rs → FieldsFault (map body_piece parts.bodies) rs e → PartsFault bytes headers parts e
 code_fault bytes headers parts rs e order f =
-    (object_with bytes headers parts rs (ordered parts.data_relocations) [] [], record { items = refl; code = order; data_ = order_exists parts.data_relocations }, inr (inr (inl f)))
+    (object_of bytes headers parts (fields rs (ordered parts.data_relocations) [] []), record { items = refl; code = order; data_ = order_exists parts.data_relocations }, inr (inr (inl f)))
 
 -- and so are fields of data
 pub data_fault : (bytes : List ℕ) (headers : List SectionHeader) (parts : Parts) (rs : List WasmRelocation) (e : ReadError) → AreInOrder parts.data_relocations rs → FieldsFault (map segment_piece parts.segments) rs e → PartsFault bytes headers parts e
 data_fault bytes headers parts rs e order f =
-    (object_with bytes headers parts (ordered parts.code_relocations) rs [] [], record { items = refl; code = order_exists parts.code_relocations; data_ = order }, inr (inr (inr f)))
+    (object_of bytes headers parts (fields (ordered parts.code_relocations) rs [] []), record { items = refl; code = order_exists parts.code_relocations; data_ = order }, inr (inr (inr f)))
 
 fits_or_fault : (bytes : List ℕ) (headers : List SectionHeader) (parts : Parts) → Ascend 0 (map body_piece parts.bodies) → Ascend 0 (map segment_piece parts.segments) → FitsOrNot bytes headers parts
 fits_or_fault bytes headers parts code_up data_up = by_fields (fields_or_fault (map body_piece parts.bodies) code code_up) (fields_or_fault (map segment_piece parts.segments) data' data_up)
@@ -214,17 +192,17 @@ fits_or_fault bytes headers parts code_up data_up = by_fields (fields_or_fault (
     data' = ordered parts.data_relocations
 
     by_names : (xs ys : List Site) → LieApart (map body_piece parts.bodies) (ordered parts.code_relocations) xs → LieApart (map segment_piece parts.segments) (ordered parts.data_relocations) ys
-        → (let o = object_with bytes headers parts (ordered parts.code_relocations) (ordered parts.data_relocations) xs ys in HasItems bytes headers parts o → NamesExist o ⊎ ((e : ReadError) × NamesFault o e) → AgreeOnNames (spaces_of o) o.symbols ⊎ ((e : ReadError) × SlotFault (spaces_of o) o.symbols e) → FitsOrNot bytes headers parts)
-    by_names xs ys c d items (inr f) slots = inr (f.0, (object_with bytes headers parts code data' xs ys, items, inl f.1))
-    by_names xs ys c d items (inl names) (inr f) = inr (f.0, (object_with bytes headers parts code data' xs ys, items, inr (inl f.1)))
-    by_names xs ys c d items (inl names) (inl slots) = inl (object_with bytes headers parts code data' xs ys, items, record { names = names; slots = slots; code = c; data_ = d })
+        → (let o = object_of bytes headers parts (fields (ordered parts.code_relocations) (ordered parts.data_relocations) xs ys) in HasItems bytes headers parts o → NamesExist o ⊎ ((e : ReadError) × NamesFault o e) → AgreeOnNames (spaces_of o) o.symbols ⊎ ((e : ReadError) × SlotFault (spaces_of o) o.symbols e) → FitsOrNot bytes headers parts)
+    by_names xs ys c d items (inr f) slots = inr (f.0, (object_of bytes headers parts (fields code data' xs ys), items, inl f.1))
+    by_names xs ys c d items (inl names) (inr f) = inr (f.0, (object_of bytes headers parts (fields code data' xs ys), items, inr (inl f.1)))
+    by_names xs ys c d items (inl names) (inl slots) = inl (object_of bytes headers parts (fields code data' xs ys), items, record { names = names; slots = slots; code = c; data_ = d })
 
     by_fields : ((ss : List Site) × LieApart (map body_piece parts.bodies) (ordered parts.code_relocations) ss) ⊎ ((e : ReadError) × FieldsFault (map body_piece parts.bodies) (ordered parts.code_relocations) e)
         → ((ss : List Site) × LieApart (map segment_piece parts.segments) (ordered parts.data_relocations) ss) ⊎ ((e : ReadError) × FieldsFault (map segment_piece parts.segments) (ordered parts.data_relocations) e) → FitsOrNot bytes headers parts
     by_fields (inr f) ys = inr (f.0, code_fault bytes headers parts (ordered parts.code_relocations) f.0 (order_exists parts.code_relocations) f.1)
     by_fields (inl xs) (inr f) = inr (f.0, data_fault bytes headers parts (ordered parts.data_relocations) f.0 (order_exists parts.data_relocations) f.1)
     by_fields (inl xs) (inl ys) =
-        let o = object_with bytes headers parts (ordered parts.code_relocations) (ordered parts.data_relocations) xs.0 ys.0 in
+        let o = object_of bytes headers parts (fields (ordered parts.code_relocations) (ordered parts.data_relocations) xs.0 ys.0) in
         by_names xs.0 ys.0 xs.1 ys.1 (record { items = refl; code = order_exists parts.code_relocations; data_ = order_exists parts.data_relocations }) (names_or_fault o) (slots_or_fault (spaces_of o) o.symbols)
 
 -- ---- the object of some bytes

@@ -15,6 +15,8 @@ use Rattle.wl_linking.specs.Spaces.{NamesExist, NamesFault, spaces_of}
 use Rattle.wl_linking.specs.Slots.{with_import_name, AgreeOnNames, SlotFault}
 use Rattle.wl_linking.specs.Sites.{PieceOf, body_piece, segment_piece, AreInOrder, LieApart, FieldsFault}
 use Rattle.wl_linking.specs.declared.parts.Parts.{Parts}
+use Rattle.wl_linking.specs.declared.relocations.WasmRelocation.{WasmRelocation}
+use Rattle.wl_linking.specs.declared.sites.Site.{Site}
 use Rattle.wl_linking.specs.declared.spaces.Counts.{Counts}
 
 -- ---- the object of what sections hold
@@ -23,9 +25,25 @@ use Rattle.wl_linking.specs.declared.spaces.Counts.{Counts}
 abbrev pub named_symbols : Parts → List Symbol
 named_symbols parts = map (with_import_name parts.function_names parts.global_names) parts.symbols
 
--- the object of these bytes, headers and parts, with the relocations of o and the places of their fields
-abbrev pub object_of : List ℕ → List SectionHeader → Parts → Object → Object
-object_of bytes headers parts o = record {
+-- relocations of code and of data in order of their fields, and where these lie
+pub record Fields : Type 0 where
+  pub code_relocations : List WasmRelocation
+  pub code_sites : List Site
+  pub data_relocations : List WasmRelocation
+  pub data_sites : List Site
+
+-- those of an object
+abbrev pub fields_of : Object → Fields
+fields_of o = record {
+  code_relocations = o.code_relocations;
+  code_sites = o.code_sites;
+  data_relocations = o.data_relocations;
+  data_sites = o.data_sites;
+}
+
+-- the object of these bytes, headers, parts and fields
+abbrev pub object_of : List ℕ → List SectionHeader → Parts → Fields → Object
+object_of bytes headers parts fields = record {
   bytes = bytes;
   sections = headers;
   types = parts.types;
@@ -44,15 +62,15 @@ object_of bytes headers parts o = record {
   reloc_sections = parts.reloc_sections;
   features = parts.features;
   debug_sections = parts.debug_sections;
-  code_relocations = o.code_relocations;
-  code_sites = o.code_sites;
-  data_relocations = o.data_relocations;
-  data_sites = o.data_sites;
+  code_relocations = fields.code_relocations;
+  code_sites = fields.code_sites;
+  data_relocations = fields.data_relocations;
+  data_sites = fields.data_sites;
 }
 
 -- an object of these bytes and headers holds these parts, its relocations in order of their fields
 pub record HasItems (bytes : List ℕ) (headers : List SectionHeader) (parts : Parts) (o : Object) : Type 0 where
-  pub items : o ≡ object_of bytes headers parts o
+  pub items : o ≡ object_of bytes headers parts (fields_of o)
   pub code : AreInOrder parts.code_relocations o.code_relocations
   pub data_ : AreInOrder parts.data_relocations o.data_relocations
 

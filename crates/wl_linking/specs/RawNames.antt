@@ -14,12 +14,12 @@ abbrev pub text_of : List ℕ → Option (List ℕ)
 text_of bytes = if is_utf8 bytes then Some bytes else None
 
 -- the text at a range of the bytes, where it lies within them and they are UTF-8 there
-abbrev pub text_in : List ℕ → ℕ × ℕ → Option (List ℕ)
-text_in bytes range = if is_within bytes range then text_of (bytes_between bytes range) else None
+abbrev pub text_between : List ℕ → ℕ × ℕ → Option (List ℕ)
+text_between bytes range = if is_within bytes range then text_of (bytes_between bytes range) else None
 
 -- the text at the range of a symbol's name, where the symbol has a name
 abbrev pub named_text : List ℕ → Symbol → Option (List ℕ)
-named_text bytes symbol = if has_name symbol then text_in bytes symbol.name_range else None
+named_text bytes symbol = if has_name symbol then text_between bytes symbol.name_range else None
 
 -- a name as it is printed: as it is where it is UTF-8, and else as 0x and its bytes in hexadecimal
 abbrev pub shown_name : List ℕ → List ℕ

@@ -86,8 +86,8 @@ fn read_contents(alloc: Global, bytes: &[u8]) -> Result<Contents<'_>, ReadError>
         (HasCause (λ e. ObjectFault e bytes.now)) }
 {
     let sections = read_sections(alloc, bytes)?;
-    let parts = read_parts(alloc, &sections)?;
     let headers = section_headers(alloc, &sections)?;
+    let parts = read_parts(alloc, &sections)?;
     let contents = place(alloc, bytes, ItemList::new(headers), parts)?;
     check_names(alloc, &contents)?;
     Ok(contents)

@@ -170,7 +170,25 @@ impl<'a> Parts<'a> {
     }
 }
 
-/// Reads each section in turn, up to the first that isn't sound.
+/// Reads each section in turn, up to the first that isn't sound, and takes in what they hold.
+fn add_sections<'a>(
+    alloc: Global,
+    sections: &[FramedSection<'a>],
+    parts: &mut Parts<'a>,
+) -> Result<(), ReadError>
+    requires first { parts.old ≡ no_parts }
+    requires sections { AllByRecursion EndsWithin sections.now }
+    ensures { MatchResult result (λ _. AreSound sections.now no_parts sections.now parts.new)
+        (HasCause (AreFaulty sections.now no_parts sections.now)) }
+{
+    for section in sections {
+        let items = read_section_items(alloc, sections, parts, section)?;
+        parts.add(alloc, items)?;
+    }
+    Ok(())
+}
+
+/// What the sections hold, up to the first that isn't sound.
 pub(crate) fn read_parts<'a>(
     alloc: Global,
     sections: &[FramedSection<'a>],
@@ -180,9 +198,6 @@ pub(crate) fn read_parts<'a>(
         (HasCause (AreFaulty sections.now no_parts sections.now)) }
 {
     let mut parts = Parts::empty(alloc);
-    for section in sections {
-        let items = read_section_items(alloc, sections, &parts, section)?;
-        parts.add(alloc, items)?;
-    }
+    add_sections(alloc, sections, &mut parts)?;
     Ok(parts)
 }

@@ -79,9 +79,9 @@ struct RelocationRow {
 }
 
 impl Model for RelocationRow {
-    ghost use Rattle.wl_linking.specs.RelocationRows.{RelocationRow as Row};
+    ghost use Rattle.wl_linking.specs.RelocationRows.{RelocationRow as RelocationRow};
 
-    ghost Value = { Row };
+    ghost Value = { RelocationRow };
 
     ghost view = { λ r. record {
       ty = r.ty;

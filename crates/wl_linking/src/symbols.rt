@@ -314,7 +314,8 @@ fn read_details<'a>(
     flags: SymbolFlags,
     reader: &mut Reader<'a>,
 ) -> Result<Details<'a>, ReadError>
-    ensures { Yields (λ d. d) result reader.new (details_at kind (symbol_context base.before flags.0) reader.old) }
+    ensures { Yields (λ d. d) result reader.new
+        (details_at kind (symbol_context base.before flags.0) reader.old) }
 {
     match kind {
         WasmSymbolKind::Func | WasmSymbolKind::Global | WasmSymbolKind::Table => {

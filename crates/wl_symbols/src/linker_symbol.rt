@@ -231,11 +231,11 @@ impl WasmLinkerSymbol {
         heap_end: Option<u32>,
         stack_first: bool,
     ) -> Result<Option<u32>, LinkError>
-        ensures ok { let places = data_places data_start data_end stack_size heap_end stack_first in
-            IfOk result (λ address. address ≡ address_of self places) }
+        ensures ok { let at = data_places data_start data_end stack_size heap_end stack_first in
+            IfOk result (λ address. address ≡ address_of self at) }
         ensures err { IfErr result (λ e. e ≡ LinkError.TooLarge Address) }
-        ensures high { let places = data_places data_start data_end stack_size heap_end stack_first in
-            OnErr result (IsTooHigh (address_of self places)) }
+        ensures high { let at = data_places data_start data_end stack_size heap_end stack_first
+            in OnErr result (IsTooHigh (address_of self at)) }
     {
         match self {
             Self::DataEnd => Ok(Some(data_end)),

@@ -4,7 +4,7 @@ use Rattle.wl_linking.specs.Sections.{EndsWithin, section_context}
 use Rattle.wl_linking.proofs.HeldLaws.{spelled}
 use Rattle.wl_linking.proofs.ImportPlaces.{named_within}
 use Rattle.wl_linking.proofs.PartLaws.{reads_more, reads_fault, all_get}
-use Rattle.wl_linking.proofs.parts.read_parts.Goals as goal
+use Rattle.wl_linking.proofs.parts.add_sections.Goals as goal
 
 pub returns-in_err-items : goal.returns-in_err-items
 returns-in_err-items c =
@@ -15,7 +15,7 @@ returns-in_err-items c =
 pub add-requires : goal.add-requires
 add-requires c =
     let s = c.section-item.result in
-    named_within s.kind s c.in_ok-items.items (rw (← c.section-item.is) at (all_get EndsWithin c.args.sections.now c.loop-section.section-index s c.requires (omega arith)))
+    named_within s.kind s c.in_ok-items.items (rw (← c.section-item.is) at (all_get EndsWithin c.args.sections.now c.loop-section.section-index s c.requires.sections (omega arith)))
     (spelled s.kind (section_context c.args.sections.now c.loop-section.parts) s c.in_ok-items.items s.payload c.in_ok-items.ensures)
 
 pub loop-section-preserved : goal.loop-section-preserved
