@@ -72,8 +72,8 @@ in_symbol link w u v j (Some s) m =
       | inr other ↦ let p = in_reference w u v (replacing_unit link ns w.object j s) other in (p.0, s, refl, inr p.1)
     ]
 
-pub symbol_in : (link : Link) (u v : LinkUnit) (j : ℕ) (o : Option Symbol) (s : Symbol) → o ≡ Some s → LeadsBy link u.object j s v → Contains (symbol_references link (units_of link.objects) u j o) (refers_to u v)
-symbol_in link u v j o s e leads =
+pub named_symbol_in : (link : Link) (u v : LinkUnit) (j : ℕ) (o : Option Symbol) (s : Symbol) → o ≡ Some s → LeadsBy link u.object j s v → Contains (symbol_references link (units_of link.objects) u j o) (refers_to u v)
+named_symbol_in link u v j o s e leads =
     let ns = units_of link.objects in
     rw e
     (elim leads [
@@ -349,7 +349,7 @@ use_in link facts u v all b =
     object_in link facts u.object z.0 (refers_to u v) z.1
     (Contains-append_left (flat_map (use_references link ns u.object) z.0.uses) _ (refers_to u v)
     (flat_in (use_references link ns u.object) z.0.uses used (refers_to u v) listed
-    (symbol_in link u v b.relocation.index (symbol_in link.objects u.object b.relocation.index) b.symbol (symbol_found link.objects u.object b.relocation.index b.object b.symbol b.here b.names) b.leads)))
+    (named_symbol_in link u v b.relocation.index (symbol_in link.objects u.object b.relocation.index) b.symbol (symbol_found link.objects u.object b.relocation.index b.object b.symbol b.here b.names) b.leads)))
 
 pub slot_in : (link : Link) (facts : List Facts) (u v : LinkUnit) → AreAllFacts link.objects facts → RefersBySlot link u v → Contains (references link (units_of link.objects) facts) (refers_to u v)
 slot_in link facts u v all b =
