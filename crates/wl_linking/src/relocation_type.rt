@@ -79,9 +79,9 @@ struct RelocationRow {
 }
 
 impl Model for RelocationRow {
-    ghost use Rattle.wl_linking.specs.RelocationRows.{RelocationRow as RelocationRow};
+    ghost use Rattle.wl_linking.specs.RelocationRows.{RelocationRow as Row};
 
-    ghost Value = { RelocationRow };
+    ghost Value = { Row };
 
     ghost view = { λ r. record {
       ty = r.ty;

@@ -76,9 +76,9 @@ struct OptionRow {
 }
 
 impl Model for OptionRow {
-    ghost use Rattle.wl_symbols.specs.Rows.{OptionRow as OptionRow};
+    ghost use Rattle.wl_symbols.specs.Rows.{OptionRow as Row};
 
-    ghost Value = { OptionRow };
+    ghost Value = { Row };
 
     ghost view = { λ r. record { name = r.name.now; takes = r.takes } };
 }
