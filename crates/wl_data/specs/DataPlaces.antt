@@ -249,8 +249,8 @@ last_stack o end =
     if o.stack_first then []
     else record { first = behind_data end; behind = stack_top end o.stack_size } ∷ []
 
--- all that is taken of the memory: by the stack, by these segments, by the word at that place, where
--- there is one, and the data ends there
+-- all that is taken of the memory: by the stack, by these segments, and by the word at that place,
+-- where there is one; the data ends there
 abbrev pub memory_ranges : DataOptions → List SegmentLayout → Option ℕ → ℕ → List AddressRange
 memory_ranges o layouts flag end =
     first_stack o ++ segment_ranges layouts ++ flag_ranges flag ++ last_stack o end
