@@ -132,9 +132,10 @@ objects_for o [] a b e f [] os p q = tt
 objects_for o [] a b e f (c ∷ cs) os p q = absurd p
 objects_for o (x ∷ objects) a b e f [] os p q = absurd p
 objects_for o (x ∷ objects) a b e f (c ∷ cs) [] p q = absurd q
-objects_for o (x ∷ objects) a b e f (c ∷ cs) (w ∷ os) p q =
-    (zip_append (HasLayout o) (filter (is_chosen (pass_over o false)) x) (filter (is_chosen (pass_over o true)) x) c w (pass_for o false x a p.0 c p.1) (pass_for o true x e q.0 w q.1),
-    objects_for o objects p.0 b q.0 f cs os p.2 q.2)
+objects_for o (x ∷ objects) a b e f (c ∷ cs) (w ∷ os) p q = (
+  zip_append (HasLayout o) (filter (is_chosen (pass_over o false)) x) (filter (is_chosen (pass_over o true)) x) c w (pass_for o false x a p.0 c p.1) (pass_for o true x e q.0 w q.1),
+  objects_for o objects p.0 b q.0 f cs os p.2 q.2,
+)
 
 pub places_for : (d : DataInput) (p : DataPlaces) → IsDataPlaces d p → AllZip (HaveLayouts d.options) d.objects p.layouts
 places_for d p h =

@@ -52,20 +52,20 @@ greatest_alignment [] = 1
 greatest_alignment (s ∷ segments) = max s.alignment (greatest_alignment segments)
 
 -- each thread has its own of it
-abbrev pub is_tls : KeptData → Bool
-is_tls s = s.tls
+abbrev pub is_thread_local : KeptData → Bool
+is_thread_local s = s.tls
 
 -- the kept segments of which each thread has its own
 abbrev pub tls_segments : DataInput → List KeptData
-tls_segments d = filter is_tls (in_one_row d.objects)
+tls_segments d = filter is_thread_local (in_one_row d.objects)
 
 -- each thread has its own of some of them
-abbrev pub any_is_tls : List KeptData → Bool
-any_is_tls segments = list_any is_tls segments
+abbrev pub any_is_thread_local : List KeptData → Bool
+any_is_thread_local segments = list_any is_thread_local segments
 
 -- each thread has its own of some kept segment
 abbrev pub has_tls : DataInput → Bool
-has_tls d = list_any any_is_tls d.objects
+has_tls d = list_any any_is_thread_local d.objects
 
 -- where those begin that stand behind the other data: at a multiple of all their alignments
 abbrev pub tls_start : DataInput → ℕ → ℕ
@@ -192,7 +192,7 @@ pub record HasLayout (o : DataOptions) (s : KeptData) (l : SegmentLayout) : Type
 
 -- an object's segments as the output has them: those that all threads have in common come first
 abbrev pub in_output_order : List KeptData → List KeptData
-in_output_order segments = filter (λ (s : KeptData). not s.tls) segments ++ filter is_tls segments
+in_output_order segments = filter (λ (s : KeptData). not s.tls) segments ++ filter is_thread_local segments
 
 -- each of them has its layout
 abbrev pub HaveLayouts : DataOptions → List KeptData → List SegmentLayout → Type 0
@@ -249,8 +249,8 @@ last_stack o end =
     if o.stack_first then []
     else record { first = behind_data end; behind = stack_top end o.stack_size } ∷ []
 
--- all that is taken of the memory: by the stack, by these segments, by the word at that place, where
--- there is one, and the data ends there
+-- all that is taken of the memory: by the stack, by these segments, and by the word at that place,
+-- where there is one; the data ends there
 abbrev pub memory_ranges : DataOptions → List SegmentLayout → Option ℕ → ℕ → List AddressRange
 memory_ranges o layouts flag end =
     first_stack o ++ segment_ranges layouts ++ flag_ranges flag ++ last_stack o end

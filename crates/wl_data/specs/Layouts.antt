@@ -102,7 +102,8 @@ is_passive pass s = not (goes_to_memory pass s) || is_shared_init pass s
 
 -- where the segment goes, 0 where it has no address
 abbrev pub output_offset : Pass → PlacedData → ℕ
-output_offset pass s = if goes_to_memory pass s.segment || goes_to_block pass s.segment then s.place else 0
+output_offset pass s =
+    if goes_to_memory pass s.segment || goes_to_block pass s.segment then s.place else 0
 
 -- where a segment of the output goes
 abbrev pub destination_of : SegmentLayout → Destination

@@ -4,7 +4,7 @@ ghost use Rattle.std.specs.Prelude.{ℕ, ◌≡◌, ◌≤◌, ◌<◌, ◌^◌,
 ghost use Rattle.std.specs.List.{AllByRecursion, list_any};
 ghost use Rattle.wl_linking.specs.Steps.{Clear, Refuses};
 ghost use Rattle.wl_data.specs.Layouts.{HasNoRoom};
-ghost use Rattle.wl_data.specs.DataPlaces.{AllCanBePlaced, in_one_row, AreObjectsLaid, GrowByObject, greatest_alignment, data_of, is_tls, any_is_tls, any_is_common, tls_start, tls_base, data_end, flag_of, pass_over, data_start, IsDataPlaces, IsPastMemory};
+ghost use Rattle.wl_data.specs.DataPlaces.{AllCanBePlaced, in_one_row, AreObjectsLaid, GrowByObject, greatest_alignment, data_of, is_thread_local, any_is_thread_local, any_is_common, tls_start, tls_base, data_end, flag_of, pass_over, data_start, IsDataPlaces, IsPastMemory};
 
 use crate::align::{align_up, past_last_address};
 use crate::layout::lay_out;
@@ -23,7 +23,7 @@ const FLAG_BYTES: u32 = 4;
 
 /// The greatest alignment of those of an object's segments of which each thread has its own.
 fn tls_alignment_of(segments: &[KeptSegment<'_>]) -> u32
-    ensures { result ≡ greatest_alignment (filter is_tls segments.now) }
+    ensures { result ≡ greatest_alignment (filter is_thread_local segments.now) }
 {
     let mut greatest = 1;
     for segment in segments {
@@ -35,7 +35,7 @@ fn tls_alignment_of(segments: &[KeptSegment<'_>]) -> u32
 /// The greatest alignment of all segments of which each thread has its own, 1 without any.
 fn tls_alignment(objects: &[ItemList<KeptSegment<'_>>]) -> u32
     ensures some { 0 < result }
-    ensures greatest { result ≡ greatest_alignment (filter is_tls (in_one_row objects.now)) }
+    ensures greatest { result ≡ greatest_alignment (filter is_thread_local (in_one_row objects.now)) }
 {
     let mut greatest = 1;
     for object in objects {
@@ -45,17 +45,17 @@ fn tls_alignment(objects: &[ItemList<KeptSegment<'_>>]) -> u32
 }
 
 /// Whether each thread has its own of one of an object's segments.
-fn any_is_tls(object: &ItemList<KeptSegment<'_>>) -> bool
-    ensures { result ≡ any_is_tls object.now }
+fn any_is_thread_local(object: &ItemList<KeptSegment<'_>>) -> bool
+    ensures { result ≡ any_is_thread_local object.now }
 {
     object.as_slice().iter().any(|segment| segment.tls)
 }
 
 /// Whether each thread has its own of some segment.
 fn has_tls(objects: &[ItemList<KeptSegment<'_>>]) -> bool
-    ensures { result ≡ list_any any_is_tls objects.now }
+    ensures { result ≡ list_any any_is_thread_local objects.now }
 {
-    objects.iter().any(|object| any_is_tls(object))
+    objects.iter().any(|object| any_is_thread_local(object))
 }
 
 /// Whether one of an object's segments has bytes in the memory that all threads have in common.

@@ -33,7 +33,8 @@ pub record Facts : Type 0 where
 -- a relocation in a unit of that kind, if it isn't against a type
 abbrev pub use_of : WasmGcUnit → WasmRelocation → Site → List SymbolUse
 use_of kind r s =
-    if names_a_type r.ty then [] else record { unit = sibling_of kind s.unit; symbol = r.index } ∷ []
+    if names_a_type r.ty then []
+    else record { unit = sibling_of kind s.unit; symbol = r.index } ∷ []
 
 -- the relocations of a section, whose fields lie in units of that kind
 abbrev pub section_uses : WasmGcUnit → List WasmRelocation → List Site → List SymbolUse

@@ -46,7 +46,9 @@ pub record AreOfOneKind (u v : LinkUnit) : Type 0 where
 
 -- of the units that exist exactly those are marked to which references of the table lead from where
 -- they begin
-pub record UnitsReached (ns : List UnitCounts) (refs : List Reference) (begins : List LinkUnit) (marks : List Bool) : Type 0 where
+pub record UnitsReached
+    (ns : List UnitCounts) (refs : List Reference) (begins : List LinkUnit) (marks : List Bool)
+    : Type 0 where
   pub only : (u : LinkUnit) → exists ns u ≡ true
       → slice_index_or marks (unit_number ns u) false ≡ true
       → IsReached (Begins ns begins) (Leads ns refs) u

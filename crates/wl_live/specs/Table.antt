@@ -27,8 +27,8 @@ use Rattle.wl_live.specs.declared.units.WasmGcUnit.TheVariants.{DefinedFunction,
 abbrev pub reference : LinkUnit → Option LinkUnit → List Reference
 reference u to = option_to_list (option_map (λ v. record { from = u; to = v }) to)
 
--- what a unit that names a symbol refers to: the symbol's unit, and that of what it stands for where
--- that is followed too
+-- what a unit that names a symbol refers to: the symbol's unit, and that of what it stands for
+-- where that is followed too
 abbrev pub symbol_references :
     Link → List UnitCounts → LinkUnit → ℕ → Option Symbol → List Reference
 symbol_references link ns u symbol None = []

@@ -122,7 +122,8 @@ fn take_body(
     ensures segments { IfOk result (λ _. NumbersAdded function body.now.bytes
         segments.old.items segments.new.items) }
     ensures fault { IfOk result (λ fault. MatchOption fault
-        ((e : ErrorRecord) → HasBodyFault file.now body.now e → ⊥) (HasBodyFault file.now body.now)) }
+        ((e : ErrorRecord) → HasBodyFault file.now body.now e → ⊥)
+        (HasBodyFault file.now body.now)) }
 {
     numbers_are_one();
     match data_index_immediates(alloc, &body.bytes) {

@@ -1,13 +1,18 @@
-//! A function that calls another, and a body that numbers a segment that isn't there.
+//! A function that calls another, and a body that numbers a segment that isn't there: what they
+//! say, and what is kept of them.
 
-ghost use Rattle.std.specs.Prelude.{◌≤◌, ◌^◌, length};
+ghost use Rattle.std.specs.Prelude.{◌≡◌, ◌≤◌, ◌<◌, ◌^◌, length};
 
 use super::*;
+use crate::object_facts::all_facts;
 use std::alloc::Global;
+use std::marker::Brand;
 use std::process::Abort;
+use std::sync::ledger::{Blank, Ledger};
 use std::test::Fail;
 use wl_linking::{FileList, LinkError, parse_wasm_module};
 use wl_module::Why;
+use wl_steps::Steps;
 use wl_symbols::{SymbolTable, WasmArgs};
 
 /// Two functions `a` and `b`, of which the first calls the second.
@@ -24,56 +29,175 @@ const DROPS: &[u8; 27] = b"\0asm\x01\0\0\0\
     \x03\x02\x01\0\
     \x0a\x07\x01\x05\0\xfc\x09\0\x0b";
 
-/// What is kept of that object under that word.
-fn collected(
-    rt: &impl Abort,
-    alloc: Global,
-    bytes: &[u8],
-    word: &str,
-) -> Result<Result<LiveSet, LinkError>, Fail>
+/// The list of that object alone.
+fn one_object<'a>(rt: &impl Abort, alloc: Global, bytes: &'a [u8]) -> Result<FileList<'a>, Fail>
     requires { length bytes.now ≤ 2 ^ 30 }
 {
     let mut files = FileList::new(alloc);
     let added = files.push(parse_wasm_module(alloc, bytes)?);
     assert!(rt; added.is_ok());
-    let mut words = Vec::new(alloc);
-    words.push(String::from_str(alloc, word)?)?;
-    let args = WasmArgs::parse(alloc, &words)?;
-    match SymbolTable::build(alloc, &files, &args) {
-        Ok(symbols) => Ok(collect_live(alloc, &files, &symbols, &args)),
-        Err(_) => panic!(rt; "no table"),
-    }
+    Ok(files)
 }
 
-#[test]
-fn what_is_called_is_kept(rt: HostRuntime) -> Result<(), Fail> {
-    let (first, second) = (
-        WasmGcUnit::DefinedFunction(0),
-        WasmGcUnit::DefinedFunction(1),
-    );
-    for (word, want) in [("--export=a", Some(0)), ("--export=b", None)] {
-        let Ok(live) = collected(&rt, rt.alloc(), CALLER, word)? else {
-            panic!(&rt; "a refusal");
-        };
-        assert_eq!(&rt; live.live_ordinal(0, first), want);
-        assert!(&rt; live.is_live(0, second));
-        assert!(&rt; !live.is_live(0, WasmGcUnit::DefinedFunction(2)));
+/// The options of that word alone.
+fn args_of(alloc: Global, word: &str) -> Result<WasmArgs, Fail> {
+    let mut words = Vec::new(alloc);
+    words.push(String::from_str(alloc, word)?)?;
+    Ok(WasmArgs::parse(alloc, &words)?)
+}
+
+/// Hands the names of that object under that word to a closure. A test that holds an object itself
+/// takes minutes to prove.
+fn look_at<F: FnOnce(&SymbolTable<'_, '_>)>(
+    rt: &impl Abort,
+    alloc: Global,
+    bytes: &[u8],
+    word: &str,
+    look: F,
+) -> Result<(), Fail>
+    requires size { length bytes.now ≤ 2 ^ 30 }
+    requires callable { F.IsAlwaysCallable look }
+{
+    let files = one_object(rt, alloc, bytes)?;
+    let args = args_of(alloc, word)?;
+    match SymbolTable::build(alloc, &files, &args) {
+        Ok(symbols) => look(&symbols),
+        Err(_) => panic!(rt; "no table"),
     }
     Ok(())
 }
 
+/// The first object tells so many uses of symbols, slots of undefined symbols, numbers of segments
+/// and faults of units.
+fn assert_said(rt: &impl Abort, alloc: Global, symbols: &SymbolTable<'_, '_>, want: [usize; 4]) {
+    let Some(file) = symbols.files().get(0) else {
+        panic!(rt; "no object");
+    };
+    let Ok(said) = facts(alloc, file) else {
+        panic!(rt; "no memory");
+    };
+    let (uses, slots) = (said.uses().len(), said.slots().len());
+    let (segments, faults) = (said.segments().len(), said.faults().len());
+    assert_eq!(rt; [uses, slots, segments, faults], want);
+}
+
+#[test]
+fn an_object_tells_what_its_units_use(rt: HostRuntime) -> Result<(), Fail> {
+    let alloc = rt.alloc();
+    look_at(&rt, alloc, CALLER, "--no-entry", |symbols| {
+        assert_said(&rt, alloc, symbols, [1, 0, 0, 0])
+    })?;
+    look_at(&rt, alloc, DROPS, "--no-entry", |symbols| {
+        assert_said(&rt, alloc, symbols, [0, 0, 1, 1])
+    })
+}
+
+/// The three ways to ask for what is kept.
+#[derive(Clone, Copy)]
+enum Way {
+    Plain,
+    Counted,
+    FromFacts,
+}
+
+/// What is kept, in steps that are counted.
+fn collect_in_steps<L: Ledger>(
+    alloc: Global,
+    symbols: &SymbolTable<'_, '_>,
+    blank: Blank,
+) -> Result<LiveSet, LinkError>
+    requires name { blank.name ≡ L.name }
+    requires parts { blank.parts ≡ L.parts }
+    requires some { 0 < blank.parts }
+{
+    let mut steps = Steps::<L>::start(blank);
+    collect_live_counted(alloc, symbols.files(), symbols, symbols.args(), &mut steps)
+}
+
+/// What is kept, asked for in that way.
+fn collect(alloc: Global, way: Way, symbols: &SymbolTable<'_, '_>) -> Result<LiveSet, LinkError> {
+    let (files, args) = (symbols.files(), symbols.args());
+    match way {
+        Way::Plain => collect_live(alloc, files, symbols, args),
+        Way::Counted => collect_in_steps::<Brand>(alloc, symbols, Blank::new(1)),
+        Way::FromFacts => {
+            let facts = all_facts(alloc, files)?;
+            collect_live_from(alloc, files, &facts, symbols, args)
+        }
+    }
+}
+
+/// Asked for in that way, what is kept has these ordinals of functions.
+fn assert_ordinals(
+    rt: &impl Abort,
+    alloc: Global,
+    way: Way,
+    symbols: &SymbolTable<'_, '_>,
+    want: [Option<u32>; 3],
+) {
+    let Ok(live) = collect(alloc, way, symbols) else {
+        panic!(rt; "a refusal");
+    };
+    let ordinal = |k: u32| live.live_ordinal(0, WasmGcUnit::DefinedFunction(k));
+    assert_eq!(rt; [ordinal(0), ordinal(1), ordinal(2)], want);
+}
+
+#[test]
+fn what_is_called_is_kept(rt: HostRuntime) -> Result<(), Fail> {
+    let alloc = rt.alloc();
+    for way in [Way::Plain, Way::Counted, Way::FromFacts] {
+        for (word, want) in [
+            ("--export=a", [Some(0), Some(1), None]),
+            ("--export=b", [None, Some(0), None]),
+        ] {
+            look_at(&rt, alloc, CALLER, word, |symbols| {
+                assert_ordinals(&rt, alloc, way, symbols, want)
+            })?;
+        }
+    }
+    Ok(())
+}
+
+/// The body's number is told as naming no segment, or nothing is.
+fn assert_bad_index(rt: &impl Abort, alloc: Global, symbols: &SymbolTable<'_, '_>, want: bool) {
+    let told = matches!(
+        collect(alloc, Way::Plain, symbols),
+        Err(LinkError::Malformed {
+            object: 0,
+            why: Why::BadIndex
+        })
+    );
+    assert_eq!(rt; told, want);
+}
+
 #[test]
 fn a_number_that_names_no_segment_is_refused(rt: HostRuntime) -> Result<(), Fail> {
-    let answer = collected(&rt, rt.alloc(), DROPS, "--no-gc-sections")?;
-    assert!(&rt;
-        matches!(
-            answer,
-            Err(LinkError::Malformed {
-                object: 0,
-                why: Why::BadIndex
-            })
-        )
+    let alloc = rt.alloc();
+    for (word, want) in [("--no-gc-sections", true), ("--gc-sections", false)] {
+        look_at(&rt, alloc, DROPS, word, |symbols| {
+            assert_bad_index(&rt, alloc, symbols, want)
+        })?;
+    }
+    Ok(())
+}
+
+/// The entry is told as missing, or it isn't.
+fn assert_missing(rt: &impl Abort, alloc: Global, symbols: &SymbolTable<'_, '_>, want: bool) {
+    let answer = check_entry(alloc, symbols);
+    assert_eq!(rt; answer.is_ok(), !want);
+    assert_eq!(rt;
+        matches!(answer, Err(LinkError::EntryNotDefined { .. })),
+        want
     );
-    assert!(&rt; collected(&rt, rt.alloc(), DROPS, "--gc-sections")?.is_ok());
+}
+
+#[test]
+fn an_entry_that_is_asked_for_is_defined(rt: HostRuntime) -> Result<(), Fail> {
+    let alloc = rt.alloc();
+    for (word, want) in [("--no-entry", false), ("-e=a", false), ("-e=c", true)] {
+        look_at(&rt, alloc, CALLER, word, |symbols| {
+            assert_missing(&rt, alloc, symbols, want)
+        })?;
+    }
     Ok(())
 }
