@@ -64,13 +64,21 @@ fn a_value_may_be_empty_or_one_part(rt: HostRuntime) -> Result<(), Fail> {
     let alloc = rt.alloc();
     let words = words_of(
         alloc,
-        &["--extra-features=a", "--extra-features=b", "--import-memory=foo", "-keep-section=c"],
+        &[
+            "--extra-features=a",
+            "--extra-features=b",
+            "--import-memory=foo",
+            "-keep-section=c",
+        ],
     )?;
     let args = WasmArgs::parse(alloc, &words)?;
     assert!(rt; args.extra_features.contains("b") && !args.extra_features.contains("a"));
     assert_eq!(rt; args.memory_import(), Some(("env", "foo")));
     assert!(rt; args.keep_sections.contains("c"));
-    let words = words_of(alloc, &["--extra-features=b", "--extra-features=", "--import-memory"])?;
+    let words = words_of(
+        alloc,
+        &["--extra-features=b", "--extra-features=", "--import-memory"],
+    )?;
     let args = WasmArgs::parse(alloc, &words)?;
     assert!(rt; args.extra_features.is_empty());
     assert_eq!(rt; args.memory_import(), Some(("env", "memory")));
