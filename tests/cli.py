@@ -25,6 +25,12 @@ passed = 0
 failed = 0
 
 
+def leb128(number):
+    """An unsigned number in its shortest form."""
+    low, rest = number & 0x7F, number >> 7
+    return bytes([low | 0x80]) + leb128(rest) if rest else bytes([low])
+
+
 def run(words, **streams):
     """Runs the program, with both streams caught unless the caller gives one."""
     streams = {"stdout": subprocess.PIPE, "stderr": subprocess.PIPE, **streams}
@@ -180,6 +186,12 @@ def runs_of(text):
     return [f"{text[:run_of.start()]}{run_of[1]}{n:02x}{text[run_of.end():]}" for n in numbers]
 
 
+def object_with_body(body):
+    """An object with one function, which has this body."""
+    section = bytes([10, len(body) + 2, 1, len(body)]) + body
+    return bytes.fromhex("0061736d01000000 01040160000003020100") + section
+
+
 def operators(folder):
     """The table of what is an operator: each row is the end of the body of an object's one function."""
     made = folder / "operators.o"
@@ -195,9 +207,7 @@ def operators(folder):
         text, answer = line.split("= ")
         for row in runs_of(text):
             body = bytes.fromhex("00fc00" + row)
-            size = len(body)
-            section = bytes([10, size + 2, 1, size]) + body
-            made.write_bytes(bytes.fromhex("0061736d01000000 01040160000003020100") + section)
+            made.write_bytes(object_with_body(body))
             out, err = (listing.replace("BODY", body.hex()), "") if answer == "ok" else ("", answer)
             kind = "Malformed" if answer in ("Body", "BadIndex") else "Unsupported"
             err = err and f"error: {kind} 0 {err}\n"
@@ -231,6 +241,49 @@ def documented_names():
         rows = table_of(FORMAT, f"| `{fault}` | {cause} |")
         explained = {name for names, text in rows if not text.startswith("not told yet") for name in names.split(", ")}
         note(f"the names of `{fault}`: {explained ^ told}", explained == told)
+
+
+def numbers_in(cell, base):
+    """The numbers of a cell, as in `0a 0b, 19 to 1b`, in that base unless 0x stands in front of them."""
+    words = re.sub(r"`[^`]*`", "", cell).replace(",", " ").split()
+    numbers = []
+    for place, word in enumerate(words):
+        if word == "to":
+            last = words[place + 1]
+            numbers += range(numbers[-1] + 1, int(last, 16 if last.startswith("0x") else base))
+        else:
+            numbers.append(int(word, 16 if word.startswith("0x") else base))
+    return numbers
+
+
+def documented_operators(folder):
+    """What docs/FORMAT.md calls an operator is decoded, with what it says stands behind it, and nothing else is."""
+    behind = {
+        "nothing": "", "the type of a block": "40", "a u32": "00", "two u32": "0000", "a list of u32": "010000",
+        "a list of value types": "017f", "the type of a block, and a list of catches": "4000",
+        "a memory argument": "0000", "a memory argument, and a byte": "000000", "an s32": "00", "an s64": "00",
+        "four bytes": "00" * 4, "eight bytes": "00" * 8, "sixteen bytes": "00" * 16, "a byte": "00",
+        "a byte that is 70 or 6f": "70",
+    }
+    told = {}
+    for cell, what in table_of(FORMAT, "| first byte | behind it |"):
+        firsts = numbers_in(cell, 16)
+        each = what.split(", ") if what.startswith(("an s32", "four")) else [what] * len(firsts)
+        told |= {bytes([first]): text for first, text in zip(firsts, each)}
+    prefix = ""
+    for first, numbers, what in table_of(FORMAT, "| first byte | number | behind it |"):
+        prefix = first or prefix
+        told |= {bytes.fromhex(prefix) + leb128(number): what for number in numbers_in(numbers, 10)}
+    made = folder / "documented.o"
+    tried = [bytes([first]) for first in range(252)] + [bytes([255])]
+    tried += [bytes([first]) + leb128(number) for first in (252, 253, 254) for number in range(0x120)]
+    for spelled in tried:
+        what = told.get(spelled, "nothing")
+        what = max((name for name in behind if what.startswith(name)), key=len)
+        made.write_bytes(object_with_body(bytes.fromhex("00fc00") + spelled + bytes.fromhex(behind[what] + "0b")))
+        line = run([*FLAGS, made]).stderr.decode()
+        refused = line.endswith((" Body\n", " Operator\n"))
+        note(f"the operator {spelled.hex()}: {line}", refused == (spelled not in told))
 
 
 def documented_options():
@@ -339,6 +392,7 @@ def main():
         rows(folder)
         operators(folder)
         documented_relocations(folder)
+        documented_operators(folder)
         compiled(folder)
         sizes(folder)
         launched(folder)
