@@ -1,0 +1,4 @@
+pub mod AdditionLaws
+pub mod PlacingLaws
+pub mod CaseLaws
+pub mod NumberLaws

@@ -1,0 +1,31 @@
+//! What callers may count on: functions with an empty body, each of which states a law of slots.
+
+ghost use Rattle.std.specs.Prelude.{◌≡◌, ℕ, List, MatchOption, Some, length, slice_get};
+ghost use Rattle.wl_module.specs.declared.imports.ExternalKind.TheVariants as External;
+ghost use Rattle.wl_linking.specs.Object.{Object};
+ghost use Rattle.wl_linking.specs.Spaces.{count_imports};
+ghost use Rattle.wl_linking.specs.declared.symbols.WasmSymbolKind.{WasmSymbolKind};
+ghost use Rattle.wl_linking.specs.declared.symbols.WasmSymbolKind.TheVariants as Symbols;
+ghost use Rattle.wl_symbols.specs.Link.{Link};
+ghost use Rattle.wl_slots.specs.ImportSlots.{ImportSlot as Slot, object_slots};
+ghost use Rattle.wl_slots.specs.SlotTargets.{slot_target};
+ghost use Rattle.wl_slots.specs.SlotCases.{IsBoundTo, IsLeft};
+
+/// An object has a slot for each function and each global that it imports, and the number of a slot
+/// is its place among those of its kind.
+pub fn slots_are_numbered()
+    ensures functions { (object : ℕ) (o : Object)
+        → length (object_slots object Symbols.Func o) ≡ count_imports External.Func o.imports }
+    ensures globals { (object : ℕ) (o : Object)
+        → length (object_slots object Symbols.Global o) ≡ count_imports External.Global o.imports }
+    ensures number { (object : ℕ) (kind : WasmSymbolKind) (o : Object) (n : ℕ) (t : Slot)
+        → slice_get (object_slots object kind o) n ≡ Some t → t.number ≡ n }
+{}
+
+/// What a slot is bound to, case by case: the definition of its kind that an undefined symbol on it
+/// stands for, where an object has it; else what the linker makes of its kind that such a symbol
+/// stands for; else what it makes of its kind that the field name stands for.
+pub fn targets_by_cases()
+    ensures { (link : Link) (t : Slot)
+        → MatchOption (slot_target link t) (IsLeft link t) (IsBoundTo link t) }
+{}
