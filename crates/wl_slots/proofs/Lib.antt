@@ -2,3 +2,4 @@ pub mod AdditionLaws
 pub mod PlacingLaws
 pub mod CaseLaws
 pub mod NumberLaws
+pub mod OneNameLaws

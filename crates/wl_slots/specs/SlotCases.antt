@@ -1,16 +1,24 @@
 -- The rules of binding by cases.
 use Rattle.std.specs.Prelude.{◌≡◌, ◌⊎◌, ℕ, true, List, Contains, Some, slice_get}
 use Rattle.wl_linking.specs.Object.{Object}
+use Rattle.wl_linking.specs.Fitting.{IsWhole}
+use Rattle.wl_linking.specs.declared.symbols.WasmSymbolKind.{WasmSymbolKind}
 use Rattle.wl_linking.specs.Symbols.{Symbol as LinkedSymbol}
 use Rattle.wl_symbols.specs.Link.{Link}
 use Rattle.wl_symbols.specs.LinkerNames.{matches_kind}
 use Rattle.wl_symbols.specs.Names.{named, def}
 use Rattle.wl_symbols.specs.declared.entry.Definition.TheVariants.{Symbol, Made as MadeName}
 use Rattle.wl_symbols.specs.declared.linker_symbol.WasmLinkerSymbol.{WasmLinkerSymbol}
-use Rattle.wl_slots.specs.ImportSlots.{ImportSlot}
+use Rattle.wl_slots.specs.ImportSlots.{ImportSlot, object_slots}
 use Rattle.wl_slots.specs.SlotTargets.{own_number, is_definition_of}
 use Rattle.wl_slots.specs.declared.targets.SlotTarget.{SlotTarget}
 use Rattle.wl_slots.specs.declared.targets.SlotTarget.TheVariants.{Defined, Made}
+
+-- a slot of that kind of a whole object of the link, which has that number
+pub record IsSlotOf (link : Link) (object : ℕ) (kind : WasmSymbolKind) (o : Object) (t : ImportSlot) : Type 0 where
+  pub here : slice_get link.objects object ≡ Some o
+  pub whole : IsWhole o
+  pub slot : Contains (object_slots object kind o) t
 
 -- an undefined symbol on the slot stands for a symbol of an object that defines the function or global of that number, of the
 -- slot's kind

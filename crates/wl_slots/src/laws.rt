@@ -9,7 +9,10 @@ ghost use Rattle.wl_linking.specs.declared.symbols.WasmSymbolKind.TheVariants as
 ghost use Rattle.wl_symbols.specs.Link.{Link};
 ghost use Rattle.wl_slots.specs.ImportSlots.{ImportSlot as Slot, object_slots};
 ghost use Rattle.wl_slots.specs.SlotTargets.{slot_target};
-ghost use Rattle.wl_slots.specs.SlotCases.{IsBoundTo, IsLeft};
+ghost use Rattle.wl_slots.specs.SlotCases.{IsSlotOf, HasDefinition, HasMadeSymbol, IsBoundTo, IsLeft};
+ghost use Rattle.wl_symbols.specs.declared.linker_symbol.WasmLinkerSymbol.{WasmLinkerSymbol};
+
+use wl_symbols::name_by_cases;
 
 /// An object has a slot for each function and each global that it imports, and the number of a slot
 /// is its place among those of its kind.
@@ -29,3 +32,19 @@ pub fn targets_by_cases()
     ensures { (link : Link) (t : Slot)
         → MatchOption (slot_target link t) (IsLeft link t) (IsBoundTo link t) }
 {}
+
+/// The symbols on a slot of an object have one name. So at most one definition and at most one
+/// thing that the linker makes is what such symbols stand for, and never both.
+pub fn slots_have_one_name()
+    ensures definition { (link : Link) (object : ℕ) (kind : WasmSymbolKind) (o : Object) (t : Slot)
+        → IsSlotOf link object kind o t → (a j b k : ℕ)
+        → HasDefinition link t a j → HasDefinition link t b k → (a ≡ b) × (j ≡ k) }
+    ensures made { (link : Link) (object : ℕ) (kind : WasmSymbolKind) (o : Object) (t : Slot)
+        → IsSlotOf link object kind o t → (m n : WasmLinkerSymbol)
+        → HasMadeSymbol link t m → HasMadeSymbol link t n → m ≡ n }
+    ensures never_both { (link : Link) (object : ℕ) (kind : WasmSymbolKind) (o : Object) (t : Slot)
+        → IsSlotOf link object kind o t → (a j : ℕ) (m : WasmLinkerSymbol)
+        → HasDefinition link t a j → HasMadeSymbol link t m → ⊥ }
+{
+    name_by_cases();
+}

@@ -63,6 +63,24 @@ fn assert_bound(
     Ok(())
 }
 
+/// The field name of each function slot of the first object, whether a symbol stands for it, and
+/// whether all that do are weak.
+fn assert_told(
+    rt: &impl Abort,
+    alloc: Global,
+    table: &SymbolTable<'_, '_>,
+    want: &[(&str, bool, bool)],
+) -> Result<(), Fail> {
+    let slots = import_slots(alloc, table, 0, WasmSymbolKind::Func)?;
+    assert_eq!(rt; slots.len(), want.len());
+    for (slot, want) in slots.iter().zip(want) {
+        assert_eq!(rt; slot.field(), want.0);
+        assert_eq!(rt; slot.has_symbols(), want.1);
+        assert_eq!(rt; slot.are_symbols_weak(table), want.2);
+    }
+    Ok(())
+}
+
 #[test]
 fn names_bind_slots(rt: HostRuntime) -> Result<(), Fail> {
     let alloc = rt.alloc();
@@ -91,17 +109,10 @@ fn slots_tell_their_symbols(rt: HostRuntime) -> Result<(), Fail> {
     let table = SymbolTable::build(alloc, &files, &args)
         .ok()
         .expect(&rt, "a table");
-    let slots = import_slots(alloc, &table, 0, WasmSymbolKind::Func)?;
     let want = [
         ("a", true, false),
         ("f", true, true),
         ("__wasm_call_ctors", false, true),
     ];
-    assert_eq!(&rt; slots.len(), want.len());
-    for (slot, want) in slots.iter().zip(want.iter()) {
-        assert_eq!(&rt; slot.field(), want.0);
-        assert_eq!(&rt; slot.has_symbols(), want.1);
-        assert_eq!(&rt; slot.are_symbols_weak(&table), want.2);
-    }
-    Ok(())
+    assert_told(&rt, alloc, &table, &want)
 }

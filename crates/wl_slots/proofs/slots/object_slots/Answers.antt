@@ -1,5 +1,4 @@
-use Rattle.std.proofs.Common.{◌≡◌, ◌∙◌, ap, sym, arith, take}
-use Rattle.wl_slots.specs.ImportSlots.{slot_imports, numbered_slots}
+use Rattle.wl_slots.specs.ImportSlots.{slot_imports}
 use Rattle.wl_slots.proofs.PlacingLaws.{slots_taken}
 use Rattle.wl_slots.proofs.slots.object_slots.Goals as goal
 
