@@ -5,7 +5,7 @@ use Rattle.std.proofs.lemmas.List.{append_assoc}
 use Rattle.wl_linking.specs.Symbols.{Symbol, is_undefined}
 use Rattle.wl_linking.specs.declared.symbols.WasmSymbolKind.{WasmSymbolKind}
 use Rattle.wl_symbols.specs.LinkerNames.{is_imported_as}
-use Rattle.wl_slots.specs.ImportSlots.{numbers_where, is_on, symbols_on}
+use Rattle.wl_slots.specs.ImportSlots.{numbers_where, is_on}
 
 -- the numbers of those that pass, with one more at the end
 pub numbers_more : {X : Type 0} (test : X → Bool) (n m : ℕ) (xs : List X) (x : X) → m ≡ n + length xs

@@ -1,6 +1,6 @@
 -- What slots are bound to, case by case.
-use Rattle.std.proofs.Common.{◌≡◌, ◌∙◌, ◌⊎◌, ℕ, zero, suc, ◌<◌, Bool, true, false, List, [], ◌∷◌, length, refl, sym, ap, arith, inl, inr, Option, Some, None, slice_get, Contains, slice_index_or}
-use Rattle.std.specs.Option.{option_or, MatchOption}
+use Rattle.std.proofs.Common.{◌≡◌, ◌∙◌, ◌⊎◌, ℕ, zero, suc, ◌<◌, true, List, [], ◌∷◌, length, refl, ap, arith, inl, inr, Option, Some, None, slice_get, Contains, slice_index_or}
+use Rattle.std.specs.Option.{MatchOption}
 use Rattle.std.proofs.lemmas.Bool.{cases_Bool}
 use Rattle.wl_linking.specs.Object.{Object}
 use Rattle.wl_linking.specs.Symbols.{Symbol as LinkedSymbol}
@@ -12,7 +12,7 @@ use Rattle.wl_symbols.specs.declared.entry.Definition.{Definition}
 use Rattle.wl_symbols.specs.declared.entry.Definition.TheVariants.{Symbol, Made as MadeName}
 use Rattle.wl_symbols.specs.declared.linker_symbol.WasmLinkerSymbol.{WasmLinkerSymbol}
 use Rattle.wl_slots.specs.ImportSlots.{ImportSlot}
-use Rattle.wl_slots.specs.SlotTargets.{first_some, own_number, is_definition_of, symbol_target, object_target, made_target, by_definition, by_symbol_name, by_field_name, slot_target}
+use Rattle.wl_slots.specs.SlotTargets.{first_some, own_number, is_definition_of, object_target, made_target, by_definition, by_symbol_name, by_field_name, slot_target}
 use Rattle.wl_slots.specs.SlotCases.{HasDefinition, HasMadeSymbol, HasMadeField, HasNoDefinition, HasNoMadeSymbol, IsBoundTo, IsLeft}
 use Rattle.wl_slots.specs.declared.targets.SlotTarget.{SlotTarget}
 use Rattle.wl_slots.specs.declared.targets.SlotTarget.TheVariants.{Defined, Made}

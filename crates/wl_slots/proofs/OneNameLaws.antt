@@ -1,5 +1,5 @@
 -- The symbols on a slot of an object have one name, and so stand for one thing.
-use Rattle.std.proofs.Common.{◌≡◌, ◌∙◌, ◌⊎◌, ℕ, zero, suc, ◌+◌, ◌<◌, ◌==◌, Bool, true, false, not, ◌&&◌, if◌then◌else◌, List, [], ◌∷◌, ◌++◌, length, refl, sym, ap, subst, arith, inl, inr, Option, Some, None, slice_get, Contains, slice_index_or, filter}
+use Rattle.std.proofs.Common.{◌≡◌, ◌∙◌, ◌⊎◌, ℕ, zero, suc, ◌+◌, ◌<◌, ◌==◌, Bool, true, false, ◌&&◌, List, [], ◌∷◌, length, refl, sym, ap, subst, arith, inl, inr, Some, slice_get, Contains, slice_index_or, filter}
 use Rattle.std.proofs.lemmas.Bool.{cases_Bool, eqb-true}
 use Rattle.std.proofs.lemmas.List.Sums.{length-filter}
 use Rattle.wl_module.specs.Imports.{Imported}
@@ -20,7 +20,6 @@ use Rattle.wl_symbols.specs.declared.linker_symbol.WasmLinkerSymbol.{WasmLinkerS
 use Rattle.wl_slots.specs.ImportSlots.{ImportSlot, numbers_where, is_on, symbols_on, numbered_slots, slot_imports, object_slots}
 use Rattle.wl_slots.specs.SlotTargets.{own_number, is_definition_of}
 use Rattle.wl_slots.specs.SlotCases.{HasDefinition, HasMadeSymbol}
-use Rattle.wl_slots.proofs.NumberLaws.{slots_length}
 
 -- ---- lists
 

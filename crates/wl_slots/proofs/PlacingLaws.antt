@@ -1,5 +1,5 @@
 -- The slots of an object, and one more symbol.
-use Rattle.std.proofs.Common.{◌≡◌, ◌∙◌, ℕ, zero, suc, ◌+◌, ◌<◌, ◌≤◌, ◌==◌, Bool, true, false, ◌&&◌, if◌then◌else◌, List, [], ◌∷◌, ◌++◌, length, refl, sym, ap, subst, arith, inl, inr, set, get_or, take, map, length-take, min}
+use Rattle.std.proofs.Common.{◌≡◌, ◌∙◌, ℕ, zero, suc, ◌+◌, ◌<◌, ◌≤◌, ◌==◌, true, false, ◌&&◌, if◌then◌else◌, List, [], ◌∷◌, ◌++◌, length, refl, sym, ap, arith, inl, inr, set, get_or, take, map, length-take}
 use Rattle.std.proofs.lemmas.Bool.{cases_Bool, eqb-true, eqb-false}
 use Rattle.std.proofs.Math.Seq.{take-suc}
 use Rattle.std.proofs.lemmas.List.{map_more}
@@ -7,7 +7,7 @@ use Rattle.wl_module.specs.Imports.{Imported}
 use Rattle.wl_linking.specs.Symbols.{Symbol, is_undefined}
 use Rattle.wl_linking.specs.declared.symbols.WasmSymbolKind.{WasmSymbolKind}
 use Rattle.wl_symbols.specs.LinkerNames.{is_imported_as}
-use Rattle.wl_slots.specs.ImportSlots.{ImportSlot, symbols_on, is_on, slot_at, numbered_slots}
+use Rattle.wl_slots.specs.ImportSlots.{ImportSlot, is_on, numbered_slots}
 use Rattle.wl_slots.specs.SlotSteps.{with_symbol, with_symbol_at}
 use Rattle.wl_slots.proofs.AdditionLaws.{numbers_with, numbers_without, on_none, on_other, on_this}
 

@@ -1,6 +1,7 @@
--- Import slots: the functions and globals that an object imports, each by its number among the imports of its kind, and the
--- undefined symbols that stand for them (object file linking, version 2, "Symbol Table Subsection").
-use Rattle.std.specs.Prelude.{ℕ, ◌+◌, ◌==◌, ◌&&◌, Bool, false, not, if◌then◌else◌, List, [], ◌∷◌, ◌++◌, length, Option, slice_get, option_map}
+-- Import slots: the functions and globals that an object imports, each by its number among the
+-- imports of its kind, and the undefined symbols that stand for them (object file linking, version
+-- 2, "Symbol Table Subsection").
+use Rattle.std.specs.Prelude.{ℕ, ◌+◌, ◌==◌, ◌&&◌, Bool, false, not, if◌then◌else◌, List, [], ◌∷◌, ◌++◌, length, slice_get}
 use Rattle.std.specs.List.{filter, list_all}
 use Rattle.std.specs.Option.{option_map_or}
 use Rattle.wl_module.specs.Imports.{Imported}
@@ -14,8 +15,8 @@ use Rattle.wl_linking.specs.declared.symbols.WasmSymbolKind.TheVariants.{Func, D
 use Rattle.wl_symbols.specs.Entries.{symbol_in}
 use Rattle.wl_symbols.specs.LinkerNames.{is_imported_as}
 
--- an import slot: of which object and of which kind, its number there, what is imported, and the numbers of the undefined
--- symbols on it
+-- an import slot: of which object and of which kind, its number there, what is imported, and the
+-- numbers of the undefined symbols on it
 pub record ImportSlot : Type 0 where
   pub object : ℕ
   pub kind : WasmSymbolKind
@@ -45,7 +46,8 @@ abbrev pub numbers_where : {X : Type 0} → (X → Bool) → ℕ → List X → 
 numbers_where test n [] = []
 numbers_where test n (x ∷ xs) = (if test x then n ∷ [] else []) ++ numbers_where test (n + 1) xs
 
--- the symbol stands for the import of that kind and number: it is undefined, of that kind, and has that number
+-- the symbol stands for the import of that kind and number: it is undefined, of that kind, and has
+-- that number
 abbrev pub is_on : WasmSymbolKind → ℕ → Symbol → Bool
 is_on kind number s = is_undefined s && is_imported_as kind s.kind && (s.index == number)
 
@@ -77,7 +79,8 @@ object_slots object kind o = numbered_slots object kind o.symbols 0 (slot_import
 
 -- the slots of that kind of the object of that number; none where there is no such object
 abbrev pub import_slots : List Object → ℕ → WasmSymbolKind → List ImportSlot
-import_slots objects object kind = option_map_or (object_slots object kind) (slice_get objects object) []
+import_slots objects object kind =
+    option_map_or (object_slots object kind) (slice_get objects object) []
 
 -- ---- facts of a slot
 
@@ -87,4 +90,5 @@ has_symbols t = not (length t.symbols == 0)
 
 -- all symbols that stand for it are weak
 abbrev pub are_symbols_weak : List Object → ImportSlot → Bool
-are_symbols_weak objects t = list_all (λ k. option_map_or is_weak (symbol_in objects t.object k) false) t.symbols
+are_symbols_weak objects t =
+    list_all (λ k. option_map_or is_weak (symbol_in objects t.object k) false) t.symbols

@@ -1,5 +1,5 @@
 -- The rules of binding by cases.
-use Rattle.std.specs.Prelude.{◌≡◌, ◌⊎◌, ℕ, true, List, Contains, Some, slice_get}
+use Rattle.std.specs.Prelude.{◌≡◌, ◌⊎◌, ℕ, true, Contains, Some, slice_get}
 use Rattle.wl_linking.specs.Object.{Object}
 use Rattle.wl_linking.specs.Fitting.{IsWhole}
 use Rattle.wl_linking.specs.declared.symbols.WasmSymbolKind.{WasmSymbolKind}
@@ -15,13 +15,14 @@ use Rattle.wl_slots.specs.declared.targets.SlotTarget.{SlotTarget}
 use Rattle.wl_slots.specs.declared.targets.SlotTarget.TheVariants.{Defined, Made}
 
 -- a slot of that kind of a whole object of the link, which has that number
-pub record IsSlotOf (link : Link) (object : ℕ) (kind : WasmSymbolKind) (o : Object) (t : ImportSlot) : Type 0 where
+pub record IsSlotOf (link : Link) (object : ℕ) (kind : WasmSymbolKind) (o : Object)
+    (t : ImportSlot) : Type 0 where
   pub here : slice_get link.objects object ≡ Some o
   pub whole : IsWhole o
   pub slot : Contains (object_slots object kind o) t
 
--- an undefined symbol on the slot stands for a symbol of an object that defines the function or global of that number, of the
--- slot's kind
+-- an undefined symbol on the slot stands for a symbol of an object that defines the function or
+-- global of that number, of the slot's kind
 pub record HasDefinition (link : Link) (t : ImportSlot) (object number : ℕ) : Type 0 where
   pub undefined : ℕ
   pub on_slot : Contains t.symbols undefined
@@ -54,12 +55,13 @@ HasNoDefinition link t = (object number : ℕ) → HasDefinition link t object n
 abbrev pub HasNoMadeSymbol : Link → ImportSlot → Type 0
 HasNoMadeSymbol link t = (m : WasmLinkerSymbol) → HasMadeSymbol link t m → ⊥
 
--- the rules bind the slot to that: an object's definition by a symbol; without one what the linker makes by a symbol; without
--- either what it makes by the field name
+-- the rules bind the slot to that: an object's definition by a symbol; without one what the linker
+-- makes by a symbol; without either what it makes by the field name
 abbrev pub IsBoundTo : Link → ImportSlot → SlotTarget → Type 0
 IsBoundTo link t (Defined object number) = HasDefinition link t object number
 IsBoundTo link t (Made m) =
-    HasNoDefinition link t × (HasMadeSymbol link t m ⊎ (HasNoMadeSymbol link t × HasMadeField link t m))
+    HasNoDefinition link t
+    × (HasMadeSymbol link t m ⊎ (HasNoMadeSymbol link t × HasMadeField link t m))
 
 -- they leave the slot
 pub record IsLeft (link : Link) (t : ImportSlot) : Type 0 where

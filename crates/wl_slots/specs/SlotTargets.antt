@@ -23,15 +23,19 @@ first_some f (x ∷ xs) = option_or (f x) (first_some f xs)
 
 -- ---- what definitions give
 
--- the number among what is defined, by an index that counts imported things first (core specification, "Indices")
+-- the number among what is defined, by an index that counts imported things first (core
+-- specification, "Indices")
 abbrev pub defined_under : ℕ → ℕ → ℕ → Option ℕ
-defined_under imports count index = if nat_lt index imports || nat_le count (index - imports) then None else Some (index - imports)
+defined_under imports count index =
+    if nat_lt index imports || nat_le count (index - imports) then None else Some (index - imports)
 
 -- the number of a function or global among those that an object defines, by its index
 abbrev pub own_number : WasmSymbolKind → Object → ℕ → Option ℕ
-own_number Func o index = defined_under (count_imports external.Func o.imports) (length o.functions) index
+own_number Func o index =
+    defined_under (count_imports external.Func o.imports) (length o.functions) index
 own_number Data o index = None
-own_number Global o index = defined_under (count_imports external.Global o.imports) (length o.globals) index
+own_number Global o index =
+    defined_under (count_imports external.Global o.imports) (length o.globals) index
 own_number Section o index = None
 own_number Event o index = None
 own_number Table o index = None
@@ -43,12 +47,16 @@ is_definition_of kind s = not (is_undefined s) && is_imported_as kind s.kind
 -- what a symbol of the object of that number defines of that kind
 abbrev pub symbol_target : WasmSymbolKind → ℕ → Object → LinkedSymbol → Option SlotTarget
 symbol_target kind object o s =
-    if is_definition_of kind s then option_map (λ n. Defined object n) (own_number kind o s.index) else None
+    if is_definition_of kind s
+    then option_map (λ n. Defined object n) (own_number kind o s.index)
+    else None
 
 -- what an object defines of that kind, where this is its definition
 abbrev pub object_target : Link → WasmSymbolKind → Definition → Option SlotTarget
 object_target link kind (Symbol object symbol) =
-    option_and_then (λ o. option_and_then (symbol_target kind object o) (slice_get o.symbols symbol)) (slice_get link.objects object)
+    option_and_then
+    (λ o. option_and_then (symbol_target kind object o) (slice_get o.symbols symbol))
+    (slice_get link.objects object)
 object_target link kind (MadeName m) = None
 
 -- what the linker makes of that kind, where this is its definition
@@ -72,7 +80,8 @@ by_field_name link t = option_and_then (made_target t.kind) (named link t.item.n
 
 -- what the first of these rules that gives something binds the slot to
 abbrev pub slot_target : Link → ImportSlot → Option SlotTarget
-slot_target link t = option_or (by_definition link t) (option_or (by_symbol_name link t) (by_field_name link t))
+slot_target link t =
+    option_or (by_definition link t) (option_or (by_symbol_name link t) (by_field_name link t))
 
 -- what they bind the slots of that kind of the object of that number to, slot by slot
 abbrev pub slot_targets : Link → ℕ → WasmSymbolKind → List (Option SlotTarget)

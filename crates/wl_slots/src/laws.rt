@@ -1,14 +1,16 @@
 //! What callers may count on: functions with an empty body, each of which states a law of slots.
 
-ghost use Rattle.std.specs.Prelude.{◌≡◌, ℕ, List, MatchOption, Some, length, slice_get};
+ghost use Rattle.std.specs.Prelude.{◌≡◌, ℕ, MatchOption, Some, true, length, slice_get};
 ghost use Rattle.wl_module.specs.declared.imports.ExternalKind.TheVariants as External;
 ghost use Rattle.wl_linking.specs.Object.{Object};
+ghost use Rattle.wl_linking.specs.Fitting.{IsWhole};
 ghost use Rattle.wl_linking.specs.Spaces.{count_imports};
+ghost use Rattle.wl_linking.specs.Symbols.{Symbol as LinkedSymbol};
 ghost use Rattle.wl_linking.specs.declared.symbols.WasmSymbolKind.{WasmSymbolKind};
 ghost use Rattle.wl_linking.specs.declared.symbols.WasmSymbolKind.TheVariants as Symbols;
 ghost use Rattle.wl_symbols.specs.Link.{Link};
 ghost use Rattle.wl_slots.specs.ImportSlots.{ImportSlot as Slot, object_slots};
-ghost use Rattle.wl_slots.specs.SlotTargets.{slot_target};
+ghost use Rattle.wl_slots.specs.SlotTargets.{own_number, is_definition_of, slot_target};
 ghost use Rattle.wl_slots.specs.SlotCases.{IsSlotOf, HasDefinition, HasMadeSymbol, IsBoundTo, IsLeft};
 ghost use Rattle.wl_symbols.specs.declared.linker_symbol.WasmLinkerSymbol.{WasmLinkerSymbol};
 
@@ -23,6 +25,13 @@ pub fn slots_are_numbered()
         → length (object_slots object Symbols.Global o) ≡ count_imports External.Global o.imports }
     ensures number { (object : ℕ) (kind : WasmSymbolKind) (o : Object) (n : ℕ) (t : Slot)
         → slice_get (object_slots object kind o) n ≡ Some t → t.number ≡ n }
+{}
+
+/// Each function or global that a whole object defines by a symbol has its number.
+pub fn definitions_have_numbers()
+    ensures { (kind : WasmSymbolKind) (o : Object) (k : ℕ) (s : LinkedSymbol)
+        → IsWhole o → slice_get o.symbols k ≡ Some s → is_definition_of kind s ≡ true
+        → (n : ℕ) × (own_number kind o s.index ≡ Some n) }
 {}
 
 /// What a slot is bound to, case by case: the definition of its kind that an undefined symbol on it

@@ -10,7 +10,9 @@ mod laws;
 mod slots;
 mod targets;
 
-pub use laws::{slots_are_numbered, slots_have_one_name, targets_by_cases};
+pub use laws::{
+    definitions_have_numbers, slots_are_numbered, slots_have_one_name, targets_by_cases,
+};
 pub use slots::{ImportSlot, import_slots};
 pub use targets::{SlotTarget, slot_target, slot_targets};
 

@@ -9,8 +9,8 @@ use std::test::Fail;
 use wl_linking::{FileList, WasmSymbolKind, parse_wasm_module};
 use wl_symbols::{SymbolTable, WasmArgs, WasmLinkerSymbol};
 
-/// Imports: the function `a`; the global `__stack_pointer`; the function `f`, to which a weak symbol
-/// gives the name `b`; and the function `__wasm_call_ctors`, without a symbol.
+/// Imports: the function `a`; the global `__stack_pointer`; the function `f`, to which a weak
+/// symbol gives the name `b`; and the function `__wasm_call_ctors`, without a symbol.
 const IMPORTS: &[u8; 97] = b"\0asm\x01\0\0\0\
     \x01\x04\x01\x60\0\0\
     \x02\x38\x04\x01e\x01a\0\0\x01e\x0f__stack_pointer\x03\x7f\x01\

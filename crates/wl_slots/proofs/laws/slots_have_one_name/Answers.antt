@@ -1,4 +1,3 @@
-use Rattle.std.proofs.Common.{◌≡◌}
 use Rattle.wl_slots.proofs.OneNameLaws.{one_definition, one_made, never_both}
 use Rattle.wl_slots.proofs.laws.slots_have_one_name.Goals as goal
 
