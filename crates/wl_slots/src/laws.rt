@@ -9,10 +9,10 @@ ghost use Rattle.wl_linking.specs.Symbols.{Symbol as LinkedSymbol};
 ghost use Rattle.wl_linking.specs.declared.symbols.WasmSymbolKind.{WasmSymbolKind};
 ghost use Rattle.wl_linking.specs.declared.symbols.WasmSymbolKind.TheVariants as Symbols;
 ghost use Rattle.wl_symbols.specs.Link.{Link};
+ghost use Rattle.wl_symbols.specs.declared.linker_symbol.WasmLinkerSymbol.{WasmLinkerSymbol};
 ghost use Rattle.wl_slots.specs.ImportSlots.{ImportSlot as Slot, object_slots};
 ghost use Rattle.wl_slots.specs.SlotTargets.{own_number, is_definition_of, slot_target};
 ghost use Rattle.wl_slots.specs.SlotCases.{IsSlotOf, HasDefinition, HasMadeSymbol, IsBoundTo, IsLeft};
-ghost use Rattle.wl_symbols.specs.declared.linker_symbol.WasmLinkerSymbol.{WasmLinkerSymbol};
 
 use wl_symbols::name_by_cases;
 

@@ -1,17 +1,17 @@
 //! Import slots, and the undefined symbols that stand for them.
 
-ghost use Rattle.std.specs.Prelude.{◌≡◌, ◌<◌, ◌≤◌, ◌^◌, ◌∷◌, ◌++◌, [], length, IfOk, OnOk, if◌then◌else◌, ◌&&◌, slice_get, option_map, false};
+ghost use Rattle.std.specs.Prelude.{◌≡◌, [], IfOk, OnOk, if◌then◌else◌, ◌&&◌, option_map, false};
 ghost use Rattle.std.specs.Option.{option_map_or};
 ghost use Rattle.wl_linking.specs.Symbols.{is_undefined, is_weak};
 ghost use Rattle.wl_symbols.specs.Entries.{symbol_in};
 ghost use Rattle.wl_symbols.specs.LinkerNames.{is_imported_as};
-ghost use Rattle.wl_slots.specs.ImportSlots.{is_slot_of, slot_imports, is_on, numbered_slots, object_slots, import_slots, has_symbols, are_symbols_weak};
+ghost use Rattle.wl_slots.specs.ImportSlots.{is_slot_of, slot_imports, numbered_slots, object_slots, import_slots, has_symbols, are_symbols_weak};
 ghost use Rattle.wl_slots.specs.SlotSteps.{with_symbol, with_symbol_at};
 
 use std::alloc::{AllocError, Global};
 use std::marker::Model;
 use wl_linking::{File, ItemList, WasmSymbol, WasmSymbolKind};
-use wl_module::{ExternalKind, Import, ImportEntity};
+use wl_module::{Import, ImportEntity};
 use wl_symbols::SymbolTable;
 
 /// An import slot: a function or global that an object imports, with the undefined symbols that

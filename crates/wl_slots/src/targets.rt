@@ -1,7 +1,6 @@
 //! What import slots are bound to by what names stand for, whatever is kept.
 
-ghost use Rattle.std.specs.Prelude.{◌≡◌, ◌++◌, IfOk, length, map};
-ghost use Rattle.wl_linking.specs.Object.{Object};
+ghost use Rattle.std.specs.Prelude.{◌≡◌, IfOk};
 ghost use Rattle.wl_symbols.specs.Names.{def};
 ghost use Rattle.wl_slots.specs.SlotTargets.{defined_under, own_number, is_definition_of, symbol_target, object_target, made_target, by_definition, by_symbol_name, by_field_name, slot_target, slot_targets};
 

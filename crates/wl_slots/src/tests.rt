@@ -1,6 +1,6 @@
 //! The slots of an object, and what names bind them to.
 
-ghost use Rattle.std.specs.Prelude.{◌≡◌, ◌≤◌, ◌^◌, length};
+ghost use Rattle.std.specs.Prelude.{◌≤◌, ◌^◌, length};
 
 use super::*;
 use std::alloc::Global;
