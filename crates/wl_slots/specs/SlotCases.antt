@@ -15,7 +15,7 @@ use Rattle.wl_slots.specs.declared.targets.SlotTarget.{SlotTarget}
 use Rattle.wl_slots.specs.declared.targets.SlotTarget.TheVariants.{Defined, Made}
 
 -- a slot of that kind of a whole object of the link, which has that number
-pub record IsSlotOf (link : Link) (object : ℕ) (kind : WasmSymbolKind) (o : Object)
+pub record IsObjectSlot (link : Link) (object : ℕ) (kind : WasmSymbolKind) (o : Object)
     (t : ImportSlot) : Type 0 where
   pub here : slice_get link.objects object ≡ Some o
   pub whole : IsWhole o

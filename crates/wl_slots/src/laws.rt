@@ -12,7 +12,7 @@ ghost use Rattle.wl_symbols.specs.Link.{Link};
 ghost use Rattle.wl_symbols.specs.declared.linker_symbol.WasmLinkerSymbol.{WasmLinkerSymbol};
 ghost use Rattle.wl_slots.specs.ImportSlots.{ImportSlot as Slot, object_slots};
 ghost use Rattle.wl_slots.specs.SlotTargets.{own_number, is_definition_of, slot_target};
-ghost use Rattle.wl_slots.specs.SlotCases.{IsSlotOf, HasDefinition, HasMadeSymbol, IsBoundTo, IsLeft};
+ghost use Rattle.wl_slots.specs.SlotCases.{IsObjectSlot, HasDefinition, HasMadeSymbol, IsBoundTo, IsLeft};
 
 use wl_symbols::name_by_cases;
 
@@ -46,13 +46,13 @@ pub fn targets_by_cases()
 /// thing that the linker makes is what such symbols stand for, and never both.
 pub fn slots_have_one_name()
     ensures definition { (link : Link) (object : ℕ) (kind : WasmSymbolKind) (o : Object) (t : Slot)
-        → IsSlotOf link object kind o t → (a j b k : ℕ)
+        → IsObjectSlot link object kind o t → (a j b k : ℕ)
         → HasDefinition link t a j → HasDefinition link t b k → (a ≡ b) × (j ≡ k) }
     ensures made { (link : Link) (object : ℕ) (kind : WasmSymbolKind) (o : Object) (t : Slot)
-        → IsSlotOf link object kind o t → (m n : WasmLinkerSymbol)
+        → IsObjectSlot link object kind o t → (m n : WasmLinkerSymbol)
         → HasMadeSymbol link t m → HasMadeSymbol link t n → m ≡ n }
     ensures never_both { (link : Link) (object : ℕ) (kind : WasmSymbolKind) (o : Object) (t : Slot)
-        → IsSlotOf link object kind o t → (a j : ℕ) (m : WasmLinkerSymbol)
+        → IsObjectSlot link object kind o t → (a j : ℕ) (m : WasmLinkerSymbol)
         → HasDefinition link t a j → HasMadeSymbol link t m → ⊥ }
 {
     name_by_cases();
