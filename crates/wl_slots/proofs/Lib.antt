@@ -1,0 +1,5 @@
+pub mod AdditionLaws
+pub mod PlacingLaws
+pub mod CaseLaws
+pub mod NumberLaws
+pub mod OneNameLaws

@@ -1,0 +1,4 @@
+pub mod ImportSlots
+pub mod SlotSteps
+pub mod SlotTargets
+pub mod SlotCases

@@ -1,0 +1,59 @@
+//! What callers may count on: functions with an empty body, each of which states a law of slots.
+
+ghost use Rattle.std.specs.Prelude.{◌≡◌, ℕ, MatchOption, Some, true, length, slice_get};
+ghost use Rattle.wl_module.specs.declared.imports.ExternalKind.TheVariants as External;
+ghost use Rattle.wl_linking.specs.Object.{Object};
+ghost use Rattle.wl_linking.specs.Fitting.{IsWhole};
+ghost use Rattle.wl_linking.specs.Spaces.{count_imports};
+ghost use Rattle.wl_linking.specs.Symbols.{Symbol as LinkedSymbol};
+ghost use Rattle.wl_linking.specs.declared.symbols.WasmSymbolKind.{WasmSymbolKind};
+ghost use Rattle.wl_linking.specs.declared.symbols.WasmSymbolKind.TheVariants as Symbols;
+ghost use Rattle.wl_symbols.specs.Link.{Link};
+ghost use Rattle.wl_symbols.specs.declared.linker_symbol.WasmLinkerSymbol.{WasmLinkerSymbol};
+ghost use Rattle.wl_slots.specs.ImportSlots.{ImportSlot as Slot, object_slots};
+ghost use Rattle.wl_slots.specs.SlotTargets.{own_number, is_definition_of, slot_target};
+ghost use Rattle.wl_slots.specs.SlotCases.{IsObjectSlot, HasDefinition, HasMadeSymbol, IsBoundTo, IsLeft};
+
+use wl_symbols::name_by_cases;
+
+/// An object has a slot for each function and each global that it imports, and the number of a slot
+/// is its place among those of its kind.
+pub fn slots_are_numbered()
+    ensures functions { (object : ℕ) (o : Object)
+        → length (object_slots object Symbols.Func o) ≡ count_imports External.Func o.imports }
+    ensures globals { (object : ℕ) (o : Object)
+        → length (object_slots object Symbols.Global o) ≡ count_imports External.Global o.imports }
+    ensures number { (object : ℕ) (kind : WasmSymbolKind) (o : Object) (n : ℕ) (t : Slot)
+        → slice_get (object_slots object kind o) n ≡ Some t → t.number ≡ n }
+{}
+
+/// Each function or global that a whole object defines by a symbol has its number.
+pub fn definitions_have_numbers()
+    ensures { (kind : WasmSymbolKind) (o : Object) (k : ℕ) (s : LinkedSymbol)
+        → IsWhole o → slice_get o.symbols k ≡ Some s → is_definition_of kind s ≡ true
+        → (n : ℕ) × (own_number kind o s.index ≡ Some n) }
+{}
+
+/// What a slot is bound to, case by case: the definition of its kind that an undefined symbol on it
+/// stands for, where an object has it; else what the linker makes of its kind that such a symbol
+/// stands for; else what it makes of its kind that the field name stands for.
+pub fn targets_by_cases()
+    ensures { (link : Link) (t : Slot)
+        → MatchOption (slot_target link t) (IsLeft link t) (IsBoundTo link t) }
+{}
+
+/// The symbols on a slot of an object have one name. So at most one definition and at most one
+/// thing that the linker makes is what such symbols stand for, and never both.
+pub fn slots_have_one_name()
+    ensures definition { (link : Link) (object : ℕ) (kind : WasmSymbolKind) (o : Object) (t : Slot)
+        → IsObjectSlot link object kind o t → (a j b k : ℕ)
+        → HasDefinition link t a j → HasDefinition link t b k → (a ≡ b) × (j ≡ k) }
+    ensures made { (link : Link) (object : ℕ) (kind : WasmSymbolKind) (o : Object) (t : Slot)
+        → IsObjectSlot link object kind o t → (m n : WasmLinkerSymbol)
+        → HasMadeSymbol link t m → HasMadeSymbol link t n → m ≡ n }
+    ensures never_both { (link : Link) (object : ℕ) (kind : WasmSymbolKind) (o : Object) (t : Slot)
+        → IsObjectSlot link object kind o t → (a j : ℕ) (m : WasmLinkerSymbol)
+        → HasDefinition link t a j → HasMadeSymbol link t m → ⊥ }
+{
+    name_by_cases();
+}

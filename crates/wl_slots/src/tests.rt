@@ -1,0 +1,118 @@
+//! The slots of an object, and what names bind them to.
+
+ghost use Rattle.std.specs.Prelude.{◌≤◌, ◌^◌, length};
+
+use super::*;
+use std::alloc::Global;
+use std::process::Abort;
+use std::test::Fail;
+use wl_linking::{FileList, WasmSymbolKind, parse_wasm_module};
+use wl_symbols::{SymbolTable, WasmArgs, WasmLinkerSymbol};
+
+/// Imports: the function `a`; the global `__stack_pointer`; the function `f`, to which a weak
+/// symbol gives the name `b`; and the function `__wasm_call_ctors`, without a symbol.
+const IMPORTS: &[u8; 97] = b"\0asm\x01\0\0\0\
+    \x01\x04\x01\x60\0\0\
+    \x02\x38\x04\x01e\x01a\0\0\x01e\x0f__stack_pointer\x03\x7f\x01\
+    \x01e\x01f\0\0\x01e\x11__wasm_call_ctors\0\0\
+    \0\x17\x07linking\x02\x08\x0c\x03\0\x10\0\x02\x10\0\0\x51\x01\x01b";
+
+/// A function `a`, behind one that is imported.
+const DEFINES: &[u8; 52] = b"\0asm\x01\0\0\0\
+    \x01\x04\x01\x60\0\0\
+    \x02\x07\x01\x01e\x01z\0\0\
+    \x03\x02\x01\0\
+    \x0a\x04\x01\x02\0\x0b\
+    \0\x11\x07linking\x02\x08\x06\x01\0\0\x01\x01a";
+
+/// Puts one more object behind the others.
+fn add<'a>(
+    rt: &impl Abort,
+    alloc: Global,
+    files: &mut FileList<'a>,
+    bytes: &'a [u8],
+) -> Result<(), Fail>
+    requires { length bytes.now ≤ 2 ^ 30 }
+{
+    let added = files.push(parse_wasm_module(alloc, bytes)?);
+    assert!(rt; added.is_ok());
+    Ok(())
+}
+
+/// The two objects of these tests.
+fn two_objects<'a>(rt: &impl Abort, alloc: Global) -> Result<FileList<'a>, Fail> {
+    let mut files = FileList::new(alloc);
+    add(rt, alloc, &mut files, IMPORTS)?;
+    add(rt, alloc, &mut files, DEFINES)?;
+    Ok(files)
+}
+
+/// What each slot of a kind of the first object is bound to.
+fn assert_bound(
+    rt: &impl Abort,
+    alloc: Global,
+    table: &SymbolTable<'_, '_>,
+    kind: WasmSymbolKind,
+    want: &[Option<SlotTarget>],
+) -> Result<(), Fail> {
+    let targets = slot_targets(alloc, table, 0, kind)?;
+    assert_eq!(rt; targets.as_slice().len(), want.len());
+    for (target, want) in targets.as_slice().iter().zip(want) {
+        assert_eq!(rt; *target, *want);
+    }
+    Ok(())
+}
+
+/// The field name of each function slot of the first object, whether a symbol stands for it, and
+/// whether all that do are weak.
+fn assert_told(
+    rt: &impl Abort,
+    alloc: Global,
+    table: &SymbolTable<'_, '_>,
+    want: &[(&str, bool, bool)],
+) -> Result<(), Fail> {
+    let slots = import_slots(alloc, table, 0, WasmSymbolKind::Func)?;
+    assert_eq!(rt; slots.len(), want.len());
+    for (slot, want) in slots.iter().zip(want) {
+        assert_eq!(rt; slot.field(), want.0);
+        assert_eq!(rt; slot.has_symbols(), want.1);
+        assert_eq!(rt; slot.are_symbols_weak(table), want.2);
+    }
+    Ok(())
+}
+
+#[test]
+fn names_bind_slots(rt: HostRuntime) -> Result<(), Fail> {
+    let alloc = rt.alloc();
+    let files = two_objects(&rt, alloc)?;
+    let args = WasmArgs::parse(alloc, &Vec::new(alloc))?;
+    let table = SymbolTable::build(alloc, &files, &args)
+        .ok()
+        .expect(&rt, "a table");
+    let defined = Some(SlotTarget::Defined {
+        object: 1,
+        number: 0,
+    });
+    let constructors = Some(SlotTarget::Made(WasmLinkerSymbol::CallCtors));
+    let stack_pointer = Some(SlotTarget::Made(WasmLinkerSymbol::StackPointer));
+    let functions = [defined, None, constructors];
+    assert_bound(&rt, alloc, &table, WasmSymbolKind::Func, &functions)?;
+    assert_bound(&rt, alloc, &table, WasmSymbolKind::Global, &[stack_pointer])?;
+    assert_bound(&rt, alloc, &table, WasmSymbolKind::Table, &[])
+}
+
+#[test]
+fn slots_tell_their_symbols(rt: HostRuntime) -> Result<(), Fail> {
+    let alloc = rt.alloc();
+    let files = two_objects(&rt, alloc)?;
+    let args = WasmArgs::parse(alloc, &Vec::new(alloc))?;
+    let table = SymbolTable::build(alloc, &files, &args)
+        .ok()
+        .expect(&rt, "a table");
+    let want = [
+        ("a", true, false),
+        ("f", true, true),
+        ("__wasm_call_ctors", false, true),
+    ];
+    assert_told(&rt, alloc, &table, &want)
+}
