@@ -51,6 +51,7 @@ error_line (error.SharedMemoryFeature need) = refusal_line (codes "SharedMemoryF
 error_line (error.FeatureConflict object feature) = refusal_line (codes "FeatureConflict") (object_text object (quoted feature))
 error_line (error.EntryNotDefined name) = refusal_line (codes "EntryNotDefined") (name_text name [])
 error_line (error.WrongKind object symbol) = refusal_line (codes "WrongKind") (numbers_text (object ∷ symbol ∷ []))
+error_line (error.SignatureMismatch object symbol) = refusal_line (codes "SignatureMismatch") (numbers_text (object ∷ symbol ∷ []))
 error_line (error.UndefinedSymbols symbols) = refusal_line (codes "UndefinedSymbols") (flat_map undefined_text symbols)
 error_line (error.ConflictingTypes name first_object first_slot second_object second_slot) = refusal_line (codes "ConflictingTypes") (pair_text name (first_object, first_slot) (second_object, second_slot))
 error_line (error.BadStackSize size) = refusal_line (codes "BadStackSize") (numbers_text (size ∷ []))

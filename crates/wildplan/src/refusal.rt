@@ -220,6 +220,11 @@ pub fn error_text(alloc: Global, error: &LinkError) -> Result<Vec<u8>, AllocErro
         LinkError::WrongKind { object, symbol } => {
             numbers_line(alloc, "WrongKind", &[*object as u64, u64::from(*symbol)])
         }
+        LinkError::SignatureMismatch { object, symbol } => numbers_line(
+            alloc,
+            "SignatureMismatch",
+            &[*object as u64, u64::from(*symbol)],
+        ),
         LinkError::UndefinedSymbols(symbols) => undefined_line(alloc, symbols.as_slice()),
         LinkError::BadStackSize(size) => {
             numbers_line(alloc, "BadStackSize", &[u64::from(*size)])

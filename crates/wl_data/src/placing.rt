@@ -35,7 +35,8 @@ fn tls_alignment_of(segments: &[KeptSegment<'_>]) -> u32
 /// The greatest alignment of all segments of which each thread has its own, 1 without any.
 fn tls_alignment(objects: &[ItemList<KeptSegment<'_>>]) -> u32
     ensures some { 0 < result }
-    ensures greatest { result ≡ greatest_alignment (filter is_thread_local (in_one_row objects.now)) }
+    ensures greatest { let all = filter is_thread_local (in_one_row objects.now) in
+        result ≡ greatest_alignment all }
 {
     let mut greatest = 1;
     for object in objects {

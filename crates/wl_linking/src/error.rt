@@ -97,6 +97,11 @@ pub enum LinkError {
         object: usize,
         symbol: u32,
     },
+    /// The symbol stands for a function of another type than the one under which it is known.
+    SignatureMismatch {
+        object: usize,
+        symbol: u32,
+    },
     /// Nothing defines these names.
     UndefinedSymbols(ItemList<UndefinedSymbol>),
     /// Two imports of one name have different types.

@@ -1,25 +1,12 @@
 //! The units of what symbols and names stand for.
 
-ghost use Rattle.std.specs.Prelude.{◌≡◌, option_map};
-ghost use Rattle.wl_symbols.specs.Entries.{symbol_in};
+ghost use Rattle.std.specs.Prelude.{◌≡◌};
 ghost use Rattle.wl_live.specs.Definitions.{unit_at, defined_unit, definition_unit, definition_at, other_unit, named_unit, gives_way, is_replaceable, replacing_unit};
 
 use crate::numbers::UnitNumbers;
 use crate::units::{LinkUnit, unit_in};
 use wl_linking::{WasmSymbol, WasmSymbolKind};
 use wl_symbols::{Definition, SymbolTable};
-
-/// The symbol of that number in the object of that number.
-pub(crate) fn find_symbol<'t, 'a>(
-    symbols: &'t SymbolTable<'_, 'a>,
-    object: usize,
-    symbol: u32,
-) -> Option<&'t WasmSymbol<'a>>
-    ensures { option_map (λ s. s.now) result ≡ symbol_in symbols.now.objects object symbol }
-{
-    let file = symbols.files().get(object)?;
-    file.symbols().get(symbol as usize)
-}
 
 /// The unit of a symbol, with its object.
 pub(crate) fn unit_at(
@@ -54,7 +41,7 @@ fn definition_unit(
 {
     match definition {
         Definition::Symbol { object, symbol } => {
-            defined_unit(numbers, object, find_symbol(symbols, object, symbol)?)
+            defined_unit(numbers, object, symbols.symbol(object, symbol)?)
         }
         Definition::Made(_) => None,
     }

@@ -4,7 +4,6 @@ ghost use Rattle.std.specs.Prelude.{◌≡◌, OnOk, IfErr};
 ghost use Rattle.wl_linking.specs.Steps.{Clear, Refuses};
 ghost use Rattle.wl_live.specs.Entry.{is_function_kind, is_defined_function, gives_function, IsEntryFault};
 
-use crate::definitions::find_symbol;
 use std::alloc::Global;
 use wl_linking::{LinkError, Text, WasmSymbol, WasmSymbolKind};
 use wl_symbols::{Definition, SymbolTable};
@@ -36,7 +35,7 @@ fn gives_function(symbols: &SymbolTable<'_, '_>, definition: Option<Definition>)
 {
     match definition {
         Some(Definition::Symbol { object, symbol }) => {
-            match find_symbol(symbols, object, symbol) {
+            match symbols.symbol(object, symbol) {
                 Some(symbol) => is_defined_function(symbol),
                 None => false,
             }

@@ -3,7 +3,7 @@
 ghost use Rattle.std.specs.Prelude.{◌≡◌, ◌++◌, IfOk, OnOk, map, flat_map};
 ghost use Rattle.wl_live.specs.Table.{reference, user_of, use_references, slot_references, segment_reference, object_references, references_from, references};
 
-use crate::definitions::{find_symbol, other_unit, replacing_unit, unit_at};
+use crate::definitions::{other_unit, replacing_unit, unit_at};
 use crate::numbers::UnitNumbers;
 use crate::object_facts::{ObjectFacts, SegmentUse, SymbolUse};
 use crate::units::{LinkUnit, WasmGcUnit};
@@ -52,7 +52,7 @@ fn push_use(
     ensures { OnOk result (list.new.items
         ≡ list.old.items ++ use_references symbols.now numbers.now object used) }
 {
-    let Some(symbol) = find_symbol(symbols, object, used.symbol) else {
+    let Some(symbol) = symbols.symbol(object, used.symbol) else {
         return Ok(());
     };
     let from = user_of(object, used);

@@ -10,7 +10,7 @@ ghost use Rattle.wl_live.specs.Definitions.{unit_at, other_unit};
 ghost use Rattle.wl_live.specs.Roots.{export_unit, is_kept_symbol, is_itself, is_exportable, is_candidate, is_root_symbol};
 ghost use Rattle.wl_live.specs.Table.{placed, export_roots, symbol_roots, init_root, init_roots, object_roots, roots_from, forced_roots, entry_unit, roots};
 
-use crate::definitions::{definition_at, find_symbol, named_unit, other_unit, unit_at};
+use crate::definitions::{definition_at, named_unit, other_unit, unit_at};
 use crate::numbers::UnitNumbers;
 use crate::units::{LinkUnit, UnitCounts, WasmGcUnit, defined, imported};
 use bitflags::Flags;
@@ -241,7 +241,7 @@ fn push_init(
         ++ init_root symbols.now numbers.now object number
         (symbol_in symbols.now.objects object number)) }
 {
-    let Some(symbol) = find_symbol(symbols, object, number) else {
+    let Some(symbol) = symbols.symbol(object, number) else {
         return Ok(());
     };
     push_unit(list, unit_at(numbers, object, symbol))?;

@@ -2,6 +2,7 @@ pub mod Error
 pub mod Outcome
 pub mod Lists
 pub mod Types
+pub mod SameType
 pub mod Slices
 pub mod Bodies
 pub mod Chains

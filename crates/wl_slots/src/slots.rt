@@ -1,6 +1,6 @@
 //! Import slots, and the undefined symbols that stand for them.
 
-ghost use Rattle.std.specs.Prelude.{◌≡◌, [], IfOk, OnOk, if◌then◌else◌, ◌&&◌, option_map, false};
+ghost use Rattle.std.specs.Prelude.{◌≡◌, [], IfOk, OnOk, if◌then◌else◌, ◌&&◌, false};
 ghost use Rattle.std.specs.Option.{option_map_or};
 ghost use Rattle.wl_linking.specs.Symbols.{is_undefined, is_weak};
 ghost use Rattle.wl_symbols.specs.Entries.{symbol_in};
@@ -119,23 +119,11 @@ impl<'f, 'a> ImportSlot<'f, 'a> {
     }
 }
 
-/// The symbol of that number in the object of that number.
-pub(crate) fn find_symbol<'t, 'a>(
-    table: &'t SymbolTable<'_, 'a>,
-    object: usize,
-    symbol: u32,
-) -> Option<&'t WasmSymbol<'a>>
-    ensures { option_map (λ s. s.now) result ≡ symbol_in table.now.objects object symbol }
-{
-    let file = table.files().get(object)?;
-    file.symbols().get(symbol as usize)
-}
-
 /// Whether there is a symbol of those numbers, and it is weak.
 fn is_weak_at(table: &SymbolTable<'_, '_>, object: usize, symbol: u32) -> bool
     ensures { result ≡ option_map_or is_weak (symbol_in table.now.objects object symbol) false }
 {
-    match find_symbol(table, object, symbol) {
+    match table.symbol(object, symbol) {
         None => false,
         Some(symbol) => symbol.is_weak(),
     }

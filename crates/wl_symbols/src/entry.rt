@@ -18,7 +18,7 @@ pub(crate) struct Place {
 }
 
 /// What a name or a symbol stands for.
-#[derive(Clone, Copy, Debug, PartialEq, Eq)]
+#[derive(Clone, Copy, Debug, PartialEq, Eq, Hash)]
 pub enum Definition {
     /// The symbol of that number in the object of that number.
     Symbol { object: usize, symbol: u32 },

@@ -56,7 +56,7 @@ fn row(name: &'static str, kind: WasmSymbolKind, under: MadeUnder) -> LinkerRow
 }
 
 /// A name that the linker makes, where no object defines it.
-#[derive(Clone, Copy, Debug, PartialEq, Eq)]
+#[derive(Clone, Copy, Debug, PartialEq, Eq, Hash)]
 pub enum WasmLinkerSymbol {
     /// The end of the data.
     DataEnd,

@@ -1,6 +1,6 @@
 //! Which definition each name has.
 
-ghost use Rattle.std.specs.Prelude.{◌≡◌, ◌↔◌, ◌+◌, ◌*◌, ◌<◌, ◌≤◌, IfOk, OnOk, IfErr, IsTrue, IsSome, is_some};
+ghost use Rattle.std.specs.Prelude.{◌≡◌, ◌↔◌, ◌+◌, ◌*◌, ◌<◌, ◌≤◌, IfOk, OnOk, IfErr, IsTrue, IsSome, is_some, option_map};
 ghost use Rattle.wl_linking.specs.Steps.{Clear, Refuses};
 ghost use Rattle.wl_symbols.specs.Link.{link_of};
 ghost use Rattle.wl_symbols.specs.Entries.{symbol_in, symbol_count};
@@ -134,6 +134,14 @@ impl<'f, 'a> SymbolTable<'f, 'a> {
             return itself;
         }
         self.lookup(symbol.name).unwrap_or(itself)
+    }
+
+    /// The symbol of that number in the object of that number, if there is one.
+    pub fn symbol(&self, object: usize, symbol: u32) -> Option<&'f WasmSymbol<'a>>
+        ensures { option_map (λ s. s.now) result ≡ symbol_in self.now.objects object symbol }
+    {
+        let file = self.files.get(object)?;
+        file.symbols().get(symbol as usize)
     }
 
     /// Whether there is a symbol of that number in an object of that number.
