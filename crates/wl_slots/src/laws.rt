@@ -1,6 +1,7 @@
 //! What callers may count on: functions with an empty body, each of which states a law of slots.
 
-ghost use Rattle.std.specs.Prelude.{◌≡◌, ℕ, MatchOption, Some, true, length, slice_get};
+ghost use Rattle.std.specs.Prelude.{◌≡◌, ℕ, List, MatchOption, Some, is_some, true, length, map, slice_get};
+ghost use Rattle.std.specs.List.{Contains};
 ghost use Rattle.wl_module.specs.declared.imports.ExternalKind.TheVariants as External;
 ghost use Rattle.wl_linking.specs.Object.{Object};
 ghost use Rattle.wl_linking.specs.Fitting.{IsWhole};
@@ -13,6 +14,7 @@ ghost use Rattle.wl_symbols.specs.declared.linker_symbol.WasmLinkerSymbol.{WasmL
 ghost use Rattle.wl_slots.specs.ImportSlots.{ImportSlot as Slot, object_slots};
 ghost use Rattle.wl_slots.specs.SlotTargets.{own_number, is_definition_of, slot_target};
 ghost use Rattle.wl_slots.specs.SlotCases.{IsObjectSlot, HasDefinition, HasMadeSymbol, IsBoundTo, IsLeft};
+ghost use Rattle.wl_slots.specs.Left.{same_field, same_import, first_like, is_stub, stubs, first_imports, first_slot, place_of_name, place_of_import};
 
 use wl_symbols::name_by_cases;
 
@@ -57,3 +59,35 @@ pub fn slots_have_one_name()
 {
     name_by_cases();
 }
+
+/// A slot is a stub's exactly where its field name has a place among the stubs, and there stands
+/// the first stub slot of that name.
+pub fn stubs_are_found_by_name()
+    ensures told { (objects : List Object) (slots : List Slot) (t : Slot) → Contains slots t
+        → is_stub objects slots t
+        ≡ is_some (place_of_name t.item.name (map first_slot (stubs objects slots))) }
+    ensures place { (objects : List Object) (slots : List Slot) (t : Slot) (p : ℕ)
+        → place_of_name t.item.name (map first_slot (stubs objects slots)) ≡ Some p
+        → slice_get (map first_slot (stubs objects slots)) p
+        ≡ Some (first_slot (first_like same_field (stubs objects slots) t)) }
+{}
+
+/// Each of the slots has a place among the host imports by its module and field name, and there
+/// stands the first slot of those names.
+pub fn host_imports_are_found()
+    ensures { (slots : List Slot) (t : Slot) → Contains slots t
+        → (p : ℕ)
+        × (place_of_import t.item.origin t.item.name (map first_slot (first_imports slots)) ≡ Some p)
+        × (slice_get (map first_slot (first_imports slots)) p
+        ≡ Some (first_slot (first_like same_import (first_imports slots) t))) }
+{}
+
+/// No two stubs have one field name, and no two host imports one module and field name.
+pub fn imports_stand_once()
+    ensures stubs { (objects : List Object) (slots : List Slot) (i k : ℕ) (a b : Slot)
+        → slice_get (stubs objects slots) i ≡ Some a → slice_get (stubs objects slots) k ≡ Some b
+        → a.item.name ≡ b.item.name → i ≡ k }
+    ensures host_imports { (slots : List Slot) (i k : ℕ) (a b : Slot)
+        → slice_get (first_imports slots) i ≡ Some a → slice_get (first_imports slots) k ≡ Some b
+        → a.item.origin ≡ b.item.origin → a.item.name ≡ b.item.name → i ≡ k }
+{}

@@ -129,8 +129,8 @@ fn is_weak_at(table: &SymbolTable<'_, '_>, object: usize, symbol: u32) -> bool
     }
 }
 
-/// Whether what is imported has a slot of that kind.
-fn is_slot_of(kind: WasmSymbolKind, entity: ImportEntity) -> bool
+/// Whether what is imported has a slot of that kind: functions and globals have.
+pub fn is_slot_of(kind: WasmSymbolKind, entity: ImportEntity) -> bool
     ensures { result ≡ is_slot_of kind entity }
 {
     match kind {

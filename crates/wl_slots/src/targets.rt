@@ -29,8 +29,9 @@ fn defined_under(imported: usize, count: usize, index: u32) -> Option<u32>
     Some(index - imported as u32)
 }
 
-/// The number of a function or global among those that the object defines, by its index.
-fn own_number(kind: WasmSymbolKind, file: &File<'_>, index: u32) -> Option<u32>
+/// The number of a function or global among those that the object defines, by its index: nothing
+/// where it is imported, or where there is none.
+pub fn own_number(kind: WasmSymbolKind, file: &File<'_>, index: u32) -> Option<u32>
     ensures { result ≡ own_number kind file.now index }
 {
     match kind {
@@ -59,7 +60,7 @@ fn is_definition_of(kind: WasmSymbolKind, symbol: &WasmSymbol<'_>) -> bool
 }
 
 /// What a symbol of the object of that number defines of that kind.
-fn symbol_target(
+pub fn symbol_target(
     kind: WasmSymbolKind,
     object: usize,
     file: &File<'_>,
@@ -76,7 +77,7 @@ fn symbol_target(
 }
 
 /// What an object defines of that kind, where this is its definition.
-fn object_target(
+pub fn object_target(
     table: &SymbolTable<'_, '_>,
     kind: WasmSymbolKind,
     definition: Definition,

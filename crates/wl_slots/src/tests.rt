@@ -25,6 +25,13 @@ const DEFINES: &[u8; 52] = b"\0asm\x01\0\0\0\
     \x0a\x04\x01\x02\0\x0b\
     \0\x11\x07linking\x02\x08\x06\x01\0\0\x01\x01a";
 
+/// Imports: the function `f` of another module, for which a weak symbol stands; and the function
+/// `a`, without a symbol.
+const WEAK: &[u8; 46] = b"\0asm\x01\0\0\0\
+    \x01\x04\x01\x60\0\0\
+    \x02\x0d\x02\x01x\x01f\0\0\x01e\x01a\0\0\
+    \0\x0f\x07linking\x02\x08\x04\x01\0\x11\0";
+
 /// Puts one more object behind the others.
 fn add<'a>(
     rt: &impl Abort,
@@ -115,4 +122,77 @@ fn slots_tell_their_symbols(rt: HostRuntime) -> Result<(), Fail> {
         ("__wasm_call_ctors", false, true),
     ];
     assert_told(&rt, alloc, &table, &want)
+}
+
+/// The function slots of the objects of these numbers.
+fn function_slots<'t, 'a>(
+    alloc: Global,
+    table: &SymbolTable<'t, 'a>,
+    objects: &[usize],
+) -> Result<Vec<ImportSlot<'t, 'a>>, Fail> {
+    let mut slots = Vec::new(alloc);
+    for object in objects {
+        for slot in import_slots(alloc, table, *object, WasmSymbolKind::Func)? {
+            slots.push(slot)?;
+        }
+    }
+    Ok(slots)
+}
+
+/// The module, field name, object and number of each of these imports.
+fn assert_imports(
+    rt: &impl Abort,
+    imports: &[HostImport<'_>],
+    want: &[(&str, &str, usize, u32)],
+) -> Result<(), Fail> {
+    assert_eq!(rt; imports.len(), want.len());
+    for (import, want) in imports.iter().zip(want) {
+        assert_eq!(rt; import.module, want.0);
+        assert_eq!(rt; import.name, want.1);
+        assert_eq!(rt; import.object, want.2);
+        assert_eq!(rt; import.slot, want.3);
+    }
+    Ok(())
+}
+
+#[test]
+fn imports_are_told_by_their_first_slots(rt: HostRuntime) -> Result<(), Fail> {
+    let alloc = rt.alloc();
+    let mut files = two_objects(&rt, alloc)?;
+    add(&rt, alloc, &mut files, WEAK)?;
+    let args = WasmArgs::parse(alloc, &Vec::new(alloc))?;
+    let table = SymbolTable::build(alloc, &files, &args)
+        .ok()
+        .expect(&rt, "a table");
+    let slots = function_slots(alloc, &table, &[0, 2])?;
+    let imports = host_imports(alloc, &slots)?;
+    let want = [
+        ("e", "a", 0, 0),
+        ("e", "f", 0, 1),
+        ("e", "__wasm_call_ctors", 0, 2),
+        ("x", "f", 2, 0),
+    ];
+    assert_imports(&rt, imports.as_slice(), &want)?;
+    assert_eq!(rt; imports.place("x", "f"), Some(3));
+    assert_eq!(rt; imports.place("x", "a"), None);
+    Ok(())
+}
+
+#[test]
+fn weak_slots_are_stubs(rt: HostRuntime) -> Result<(), Fail> {
+    let alloc = rt.alloc();
+    let mut files = two_objects(&rt, alloc)?;
+    add(&rt, alloc, &mut files, WEAK)?;
+    let args = WasmArgs::parse(alloc, &Vec::new(alloc))?;
+    let table = SymbolTable::build(alloc, &files, &args)
+        .ok()
+        .expect(&rt, "a table");
+    let slots = function_slots(alloc, &table, &[0, 2])?;
+    let divided = divide_slots(alloc, &table, slots)?;
+    assert_imports(&rt, divided.stubs.as_slice(), &[("e", "f", 0, 1)])?;
+    assert_eq!(rt; divided.stubs.place("f"), Some(0));
+    assert_eq!(rt; divided.stubs.place("a"), None);
+    assert_eq!(rt; divided.stub_slots.len(), 2);
+    assert_eq!(rt; divided.host_slots.len(), 3);
+    Ok(())
 }

@@ -1,0 +1,276 @@
+-- Symbols that lead to functions of another type.
+use Rattle.std.proofs.Common.{◌≡◌, ◌∙◌, ◌⊎◌, ℕ, zero, suc, ◌+◌, ◌<◌, Bool, true, false, not, ◌&&◌, List, [], ◌∷◌, length, refl, sym, ap, subst, arith, inl, inr, Option, Some, None, slice_get, slice_index_or, Contains}
+use Rattle.std.specs.Option.{option_map_or}
+use Rattle.std.proofs.lemmas.Bool.{cases_Bool}
+use Rattle.std.proofs.lemmas.Option.{slice_get_within}
+use Rattle.wl_module.specs.Types.{FunctionType, same_type}
+use Rattle.wl_linking.specs.Object.{Object}
+use Rattle.wl_linking.specs.Steps.{Clear}
+use Rattle.wl_linking.specs.Symbols.{Symbol, is_undefined}
+use Rattle.wl_linking.specs.declared.error.LinkError.{LinkError}
+use Rattle.wl_linking.specs.declared.error.LinkError.TheVariants.{SignatureMismatch}
+use Rattle.wl_linking.specs.declared.infos.WasmInitFunc.{WasmInitFunc}
+use Rattle.wl_linking.specs.declared.symbols.WasmSymbolKind.TheVariants.{Func}
+use Rattle.wl_symbols.specs.Entries.{symbol_in}
+use Rattle.wl_live.specs.Entry.{is_function_kind}
+use Rattle.wl_bind.specs.Input.{Input, keeps_slot}
+use Rattle.wl_bind.specs.FunctionSymbols.{fun}
+use Rattle.wl_bind.specs.FunctionTypes.{declared_type, target_type}
+use Rattle.wl_bind.specs.Scan.{relocations}
+use Rattle.wl_bind.specs.Signatures.{NamedByRelocation, OnKeptSlot, NamedByInit, IsLookedAt, IsMismatch}
+use Rattle.wl_bind.specs.BindingSteps.{is_other_type, differs, is_mismatch, names_mismatch, TellsMismatch, NamesMismatch, AreOwnClear}
+use Rattle.wl_bind.specs.declared.binding.FunctionTarget.{FunctionTarget}
+use Rattle.wl_bind.specs.declared.relocated.Relocated.{Relocated}
+use Rattle.wl_bind.proofs.LeftLaws.{cases_option, left_of, right_of}
+
+-- ---- what differs
+
+-- where a test of what may be there holds, something is there and passes
+record There {X : Type 0} (test : X → Bool) (o : Option X) : Type 0 where
+  x : X
+  is : o ≡ Some x
+  so : test x ≡ true
+
+there : {X : Type 0} (test : X → Bool) (o : Option X) → option_map_or test o false ≡ true → There test o
+there test None h = absurd cc
+there test (Some x) h = record { x = x; is = refl; so = h }
+
+not_true : (b : Bool) → not b ≡ true → b ≡ false
+not_true true h = absurd cc
+not_true false h = refl
+
+passing : {X : Type 0} (test : X → Bool) (o : Option X) (x : X) → o ≡ Some x → test x ≡ true → option_map_or test o false ≡ true
+passing test None x is so = absurd cc
+passing test (Some y) x is so = (let same : y ≡ x = cc in rw same so)
+
+both_true : (a b : Bool) → a ≡ true → b ≡ true → (a && b) ≡ true
+both_true a b x y = rw x y
+
+not_false : (b : Bool) → b ≡ false → not b ≡ true
+not_false b h = rw h refl
+
+-- a symbol that is looked at and leads to another type is a cause
+pub mismatch : (input : Input) (object number : ℕ) (e : LinkError) → IsLookedAt input object number → TellsMismatch input object number e → IsMismatch input e
+mismatch input object number e looked h =
+    let leads : Symbol → Bool = λ (s : Symbol). option_map_or (differs input object s) (fun input object number) false in
+    let s = there (λ (s : Symbol). is_function_kind s.kind && leads s) (symbol_in input.link.objects object number) h.so in
+    let f = there (differs input object s.x) (fun input object number) (right_of (is_function_kind s.x.kind) (leads s.x) s.so) in
+    let d = there (λ (t : FunctionType). is_other_type input.link.objects t f.x) (declared_type input.link.objects object s.x) f.so in
+    let a = there (λ (t : FunctionType). not (same_type d.x t)) (target_type input.link.objects f.x) d.so in
+    record {
+      object = object;
+      number = number;
+      looked_at = looked;
+      symbol = s.x;
+      is = s.is;
+      function = left_of (is_function_kind s.x.kind) (leads s.x) s.so;
+      target = f.x;
+      leads = f.is;
+      declared = d.x;
+      declared_is = d.is;
+      actual = a.x;
+      actual_is = a.is;
+      differ = not_true (same_type d.x a.x) a.so;
+      told = h.told;
+    }
+
+-- a cause is such a symbol
+pub is_one : (input : Input) (e : LinkError) (m : IsMismatch input e) → is_mismatch input m.object m.number ≡ true
+is_one input e m =
+    let leads : Symbol → Bool = λ (s : Symbol). option_map_or (differs input m.object s) (fun input m.object m.number) false in
+    let a = passing (λ (t : FunctionType). not (same_type m.declared t)) (target_type input.link.objects m.target) m.actual m.actual_is (not_false (same_type m.declared m.actual) m.differ) in
+    let d = passing (λ (t : FunctionType). is_other_type input.link.objects t m.target) (declared_type input.link.objects m.object m.symbol) m.declared m.declared_is a in
+    let f = passing (differs input m.object m.symbol) (fun input m.object m.number) m.target m.leads d in
+    passing (λ (s : Symbol). is_function_kind s.kind && leads s) (symbol_in input.link.objects m.object m.number) m.symbol m.is (both_true (is_function_kind m.symbol.kind) (leads m.symbol) m.function f)
+
+-- none of those that are looked at is one
+pub all_clear : (input : Input) → ((object number : ℕ) → IsLookedAt input object number → is_mismatch input object number ≡ false) → Clear (IsMismatch input)
+all_clear input none = record {
+  none = λ e m. (let both : true ≡ false = sym (is_one input e m) ∙ none m.object m.number m.looked_at in cc);
+}
+
+-- ---- lists
+
+pub same_at : {X : Type 0} (xs : List X) (k : ℕ) (x y : X) → k < length xs → slice_index_or xs k x ≡ x → slice_index_or xs k y ≡ y → x ≡ y
+same_at [] k x y lt at_x at_y = absurd (omega (arith, lt))
+same_at (z ∷ xs) zero x y lt at_x at_y = sym at_x ∙ at_y
+same_at (z ∷ xs) (suc k) x y lt at_x at_y = same_at xs k x y (omega (arith, lt)) at_x at_y
+
+-- a number below the next is below, or the same
+pub below_or_at : (j k : ℕ) → j < k + 1 → (j < k) ⊎ (j ≡ k)
+below_or_at zero zero lt = inr refl
+below_or_at zero (suc k) lt = inl (omega arith)
+below_or_at (suc j) zero lt = absurd (omega (arith, lt))
+below_or_at (suc j) (suc k) lt = elim (below_or_at j k (omega (arith, lt))) [
+  | inl less ↦ inl (omega (arith, less))
+  | inr same ↦ inr (omega (arith, same))
+]
+
+-- what holds of one more
+pub one_more : {X : Type 0} (test : X → Bool) (xs : List X) (k : ℕ) (x : X) → k < length xs → x ≡ slice_index_or xs k x → test x ≡ false
+    → ((j : ℕ) (y : X) → j < k → slice_index_or xs j y ≡ y → test y ≡ false)
+    → (j : ℕ) (y : X) → j < k + 1 → slice_index_or xs j y ≡ y → test y ≡ false
+one_more test xs k x lt is so before j y below at_y = elim (below_or_at j k below) [
+  | inl less ↦ before j y less at_y
+  | inr same ↦ (let e : x ≡ y = same_at xs k x y lt (sym is) (rw same at at_y) in ap test (sym e) ∙ so)
+]
+
+-- what stands at a place within the list stands there whatever else would
+pub stands_there : {X : Type 0} (xs : List X) (k : ℕ) (d : X) → k < length xs → slice_index_or xs k d ≡ slice_index_or xs k (slice_index_or xs k d)
+stands_there [] k d lt = absurd (omega (arith, lt))
+stands_there (x ∷ xs) zero d lt = refl
+stands_there (x ∷ xs) (suc k) d lt = stands_there xs k d (omega (arith, lt))
+
+-- ---- the passes
+
+-- what holds of all kept relocations holds of the symbols that they name
+pub relocations_clear : (input : Input) (list : List Relocated) → list ≡ relocations input
+    → ((k : ℕ) (r : Relocated) → k < length list → slice_index_or list k r ≡ r → names_mismatch input r ≡ false)
+    → (object number : ℕ) → NamedByRelocation input object number → is_mismatch input object number ≡ false
+relocations_clear input list is none object number named =
+    let r = named.relocated in
+    let among : Contains list r = rw is named.kept in
+    let so : names_mismatch input r ≡ false = none among.0 r among.1 among.2 in
+    let this : is_mismatch input r.object r.relocation.index ≡ false = rw named.by_symbol at so in
+    ap (λ (i : ℕ). is_mismatch input i number) (sym named.object_is) ∙ (ap (λ (n : ℕ). is_mismatch input r.object n) (sym named.number_is) ∙ this)
+
+-- a kept relocation that names such a symbol is a cause
+pub relocation_told : (input : Input) (list : List Relocated) (k : ℕ) (r : Relocated) (e : LinkError) → list ≡ relocations input
+    → k < length list → r ≡ slice_index_or list k r → NamesMismatch input r e → IsMismatch input e
+relocation_told input list k r e is lt at_r h =
+    let here : Contains list r = (k, lt, sym at_r) in
+    let named : NamedByRelocation input r.object r.relocation.index = record {
+      relocated = r;
+      kept = rw is at here;
+      by_symbol = h.by_symbol;
+      object_is = refl;
+      number_is = refl;
+    } in mismatch input r.object r.relocation.index e (inl named) h.tells
+
+pub relocation_at : (input : Input) (list : List Relocated) (k : ℕ) (d : Relocated) (e : LinkError) → list ≡ relocations input
+    → k < length list → NamesMismatch input (slice_index_or list k d) e → IsMismatch input e
+relocation_at input list k d e is lt h = relocation_told input list k (slice_index_or list k d) e is lt (stands_there list k d lt) h
+
+-- one more relocation
+pub relocation_more : (input : Input) (list : List Relocated) (k : ℕ) (d : Relocated) → k < length list → names_mismatch input (slice_index_or list k d) ≡ false
+    → ((j : ℕ) (r : Relocated) → j < k → slice_index_or list j r ≡ r → names_mismatch input r ≡ false)
+    → (j : ℕ) (r : Relocated) → j < k + 1 → slice_index_or list j r ≡ r → names_mismatch input r ≡ false
+relocation_more input list k d lt so before =
+    one_more (names_mismatch input) list k (slice_index_or list k d) lt (stands_there list k d lt) so before
+
+some_same : {X : Type 0} (x y : X) → Some x ≡ Some y → x ≡ y
+some_same x y e = cc
+
+-- a symbol that is defined is on no slot
+pub defined_clear : (input : Input) (object number : ℕ) (s : Symbol) → symbol_in input.link.objects object number ≡ Some s → is_undefined s ≡ false
+    → OnKeptSlot input object number → is_mismatch input object number ≡ false
+defined_clear input object number s is defined on_slot =
+    let same : s ≡ on_slot.symbol = some_same s on_slot.symbol (sym is ∙ on_slot.is) in
+    let both : false ≡ true = sym defined ∙ (ap is_undefined same ∙ on_slot.undefined) in
+    absurd cc
+
+-- and one whose slot isn't kept is on none that is kept
+pub unkept_clear : (input : Input) (object number : ℕ) (s : Symbol) → symbol_in input.link.objects object number ≡ Some s → keeps_slot input Func object s.index ≡ false
+    → OnKeptSlot input object number → is_mismatch input object number ≡ false
+unkept_clear input object number s is unkept on_slot =
+    let same : s ≡ on_slot.symbol = some_same s on_slot.symbol (sym is ∙ on_slot.is) in
+    let both : false ≡ true = sym unkept ∙ (ap (λ (x : Symbol). keeps_slot input Func object x.index) same ∙ on_slot.kept) in
+    absurd cc
+
+-- an undefined symbol on a kept slot that leads to another type is a cause
+pub slot_told : (input : Input) (object number : ℕ) (s : Symbol) (e : LinkError) → symbol_in input.link.objects object number ≡ Some s → is_undefined s ≡ true
+    → keeps_slot input Func object s.index ≡ true → TellsMismatch input object number e → IsMismatch input e
+slot_told input object number s e is undefined kept h =
+    mismatch input object number e (inr (inl (record { symbol = s; is = is; undefined = undefined; kept = kept }))) h
+
+-- a symbol of an object has a number below those of its symbols
+pub slots_clear : (input : Input) (object : ℕ) (o : Object) → slice_get input.link.objects object ≡ Some o
+    → ((k : ℕ) → k < length o.symbols → OnKeptSlot input object k → is_mismatch input object k ≡ false)
+    → (number : ℕ) → OnKeptSlot input object number → is_mismatch input object number ≡ false
+slots_clear input object o here none number on_slot =
+    let is : slice_get o.symbols number ≡ Some on_slot.symbol = (let e = on_slot.is in rw here at e) in
+    none number (slice_get_within o.symbols number on_slot.symbol is) on_slot
+
+-- one more symbol
+pub slot_more : (input : Input) (object k : ℕ) → (OnKeptSlot input object k → is_mismatch input object k ≡ false)
+    → ((j : ℕ) → j < k → OnKeptSlot input object j → is_mismatch input object j ≡ false)
+    → (j : ℕ) → j < k + 1 → OnKeptSlot input object j → is_mismatch input object j ≡ false
+slot_more input object k this before j below on_slot = elim (below_or_at j k below) [
+  | inl less ↦ before j less on_slot
+  | inr same ↦ (let e = this (subst (λ (i : ℕ). OnKeptSlot input object i) same on_slot) in ap (is_mismatch input object) same ∙ e)
+]
+
+-- the symbols of all functions of an object that run at the start
+pub inits_clear : (input : Input) (object : ℕ) (o : Object) → slice_get input.link.objects object ≡ Some o
+    → ((k : ℕ) (f : WasmInitFunc) → k < length o.init_funcs → slice_index_or o.init_funcs k f ≡ f → is_mismatch input object f.symbol_index ≡ false)
+    → (number : ℕ) → NamedByInit input object number → is_mismatch input object number ≡ false
+inits_clear input object o here none number named =
+    let same : o ≡ named.o = some_same o named.o (sym here ∙ named.here) in
+    let among : Contains o.init_funcs named.function = subst (λ (x : Object). Contains x.init_funcs named.function) (sym same) named.one in
+    let e = none among.0 named.function among.1 among.2 in
+    ap (is_mismatch input object) (sym named.number_is) ∙ e
+
+-- such a symbol of one of them is a cause
+pub init_told : (input : Input) (object : ℕ) (o : Object) (k : ℕ) (f : WasmInitFunc) (e : LinkError) → slice_get input.link.objects object ≡ Some o
+    → k < length o.init_funcs → f ≡ slice_index_or o.init_funcs k f → TellsMismatch input object f.symbol_index e → IsMismatch input e
+init_told input object o k f e here lt at_f h =
+    mismatch input object f.symbol_index e (inr (inr (record { o = o; here = here; function = f; one = (k, lt, sym at_f); number_is = refl }))) h
+
+pub init_at : (input : Input) (object : ℕ) (o : Object) (k : ℕ) (d : WasmInitFunc) (list : List WasmInitFunc) (e : LinkError) → slice_get input.link.objects object ≡ Some o
+    → list ≡ o.init_funcs → k < length list → TellsMismatch input object (slice_index_or list k d).symbol_index e → IsMismatch input e
+init_at input object o k d list e here same lt h =
+    let there_is : k < length o.init_funcs = omega (arith, lt, ap length same) in
+    let f : WasmInitFunc = slice_index_or o.init_funcs k d in
+    let e_is : TellsMismatch input object f.symbol_index e = subst (λ (l : List WasmInitFunc). TellsMismatch input object (slice_index_or l k d).symbol_index e) same h in
+    init_told input object o k f e here there_is (stands_there o.init_funcs k d there_is) e_is
+
+-- one more object
+pub own_more : (input : Input) (k : ℕ) → AreOwnClear input k → ((j : ℕ) → j < k → AreOwnClear input j) → (j : ℕ) → j < k + 1 → AreOwnClear input j
+own_more input k this before j below = elim (below_or_at j k below) [
+  | inl less ↦ before j less
+  | inr same ↦ subst (λ (i : ℕ). AreOwnClear input i) (sym same) this
+]
+
+own_object : (input : Input) (object number : ℕ) → OnKeptSlot input object number ⊎ NamedByInit input object number → object < length input.link.objects
+own_object input object number (inl on_slot) = elim (cases_option (slice_get input.link.objects object)) [
+  | inl none ↦ absurd (let e = on_slot.is in let told : None ≡ Some on_slot.symbol = rw none at e in cc)
+  | inr o ↦ slice_get_within input.link.objects object o.0 o.1
+]
+own_object input object number (inr named) = slice_get_within input.link.objects object named.o named.here
+
+-- all objects
+pub own_all : (input : Input) → ((j : ℕ) → j < length input.link.objects → AreOwnClear input j) → (object : ℕ) → AreOwnClear input object
+own_all input none object number named = none object (own_object input object number named) number named
+
+pub none_mismatch : (input : Input) → ((object number : ℕ) → NamedByRelocation input object number → is_mismatch input object number ≡ false)
+    → ((object : ℕ) → AreOwnClear input object) → Clear (IsMismatch input)
+none_mismatch input relocations own = all_clear input looked
+  where
+    looked : (object number : ℕ) → IsLookedAt input object number → is_mismatch input object number ≡ false
+    looked object number (inl named) = relocations object number named
+    looked object number (inr named) = own object number named
+
+-- ---- the law
+
+pub types_agree : (input : Input) (object number : ℕ) (s : Symbol) (target : FunctionTarget) (declared actual : FunctionType) → Clear (IsMismatch input) → IsLookedAt input object number
+    → symbol_in input.link.objects object number ≡ Some s → is_function_kind s.kind ≡ true → fun input object number ≡ Some target
+    → declared_type input.link.objects object s ≡ Some declared → target_type input.link.objects target ≡ Some actual → same_type declared actual ≡ true
+types_agree input object number s target declared actual clear looked is function leads declared_is actual_is = elim (cases_Bool (same_type declared actual)) [
+  | inl same ↦ same
+  | inr differ ↦ absurd (clear.none (SignatureMismatch object number) (record {
+    object = object;
+    number = number;
+    looked_at = looked;
+    symbol = s;
+    is = is;
+    function = function;
+    target = target;
+    leads = leads;
+    declared = declared;
+    declared_is = declared_is;
+    actual = actual;
+    actual_is = actual_is;
+    differ = differ;
+    told = refl;
+  }))
+]

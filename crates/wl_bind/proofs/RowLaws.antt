@@ -1,0 +1,137 @@
+-- Slots and rows, object by object.
+use Rattle.std.proofs.Common.{◌≡◌, ◌∙◌, ℕ, zero, suc, ◌+◌, ◌<◌, Bool, true, List, [], ◌∷◌, ◌++◌, length, drop, map, filter, refl, sym, ap, arith, inl, inr, append_assoc, Option, Some, slice_get, slice_index_or, Contains}
+use Rattle.std.specs.Option.{option_map_or, option_and_then}
+use Rattle.std.proofs.lemmas.Bool.{cases_Bool}
+use Rattle.std.proofs.lemmas.List.Elements.{filter-append, Contains-append_left, Contains-append_right}
+use Rattle.std.proofs.lemmas.Option.{get_or_from_slice_get}
+use Rattle.wl_linking.specs.Object.{Object}
+use Rattle.wl_linking.specs.declared.symbols.WasmSymbolKind.{WasmSymbolKind}
+use Rattle.wl_linking.specs.declared.symbols.WasmSymbolKind.TheVariants.{Func}
+use Rattle.wl_slots.specs.ImportSlots.{ImportSlot, object_slots, import_slots}
+use Rattle.wl_bind.specs.Input.{Input}
+use Rattle.wl_bind.specs.KeptSlots.{slots_from}
+use Rattle.wl_bind.specs.FunctionSymbols.{kept_binding, binding_at, bindings_from, function_bindings}
+use Rattle.wl_bind.specs.BindingSteps.{row_at}
+use Rattle.wl_bind.specs.declared.binding.FunctionTarget.{FunctionTarget}
+
+-- ---- lists
+
+-- what a list has at a place, and what it has behind it
+pub record Splits {X : Type 0} (xs : List X) (k : ℕ) : Type 0 where
+  pub x : X
+  pub here : slice_get xs k ≡ Some x
+  pub split : drop k xs ≡ x ∷ drop (suc k) xs
+
+pub splits : {X : Type 0} (xs : List X) (k : ℕ) → k < length xs → Splits xs k
+splits [] k lt = absurd (omega (arith, lt))
+splits (x ∷ xs) zero lt = record { x = x; here = refl; split = refl }
+splits (x ∷ xs) (suc k) lt =
+    let rest = splits xs k (omega (arith, lt)) in
+    record { x = rest.x; here = rest.here; split = rest.split }
+
+-- an element of a list that passes is among those that pass
+passes_at : {X : Type 0} (test : X → Bool) (xs : List X) (x : X) (k : ℕ) → k < length xs → slice_index_or xs k x ≡ x → test x ≡ true → Contains (filter test xs) x
+passes_at test [] x k lt is so = absurd (omega (arith, lt))
+passes_at test (y ∷ xs) x zero lt is so =
+    let passed : test y ≡ true = rw is so in
+    rw passed (zero, omega arith, is)
+passes_at test (y ∷ xs) x (suc k) lt is so =
+    let rest = passes_at test xs x k (omega (arith, lt)) is so in
+    elim (cases_Bool (test y)) [
+      | inl passed ↦ rw passed (suc rest.0, omega (arith, rest.1), rest.2)
+      | inr fails ↦ rw fails rest
+    ]
+
+pub passes : {X : Type 0} (test : X → Bool) (xs : List X) (x : X) → Contains xs x → test x ≡ true → Contains (filter test xs) x
+passes test xs x listed so = passes_at test xs x listed.0 listed.1 listed.2 so
+
+-- what stands at a place is in the list
+pub at_is_in : {X : Type 0} (xs : List X) (k : ℕ) (x : X) → slice_get xs k ≡ Some x → Contains xs x
+at_is_in [] k x at = absurd cc
+at_is_in (y ∷ xs) zero x at = (let is : y ≡ x = cc in (zero, omega arith, is))
+at_is_in (y ∷ xs) (suc k) x at = (let rest = at_is_in xs k x at in (suc rest.0, omega (arith, rest.1), rest.2))
+
+-- ---- the slots of objects
+
+-- those of one more object
+pub slots_more : (kind : WasmSymbolKind) (objects : List Object) (k : ℕ) → k < length objects
+    → slots_from kind k (drop k objects) ≡ import_slots objects k kind ++ slots_from kind (k + 1) (drop (k + 1) objects)
+slots_more kind objects k lt =
+    let s = splits objects k lt in
+    let e : k + 1 ≡ suc k = omega arith in
+    let split : drop k objects ≡ s.x ∷ drop (k + 1) objects = rw e s.split in
+    rw (split, s.here) refl
+
+-- those of one more object that pass
+pub kept_more : (test : ImportSlot → Bool) (kind : WasmSymbolKind) (objects : List Object) (k : ℕ) (kept new all : List ImportSlot) → k < length objects
+    → new ≡ kept ++ filter test (import_slots objects k kind) → kept ++ filter test (slots_from kind k (drop k objects)) ≡ all
+    → new ++ filter test (slots_from kind (k + 1) (drop (k + 1) objects)) ≡ all
+kept_more test kind objects k kept new all lt is so =
+    let here : List ImportSlot = filter test (import_slots objects k kind) in
+    let rest : List ImportSlot = filter test (slots_from kind (k + 1) (drop (k + 1) objects)) in
+    let step : filter test (slots_from kind k (drop k objects)) ≡ here ++ rest =
+    ap (filter test) (slots_more kind objects k lt) ∙ filter-append test (import_slots objects k kind) (slots_from kind (k + 1) (drop (k + 1) objects)) in
+    ap (λ (t : List ImportSlot). t ++ rest) is ∙ append_assoc kept here rest ∙ (ap (λ (t : List ImportSlot). kept ++ t) (sym step) ∙ so)
+
+-- a slot of an object is among those of all objects
+slot_within : (kind : WasmSymbolKind) (n i m : ℕ) (objects : List Object) (t : ImportSlot) → n + i ≡ m
+    → Contains (option_map_or (object_slots m kind) (slice_get objects i) []) t → Contains (slots_from kind n objects) t
+slot_within kind n i m [] t same listed = absurd (omega (arith, listed.1))
+slot_within kind n zero m (o ∷ objects) t same listed =
+    let at : m ≡ n = omega (arith, same) in
+    Contains-append_left (object_slots n kind o) (slots_from kind (n + 1) objects) t (rw at at listed)
+slot_within kind n (suc i) m (o ∷ objects) t same listed =
+    Contains-append_right (object_slots n kind o) (slots_from kind (n + 1) objects) t (slot_within kind (n + 1) i m objects t (omega (arith, same)) listed)
+
+pub slot_is_one : (kind : WasmSymbolKind) (objects : List Object) (i : ℕ) (t : ImportSlot) → Contains (import_slots objects i kind) t → Contains (slots_from kind 0 objects) t
+slot_is_one kind objects i t listed = slot_within kind 0 i i objects t (omega arith) listed
+
+-- ---- rows
+
+-- the row of one more object
+pub rows_more : (input : Input) (objects : List Object) (k : ℕ) → k < length objects
+    → bindings_from input k (drop k objects) ≡ map (kept_binding input) (import_slots objects k Func) ∷ bindings_from input (k + 1) (drop (k + 1) objects)
+rows_more input objects k lt =
+    let s = splits objects k lt in
+    let e : k + 1 ≡ suc k = omega arith in
+    let split : drop k objects ≡ s.x ∷ drop (k + 1) objects = rw e s.split in
+    rw (split, s.here) refl
+
+-- one more row behind the others
+pub row_pushed : (input : Input) (objects : List Object) (k : ℕ) (row : List (Option FunctionTarget)) (rows new all : List (List (Option FunctionTarget))) → k < length objects
+    → row ≡ map (kept_binding input) (import_slots objects k Func) → new ≡ rows ++ row ∷ [] → rows ++ bindings_from input k (drop k objects) ≡ all
+    → new ++ bindings_from input (k + 1) (drop (k + 1) objects) ≡ all
+row_pushed input objects k row rows new all lt is pushed so =
+    let rest : List (List (Option FunctionTarget)) = bindings_from input (k + 1) (drop (k + 1) objects) in
+    let step : bindings_from input k (drop k objects) ≡ row ∷ rest = rw is (rows_more input objects k lt) in
+    ap (λ (t : List (List (Option FunctionTarget))). t ++ rest) pushed ∙ append_assoc rows (row ∷ []) rest ∙ (ap (λ (t : List (List (Option FunctionTarget))). rows ++ t) (sym step) ∙ so)
+
+-- one more entry behind the others
+pub entry_pushed : {X Y : Type 0} (f : X → Y) (xs : List X) (k : ℕ) (x : X) (y : Y) (list new all : List Y) → k < length xs → x ≡ slice_index_or xs k x → y ≡ f x
+    → new ≡ list ++ y ∷ [] → list ++ map f (drop k xs) ≡ all → new ++ map f (drop (k + 1) xs) ≡ all
+entry_pushed {X} {Y} f xs k x y list new all lt at is pushed so =
+    let s = splits xs k lt in
+    let e : k + 1 ≡ suc k = omega arith in
+    let same : x ≡ s.x = at ∙ get_or_from_slice_get xs k s.x x s.here in
+    let first : f s.x ≡ y = sym (is ∙ ap f same) in
+    let rest : List Y = map f (drop (k + 1) xs) in
+    let split : drop k xs ≡ s.x ∷ drop (k + 1) xs = rw e s.split in
+    let step : map f (drop k xs) ≡ y ∷ rest = rw (split, first) refl in
+    ap (λ (t : List Y). t ++ rest) pushed ∙ append_assoc list (y ∷ []) rest ∙ (ap (λ (t : List Y). list ++ t) (sym step) ∙ so)
+
+entry_of : {X Y : Type 0} (f : X → Option Y) (xs : List X) (k : ℕ) → option_and_then (λ (y : Option Y). y) (slice_get (map f xs) k) ≡ option_and_then f (slice_get xs k)
+entry_of f [] k = refl
+entry_of f (x ∷ xs) zero = refl
+entry_of f (x ∷ xs) (suc k) = entry_of f xs k
+
+row_from : (input : Input) (n i m k : ℕ) (objects : List Object) → n + i ≡ m
+    → row_at (bindings_from input n objects) i k ≡ option_and_then (kept_binding input) (slice_get (option_map_or (object_slots m Func) (slice_get objects i) []) k)
+row_from input n i m k [] same = refl
+row_from input n zero m k (o ∷ objects) same =
+    let at : m ≡ n = omega (arith, same) in
+    rw at (entry_of (kept_binding input) (object_slots n Func o) k)
+row_from input n (suc i) m k (o ∷ objects) same = row_from input (n + 1) i m k objects (omega (arith, same))
+
+-- what the rows have is what slots are bound to
+pub row_binding : (input : Input) (i k : ℕ) → row_at (function_bindings input) i k ≡ binding_at input i k
+row_binding input i k = row_from input 0 i i k input.link.objects (omega arith)

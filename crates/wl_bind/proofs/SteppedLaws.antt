@@ -1,0 +1,73 @@
+-- Two lists side by side, the second stepped place by place.
+use Rattle.std.proofs.Common.{◌≡◌, ◌∙◌, ℕ, zero, suc, ◌+◌, ◌<◌, ◌≤◌, List, [], ◌∷◌, Option, Some, None, length, refl, sym, ap, get_or, drop, drop-cons, slice_get, slice_set, arith}
+use Rattle.std.proofs.lemmas.List.{drop_all}
+use Rattle.std.proofs.lemmas.Option.{slice_get-get_or}
+use Rattle.wl_bind.specs.Stepped.{stepped, stepped_behind, step_at}
+
+some_is : {X : Type 0} (x y : X) → Some x ≡ Some y → x ≡ y
+some_is x y e = cc
+
+one_more : (k : ℕ) → suc k ≡ k + 1
+one_more k = omega arith
+
+module _ {X Y : Type 0} (step : ℕ → X → Y → Y) where
+  -- what is there is stepped
+  pub set_steps : (ys : List Y) (place n : ℕ) (x : X) (y z : Y) → slice_get ys place ≡ Some y → z ≡ step n x y
+      → slice_set ys place z ≡ step_at step place n x ys
+  set_steps [] place n x y z is e = absurd cc
+  set_steps (u ∷ ys) zero n x y z is e =
+      ap (λ (w : Y). w ∷ ys) (e ∙ ap (step n x) (sym (some_is u y is)))
+  set_steps (u ∷ ys) (suc place) n x y z is e =
+      ap (λ (zs : List Y). u ∷ zs) (set_steps ys place n x y z is e)
+
+  -- nothing is there
+  pub none_steps : (ys : List Y) (place n : ℕ) (x : X) → slice_get ys place ≡ None → ys ≡ step_at step place n x ys
+  none_steps [] place n x is = refl
+  none_steps (y ∷ ys) zero n x is = absurd cc
+  none_steps (y ∷ ys) (suc place) n x is = ap (λ (zs : List Y). y ∷ zs) (none_steps ys place n x is)
+
+  -- one more is stepped
+  pub behind_more : (ys : List Y) (place n : ℕ) (x : X) (xs : List X)
+      → stepped_behind step place n (x ∷ xs) ys ≡ stepped_behind step (suc place) (n + 1) xs (step_at step place n x ys)
+  behind_more [] zero n x xs = refl
+  behind_more (y ∷ ys) zero n x xs = refl
+  behind_more [] (suc place) n x xs = refl
+  behind_more (y ∷ ys) (suc place) n x xs = ap (λ (zs : List Y). y ∷ zs) (behind_more ys place n x xs)
+
+  -- all are stepped
+  pub behind_end : (ys : List Y) (place n : ℕ) → stepped_behind step place n [] ys ≡ ys
+  behind_end ys zero n = refl
+  behind_end [] (suc place) n = refl
+  behind_end (y ∷ ys) (suc place) n = ap (λ (zs : List Y). y ∷ zs) (behind_end ys place n)
+
+  -- ---- the same in a loop over all of the first list
+
+  -- what stands at a place is stepped
+  pub place_steps : (ys : List Y) (place n : ℕ) (x : X) (d z : Y) → place < length ys → z ≡ step n x (get_or ys place d)
+      → slice_set ys place z ≡ step_at step place n x ys
+  place_steps ys place n x d z lt e = set_steps ys place n x (get_or ys place d) z (slice_get-get_or ys place d lt) e
+
+  -- nothing stands behind the last place
+  pub behind_last : (ys : List Y) (place n : ℕ) (x : X) → length ys ≤ place → ys ≡ step_at step place n x ys
+  behind_last [] place n x le = refl
+  behind_last (y ∷ ys) zero n x le = absurd (omega (arith, le))
+  behind_last (y ∷ ys) (suc place) n x le = ap (λ (zs : List Y). y ∷ zs) (behind_last ys place n x (omega (arith, le)))
+
+  -- what is left to do from a place on
+  abbrev pub left_from : ℕ → List X → List Y → List Y
+  left_from k xs ys = stepped_behind step k k (drop k xs) ys
+
+  pub turn : (xs : List X) (k : ℕ) (x : X) (ys zs all : List Y) → k < length xs → x ≡ get_or xs k x
+      → zs ≡ step_at step k k x ys → left_from k xs ys ≡ all → left_from (k + 1) xs zs ≡ all
+  turn xs k x ys zs all lt at new rest =
+      let here : drop k xs ≡ x ∷ drop (k + 1) xs =
+        drop-cons xs k x lt
+        ∙ (ap (λ (w : X). w ∷ drop (suc k) xs) (sym at) ∙ ap (λ (m : ℕ). x ∷ drop m xs) (one_more k)) in
+      ap (left_from (k + 1) xs) new
+      ∙ (ap (λ (m : ℕ). stepped_behind step m (k + 1) (drop (k + 1) xs) (step_at step k k x ys)) (sym (one_more k))
+      ∙ (sym (behind_more ys k k x (drop (k + 1) xs))
+      ∙ (ap (λ (ws : List X). stepped_behind step k k ws ys) (sym here) ∙ rest)))
+
+  pub last_turn : (xs : List X) (k : ℕ) (ys all : List Y) → length xs ≤ k → left_from k xs ys ≡ all → ys ≡ all
+  last_turn xs k ys all le rest =
+      sym (behind_end ys k k) ∙ (ap (λ (ws : List X). stepped_behind step k k ws ys) (sym (drop_all k xs le)) ∙ rest)

@@ -1,0 +1,12 @@
+use Rattle.std.proofs.Common.{◌≤◌, length, rules, arith, ap}
+use Rattle.wl_bind.proofs.MismatchLaws.{slot_more, slots_clear}
+use Rattle.wl_bind.proofs.signatures.TypeCheck.check_slots.Goals as goal
+
+pub loop-i-preserved : goal.loop-i-preserved
+loop-i-preserved c = slot_more c.args.self.now.input.now c.args.object c.loop-i.i c.in_ok-check_undefined.ensures.clear c.loop-i.invariant
+
+pub returns-clause-clear : goal.returns-clause-clear
+returns-clause-clear c =
+    let all : length c.symbols-symbols.result.now ≤ c.loop-i.i = search rules in
+    slots_clear c.args.self.now.input.now c.args.object c.args.file.now c.requires
+    (λ k lt on_slot. c.loop-i.invariant k (omega (arith, lt, all, ap length c.symbols-symbols.ensures)) on_slot)

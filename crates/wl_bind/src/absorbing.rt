@@ -1,0 +1,63 @@
+//! Binding by later rules of slots that names leave.
+
+ghost use Rattle.std.specs.Prelude.{◌≡◌};
+ghost use Rattle.wl_bind.specs.Stepped.{stepped, step_at};
+ghost use Rattle.wl_bind.specs.Scan.{scan_of};
+ghost use Rattle.wl_bind.specs.Later.{globals_walked, functions_walked};
+ghost use Rattle.wl_bind.specs.Resolutions.{resolutions, by_names, by_names_and_got};
+
+use crate::input::LinkInput;
+use crate::later::Walk;
+use crate::resolution::ObjectImportResolutions;
+use crate::scan::RelocScan;
+use wl_linking::{File, WasmSymbolKind};
+use wl_slots::Stubs;
+
+/// The global slots of an object with the entries of the GOT lists.
+fn absorb_globals_at(
+    input: &LinkInput<'_, '_>,
+    scan: &RelocScan<'_>,
+    object: usize,
+    file: &File<'_>,
+    rows: &mut [ObjectImportResolutions],
+)
+    ensures { rows.new ≡ step_at (globals_walked input.now scan.now) object object file.now rows.old }
+{
+    if object < rows.len() {
+        let walk = Walk {
+            input,
+            rule: scan,
+            kind: WasmSymbolKind::Global,
+            object,
+        };
+        let row = &mut rows[object];
+        walk.resolve_all(file, &mut row.global_resolutions);
+    }
+}
+
+/// The global slots of all objects with the entries of the GOT lists.
+fn absorb_globals(
+    input: &LinkInput<'_, '_>,
+    scan: &RelocScan<'_>,
+    rows: &mut [ObjectImportResolutions],
+)
+    ensures { rows.new ≡ stepped (globals_walked input.now scan.now) 0 input.now.link.objects rows.old }
+{
+    for (object, file) in input.files().as_slice().iter().enumerate() {
+        absorb_globals_at(input, scan, object, file, rows);
+    }
+}
+
+/// Binds the global slots that names leave by the GOT lists: a slot of the module `GOT.mem` or
+/// `GOT.func` to the first entry of that list whose definition has the field name.
+pub fn absorb_got_imports(
+    input: &LinkInput<'_, '_>,
+    scan: &RelocScan<'_>,
+    rows: &mut [ObjectImportResolutions],
+)
+    requires scan { scan.now ≡ scan_of input.now }
+    requires rows { rows.old ≡ resolutions input.now (by_names input.now) }
+    ensures { rows.new ≡ resolutions input.now (by_names_and_got input.now) }
+{
+    absorb_globals(input, scan, rows);
+}

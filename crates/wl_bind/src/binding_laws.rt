@@ -1,0 +1,37 @@
+//! What callers may count on: functions with an empty body, each of which states a law of bindings.
+
+ghost use Rattle.std.specs.Prelude.{◌≡◌, ℕ, Some, true, Contains};
+ghost use Rattle.wl_module.specs.Types.{FunctionType, same_type};
+ghost use Rattle.wl_linking.specs.Steps.{Clear};
+ghost use Rattle.wl_linking.specs.Symbols.{Symbol as LinkedSymbol};
+ghost use Rattle.wl_linking.specs.declared.symbols.WasmSymbolKind.TheVariants.{Func};
+ghost use Rattle.wl_symbols.specs.Entries.{symbol_in};
+ghost use Rattle.wl_live.specs.Entry.{is_function_kind};
+ghost use Rattle.wl_slots.specs.ImportSlots.{ImportSlot as Slot};
+ghost use Rattle.wl_bind.specs.Input.{Input};
+ghost use Rattle.wl_bind.specs.KeptSlots.{kept_slots};
+ghost use Rattle.wl_bind.specs.FunctionBinding.{binds_function};
+ghost use Rattle.wl_bind.specs.FunctionSymbols.{fun};
+ghost use Rattle.wl_bind.specs.FunctionTypes.{declared_type, target_type};
+ghost use Rattle.wl_bind.specs.Signatures.{IsLookedAt, IsMismatch};
+ghost use Rattle.wl_bind.specs.BindingCases.{IsBoundAs};
+ghost use Rattle.wl_bind.specs.declared.binding.FunctionTarget.{FunctionTarget as Target};
+
+/// Where types agree, each function symbol that is looked at leads to a function of the type under
+/// which its object knows it, unless it leads to a host import or to a stub.
+pub fn functions_have_their_types()
+    ensures { (input : Input) (object number : ℕ) (s : LinkedSymbol) (target : Target)
+        (declared actual : FunctionType) → Clear (IsMismatch input) → IsLookedAt input object number
+        → symbol_in input.link.objects object number ≡ Some s → is_function_kind s.kind ≡ true
+        → fun input object number ≡ Some target
+        → declared_type input.link.objects object s ≡ Some declared
+        → target_type input.link.objects target ≡ Some actual → same_type declared actual ≡ true }
+{}
+
+/// What a kept function slot is bound to, case by case: what names bind it to; where they leave it,
+/// the stub of its field name, if it is one's; else the host import of its module and field name.
+/// A stub and a host import are named by a slot that is one of them.
+pub fn slots_are_bound_by_one_rule()
+    ensures { (input : Input) (t : Slot) → Contains (kept_slots input Func) t
+        → IsBoundAs input t (binds_function input t) }
+{}

@@ -1,0 +1,85 @@
+//! The first slot of each import.
+
+ghost use Rattle.std.specs.Prelude.{◌≡◌, [], map, option_map, IfOk, OnOk};
+ghost use Rattle.indexmap.specs.IndexSet.{insert_all};
+ghost use Rattle.wl_slots.specs.Left.{same_field, first_slot};
+ghost use Rattle.wl_bind.specs.ConflictSteps.{slot_at, with_first};
+
+use std::alloc::{AllocError, Global};
+use std::marker::Model;
+use wl_slots::{ImportSlot, Stubs};
+
+/// The first slots of imports that were met, in order. Clauses see them as a list.
+#[derive(Drop)]
+pub(crate) struct FirstSlots<'s, 'f, 'a> {
+    slots: Vec<&'s ImportSlot<'f, 'a>>,
+}
+
+impl<'s, 'f, 'a> Model for FirstSlots<'s, 'f, 'a> {
+    ghost use Rattle.std.specs.Prelude.{List, map};
+    ghost use Rattle.wl_slots.specs.ImportSlots.{ImportSlot as Slot};
+
+    ghost Value = { List Slot };
+
+    ghost view = { λ f. map (λ t. t.now) f.slots.items };
+}
+
+impl<'s, 'f, 'a> FirstSlots<'s, 'f, 'a> {
+    /// None.
+    pub(crate) fn new(alloc: Global) -> Self
+        ensures { result ≡ [] }
+    {
+        FirstSlots {
+            slots: Vec::new(alloc),
+        }
+    }
+
+    /// The one of the import of that place, if it was met.
+    pub(crate) fn get(&self, place: Option<usize>) -> Option<&'s ImportSlot<'f, 'a>>
+        ensures { option_map (λ t. t.now) result ≡ slot_at self.now place }
+    {
+        self.slots.get(place?).copied()
+    }
+
+    /// The slots, in order.
+    pub(crate) fn as_slice(&self) -> &[&'s ImportSlot<'f, 'a>]
+        ensures { map (λ t. t.now) result.now ≡ self.now }
+    {
+        self.slots.as_slice()
+    }
+
+    /// Adds a slot, where no other of its import was met before.
+    pub(crate) fn add(
+        &mut self,
+        first: Option<&'s ImportSlot<'f, 'a>>,
+        slot: &'s ImportSlot<'f, 'a>,
+    ) -> Result<(), AllocError>
+        ensures { OnOk result
+            (self.new ≡ with_first self.old (option_map (λ t. t.now) first.entry) slot.now) }
+    {
+        match first {
+            Some(_) => Ok(()),
+            None => {
+                self.slots.push(slot)?;
+                Ok(())
+            }
+        }
+    }
+}
+
+/// The first slot of each stub.
+pub(crate) fn first_stub_slots<'s, 'f, 'a>(
+    alloc: Global,
+    stubs: &Stubs<'_>,
+    slots: &'s [ImportSlot<'f, 'a>],
+) -> Result<FirstSlots<'s, 'f, 'a>, AllocError>
+    requires { stubs.now ≡ map first_slot (insert_all same_field [] slots.now) }
+    ensures { IfOk result (λ firsts. firsts ≡ insert_all same_field [] slots.now) }
+{
+    let mut firsts = FirstSlots::new(alloc);
+    for slot in slots {
+        let first = firsts.get(stubs.place(slot.field()));
+        firsts.add(first, slot)?;
+    }
+    Ok(firsts)
+}

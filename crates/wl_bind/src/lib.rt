@@ -1,0 +1,47 @@
+//! What the references of objects are bound to, where it is known which units are kept.
+//!
+//! A kept import slot is bound by the first of six rules that applies: by what names stand for (the
+//! definition of an object, or what the linker makes), by an entry of a GOT list, as a stub, or as
+//! an import of the host. A function symbol leads to the function that its slot is bound to, to the
+//! definition in its place, or to itself.
+#![tactic(auto)]
+
+mod absorbing;
+mod binding;
+mod binding_laws;
+mod conflicts;
+mod first_slots;
+mod got;
+mod input;
+mod kinds;
+mod laws;
+mod later;
+mod relocated;
+mod report;
+mod resolution;
+mod resolving;
+mod scan;
+mod scanning;
+mod shared;
+mod signatures;
+mod slots;
+mod stubs;
+mod targets;
+mod types;
+mod undefined;
+
+pub use absorbing::absorb_got_imports;
+pub use binding::{FunctionTarget, GlobalTarget};
+pub use binding_laws::{functions_have_their_types, slots_are_bound_by_one_rule};
+pub use got::{GotFunc, GotMem, TableFunctions};
+pub use input::LinkInput;
+pub use laws::{same_targets_are_one, stubs_have_no_slot, table_functions_stand_once};
+pub use relocated::{FixupPlace, Relocated};
+pub use report::report_disallowed_unresolved_imports;
+pub use resolution::{ImportResolution, ObjectImportResolutions, ResolutionList};
+pub use resolving::resolve_import_symbols;
+pub use scan::{RelocNeeds, RelocScan};
+pub use scanning::scan_layout_relocations;
+pub use shared::{SharedUnresolvedImports, collect_shared_unresolved_imports};
+pub use stubs::absorb_weak_undef_function_imports;
+pub use targets::FunctionBindings;

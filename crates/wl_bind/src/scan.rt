@@ -1,0 +1,395 @@
+//! What kept relocations ask for.
+
+ghost use Rattle.std.specs.Prelude.{◌≡◌, map, OnOk, IfOk};
+ghost use Rattle.std.specs.List.{list_any};
+ghost use Rattle.wl_bind.specs.FunctionSymbols.{function_bindings};
+ghost use Rattle.wl_bind.specs.GotSteps.{mem_entry, func_entry, insert_some, with_mem, with_func, ArePlaces};
+ghost use Rattle.wl_bind.specs.Sameness.{same_target};
+ghost use Rattle.wl_bind.specs.Scan.{is_global_index, is_table_index, is_table_number, is_memory_relative, is_table_relative, names_data, names_function, got_mem_of, got_func_of, unless_stub, table_function_of, asks_for_table, definition_name, got_mem_entry, got_func_entry, got_mem, got_func, table_functions, needs_of, scan_of, relocations as relocations_of};
+
+use crate::binding::FunctionTarget;
+use crate::got::{GotFunc, GotMem, NamedKeys, TableFunctions};
+use crate::input::LinkInput;
+use crate::kinds::{is_data, is_function_kind};
+use crate::relocated::Relocated;
+use crate::targets::FunctionBindings;
+use std::alloc::{AllocError, Global};
+use std::marker::Model;
+use wl_linking::{ItemList, RelocationType};
+use wl_symbols::Definition;
+
+/// What kept relocations ask the linker for.
+#[derive(Clone, Copy, Debug, PartialEq, Eq)]
+pub struct RelocNeeds {
+    /// The base of the memory: an address is counted from it.
+    pub memory_base: bool,
+    /// The base of the table: a slot is counted from it.
+    pub table_base: bool,
+    /// The table.
+    pub table: bool,
+}
+
+/// What kept relocations ask for. Clauses see it as a `Scanned`, a record of the lists.
+#[derive(Drop)]
+pub struct RelocScan<'a> {
+    /// The data whose address a global holds, each once.
+    pub got_mem: GotMem<'a>,
+    /// The functions whose slot in the table a global holds, each once.
+    pub got_func: GotFunc<'a>,
+    /// The functions that the table holds, each once.
+    pub table_functions: TableFunctions,
+    /// What else is asked for.
+    pub needs: RelocNeeds,
+    /// The kept relocations themselves.
+    pub relocations: ItemList<Relocated>,
+}
+
+impl<'a> Model for RelocScan<'a> {
+    ghost use Rattle.wl_bind.specs.Scan.{Scanned};
+
+    ghost Value = { Scanned };
+
+    ghost view = { λ s. record {
+      got_mem = s.got_mem;
+      got_func = s.got_func;
+      table_functions = s.table_functions;
+      needs = s.needs;
+      relocations = s.relocations;
+    } };
+}
+
+/// Whether that is the number of a global: in code, or in four bytes.
+pub(crate) fn is_global_index(ty: RelocationType) -> bool
+    ensures { result ≡ is_global_index ty }
+{
+    matches!(
+        ty,
+        RelocationType::GlobalIndexLeb | RelocationType::GlobalIndexI32
+    )
+}
+
+/// Whether that is the slot of a function in the table: in code, in four bytes, or behind the
+/// table's base.
+pub(crate) fn is_table_index(ty: RelocationType) -> bool
+    ensures { result ≡ is_table_index ty }
+{
+    matches!(
+        ty,
+        RelocationType::TableIndexSleb
+            | RelocationType::TableIndexI32
+            | RelocationType::TableIndexRelSleb
+    )
+}
+
+/// Whether that is the number of a table.
+pub(crate) fn is_table_number(ty: RelocationType) -> bool
+    ensures { result ≡ is_table_number ty }
+{
+    matches!(ty, RelocationType::TableNumberLeb)
+}
+
+/// Whether that is an address behind the base of the memory.
+pub(crate) fn is_memory_relative(ty: RelocationType) -> bool
+    ensures { result ≡ is_memory_relative ty }
+{
+    matches!(ty, RelocationType::MemoryAddrRelSleb)
+}
+
+/// Whether that is a slot behind the base of the table.
+pub(crate) fn is_table_relative(ty: RelocationType) -> bool
+    ensures { result ≡ is_table_relative ty }
+{
+    matches!(ty, RelocationType::TableIndexRelSleb)
+}
+
+/// Whether a relocation names a data symbol.
+pub(crate) fn names_data(input: &LinkInput<'_, '_>, relocated: &Relocated) -> bool
+    ensures { result ≡ names_data input.now relocated.now }
+{
+    match input
+        .symbols()
+        .symbol(relocated.object, relocated.relocation.index)
+    {
+        None => false,
+        Some(symbol) => is_data(symbol.kind),
+    }
+}
+
+/// Whether a relocation names a function symbol.
+pub(crate) fn names_function(input: &LinkInput<'_, '_>, relocated: &Relocated) -> bool
+    ensures { result ≡ names_function input.now relocated.now }
+{
+    match input
+        .symbols()
+        .symbol(relocated.object, relocated.relocation.index)
+    {
+        None => false,
+        Some(symbol) => is_function_kind(symbol.kind),
+    }
+}
+
+/// The name of a definition: of the symbol, or of what the linker makes. Nothing has an empty one.
+pub(crate) fn definition_name<'a>(input: &LinkInput<'_, 'a>, definition: Definition) -> &'a [u8]
+    ensures { result.now ≡ definition_name input.now definition }
+{
+    match definition {
+        Definition::Symbol { object, symbol } => {
+            match input.symbols().symbol(object, symbol) {
+                None => b"",
+                Some(symbol) => symbol.name.as_bytes(),
+            }
+        }
+        Definition::Made(made) => made.name(),
+    }
+}
+
+/// The entry that a relocation asks for in the GOT list of data: the definition of a data symbol
+/// under the number of a global.
+fn got_mem_of(input: &LinkInput<'_, '_>, relocated: &Relocated) -> Option<Definition>
+    ensures { result ≡ got_mem_of input.now relocated.now }
+{
+    if is_global_index(relocated.relocation.ty) && names_data(input, relocated) {
+        let symbols = input.symbols();
+        Some(symbols.definition(relocated.object, relocated.relocation.index))
+    } else {
+        None
+    }
+}
+
+/// The entry that a relocation asks for in the GOT list of functions: the definition of a function
+/// symbol under the number of a global, and the function that it leads to.
+fn got_func_of(
+    input: &LinkInput<'_, '_>,
+    bindings: &FunctionBindings,
+    relocated: &Relocated,
+) -> Option<(Definition, FunctionTarget)>
+    requires { bindings.now ≡ function_bindings input.now }
+    ensures { result ≡ got_func_of input.now relocated.now }
+{
+    if is_global_index(relocated.relocation.ty) && names_function(input, relocated) {
+        let (object, symbol) = (relocated.object, relocated.relocation.index);
+        let target = bindings.function(input, object, symbol)?;
+        Some((input.symbols().definition(object, symbol), target))
+    } else {
+        None
+    }
+}
+
+/// The function, where it may have a slot in the table: a stub has none.
+fn unless_stub(target: FunctionTarget) -> Option<FunctionTarget>
+    ensures { result ≡ unless_stub target }
+{
+    match target {
+        FunctionTarget::Defined { .. } | FunctionTarget::Made(_) | FunctionTarget::Host { .. } => {
+            Some(target)
+        }
+        FunctionTarget::Stub { .. } => None,
+    }
+}
+
+/// The function that a function symbol under the slot of a function or the number of a global leads
+/// to, unless it is a stub.
+fn table_function_of(
+    input: &LinkInput<'_, '_>,
+    bindings: &FunctionBindings,
+    relocated: &Relocated,
+) -> Option<FunctionTarget>
+    requires { bindings.now ≡ function_bindings input.now }
+    ensures { result ≡ table_function_of input.now relocated.now }
+{
+    let ty = relocated.relocation.ty;
+    if (is_table_index(ty) || is_global_index(ty)) && names_function(input, relocated) {
+        let target = bindings.function(input, relocated.object, relocated.relocation.index)?;
+        unless_stub(target)
+    } else {
+        None
+    }
+}
+
+/// Adds what a relocation asks for to the GOT list of data.
+fn add_mem<'a>(
+    list: &mut NamedKeys<'a, Definition>,
+    input: &LinkInput<'_, 'a>,
+    relocated: &Relocated,
+) -> Result<(), AllocError>
+    requires { ArePlaces list.old.places list.old.entries.entries }
+    ensures entries { OnOk result (map mem_entry list.new.entries.entries
+        ≡ with_mem input.now (map mem_entry list.old.entries.entries)
+        (got_mem_of input.now relocated.now)) }
+    ensures places { OnOk result (ArePlaces list.new.places list.new.entries.entries) }
+{
+    match got_mem_of(input, relocated) {
+        None => Ok(()),
+        Some(definition) => list.add(definition, definition_name(input, definition)),
+    }
+}
+
+/// Adds what a relocation asks for to the GOT list of functions.
+fn add_func<'a>(
+    list: &mut NamedKeys<'a, (Definition, FunctionTarget)>,
+    input: &LinkInput<'_, 'a>,
+    bindings: &FunctionBindings,
+    relocated: &Relocated,
+) -> Result<(), AllocError>
+    requires bindings { bindings.now ≡ function_bindings input.now }
+    requires places { ArePlaces list.old.places list.old.entries.entries }
+    ensures entries { OnOk result (map func_entry list.new.entries.entries
+        ≡ with_func input.now (map func_entry list.old.entries.entries)
+        (got_func_of input.now relocated.now)) }
+    ensures places { OnOk result (ArePlaces list.new.places list.new.entries.entries) }
+{
+    match got_func_of(input, bindings, relocated) {
+        None => Ok(()),
+        Some((definition, target)) => list.add(
+            (definition, target),
+            definition_name(input, definition),
+        ),
+    }
+}
+
+/// Adds what a relocation asks for to the functions of the table.
+fn add_table_function(
+    list: &mut TableFunctions,
+    input: &LinkInput<'_, '_>,
+    bindings: &FunctionBindings,
+    relocated: &Relocated,
+) -> Result<(), AllocError>
+    requires { bindings.now ≡ function_bindings input.now }
+    ensures { OnOk result (list.new
+        ≡ insert_some same_target list.old (table_function_of input.now relocated.now)) }
+{
+    match table_function_of(input, bindings, relocated) {
+        None => Ok(()),
+        Some(target) => list.add(target),
+    }
+}
+
+/// The GOT list of data, in order of first occurrence.
+fn got_mem<'a>(
+    alloc: Global,
+    input: &LinkInput<'_, 'a>,
+    relocations: &[Relocated],
+) -> Result<GotMem<'a>, AllocError>
+    requires { relocations.now ≡ relocations_of input.now }
+    ensures { IfOk result (λ g. g ≡ map (got_mem_entry input.now) (got_mem input.now)) }
+{
+    let mut list = NamedKeys::new(alloc);
+    for relocated in relocations {
+        add_mem(&mut list, input, relocated)?;
+    }
+    Ok(GotMem::of(list))
+}
+
+/// The GOT list of functions, in order of first occurrence.
+fn got_func<'a>(
+    alloc: Global,
+    input: &LinkInput<'_, 'a>,
+    bindings: &FunctionBindings,
+    relocations: &[Relocated],
+) -> Result<GotFunc<'a>, AllocError>
+    requires bindings { bindings.now ≡ function_bindings input.now }
+    requires relocations { relocations.now ≡ relocations_of input.now }
+    ensures { IfOk result (λ g. g ≡ map (got_func_entry input.now) (got_func input.now)) }
+{
+    let mut list = NamedKeys::new(alloc);
+    for relocated in relocations {
+        add_func(&mut list, input, bindings, relocated)?;
+    }
+    Ok(GotFunc::of(list))
+}
+
+/// The functions of the table, in order of first occurrence.
+fn table_functions(
+    alloc: Global,
+    input: &LinkInput<'_, '_>,
+    bindings: &FunctionBindings,
+    relocations: &[Relocated],
+) -> Result<TableFunctions, AllocError>
+    requires bindings { bindings.now ≡ function_bindings input.now }
+    requires relocations { relocations.now ≡ relocations_of input.now }
+    ensures { IfOk result (λ t. t ≡ table_functions input.now) }
+{
+    let mut list = TableFunctions::new(alloc);
+    for relocated in relocations {
+        add_table_function(&mut list, input, bindings, relocated)?;
+    }
+    Ok(list)
+}
+
+/// Whether a relocation asks for the table: by the slot of a function, by the table's number, or by
+/// the number of a global, if it names a function.
+fn asks_for_table(input: &LinkInput<'_, '_>, relocated: &Relocated) -> bool
+    ensures { result ≡ asks_for_table input.now relocated.now }
+{
+    let ty = relocated.relocation.ty;
+    is_table_index(ty)
+        || is_table_number(ty)
+        || (is_global_index(ty) && names_function(input, relocated))
+}
+
+/// Whether one of these relocations is counted from the base of the memory.
+fn any_memory_relative(relocations: &[Relocated]) -> bool
+    ensures { result ≡ list_any (λ r. is_memory_relative r.relocation.ty) relocations.now }
+{
+    relocations
+        .iter()
+        .any(|relocated| is_memory_relative(relocated.relocation.ty))
+}
+
+/// Whether one of these relocations is counted from the base of the table.
+fn any_table_relative(relocations: &[Relocated]) -> bool
+    ensures { result ≡ list_any (λ r. is_table_relative r.relocation.ty) relocations.now }
+{
+    relocations
+        .iter()
+        .any(|relocated| is_table_relative(relocated.relocation.ty))
+}
+
+/// Whether one of these relocations asks for the table.
+fn any_asks_for_table(input: &LinkInput<'_, '_>, relocations: &[Relocated]) -> bool
+    ensures { result ≡ list_any (asks_for_table input.now) relocations.now }
+{
+    relocations
+        .iter()
+        .any(|relocated| asks_for_table(input, relocated))
+}
+
+/// What kept relocations ask the linker for.
+pub(crate) fn needs(input: &LinkInput<'_, '_>, relocations: &[Relocated]) -> RelocNeeds
+    requires { relocations.now ≡ relocations_of input.now }
+    ensures { result ≡ needs_of input.now }
+{
+    RelocNeeds {
+        memory_base: any_memory_relative(relocations),
+        table_base: any_table_relative(relocations),
+        table: any_asks_for_table(input, relocations),
+    }
+}
+
+/// What kept relocations ask for: the entries of both GOT lists, the functions of the table, and
+/// things that the linker makes.
+///
+/// # Errors
+/// `AllocError` where memory runs out.
+pub(crate) fn gather<'a>(
+    alloc: Global,
+    input: &LinkInput<'_, 'a>,
+    bindings: &FunctionBindings,
+    relocations: Vec<Relocated>,
+) -> Result<RelocScan<'a>, AllocError>
+    requires bindings { bindings.now ≡ function_bindings input.now }
+    requires relocations { relocations.items ≡ relocations_of input.now }
+    ensures { IfOk result (λ s. s ≡ scan_of input.now) }
+{
+    let got_mem = got_mem(alloc, input, &relocations)?;
+    let got_func = got_func(alloc, input, bindings, &relocations)?;
+    let table_functions = table_functions(alloc, input, bindings, &relocations)?;
+    let needs = needs(input, &relocations);
+    Ok(RelocScan {
+        got_mem,
+        got_func,
+        table_functions,
+        needs,
+        relocations: ItemList::new(relocations),
+    })
+}

@@ -1,0 +1,197 @@
+//! Functions of another type than the one under which an object knows them.
+
+ghost use Rattle.std.specs.Prelude.{◌≡◌, ℕ, OnOk, IfErr, Some, false, slice_get};
+ghost use Rattle.wl_linking.specs.Steps.{Clear, Refuses};
+ghost use Rattle.wl_symbols.specs.Entries.{symbol_in};
+ghost use Rattle.wl_bind.specs.FunctionSymbols.{function_bindings};
+ghost use Rattle.wl_bind.specs.Scan.{relocations as link_relocations};
+ghost use Rattle.wl_bind.specs.Signatures.{NamedByRelocation, OnKeptSlot, NamedByInit, IsMismatch};
+ghost use Rattle.wl_bind.specs.BindingSteps.{slot_numbers, differs, is_mismatch, names_mismatch, TellsMismatch, NamesMismatch, AreOwnClear};
+
+use crate::binding::FunctionTarget;
+use crate::input::LinkInput;
+use crate::kinds::is_function_kind;
+use crate::relocated::Relocated;
+use crate::targets::FunctionBindings;
+use crate::types::{SlotTypes, declared_type, is_other_type};
+use std::alloc::Global;
+use wl_linking::{File, LinkError, WasmSymbol, WasmSymbolKind};
+
+/// What types are compared by: what function slots are bound to, and their types.
+#[derive(Drop)]
+struct TypeCheck<'c, 'i, 'a> {
+    input: &'c LinkInput<'i, 'a>,
+    bindings: &'c FunctionBindings,
+    types: SlotTypes,
+    ghost bound: { bindings.now ≡ function_bindings input.now },
+    ghost typed: { types ≡ slot_numbers input.now.link.objects },
+}
+
+impl<'c, 'i, 'a> TypeCheck<'c, 'i, 'a> {
+    /// Whether a function has another type than the one under which an object knows its symbol.
+    fn differs(&self, object: usize, symbol: &WasmSymbol<'_>, target: FunctionTarget) -> bool
+        ensures { result ≡ differs self.now.input.now object symbol.now target }
+    {
+        let files = self.input.files();
+        match declared_type(files, &self.types, object, symbol) {
+            None => false,
+            Some(declared) => is_other_type(files, declared, target),
+        }
+    }
+
+    /// Whether a symbol is a function's, and leads to one of another type.
+    fn is_mismatch(&self, object: usize, number: u32) -> bool
+        ensures { result ≡ is_mismatch self.now.input.now object number }
+    {
+        let Some(symbol) = self.input.symbols().symbol(object, number) else {
+            return false;
+        };
+        if !is_function_kind(symbol.kind) {
+            return false;
+        }
+        match self.bindings.function(self.input, object, number) {
+            None => false,
+            Some(target) => self.differs(object, symbol, target),
+        }
+    }
+
+    /// Sees that a function symbol leads to no function of another type.
+    fn check_symbol(&self, object: usize, number: u32) -> Result<(), LinkError>
+        ensures clear { OnOk result (is_mismatch self.now.input.now object number ≡ false) }
+        ensures err { IfErr result (TellsMismatch self.now.input.now object number) }
+    {
+        if self.is_mismatch(object, number) {
+            Err(LinkError::SignatureMismatch {
+                object,
+                symbol: number,
+            })
+        } else {
+            Ok(())
+        }
+    }
+
+    /// The same of the symbol that a relocation names.
+    fn check_relocation(&self, relocated: &Relocated) -> Result<(), LinkError>
+        ensures clear { OnOk result (names_mismatch self.now.input.now relocated.now ≡ false) }
+        ensures err { IfErr result (NamesMismatch self.now.input.now relocated.now) }
+    {
+        let relocation = relocated.relocation;
+        if relocation.ty.names_a_type() {
+            return Ok(());
+        }
+        self.check_symbol(relocated.object, relocation.index)
+    }
+
+    /// The same of all symbols that kept relocations name.
+    fn check_relocations(&self, relocations: &[Relocated]) -> Result<(), LinkError>
+        requires { relocations.now ≡ link_relocations self.now.input.now }
+        ensures clear { OnOk result ((object number : ℕ)
+            → NamedByRelocation self.now.input.now object number
+            → is_mismatch self.now.input.now object number ≡ false) }
+        ensures err { IfErr result (IsMismatch self.now.input.now) }
+    {
+        for relocated in relocations {
+            self.check_relocation(relocated)?;
+        }
+        Ok(())
+    }
+
+    /// The same of a symbol that is undefined, on a slot that is kept.
+    fn check_undefined(
+        &self,
+        object: usize,
+        number: u32,
+        symbol: &WasmSymbol<'_>,
+    ) -> Result<(), LinkError>
+        requires { symbol_in self.now.input.now.link.objects object number ≡ Some symbol.now }
+        ensures clear { OnOk result (OnKeptSlot self.now.input.now object number
+            → is_mismatch self.now.input.now object number ≡ false) }
+        ensures err { IfErr result (IsMismatch self.now.input.now) }
+    {
+        let input = self.input;
+        if !symbol.is_undefined() {
+            return Ok(());
+        }
+        if !input.keeps_slot(WasmSymbolKind::Func, object, symbol.index) {
+            return Ok(());
+        }
+        self.check_symbol(object, number)
+    }
+
+    /// The same of the undefined symbols of an object.
+    fn check_slots(&self, object: usize, file: &File<'_>) -> Result<(), LinkError>
+        requires { slice_get self.now.input.now.link.objects object ≡ Some file.now }
+        ensures clear { OnOk result ((number : ℕ) → OnKeptSlot self.now.input.now object number
+            → is_mismatch self.now.input.now object number ≡ false) }
+        ensures err { IfErr result (IsMismatch self.now.input.now) }
+    {
+        file.stands_for_an_object();
+        let symbols = file.symbols();
+        for (i, symbol) in symbols.iter().enumerate() {
+            self.check_undefined(object, i as u32, symbol)?;
+        }
+        Ok(())
+    }
+
+    /// The same of the symbols of functions of an object that run at the start.
+    fn check_inits(&self, object: usize, file: &File<'_>) -> Result<(), LinkError>
+        requires { slice_get self.now.input.now.link.objects object ≡ Some file.now }
+        ensures clear { OnOk result ((number : ℕ) → NamedByInit self.now.input.now object number
+            → is_mismatch self.now.input.now object number ≡ false) }
+        ensures err { IfErr result (IsMismatch self.now.input.now) }
+    {
+        for function in file.init_funcs() {
+            self.check_symbol(object, function.symbol_index)?;
+        }
+        Ok(())
+    }
+
+    /// The same of the symbols that an object names without a relocation.
+    fn check_object(&self, object: usize, file: &File<'_>) -> Result<(), LinkError>
+        requires { slice_get self.now.input.now.link.objects object ≡ Some file.now }
+        ensures clear { OnOk result (AreOwnClear self.now.input.now object) }
+        ensures err { IfErr result (IsMismatch self.now.input.now) }
+    {
+        self.check_slots(object, file)?;
+        self.check_inits(object, file)
+    }
+
+    /// The same of all objects.
+    fn check_objects(&self) -> Result<(), LinkError>
+        ensures clear { OnOk result ((object : ℕ) → AreOwnClear self.now.input.now object) }
+        ensures err { IfErr result (IsMismatch self.now.input.now) }
+    {
+        let files = self.input.files().as_slice();
+        for (object, file) in files.iter().enumerate() {
+            self.check_object(object, file)?;
+        }
+        Ok(())
+    }
+}
+
+/// Sees that the function symbols that are looked at lead to functions of the types under which
+/// their objects know them: those that kept relocations name, the undefined ones on kept slots, and
+/// those of functions that run at the start.
+///
+/// # Errors
+/// `SignatureMismatch` tells a symbol that leads to a function of another type.
+pub(crate) fn check_signatures(
+    alloc: Global,
+    input: &LinkInput<'_, '_>,
+    bindings: &FunctionBindings,
+    relocations: &[Relocated],
+) -> Result<(), LinkError>
+    requires bindings { bindings.now ≡ function_bindings input.now }
+    requires relocations { relocations.now ≡ link_relocations input.now }
+    ensures clear { OnOk result (Clear (IsMismatch input.now)) }
+    ensures err { IfErr result (Refuses (IsMismatch input.now)) }
+{
+    let check = TypeCheck {
+        input,
+        bindings,
+        types: SlotTypes::new(alloc, input.files())?,
+    };
+    check.check_relocations(relocations)?;
+    check.check_objects()?;
+    Ok(())
+}

@@ -1,0 +1,198 @@
+//! Names that nothing defines.
+
+ghost use Rattle.std.specs.Prelude.{◌≡◌, ◌↔◌, [], Some, option_map, map, filter_map, IfOk, OnOk, OnErr, IfErr, IsTrue};
+ghost use Rattle.indexmap.specs.IndexSet.{insert_key, insert_all};
+ghost use Rattle.wl_linking.specs.Steps.{Clear, Refuses};
+ghost use Rattle.wl_bind.specs.Undefined.{wants_definition, same_undefined, is_undefined_definition, undefined_data_of, IsUndefinedData};
+ghost use Rattle.wl_bind.specs.UndefinedSteps.{named_in, as_undefined, insert_some, is_undefined_data};
+ghost use Rattle.wl_bind.specs.Scan.{symbol_of, relocations as kept_relocations};
+
+use crate::input::LinkInput;
+use crate::kinds::is_data;
+use crate::relocated::Relocated;
+use indexmap::IndexSet;
+use std::alloc::{AllocError, Global};
+use std::marker::Model;
+use wl_linking::{ItemList, LinkError, Text, UndefinedSymbol, WasmSymbol};
+use wl_symbols::Definition;
+
+/// Names that nothing defines, each once with an object that refers to it, in order of first
+/// occurrence. Clauses see them as a list.
+#[derive(Drop)]
+pub(crate) struct UndefinedNames<'a> {
+    names: IndexSet<(usize, &'a str)>,
+}
+
+impl<'a> Model for UndefinedNames<'a> {
+    ghost use Rattle.std.specs.Prelude.{List, map};
+    ghost use Rattle.wl_linking.specs.declared.error.UndefinedSymbol.{UndefinedSymbol as Undefined};
+    ghost use Rattle.wl_bind.specs.UndefinedSteps.{as_undefined as seen};
+
+    ghost Value = { List Undefined };
+
+    ghost view = { λ u. map seen u.names.keys };
+}
+
+impl<'a> UndefinedNames<'a> {
+    /// No names.
+    pub(crate) fn new(alloc: Global) -> Self
+        ensures { result ≡ [] }
+    {
+        UndefinedNames {
+            names: IndexSet::new(alloc),
+        }
+    }
+
+    /// Whether there are none.
+    pub(crate) fn is_empty(&self) -> bool
+        ensures { IsTrue result ↔ (self.now ≡ []) }
+    {
+        self.names.as_slice().is_empty()
+    }
+
+    /// Adds a name to which that object refers, unless both are there.
+    ///
+    /// # Errors
+    /// `AllocError` where memory runs out. The names are as they were then.
+    pub(crate) fn add(&mut self, object: usize, name: &'a str) -> Result<(), AllocError>
+        ensures ok { OnOk result
+            (self.new ≡ insert_key same_undefined self.old (named_in object name.now)) }
+        ensures err { OnErr result (self.new ≡ self.old) }
+    {
+        self.names.insert((object, name))?;
+        Ok(())
+    }
+
+    /// Adds an object and a name, where there are, unless both are there.
+    ///
+    /// # Errors
+    /// `AllocError` where memory runs out. The names are as they were then.
+    pub(crate) fn add_some(&mut self, item: Option<(usize, &'a str)>) -> Result<(), AllocError>
+        ensures ok { OnOk result
+            (self.new ≡ insert_some self.old (option_map as_undefined item.entry)) }
+        ensures err { OnErr result (self.new ≡ self.old) }
+    {
+        match item {
+            None => Ok(()),
+            Some((object, name)) => self.add(object, name),
+        }
+    }
+
+    /// The names as a refusal tells them.
+    ///
+    /// # Errors
+    /// `AllocError` where memory runs out.
+    pub(crate) fn into_symbols(self, alloc: Global) -> Result<ItemList<UndefinedSymbol>, AllocError>
+        ensures { IfOk result (λ symbols. symbols ≡ self.entry) }
+    {
+        told(alloc, self.names.as_slice())
+    }
+}
+
+/// These objects and names as a refusal tells them.
+fn told(alloc: Global, names: &[(usize, &str)]) -> Result<ItemList<UndefinedSymbol>, AllocError>
+    ensures { IfOk result (λ symbols. symbols ≡ map as_undefined names.now) }
+{
+    let mut symbols = ItemList::empty(alloc);
+    for (object, name) in names {
+        symbols.push(UndefinedSymbol {
+            object: *object,
+            name: Text::new(String::from_str(alloc, name)?),
+        })?;
+    }
+    Ok(symbols)
+}
+
+/// Whether a symbol has to be defined: an undefined one that isn't weak, and has no name of its
+/// own.
+pub(crate) fn wants_definition(symbol: &WasmSymbol<'_>) -> bool
+    ensures { result ≡ wants_definition symbol.now }
+{
+    symbol.is_undefined() && !symbol.is_weak() && !symbol.is_explicit_name()
+}
+
+/// Whether what a symbol stands for is a symbol that its object doesn't define.
+fn is_undefined_definition(input: &LinkInput<'_, '_>, definition: Definition) -> bool
+    ensures { result ≡ is_undefined_definition input.now definition }
+{
+    match definition {
+        Definition::Symbol { object, symbol } => match input.symbols().symbol(object, symbol) {
+            None => false,
+            Some(symbol) => symbol.is_undefined(),
+        },
+        Definition::Made(_) => false,
+    }
+}
+
+/// Whether the symbol that a relocation names is data that has to be defined, and stands for an
+/// undefined symbol.
+fn is_undefined_data(
+    input: &LinkInput<'_, '_>,
+    relocated: &Relocated,
+    symbol: &WasmSymbol<'_>,
+) -> bool
+    requires { symbol_of input.now relocated.now ≡ Some symbol.now }
+    ensures { result ≡ is_undefined_data input.now relocated.now symbol.now }
+{
+    let number = relocated.relocation.index;
+    is_data(symbol.kind)
+        && wants_definition(symbol)
+        && is_undefined_definition(input, input.symbols().definition(relocated.object, number))
+}
+
+/// The object and the name of the undefined data that a relocation names, if it does.
+fn undefined_data_of<'a>(
+    input: &LinkInput<'_, 'a>,
+    relocated: &Relocated,
+) -> Option<(usize, &'a str)>
+    ensures { option_map as_undefined result ≡ undefined_data_of input.now relocated.now }
+{
+    let symbol = input
+        .symbols()
+        .symbol(relocated.object, relocated.relocation.index)?;
+    if is_undefined_data(input, relocated, symbol) {
+        Some((relocated.object, symbol.name))
+    } else {
+        None
+    }
+}
+
+/// The undefined data that these relocations name.
+fn collect_undefined_data<'a>(
+    alloc: Global,
+    input: &LinkInput<'_, 'a>,
+    relocations: &[Relocated],
+) -> Result<UndefinedNames<'a>, AllocError>
+    ensures { IfOk result (λ names. names
+        ≡ insert_all same_undefined [] (filter_map (undefined_data_of input.now) relocations.now)) }
+{
+    let mut names = UndefinedNames::new(alloc);
+    for relocated in relocations {
+        names.add_some(undefined_data_of(input, relocated))?;
+    }
+    Ok(names)
+}
+
+/// Sees that the data that kept relocations name is defined, unless names may be undefined.
+///
+/// # Errors
+/// `UndefinedSymbols` where there is data that has to be defined, and isn't: it tells all of it,
+/// each name once with an object, in order of first occurrence.
+pub(crate) fn check_undefined_data(
+    alloc: Global,
+    input: &LinkInput<'_, '_>,
+    relocations: &[Relocated],
+) -> Result<(), LinkError>
+    requires relocations { relocations.now ≡ kept_relocations input.now }
+    ensures clear { OnOk result (Clear (IsUndefinedData input.now)) }
+    ensures err { IfErr result (Refuses (IsUndefinedData input.now)) }
+{
+    if input.args().allow_undefined {
+        return Ok(());
+    }
+    let names = collect_undefined_data(alloc, input, relocations)?;
+    if names.is_empty() {
+        return Ok(());
+    }
+    Err(LinkError::UndefinedSymbols(names.into_symbols(alloc)?))
+}

@@ -1,0 +1,14 @@
+//! The types of the output.
+//!
+//! Objects have types of their own, many of them the same. A [`TypeMerger`] takes them one by one,
+//! keeps each once, and tells the index that each has in the output.
+#![tactic(auto)]
+
+mod laws;
+mod types;
+
+pub use laws::{same_types_are_one, types_stand_once};
+pub use types::{MAX_ENTRIES, TypeMerger, WASM_DEAD_INDEX};
+
+#[cfg(test)]
+mod tests;
