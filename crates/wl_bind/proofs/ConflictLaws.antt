@@ -303,7 +303,7 @@ pub firsts_more : (slots firsts rest new : List ImportSlot) (t : ImportSlot) (fi
     → new ≡ with_first firsts first t → insert_all same_field new rest ≡ insert_all same_field [] slots
 firsts_more slots firsts rest new t first all is more =
     ap (λ (l : List ImportSlot). insert_all same_field l rest)
-      (more ∙ (ap (λ (o : Option ImportSlot). with_first firsts o t) is ∙ sym (insert_first same_field firsts t)))
+    (more ∙ (ap (λ (o : Option ImportSlot). with_first firsts o t) is ∙ sym (insert_first same_field firsts t)))
     ∙ all
 
 -- the next slot is the first of those to come

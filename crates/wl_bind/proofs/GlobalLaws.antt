@@ -37,8 +37,8 @@ pub binds : (input : Input) (t : ImportSlot) (target : Option SlotTarget) → sl
     → binds_global input t ≡ unwrap_or (option_or (option_map named_global target) (by_got input t)) (by_host input t)
 binds input t target is =
     ap (λ (g : Option GlobalTarget). unwrap_or g (by_host input t))
-      (joined named_global (by_definition input.link t) (by_symbol_name input.link t) (by_field_name input.link t) (by_got input t)
-      ∙ ap (λ (s : Option SlotTarget). option_or (option_map named_global s) (by_got input t)) is)
+    (joined named_global (by_definition input.link t) (by_symbol_name input.link t) (by_field_name input.link t) (by_got input t)
+    ∙ ap (λ (s : Option SlotTarget). option_or (option_map named_global s) (by_got input t)) is)
 
 -- ---- the GOT lists
 
@@ -73,11 +73,11 @@ later_is input t =
     (option_map_or GotFuncSlot (position (λ (e : GotFuncEntry). has_that_name name e.name) (map (got_func_entry input) (got_func input))) Unresolved)
     (option_map global.GotMem mem) (option_map global.GotFunc func) (by_host input t)
     (ap (λ (p : Option ℕ). option_map_or GotMemSlot p Unresolved)
-      (mapped_position (got_mem_entry input) (λ (e : GotMemEntry). has_that_name name e.name) (is_called input name) (called input name) (got_mem input))
+    (mapped_position (got_mem_entry input) (λ (e : GotMemEntry). has_that_name name e.name) (is_called input name) (called input name) (got_mem input))
     ∙ mem_place input (by_host input t) refl mem)
     (ap (λ (p : Option ℕ). option_map_or GotFuncSlot p Unresolved)
-      (mapped_position (got_func_entry input) (λ (e : GotFuncEntry). has_that_name name e.name)
-        (λ (p : Definition × FunctionTarget). is_called input name p.0) (λ (p : Definition × FunctionTarget). called input name p.0) (got_func input))
+    (mapped_position (got_func_entry input) (λ (e : GotFuncEntry). has_that_name name e.name)
+    (λ (p : Definition × FunctionTarget). is_called input name p.0) (λ (p : Definition × FunctionTarget). called input name p.0) (got_func input))
     ∙ func_place input (by_host input t) refl func)
     refl
 
@@ -86,7 +86,7 @@ later_is input t =
 picked : (input : Input) (kept : Bool) (target : Option SlotTarget) (later : ImportResolution) (got : Option GlobalTarget) (host : GlobalTarget)
     → later ≡ as_global input (unwrap_or got host)
     → (if is_unresolved (if kept then option_map_or (resolved input Global) target Unresolved else Unresolved) && kept
-      then later else (if kept then option_map_or (resolved input Global) target Unresolved else Unresolved))
+    then later else (if kept then option_map_or (resolved input Global) target Unresolved else Unresolved))
     ≡ (if kept then as_global input (unwrap_or (option_or (option_map named_global target) got) host) else Unresolved)
 picked input false target later got host is = refl
 picked input true (Some (slot.Defined object number)) later got host is = refl
@@ -106,15 +106,15 @@ walked_global input object n symbols i =
 
 walked_slots : (input : Input) (object n : ℕ) (symbols : List LinkedSymbol) (is : List Imported)
     → stepped (walked_at (walk_of input (later_by_got (scan_of input)) Global object)) n is
-      (map (named_resolution input) (numbered_slots object Global symbols n is))
+    (map (named_resolution input) (numbered_slots object Global symbols n is))
     ≡ map (global_resolution input) (numbered_slots object Global symbols n is)
 walked_slots input object n symbols [] = refl
 walked_slots input object n symbols (i ∷ is) =
     let t = slot_at object Global symbols n i in
     let rest = numbered_slots object Global symbols (n + 1) is in
     ap (λ (r : ImportResolution). r
-        ∷ stepped (walked_at (walk_of input (later_by_got (scan_of input)) Global object)) (n + 1) is (map (named_resolution input) rest))
-      (walked_global input object n symbols i)
+    ∷ stepped (walked_at (walk_of input (later_by_got (scan_of input)) Global object)) (n + 1) is (map (named_resolution input) rest))
+    (walked_global input object n symbols i)
     ∙ ap (λ (rs : List ImportResolution). global_resolution input t ∷ rs) (walked_slots input object (n + 1) symbols is)
 
 -- ---- the slots of all objects
@@ -126,7 +126,7 @@ walked_rows input n (o ∷ os) =
     let functions = map (named_resolution input) (object_slots n Func o) in
     let row = λ (globals : List ImportResolution). the_row functions globals in
     ap (λ (globals : List ImportResolution). row globals ∷ stepped (globals_walked input (scan_of input)) (n + 1) os (rows_from (by_names input) (n + 1) os))
-      (walked_slots input n 0 o.symbols (slot_imports Global o.imports))
+    (walked_slots input n 0 o.symbols (slot_imports Global o.imports))
     ∙ ap (λ (rows : List ObjectImportResolutions). row (map (global_resolution input) (object_slots n Global o)) ∷ rows) (walked_rows input (n + 1) os)
 
 -- rows that names resolve, with the GOT lists

@@ -61,8 +61,8 @@ module _ {X Y : Type 0} (step : ℕ → X → Y → Y) where
       → zs ≡ step_at step k k x ys → left_from k xs ys ≡ all → left_from (k + 1) xs zs ≡ all
   turn xs k x ys zs all lt at new rest =
       let here : drop k xs ≡ x ∷ drop (k + 1) xs =
-        drop-cons xs k x lt
-        ∙ (ap (λ (w : X). w ∷ drop (suc k) xs) (sym at) ∙ ap (λ (m : ℕ). x ∷ drop m xs) (one_more k)) in
+      drop-cons xs k x lt
+      ∙ (ap (λ (w : X). w ∷ drop (suc k) xs) (sym at) ∙ ap (λ (m : ℕ). x ∷ drop m xs) (one_more k)) in
       ap (left_from (k + 1) xs) new
       ∙ (ap (λ (m : ℕ). stepped_behind step m (k + 1) (drop (k + 1) xs) (step_at step k k x ys)) (sym (one_more k))
       ∙ (sym (behind_more ys k k x (drop (k + 1) xs))

@@ -44,8 +44,8 @@ pub binds : (input : Input) (t : ImportSlot) (target : Option SlotTarget) → sl
     → binds_function input t ≡ unwrap_or (option_or (option_map named_function target) (by_stub input t)) (by_host input t)
 binds input t target is =
     ap (λ (g : Option FunctionTarget). unwrap_or g (by_host input t))
-      (joined named_function (by_definition input.link t) (by_symbol_name input.link t) (by_field_name input.link t) (by_stub input t)
-      ∙ ap (λ (s : Option SlotTarget). option_or (option_map named_function s) (by_stub input t)) is)
+    (joined named_function (by_definition input.link t) (by_symbol_name input.link t) (by_field_name input.link t) (by_stub input t)
+    ∙ ap (λ (s : Option SlotTarget). option_or (option_map named_function s) (by_stub input t)) is)
 
 -- ---- stubs
 
@@ -72,7 +72,7 @@ later_is input t told left =
 picked : (input : Input) (t : ImportSlot) (kept : Bool) (target : Option SlotTarget) (later : ImportResolution) (stub : Option FunctionTarget)
     → (kept ≡ true → target ≡ None → later ≡ as_function input t (unwrap_or stub (by_host input t)))
     → (if is_unresolved (if kept then option_map_or (resolved input Func) target Unresolved else Unresolved) && kept
-      then later else (if kept then option_map_or (resolved input Func) target Unresolved else Unresolved))
+    then later else (if kept then option_map_or (resolved input Func) target Unresolved else Unresolved))
     ≡ (if kept then as_function input t (unwrap_or (option_or (option_map named_function target) stub) (by_host input t)) else Unresolved)
 picked input t false target later stub is = refl
 picked input t true (Some (slot.Defined object number)) later stub is = refl
@@ -107,17 +107,17 @@ AreAmong slots all = (t : ImportSlot) → Contains slots t → Contains all t
 walked_slots : (input : Input) (object n : ℕ) (symbols : List LinkedSymbol) (is : List Imported) → StubsAreTold input
     → AreAmong (numbered_slots object Func symbols n is) (slots_from Func 0 input.link.objects)
     → stepped (walked_at (walk_of input (later_by_stub (map first_slot (link_stubs input))) Func object)) n is
-      (map (named_resolution input) (numbered_slots object Func symbols n is))
+    (map (named_resolution input) (numbered_slots object Func symbols n is))
     ≡ map (function_resolution input) (numbered_slots object Func symbols n is)
 walked_slots input object n symbols [] told among = refl
 walked_slots input object n symbols (i ∷ is) told among =
     let t = slot_at object Func symbols n i in
     let rest = numbered_slots object Func symbols (n + 1) is in
     ap (λ (r : ImportResolution). r
-        ∷ stepped (walked_at (walk_of input (later_by_stub (map first_slot (link_stubs input))) Func object)) (n + 1) is (map (named_resolution input) rest))
-      (walked_function input object n symbols i told (among t (at_front t rest)))
+    ∷ stepped (walked_at (walk_of input (later_by_stub (map first_slot (link_stubs input))) Func object)) (n + 1) is (map (named_resolution input) rest))
+    (walked_function input object n symbols i told (among t (at_front t rest)))
     ∙ ap (λ (rs : List ImportResolution). function_resolution input t ∷ rs)
-      (walked_slots input object (n + 1) symbols is told (λ u h. among u (behind t u rest h)))
+    (walked_slots input object (n + 1) symbols is told (λ u h. among u (behind t u rest h)))
 
 -- ---- the slots of all objects
 
@@ -131,10 +131,10 @@ walked_rows input n (o ∷ os) told among =
     let rest = slots_from Func (n + 1) os in
     let globals = map (global_resolution input) (object_slots n Global o) in
     ap (λ (functions : List ImportResolution). the_row functions globals
-        ∷ stepped (functions_walked input (map first_slot (link_stubs input))) (n + 1) os (rows_from (by_names_and_got input) (n + 1) os))
-      (walked_slots input n 0 o.symbols (slot_imports Func o.imports) told (λ u h. among u (Contains-append_left here rest u h)))
+    ∷ stepped (functions_walked input (map first_slot (link_stubs input))) (n + 1) os (rows_from (by_names_and_got input) (n + 1) os))
+    (walked_slots input n 0 o.symbols (slot_imports Func o.imports) told (λ u h. among u (Contains-append_left here rest u h)))
     ∙ ap (λ (rows : List ObjectImportResolutions). the_row (map (function_resolution input) here) globals ∷ rows)
-      (walked_rows input (n + 1) os told (λ u h. among u (Contains-append_right here rest u h)))
+    (walked_rows input (n + 1) os told (λ u h. among u (Contains-append_right here rest u h)))
 
 -- rows that names and the GOT lists resolve, with the stubs
 pub stubbed : (input : Input) (old new : List ObjectImportResolutions) → StubsAreTold input

@@ -36,7 +36,7 @@ module _ {Y : Type 0} (step : ℕ → Imported → Y → Y) (kind : WasmSymbolKi
       → left_at (n + 1) (drop (k + 1) items) (step_at step n n i ys) ≡ all
   stepped_slot items k n i ys all lt at so rest =
       let slots : slot_imports kind (drop k items) ≡ i ∷ slot_imports kind (drop (k + 1) items) =
-        ap (slot_imports kind) (from_here items k i lt at) ∙ slots_here kind i (drop (k + 1) items) so in
+      ap (slot_imports kind) (from_here items k i lt at) ∙ slots_here kind i (drop (k + 1) items) so in
       let more = behind_more step ys n n i (slot_imports kind (drop (k + 1) items)) in
       ap (λ (m : ℕ). stepped_behind step m (n + 1) (slot_imports kind (drop (k + 1) items)) (step_at step n n i ys)) (sym (one_more n))
       ∙ (sym more ∙ (ap (λ (is : List Imported). stepped_behind step n n is ys) (sym slots) ∙ rest))
@@ -53,7 +53,7 @@ module _ {Y : Type 0} (step : ℕ → Imported → Y → Y) (kind : WasmSymbolKi
       → left_at n (drop (k + 1) items) ys ≡ all
   stepped_other items k n i ys all lt at so rest =
       let slots : slot_imports kind (drop k items) ≡ slot_imports kind (drop (k + 1) items) =
-        ap (slot_imports kind) (from_here items k i lt at) ∙ slots_behind kind i (drop (k + 1) items) so in
+      ap (slot_imports kind) (from_here items k i lt at) ∙ slots_behind kind i (drop (k + 1) items) so in
       ap (λ (is : List Imported). stepped_behind step n n is ys) (sym slots) ∙ rest
 
   pub walk_other : (items : List Imported) (k n m : ℕ) (i : Imported) (ys zs all : List Y) → k < length items → i ≡ get_or items k i

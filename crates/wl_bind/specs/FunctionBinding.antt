@@ -35,7 +35,7 @@ abbrev pub by_stub : Input → ImportSlot → Option FunctionTarget
 by_stub input t =
     if is_stub input.link.objects (left_functions input) t
     then (let first = first_like same_field (link_stubs input) t in
-        Some (Stub first.object first.number))
+    Some (Stub first.object first.number))
     else None
 
 -- sixth: a host import, one per module and field name

@@ -45,8 +45,8 @@ abbrev pub fun : Input → ℕ → ℕ → Option FunctionTarget
 fun input object number =
     option_and_then
     (λ o. option_and_then
-        (λ s. if is_function_kind s.kind then function_of input object number o s else None)
-        (slice_get o.symbols number))
+    (λ s. if is_function_kind s.kind then function_of input object number o s else None)
+    (slice_get o.symbols number))
     (slice_get input.link.objects object)
 
 -- what the function slots of these objects are bound to, the first of which has that number

@@ -63,8 +63,8 @@ declared_type objects object s =
     if is_undefined s
     then option_and_then (slot_type objects) (slice_get (import_slots objects object Func) s.index)
     else option_and_then
-        (λ o. option_and_then (type_of_defined objects object) (own_number Func o s.index))
-        (slice_get objects object)
+    (λ o. option_and_then (type_of_defined objects object) (own_number Func o s.index))
+    (slice_get objects object)
 
 -- the types of the stubs, in order: each has that of its first slot
 abbrev pub stub_types : Input → List FunctionType

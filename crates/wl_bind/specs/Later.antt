@@ -24,10 +24,10 @@ abbrev pub later_by_got : Scanned → Imported → ImportResolution
 later_by_got scan i =
     if bytes_eq i.origin (codes "GOT.mem")
     then option_map_or GotMemSlot
-        (position (λ (e : GotMemEntry). has_that_name i.name e.name) scan.got_mem) Unresolved
+    (position (λ (e : GotMemEntry). has_that_name i.name e.name) scan.got_mem) Unresolved
     else if bytes_eq i.origin (codes "GOT.func")
     then option_map_or GotFuncSlot
-        (position (λ (e : GotFuncEntry). has_that_name i.name e.name) scan.got_func) Unresolved
+    (position (λ (e : GotFuncEntry). has_that_name i.name e.name) scan.got_func) Unresolved
     else Unresolved
 
 -- what an import is as a stub

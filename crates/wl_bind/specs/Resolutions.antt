@@ -108,8 +108,8 @@ abbrev pub rows_from : Resolving → ℕ → List Object → List ObjectImportRe
 rows_from by object [] = []
 rows_from by object (o ∷ objects) =
     record {
-        function_resolutions = map by.functions (object_slots object Func o);
-        global_resolutions = map by.globals (object_slots object Global o);
+      function_resolutions = map by.functions (object_slots object Func o);
+      global_resolutions = map by.globals (object_slots object Global o);
     } ∷ rows_from by (object + 1) objects
 
 -- by names alone

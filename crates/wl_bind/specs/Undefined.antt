@@ -52,8 +52,8 @@ abbrev pub undefined_data_of : Input → Relocated → Option UndefinedSymbol
 undefined_data_of input r =
     option_and_then
     (λ (s : LinkedSymbol).
-        if is_data s.kind && wants_definition s && is_undefined_definition input (definition_of input r)
-        then Some (undefined_in r.object s) else None)
+    if is_data s.kind && wants_definition s && is_undefined_definition input (definition_of input r)
+    then Some (undefined_in r.object s) else None)
     (symbol_of input r)
 
 -- those that kept relocations name, each once, in order of first occurrence
@@ -97,8 +97,8 @@ is_host_slot input Table t = false
 abbrev pub undefined_import_of : Input → ℕ → LinkedSymbol → Option UndefinedSymbol
 undefined_import_of input object s =
     if wants_definition s
-        && option_map_or (is_host_slot input s.kind)
-            (slice_get (import_slots input.link.objects object s.kind) s.index) false
+    && option_map_or (is_host_slot input s.kind)
+    (slice_get (import_slots input.link.objects object s.kind) s.index) false
     then Some (undefined_in object s) else None
 
 -- those of these objects, the first of which has that number

@@ -84,7 +84,8 @@ impl<'i, 'a> LinkInput<'i, 'a> {
     {
         match kind {
             WasmSymbolKind::Func => {
-                self.live.is_live(object, WasmGcUnit::FunctionImport(number))
+                self.live
+                    .is_live(object, WasmGcUnit::FunctionImport(number))
             }
             WasmSymbolKind::Global => {
                 self.live.is_live(object, WasmGcUnit::GlobalImport(number))

@@ -31,8 +31,14 @@ impl<'a> LaterRule for RelocScan<'a> {
 
     fn resolve(&self, import: &Import<'_>) -> ImportResolution {
         let place = match import.module {
-            "GOT.mem" => self.got_mem.place_of_name(import.name).map(ImportResolution::GotMemSlot),
-            "GOT.func" => self.got_func.place_of_name(import.name).map(ImportResolution::GotFuncSlot),
+            "GOT.mem" => self
+                .got_mem
+                .place_of_name(import.name)
+                .map(ImportResolution::GotMemSlot),
+            "GOT.func" => self
+                .got_func
+                .place_of_name(import.name)
+                .map(ImportResolution::GotFuncSlot),
             _ => None,
         };
         place.unwrap_or(ImportResolution::Unresolved)
@@ -96,7 +102,7 @@ impl<'w, 'i, 'a, R: LaterRule> Walk<'w, 'i, 'a, R> {
     fn resolve_at(&self, number: u32, import: &Import<'_>, resolutions: &mut ResolutionList)
         ensures { let w = self.now in
             resolutions.new ≡ step_at (walked_at (walk_of w.input.now (R.resolves w.rule.now) w.kind w.object))
-                number number import.now resolutions.old }
+            number number import.now resolutions.old }
     {
         if let Some(old) = resolutions.get(number as usize) {
             resolutions.set(number as usize, self.resolve(number, import, old));
@@ -107,7 +113,7 @@ impl<'w, 'i, 'a, R: LaterRule> Walk<'w, 'i, 'a, R> {
     pub(crate) fn resolve_all(&self, file: &File<'_>, resolutions: &mut ResolutionList)
         ensures { let w = self.now in
             resolutions.new ≡ walked (walk_of w.input.now (R.resolves w.rule.now) w.kind w.object)
-                file.now resolutions.old }
+            file.now resolutions.old }
     {
         file.stands_for_an_object();
         let mut number: u32 = 0;

@@ -24,7 +24,9 @@ pub enum ImportResolution {
     /// What the linker makes.
     LinkerDefined(WasmLinkerSymbol),
     /// The stub of that place among the stubs.
-    WeakUndefStub { stub_index: usize },
+    WeakUndefStub {
+        stub_index: usize,
+    },
     /// The entry of that place of the GOT list of data.
     GotMemSlot(usize),
     /// The entry of that place of the GOT list of functions.

@@ -20,11 +20,7 @@ fn kept_number(input: &LinkInput<'_, '_>, object: usize, unit: WasmGcUnit) -> u3
 }
 
 /// What names bind a slot of that kind to, as a resolution.
-fn resolved(
-    input: &LinkInput<'_, '_>,
-    kind: WasmSymbolKind,
-    target: SlotTarget,
-) -> ImportResolution
+fn resolved(input: &LinkInput<'_, '_>, kind: WasmSymbolKind, target: SlotTarget) -> ImportResolution
     ensures { result ≡ resolved input.now kind target }
 {
     match (kind, target) {
@@ -42,11 +38,7 @@ fn resolved(
         (WasmSymbolKind::Global, SlotTarget::Defined { object, number }) => {
             ImportResolution::ResolvedGlobal {
                 object_index: object,
-                local_defined_index: kept_number(
-                    input,
-                    object,
-                    WasmGcUnit::DefinedGlobal(number),
-                ),
+                local_defined_index: kept_number(input, object, WasmGcUnit::DefinedGlobal(number)),
             }
         }
         (

@@ -13,23 +13,23 @@ loop-import-preserved g c =
     let entity = ap (λ (i : Imported). is_slot_of s.kind i.entity) (sym c.import.view_is) ∙ sym c.is_slot_of.ensures in
     elim c.if-is_slot_of.branch [
       | then-is_slot_of w ↦ record {
-          few = omega (arith, w.number-is, c.loop-import.invariant.few);
-          rest = walk_slot (walked_at walk) s.kind c.imports-import-items.result.now
+        few = omega (arith, w.number-is, c.loop-import.invariant.few);
+        rest = walk_slot (walked_at walk) s.kind c.imports-import-items.result.now
             c.loop-import.import-index c.loop-import.number c.if-is_slot_of.number
             c.import-item.result c.loop-import.resolutions c.if-is_slot_of.resolutions
             (walked walk c.args.file.now c.args.resolutions.now) c.loop-import-test.true c.import-item.is
             (entity ∙ w.if-is_slot_of.true) w.number-is (w.resolutions-is ∙ w.resolve_at.ensures)
             c.loop-import.invariant.rest;
-        }
+      }
       | else-is_slot_of w ↦ record {
-          few = omega (arith, w.number-is, c.loop-import.invariant.few);
-          rest = walk_other (walked_at walk) s.kind c.imports-import-items.result.now
+        few = omega (arith, w.number-is, c.loop-import.invariant.few);
+        rest = walk_other (walked_at walk) s.kind c.imports-import-items.result.now
             c.loop-import.import-index c.loop-import.number c.if-is_slot_of.number
             c.import-item.result c.loop-import.resolutions c.if-is_slot_of.resolutions
             (walked walk c.args.file.now c.args.resolutions.now) c.loop-import-test.true c.import-item.is
             (entity ∙ w.if-is_slot_of.false) w.number-is w.resolutions-is
             c.loop-import.invariant.rest;
-        }
+      }
     ]
 
 pub returns : goal.returns
