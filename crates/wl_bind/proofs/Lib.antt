@@ -11,8 +11,10 @@ pub mod MismatchLaws
 pub mod OneRuleLaws
 pub mod ResolvingLaws
 pub mod RowLaws
+pub mod RowsLaws
 pub mod SameLaws
 pub mod SharedLaws
+pub mod StepLaws
 pub mod SteppedLaws
 pub mod StubLaws
 pub mod TypeLaws

@@ -23,3 +23,4 @@ pub mod GotSteps
 pub mod BindingSteps
 pub mod BindingCases
 pub mod SharedSteps
+pub mod Bound
