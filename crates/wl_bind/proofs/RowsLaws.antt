@@ -44,9 +44,9 @@ row_of : (input : Input) (object : ℕ) (o : Object) → slice_get input.link.ob
 unfolding the_row
 row_of input object o at =
     ap (λ (slots : List ImportSlot). the_row (map (named_resolution input) slots) (map (named_resolution input) (object_slots object Global o)))
-      (sym (slots_are input.link.objects object Func o at))
+    (sym (slots_are input.link.objects object Func o at))
     ∙ ap (λ (slots : List ImportSlot). the_row (named_resolutions input object Func) (map (named_resolution input) slots))
-      (sym (slots_are input.link.objects object Global o at))
+    (sym (slots_are input.link.objects object Global o at))
 
 -- the row of an object, in front of the others
 row_first : (input : Input) (object : ℕ) → object < length input.link.objects
@@ -56,7 +56,7 @@ row_first input object lt =
     let here = some_object input.link.objects object lt in
     ap (rows_from (by_names input) object) here.2
     ∙ (ap (λ (r : ObjectImportResolutions). r ∷ rows_from (by_names input) (object + 1) (drop (suc object) input.link.objects))
-      (row_of input object here.0 here.1)
+    (row_of input object here.0 here.1)
     ∙ ap (λ (m : ℕ). named_row input object ∷ rows_from (by_names input) (object + 1) (drop m input.link.objects)) (one_more object))
 
 -- one row more
@@ -66,7 +66,7 @@ pub row_more : (input : Input) (object : ℕ) (old new : List ObjectImportResolu
     → new ++ rows_behind input (object + 1) ≡ rows_from (by_names input) 0 input.link.objects
 row_more input object old new row lt is more so_far =
     ap (λ (rows : List ObjectImportResolutions). rows ++ rows_behind input (object + 1))
-      (more ∙ ap (λ (r : ObjectImportResolutions). old ++ r ∷ []) is)
+    (more ∙ ap (λ (r : ObjectImportResolutions). old ++ r ∷ []) is)
     ∙ (append_assoc old (named_row input object ∷ []) (rows_behind input (object + 1))
     ∙ (ap (λ (rows : List ObjectImportResolutions). old ++ rows) (sym (row_first input object lt)) ∙ so_far))
 

@@ -12,6 +12,7 @@ use wl_symbols::{SymbolTable, WasmArgs};
 
 /// What is bound: the objects, the table of their names, what is kept of them, and the options.
 /// Clauses see it as an `Input`: the link, and what is kept of it.
+#[derive(Drop)]
 pub struct LinkInput<'i, 'a> {
     files: &'i FileList<'a>,
     symbols: &'i SymbolTable<'i, 'a>,

@@ -38,7 +38,7 @@ pub use bound::{BoundReferences, bind_references};
 pub use got::{GotFunc, GotMem, TableFunctions};
 pub use input::LinkInput;
 pub use laws::{same_targets_are_one, stubs_have_no_slot, table_functions_stand_once};
-pub use relocated::{FixupPlace, Relocated};
+pub use relocated::{FixupPlace, Relocated, kept_relocations};
 pub use report::report_disallowed_unresolved_imports;
 pub use resolution::{ImportResolution, ObjectImportResolutions, ResolutionList};
 pub use resolving::{resolve_import_symbols, resolve_objects};
@@ -47,3 +47,6 @@ pub use scanning::scan_layout_relocations;
 pub use shared::{SharedUnresolvedImports, collect_shared_unresolved_imports};
 pub use stubs::absorb_weak_undef_function_imports;
 pub use targets::FunctionBindings;
+
+#[cfg(test)]
+mod tests;

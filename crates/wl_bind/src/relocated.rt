@@ -93,7 +93,7 @@ fn push_section(
 ///
 /// # Errors
 /// `AllocError` where memory runs out.
-pub(crate) fn kept_relocations(
+pub fn kept_relocations(
     alloc: Global,
     input: &LinkInput<'_, '_>,
 ) -> Result<Vec<Relocated>, AllocError>

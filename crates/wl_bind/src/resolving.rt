@@ -95,8 +95,8 @@ fn resolve_object(
     object: usize,
 ) -> Result<ObjectImportResolutions, LinkError>
     ensures ok { IfOk result (λ row. row ≡ record {
-        function_resolutions = named_resolutions input.now object Func;
-        global_resolutions = named_resolutions input.now object GlobalKind;
+      function_resolutions = named_resolutions input.now object Func;
+      global_resolutions = named_resolutions input.now object GlobalKind;
     }) }
     ensures err { IfErr result (λ e. e ≡ OutOfMemory) }
 {

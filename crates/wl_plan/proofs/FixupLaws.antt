@@ -35,20 +35,21 @@ use Rattle.wl_live.specs.declared.units.UnitCounts.{UnitCounts}
 use Rattle.wl_live.specs.declared.units.WasmGcUnit.{WasmGcUnit}
 use Rattle.wl_live.specs.declared.units.WasmGcUnit.TheVariants.{DefinedFunction, DefinedGlobal, DataSegment, FunctionImport, GlobalImport}
 use Rattle.wl_plan.specs.Planned.{is_planned, is_unplanned_relocation, AllPlanned}
-use Rattle.wl_plan.specs.Space.{keeps_function, kept_functions, functions_from, function_space, max_entries}
+use Rattle.wl_plan.specs.Space.{keeps_function, kept_functions, functions_from, function_space}
+use Rattle.wl_types.specs.Types.{max_entries}
 use Rattle.wl_plan.specs.Maps.{imported_functions, LeadsToPlaces, AreMaps}
-use Rattle.wl_plan.specs.Relocations.{keeps_unit, relocated_at, relocated_if, relocated_in, object_relocations, relocations_from, kept_relocations}
+use Rattle.wl_bind.specs.Relocations.{keeps_unit, relocated_at, relocated_if, relocated_in, object_relocations, relocations_from, kept_relocations}
 use Rattle.wl_plan.specs.Fixups.{bound_origin, IsFixup, AreFixups}
 use Rattle.wl_plan.specs.Entry.{function_in, named_function, memory_export, IsFunctionExport, IsExportedOnce, IsEntryExport, AreExports}
 use Rattle.wl_plan.specs.Plan.{function_origins, body_of, body_in, IsBodyOf}
-use Rattle.wl_plan.specs.Building.{IsSmallSite, AreSmallSites, map_of, number_in, fixup_by, HasIndex, HasBody, imported_in, index_by, IsMapped, IsNameMapped, IsEntryMapped, exported_as, named_exports, exports_by}
+use Rattle.wl_plan.specs.Building.{map_of, number_in, fixup_by, HasIndex, HasBody, imported_in, index_by, IsMapped, IsNameMapped, IsEntryMapped, exported_as, named_exports, exports_by}
 use Rattle.wl_plan.specs.declared.layout.FunctionOrigin.{FunctionOrigin}
 use Rattle.wl_plan.specs.declared.layout.FunctionOrigin.TheVariants as origin
 use Rattle.wl_plan.specs.declared.layout.OutputFunction.{OutputFunction}
 use Rattle.wl_plan.specs.declared.layout.Fixup.{Fixup}
-use Rattle.wl_plan.specs.declared.layout.FixupPlace.{FixupPlace}
-use Rattle.wl_plan.specs.declared.layout.FixupPlace.TheVariants.{Code, Segment}
-use Rattle.wl_plan.specs.declared.relocated.Relocated.{Relocated}
+use Rattle.wl_bind.specs.declared.relocated.FixupPlace.{FixupPlace}
+use Rattle.wl_bind.specs.declared.relocated.FixupPlace.TheVariants.{Code, Segment}
+use Rattle.wl_bind.specs.declared.relocated.Relocated.{Relocated}
 use Rattle.wl_plan.proofs.Folds.{both, all_at, none_at, each_at}
 use Rattle.wl_plan.proofs.PlannedLaws.{holds, nothing_imported, NamesFunction, function_named, defined_function, takes_function, nothing_in_data, as_many_bodies}
 use Rattle.wl_plan.proofs.PlanLaws.{splits, all_append, each_kept, leads_at, maps_length, map_at}

@@ -1,5 +1,4 @@
 pub mod StepLaws
-pub mod TypeLaws
 pub mod Merges
 pub mod PlannedLaws
 pub mod KeptLaws

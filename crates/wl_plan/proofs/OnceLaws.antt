@@ -1,19 +1,20 @@
 -- Nothing stands at two places of a space, and each output type is that of a function.
-use Rattle.std.proofs.Common.{◌≡◌, ◌⊎◌, ◌<◌, ◌≤◌, ◌+◌, ◌++◌, ℕ, zero, suc, Bool, true, false, cond, eqb, List, [], ◌∷◌, length, get_or, map, filter, Some, refl, sym, ap, ◌∙◌, arith, slice_get, inl, inr, eq-eqb}
-use Rattle.std.specs.Cmp.Lexicographic.{pointwise}
+use Rattle.std.proofs.Common.{◌≡◌, ◌⊎◌, ◌<◌, ◌≤◌, ◌+◌, ◌++◌, ℕ, zero, suc, Bool, true, false, cond, eqb, List, [], ◌∷◌, length, get_or, map, filter, Some, refl, sym, ap, ◌∙◌, arith, slice_get, inl, inr}
 use Rattle.std.specs.List.{list_any, range_with_len}
 use Rattle.std.proofs.lemmas.Bool.{cases_Bool, eqb-true}
 use Rattle.std.proofs.lemmas.Option.{slice_get-get_or, slice_get-map}
-use Rattle.wl_module.specs.Types.{FunctionType, value_type_code}
-use Rattle.wl_module.specs.declared.types.ValType.{ValType}
+use Rattle.wl_module.specs.Types.{FunctionType, same_type}
+use Rattle.wl_module.specs.SameType.{types_equiv}
 use Rattle.wl_linking.specs.Object.{Object}
 use Rattle.wl_live.specs.Live.{Live}
-use Rattle.wl_plan.specs.Types.{same_value, same_type, add_new, firsts_onto, is_live_type, types_where, live_types, types_from, output_types}
+use Rattle.indexmap.specs.IndexSet.{insert_all}
+use Rattle.wl_types.specs.Types.{add_type}
+use Rattle.wl_plan.specs.Types.{is_live_type, types_where, live_types, types_from, output_types}
 use Rattle.wl_plan.specs.Space.{keeps_function, kept_functions, functions_from, function_space, StandOnce}
 use Rattle.wl_plan.specs.Plan.{type_of, IsFunctionsType}
 use Rattle.wl_plan.specs.declared.layout.FunctionOrigin.{FunctionOrigin}
 use Rattle.wl_plan.specs.declared.layout.FunctionOrigin.TheVariants as origin
-use Rattle.wl_plan.proofs.Folds.{none_at}
+use Rattle.wl_types.proofs.FirstLaws.{types_once as first_types_once}
 use Rattle.wl_plan.proofs.Merges.{slice_get_left}
 
 -- ---- lists
@@ -29,19 +30,6 @@ get_snoc (z ∷ xs) y (suc k) x e =
       | inr h ↦ inr (ap suc h.0, h.1)
     ]
 
-once_push : {X : Type 0} (xs : List X) (y : X) → StandOnce xs → ((i : ℕ) → slice_get xs i ≡ Some y → ⊥) → StandOnce (xs ++ y ∷ [])
-once_push xs y once new = λ i k x a b.
-    elim (get_snoc xs y i x a) [
-      | inl first ↦ elim (get_snoc xs y k x b) [
-        | inl second ↦ once i k x first second
-        | inr second ↦ absurd (new i (rw second.1 first))
-      ]
-      | inr first ↦ elim (get_snoc xs y k x b) [
-        | inl second ↦ absurd (new k (rw first.1 second))
-        | inr second ↦ first.0 ∙ sym second.0
-      ]
-    ]
-
 -- what stands in a joined list stands in one of the two
 pub get_joined : {X : Type 0} (xs ys : List X) (k : ℕ) (x : X) → slice_get (xs ++ ys) k ≡ Some x → (slice_get xs k ≡ Some x) ⊎ ((j : ℕ) × (k ≡ length xs + j) × (slice_get ys j ≡ Some x))
 get_joined [] ys k x e = let z : 0 + k ≡ k = omega arith in inr (k, sym z, e)
@@ -54,44 +42,23 @@ get_joined (y ∷ xs) ys (suc k) x e =
 
 -- ---- types
 
-value_self : (a : ValType) → same_value a a ≡ true
-value_self a = eq-eqb (value_type_code a) (value_type_code a) refl
-
-values_self : (xs : List ValType) → pointwise same_value xs xs ≡ true
-values_self [] = refl
-values_self (x ∷ xs) = rw (value_self x) (values_self xs)
-
-type_self : (t : FunctionType) → same_type t t ≡ true
-type_self t = rw (values_self t.params, values_self t.results) refl
-
-once_added : (seen : List FunctionType) (ty : FunctionType) → StandOnce seen → StandOnce (add_new seen ty)
-once_added seen ty once =
-    elim (cases_Bool (list_any (λ t. same_type t ty) seen)) [
-      | inl there ↦ rw there once
-      | inr new ↦ rw new (once_push seen ty once (λ i at. let other : same_type ty ty ≡ false = none_at (λ t. same_type t ty) seen i ty new at in let self = type_self ty in absurd cc))
-    ]
-
-once_onto : (seen types : List FunctionType) → StandOnce seen → StandOnce (firsts_onto seen types)
-once_onto seen [] once = once
-once_onto seen (ty ∷ types) once = once_onto (add_new seen ty) types (once_added seen ty once)
-
 pub types_once : (live : Live) (objects : List Object) → StandOnce (output_types live objects)
-types_once live objects = once_onto [] (types_from live 0 objects) (λ i k x a b. absurd cc)
+types_once live objects = λ i k x a b. first_types_once (types_from live 0 objects) i k x x a b (types_equiv.refl x)
 
 -- ---- each is some function's
 
 -- a type of the list that is reached, or one of those that were seen
-from_onto : (seen types : List FunctionType) (i : ℕ) (t : FunctionType) → slice_get (firsts_onto seen types) i ≡ Some t → ((j : ℕ) × (slice_get seen j ≡ Some t)) ⊎ ((j : ℕ) × (slice_get types j ≡ Some t))
+from_onto : (seen types : List FunctionType) (i : ℕ) (t : FunctionType) → slice_get (insert_all same_type seen types) i ≡ Some t → ((j : ℕ) × (slice_get seen j ≡ Some t)) ⊎ ((j : ℕ) × (slice_get types j ≡ Some t))
 from_onto seen [] i t at = inl (i, at)
 from_onto seen (ty ∷ types) i t at =
-    elim (from_onto (add_new seen ty) types i t at) [
+    elim (from_onto (add_type seen ty) types i t at) [
       | inl h ↦ from_added h.0 h.1
       | inr h ↦ inr (suc h.0, h.1)
     ]
   where
-    from_added : (j : ℕ) → slice_get (add_new seen ty) j ≡ Some t → ((k : ℕ) × (slice_get seen k ≡ Some t)) ⊎ ((k : ℕ) × (slice_get (ty ∷ types) k ≡ Some t))
+    from_added : (j : ℕ) → slice_get (add_type seen ty) j ≡ Some t → ((k : ℕ) × (slice_get seen k ≡ Some t)) ⊎ ((k : ℕ) × (slice_get (ty ∷ types) k ≡ Some t))
     from_added j here =
-        elim (cases_Bool (list_any (λ x. same_type x ty) seen)) [
+        elim (cases_Bool (list_any (same_type ty) seen)) [
           | inl there ↦ inl (j, rw there at here)
           | inr new ↦ elim (get_snoc seen ty j t (rw new at here)) [
             | inl h ↦ inl (j, h)

@@ -8,7 +8,7 @@ use Rattle.std.proofs.lemmas.List.Folds.{list_any-append}
 use Rattle.std.proofs.lemmas.List.{get_or-set_same, get_or-set_other, length-map, length-take, map-append, take_all, drop_all}
 use Rattle.std.proofs.lemmas.List.FromFn.{length-map-range_with_len, get_or-map-range_with_len, map-range_with_len_more}
 use Rattle.std.proofs.lemmas.Option.{slice_get-get_or, slice_get_within, get_or_from_slice_get, slice_get-map}
-use Rattle.wl_module.specs.Types.{FunctionType}
+use Rattle.wl_module.specs.Types.{FunctionType, same_type}
 use Rattle.wl_module.specs.Bodies.{Body}
 use Rattle.wl_linking.specs.Debug.{DebugInput}
 use Rattle.wl_linking.specs.Object.{Object}
@@ -16,12 +16,14 @@ use Rattle.wl_linking.specs.Fitting.{IsFitting, IsWhole}
 use Rattle.wl_linking.specs.Steps.{Clear, Refuses}
 use Rattle.wl_symbols.specs.Link.{Link}
 use Rattle.wl_live.specs.Live.{Live, IsLiveOf}
-use Rattle.wl_plan.specs.Types.{types_exist, firsts_onto, is_live_type, types_where, live_types, types_from, output_types}
+use Rattle.indexmap.specs.IndexSet.{insert_all}
+use Rattle.wl_plan.specs.Types.{types_exist, is_live_type, types_where, live_types, types_from, output_types}
 use Rattle.wl_plan.specs.Planned.{is_planned, AllPlanned}
-use Rattle.wl_plan.specs.Space.{keeps_function, kept_functions, functions_from, function_space, max_entries}
+use Rattle.wl_plan.specs.Space.{keeps_function, kept_functions, functions_from, function_space}
+use Rattle.wl_types.specs.Types.{max_entries, IsFull}
 use Rattle.wl_plan.specs.Plan.{HasItsType, object_debug_sections, function_maps}
 use Rattle.wl_plan.specs.Faults.{IsTooLarge}
-use Rattle.wl_plan.specs.Merging.{IsFull, marked, AreMarked, LeadsToTypes, AreLed}
+use Rattle.wl_plan.specs.Merging.{marked, AreMarked, LeadsToTypes, AreLed}
 use Rattle.wl_plan.specs.Maps.{imported_functions, LeadsToPlaces, AreMaps}
 use Rattle.wl_plan.specs.Building.{output_where, output_at, outputs_in, kept_here, kept_below, index_at, indices_in, debug_in}
 use Rattle.wl_linking.specs.declared.error.LinkError.{LinkError}
@@ -30,7 +32,7 @@ use Rattle.wl_plan.specs.declared.layout.FunctionOrigin.{FunctionOrigin}
 use Rattle.wl_plan.specs.declared.layout.FunctionOrigin.TheVariants as origin
 use Rattle.wl_plan.specs.declared.layout.OutputFunction.{OutputFunction}
 use Rattle.wl_plan.specs.declared.layout.WasmObjectIndexMap.{WasmObjectIndexMap}
-use Rattle.wl_plan.specs.declared.types.TheConstants.{WASM_DEAD_INDEX}
+use Rattle.wl_types.specs.declared.types.TheConstants.{WASM_DEAD_INDEX}
 use Rattle.wl_plan.proofs.StepLaws.{refuses_for, refuses_memory}
 use Rattle.wl_plan.proofs.Folds.{all_at, each_at}
 use Rattle.wl_plan.proofs.KeptLaws.{kept_more, kept_split, kept-le, kept_count, kept_from, kept_any}
@@ -110,11 +112,11 @@ marks_more live i o n marks len small each k lt =
 
 -- ---- types
 
-leads_stays : (before types locals : List FunctionType) (passes : ℕ → Bool) (indices : List ℕ) → LeadsToTypes before locals passes indices → LeadsToTypes (firsts_onto before types) locals passes indices
+leads_stays : (before types locals : List FunctionType) (passes : ℕ → Bool) (indices : List ℕ) → LeadsToTypes before locals passes indices → LeadsToTypes (insert_all same_type before types) locals passes indices
 leads_stays before types locals passes indices h = record { len = h.len; removed = h.removed; place = λ k d lt live. stays_all before types (get_or indices k 0) (get_or locals k d) (h.place k d lt live) }
 
 module _ (live : Live) where
-  led_stays : (before types : List FunctionType) (j : ℕ) (objects : List Object) (maps : List (List ℕ)) → AreLed before live j objects maps → AreLed (firsts_onto before types) live j objects maps
+  led_stays : (before types : List FunctionType) (j : ℕ) (objects : List Object) (maps : List (List ℕ)) → AreLed before live j objects maps → AreLed (insert_all same_type before types) live j objects maps
   led_stays before types j [] [] h = tt
   led_stays before types j [] (m ∷ maps) h = absurd h
   led_stays before types j (o ∷ objects) [] h = absurd h
@@ -140,22 +142,22 @@ module _ (live : Live) where
   led_length types j (p ∷ objects) (n ∷ maps) h = ap suc (led_length types (j + 1) objects maps h.1)
 
   pub record MergesAll (objects : List Object) (i : ℕ) (merger : List FunctionType) (maps : List (List ℕ)) : Type 0 where
-    pub types : firsts_onto merger (types_from live i (drop i objects)) ≡ output_types live objects
+    pub types : insert_all same_type merger (types_from live i (drop i objects)) ≡ output_types live objects
     pub led : AreLed merger live 0 (take i objects) maps
 
-  types_step : (objects : List Object) (i : ℕ) (o : Object) (merger : List FunctionType) → i < length objects → o ≡ get_or objects i o → firsts_onto merger (types_from live i (drop i objects)) ≡ output_types live objects
-      → firsts_onto (firsts_onto merger (live_types live i o)) (types_from live (i + 1) (drop (i + 1) objects)) ≡ output_types live objects
+  types_step : (objects : List Object) (i : ℕ) (o : Object) (merger : List FunctionType) → i < length objects → o ≡ get_or objects i o → insert_all same_type merger (types_from live i (drop i objects)) ≡ output_types live objects
+      → insert_all same_type (insert_all same_type merger (live_types live i o)) (types_from live (i + 1) (drop (i + 1) objects)) ≡ output_types live objects
   types_step objects i o merger lt is h =
-      sym (ap (λ (os : List Object). firsts_onto merger (types_from live i os)) (splits objects i o lt is) ∙ onto_append merger (live_types live i o) (types_from live (i + 1) (drop (i + 1) objects))) ∙ h
+      sym (ap (λ (os : List Object). insert_all same_type merger (types_from live i os)) (splits objects i o lt is) ∙ onto_append merger (live_types live i o) (types_from live (i + 1) (drop (i + 1) objects))) ∙ h
 
   -- what an object's marks are for
   live_by : (i : ℕ) (o : Object) (marks : List Bool) → AreMarked (length o.types) (is_live_type live i o) marks → types_where (marked marks) 0 o.types ≡ live_types live i o
   live_by i o marks h = types_where_same (marked marks) (is_live_type live i o) 0 o.types (λ j le lt. h.each j (omega (arith, lt)))
 
   pub merges_on : (objects : List Object) (i : ℕ) (o : Object) (marks : List Bool) (old new : List FunctionType) (maps : List (List ℕ)) (m : List ℕ) → i < length objects → o ≡ get_or objects i o → AreMarked (length o.types) (is_live_type live i o) marks
-      → new ≡ firsts_onto old (types_where (marked marks) 0 o.types) → LeadsToTypes new o.types (marked marks) m → MergesAll objects i old maps → MergesAll objects (i + 1) new (maps ++ m ∷ [])
+      → new ≡ insert_all same_type old (types_where (marked marks) 0 o.types) → LeadsToTypes new o.types (marked marks) m → MergesAll objects i old maps → MergesAll objects (i + 1) new (maps ++ m ∷ [])
   merges_on objects i o marks old new maps m lt is by new-is leads h =
-      let same : new ≡ firsts_onto old (live_types live i o) = new-is ∙ ap (firsts_onto old) (live_by i o marks by) in
+      let same : new ≡ insert_all same_type old (live_types live i o) = new-is ∙ ap (insert_all same_type old) (live_by i o marks by) in
       let led = leads_same new o.types (marked marks) (is_live_type live i o) m (λ j small. by.each j small) leads in
       record {
         types = rw same (types_step objects i o old lt is h.types);
@@ -163,16 +165,16 @@ module _ (live : Live) where
       }
 
   pub merges_full : (objects : List Object) (i : ℕ) (o : Object) (marks : List Bool) (merger : List FunctionType) (maps : List (List ℕ)) (e : LinkError) → i < length objects → o ≡ get_or objects i o → AreMarked (length o.types) (is_live_type live i o) marks
-      → MergesAll objects i merger maps → IsFull (firsts_onto merger (types_where (marked marks) 0 o.types)) e → IsFull (output_types live objects) e
+      → MergesAll objects i merger maps → IsFull (insert_all same_type merger (types_where (marked marks) 0 o.types)) e → IsFull (output_types live objects) e
   merges_full objects i o marks merger maps e lt is by h f =
-      let now = firsts_onto merger (live_types live i o) in
+      let now = insert_all same_type merger (live_types live i o) in
       let f' : IsFull now e = rw (live_by i o marks by) at f in
       full_longer now (output_types live objects) e (omega (arith, ap length (types_step objects i o merger lt is h.types), grows_all now (types_from live (i + 1) (drop (i + 1) objects)))) f'
 
   pub merges_done : (objects : List Object) (i : ℕ) (merger : List FunctionType) (maps : List (List ℕ)) → length objects ≤ i → MergesAll objects i merger maps → (merger ≡ output_types live objects) × AreLed merger live 0 objects maps
   merges_done objects i merger maps le h =
       let none : drop i objects ≡ [] = drop_all i objects le in (
-        sym (ap (λ (os : List Object). firsts_onto merger (types_from live i os)) none) ∙ h.types,
+        sym (ap (λ (os : List Object). insert_all same_type merger (types_from live i os)) none) ∙ h.types,
         subst (λ (os : List Object). AreLed merger live 0 os maps) (take_all i objects le) h.led,
       )
 

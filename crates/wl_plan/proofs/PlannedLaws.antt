@@ -1,14 +1,14 @@
 -- Laws of objects that fit together and are planned: what they name is their own.
-use Rattle.std.proofs.Common.{◌≡◌, ◌<◌, ◌≤◌, ◌-◌, ◌+◌, ◌||◌, ◌&&◌, ℕ, zero, suc, Bool, true, false, not, eqb, ltb, leb, List, [], ◌∷◌, length, get_or, map, Option, Some, None, refl, ap, take, inl, inr, arith, slice_get}
+use Rattle.std.proofs.Common.{◌≡◌, ◌<◌, ◌-◌, ◌+◌, ◌||◌, ◌&&◌, ℕ, zero, suc, Bool, true, false, not, eqb, ltb, leb, List, [], ◌∷◌, length, get_or, map, Option, Some, None, refl, take, inl, inr, arith, slice_get}
 use Rattle.std.specs.List.{list_all, list_any}
 use Rattle.std.proofs.lemmas.Bool.{eqb-true, ltb-true, cases_Bool}
 use Rattle.std.proofs.lemmas.List.{length-map}
-use Rattle.std.proofs.lemmas.Option.{slice_get-get_or, slice_get_within, get_or_from_slice_get}
+use Rattle.std.proofs.lemmas.Option.{slice_get-get_or, get_or_from_slice_get}
 use Rattle.wl_linking.specs.Symbols.{Symbol, is_undefined, is_weak, is_data, has_flag}
 use Rattle.wl_linking.specs.Object.{Object}
 use Rattle.wl_linking.specs.Spaces.{spaces_of, symbol_exists, thing_exists, number_exists}
 use Rattle.wl_linking.specs.Fitting.{IsFitting}
-use Rattle.wl_linking.specs.Sites.{PieceOf, AreSites}
+use Rattle.wl_linking.specs.Sites.{AreSites}
 use Rattle.wl_linking.specs.declared.relocation_type.RelocationType.{RelocationType}
 use Rattle.wl_linking.specs.declared.relocation_type.RelocationType.TheVariants.{FunctionIndexLeb, TableIndexSleb, TableIndexI32, MemoryAddrLeb, MemoryAddrSleb, MemoryAddrI32, TypeIndexLeb, GlobalIndexLeb, MemoryAddrRelSleb, TableIndexRelSleb, GlobalIndexI32, TableNumberLeb, MemoryAddrTlsSleb, FunctionIndexI32}
 use Rattle.wl_linking.specs.declared.relocations.WasmRelocation.{WasmRelocation}
@@ -18,8 +18,7 @@ use Rattle.wl_linking.specs.declared.symbols.WasmSymbolKind.TheVariants.{Func, D
 use Rattle.wl_live.specs.Entry.{is_function_kind}
 use Rattle.wl_plan.specs.Types.{types_exist}
 use Rattle.wl_live.specs.Live.{Live}
-use Rattle.wl_plan.specs.Space.{globals_from, max_entries}
-use Rattle.wl_plan.specs.Building.{AreSmallSites}
+use Rattle.wl_plan.specs.Space.{globals_from}
 use Rattle.wl_plan.specs.Maps.{imported_functions}
 use Rattle.wl_plan.specs.Planned.{are_some, is_unplanned_kind, is_unplanned_symbol, is_function_index, is_function_symbol, is_unplanned_relocation, unplanned, is_planned, AllPlanned, IsNotYet}
 use Rattle.wl_linking.specs.Steps.{Clear}
@@ -161,19 +160,6 @@ takes_function o r here = by_type r.ty (not_true (is_function_index r.ty) (neith
     by_type FunctionIndexI32 e = absurd cc
 
 -- ---- the sites of relocations
-
-pub as_many_in : (pieces : List PieceOf) (rs : List WasmRelocation) (ss : List Site) → AreSites pieces rs ss → length ss ≡ length rs
-as_many_in pieces [] [] h = refl
-as_many_in pieces [] (s ∷ ss) h = absurd h
-as_many_in pieces (r ∷ rs) [] h = absurd h
-as_many_in pieces (r ∷ rs) (s ∷ ss) h = ap suc (as_many_in pieces rs ss h.1)
-
--- each site lies in one of so few pieces
-pub small_in : (pieces : List PieceOf) (rs : List WasmRelocation) (ss : List Site) → length pieces ≤ max_entries → AreSites pieces rs ss → AreSmallSites ss
-small_in pieces [] [] few h = tt
-small_in pieces [] (s ∷ ss) few h = absurd h
-small_in pieces (r ∷ rs) [] few h = absurd h
-small_in pieces (r ∷ rs) (s ∷ ss) few h = (omega (arith, few, slice_get_within pieces s.unit h.0.piece h.0.here), small_in pieces rs ss few h.1)
 
 -- without segments no relocation has a field in data
 no_data : (rs : List WasmRelocation) (ss : List Site) → AreSites [] rs ss → rs ≡ []

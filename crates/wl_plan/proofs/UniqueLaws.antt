@@ -25,7 +25,7 @@ use Rattle.wl_plan.specs.Globals.{StartsAs, IsRightGlobal}
 use Rattle.wl_plan.specs.Merging.{LeadsToTypes, AreLed}
 use Rattle.wl_plan.specs.Maps.{imported_functions, LeadsToPlaces, AreMaps}
 use Rattle.wl_plan.specs.Planned.{is_planned, AllPlanned}
-use Rattle.wl_plan.specs.Relocations.{kept_relocations}
+use Rattle.wl_bind.specs.Relocations.{kept_relocations}
 use Rattle.wl_plan.specs.Fixups.{bound_origin, IsValue, IsFixup, AreFixups}
 use Rattle.wl_plan.specs.Entry.{named_function, memory_export, IsFunctionExport, IsExportedOnce, IsEntryExport, AreExports}
 use Rattle.wl_plan.specs.Plan.{IsBodyOf, HasItsType, function_origins, global_origins, type_maps, function_maps, HasEntities, HasPlaces, HasSpaces, HasBodies, IsPlan}
@@ -39,10 +39,10 @@ use Rattle.wl_plan.specs.declared.layout.PlannedGlobal.{PlannedGlobal}
 use Rattle.wl_plan.specs.declared.layout.WasmObjectIndexMap.{WasmObjectIndexMap}
 use Rattle.wl_plan.specs.declared.layout.WasmLayout.{WasmLayout}
 use Rattle.wl_plan.specs.declared.layout.LinkPlan.{LinkPlan}
-use Rattle.wl_plan.specs.declared.relocated.Relocated.{Relocated}
-use Rattle.wl_plan.specs.declared.types.TheConstants.{WASM_DEAD_INDEX}
+use Rattle.wl_bind.specs.declared.relocated.Relocated.{Relocated}
+use Rattle.wl_types.specs.declared.types.TheConstants.{WASM_DEAD_INDEX}
 use Rattle.wl_plan.specs.declared.layout.Fixup.{Fixup}
-use Rattle.wl_plan.specs.declared.layout.FixupPlace.{FixupPlace}
+use Rattle.wl_bind.specs.declared.relocated.FixupPlace.{FixupPlace}
 use Rattle.wl_plan.specs.declared.layout.FixupTo.{FixupTo}
 use Rattle.wl_plan.specs.declared.layout.FixupTo.TheVariants.{Value, Deferred}
 use Rattle.wl_plan.proofs.Folds.{both}

@@ -11,11 +11,11 @@ use Rattle.wl_module.specs.declared.imports.ExternalKind.TheVariants.{Func}
 use Rattle.wl_linking.specs.Symbols.{Symbol}
 use Rattle.wl_linking.specs.Debug.{DebugInput}
 use Rattle.wl_linking.specs.Object.{Object}
-use Rattle.wl_linking.specs.declared.sites.Site.{Site}
 use Rattle.wl_symbols.specs.Link.{Link}
 use Rattle.wl_symbols.specs.Entries.{symbol_in}
 use Rattle.wl_live.specs.Live.{Live}
-use Rattle.wl_plan.specs.Space.{keeps_function, function_space, max_entries}
+use Rattle.wl_plan.specs.Space.{keeps_function, function_space}
+use Rattle.wl_types.specs.Types.{max_entries}
 use Rattle.wl_plan.specs.Maps.{imported_functions}
 use Rattle.wl_plan.specs.Plan.{HasItsType, function_origins, body_of}
 use Rattle.wl_plan.specs.Entry.{named_function, memory_export}
@@ -24,8 +24,8 @@ use Rattle.wl_plan.specs.declared.layout.FunctionOrigin.TheVariants as origin
 use Rattle.wl_plan.specs.declared.layout.OutputFunction.{OutputFunction}
 use Rattle.wl_plan.specs.declared.layout.Fixup.{Fixup}
 use Rattle.wl_plan.specs.declared.layout.FixupTo.TheVariants.{Value}
-use Rattle.wl_plan.specs.declared.relocated.Relocated.{Relocated}
-use Rattle.wl_plan.specs.declared.types.TheConstants.{WASM_DEAD_INDEX}
+use Rattle.wl_bind.specs.declared.relocated.Relocated.{Relocated}
+use Rattle.wl_types.specs.declared.types.TheConstants.{WASM_DEAD_INDEX}
 
 -- ---- functions
 
@@ -66,15 +66,6 @@ index_at live i function next = if keeps_function live i function then next else
 -- the indices of the first n functions of object i, of which the first kept one has index `first`
 abbrev pub indices_in : Live → ℕ → ℕ → ℕ → List ℕ
 indices_in live i n first = map (λ k. index_at live i k (first + kept_below live i k)) (range_with_len 0 n)
-
--- ---- relocations
-
--- the number of the unit fits in four bytes
-abbrev pub IsSmallSite : Site → Type 0
-IsSmallSite s = s.unit ≤ max_entries
-
-abbrev pub AreSmallSites : List Site → Type 0
-AreSmallSites sites = AllByRecursion IsSmallSite sites
 
 -- ---- fixups
 

@@ -12,7 +12,8 @@ use Rattle.wl_live.specs.Entry.{IsEntryFault}
 use Rattle.wl_live.specs.Faults.{IsKeptFault}
 use Rattle.wl_plan.specs.Planned.{IsNotYet, IsUnplannedOption}
 use Rattle.wl_plan.specs.Types.{output_types}
-use Rattle.wl_plan.specs.Space.{function_space, max_entries}
+use Rattle.wl_plan.specs.Space.{function_space}
+use Rattle.wl_types.specs.Types.{max_entries}
 
 -- a space has too many entries: the types, or the functions
 abbrev pub HasTooMany : Live → List Object → Type 0

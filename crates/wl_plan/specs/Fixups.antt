@@ -10,7 +10,7 @@ use Rattle.wl_plan.specs.declared.layout.FunctionOrigin.TheVariants as origin
 use Rattle.wl_plan.specs.declared.layout.Fixup.{Fixup}
 use Rattle.wl_plan.specs.declared.layout.FixupTo.{FixupTo}
 use Rattle.wl_plan.specs.declared.layout.FixupTo.TheVariants.{Value, Deferred}
-use Rattle.wl_plan.specs.declared.relocated.Relocated.{Relocated}
+use Rattle.wl_bind.specs.declared.relocated.Relocated.{Relocated}
 
 -- What a function symbol of object i is bound to, where the object defines it: itself. Its number counts the imported
 -- functions too, which stand in front.

@@ -3,7 +3,6 @@ pub mod Space
 pub mod Globals
 pub mod Planned
 pub mod Maps
-pub mod Relocations
 pub mod Fixups
 pub mod Entry
 pub mod Plan

@@ -7,7 +7,7 @@ use Rattle.wl_live.specs.Live.{Live}
 use Rattle.wl_plan.specs.Space.{keeps_function}
 use Rattle.wl_plan.specs.declared.layout.FunctionOrigin.{FunctionOrigin}
 use Rattle.wl_plan.specs.declared.layout.FunctionOrigin.TheVariants as origin
-use Rattle.wl_plan.specs.declared.types.TheConstants.{WASM_DEAD_INDEX}
+use Rattle.wl_types.specs.declared.types.TheConstants.{WASM_DEAD_INDEX}
 
 -- how many functions an object imports
 abbrev pub imported_functions : Object → ℕ

@@ -1,27 +1,11 @@
 -- What a merger of types has found.
-use Rattle.std.specs.Prelude.{◌≡◌, ◌<◌, ℕ, Bool, List, [], ◌∷◌, length, Option, Some, None, true, false, slice_get, slice_index, slice_index_or, ⊤, ◌+◌}
-use Rattle.std.specs.List.{list_any}
+use Rattle.std.specs.Prelude.{◌≡◌, ◌<◌, ℕ, Bool, List, [], ◌∷◌, length, Some, true, false, slice_get, slice_index, slice_index_or, ⊤, ◌+◌}
 use Rattle.wl_module.specs.Types.{FunctionType}
 use Rattle.wl_linking.specs.Object.{Object}
 use Rattle.wl_live.specs.Live.{Live}
-use Rattle.wl_plan.specs.Types.{same_type, output_types, is_live_type}
+use Rattle.wl_plan.specs.Types.{output_types, is_live_type}
 use Rattle.wl_plan.specs.declared.merge.MergedTypes.{MergedTypes}
-use Rattle.wl_plan.specs.Space.{max_entries}
-use Rattle.wl_plan.specs.declared.types.TheConstants.{WASM_DEAD_INDEX}
-use Rattle.wl_linking.specs.declared.error.LinkError.{LinkError}
-use Rattle.wl_linking.specs.declared.error.LinkError.TheVariants.{OutOfMemory, TooLarge}
-use Rattle.wl_linking.specs.declared.error.Quantity.TheVariants.{Space}
-
--- the place of a type in the list, if it is there
-abbrev pub Finds : List FunctionType → FunctionType → Option ℕ → Type 0
-Finds types ty None = list_any (λ t. same_type t ty) types ≡ false
-Finds types ty (Some place) = (place < length types) × (list_any (λ t. same_type t ty) types ≡ true) × (slice_get types place ≡ Some ty)
-
--- memory ran out, or the list would have too many entries
-abbrev pub IsFull : {X : Type 0} → List X → LinkError → Type 0
-IsFull entries OutOfMemory = ⊤
-IsFull entries (TooLarge what) = (what ≡ Space) × (max_entries < length entries)
-IsFull entries _ = ⊥
+use Rattle.wl_types.specs.declared.types.TheConstants.{WASM_DEAD_INDEX}
 
 -- the mark of that number
 abbrev pub marked : List Bool → ℕ → Bool

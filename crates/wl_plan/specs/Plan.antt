@@ -14,7 +14,7 @@ use Rattle.wl_plan.specs.Space.{function_space, global_space}
 use Rattle.wl_plan.specs.Globals.{IsRightGlobal}
 use Rattle.wl_plan.specs.Maps.{AreMaps}
 use Rattle.wl_plan.specs.Merging.{AreLed}
-use Rattle.wl_plan.specs.Relocations.{kept_relocations}
+use Rattle.wl_bind.specs.Relocations.{kept_relocations}
 use Rattle.wl_plan.specs.Fixups.{AreFixups}
 use Rattle.wl_plan.specs.Entry.{AreExports}
 use Rattle.wl_plan.specs.declared.layout.FunctionOrigin.{FunctionOrigin}

@@ -10,10 +10,6 @@ use Rattle.wl_plan.specs.declared.layout.GlobalOrigin.{GlobalOrigin}
 use Rattle.wl_plan.specs.declared.layout.GlobalOrigin.TheVariants as global_origin
 use Rattle.wl_plan.specs.declared.layout.MadeGlobal.TheVariants.{StackPointer}
 
--- the greatest number of entries of a space
-abbrev pub max_entries : ℕ
-max_entries = 4294967294
-
 -- nothing stands at two places
 abbrev pub StandOnce : {X : Type 0} → List X → Type 0
 StandOnce {X} entries = (i k : ℕ) (x : X) → slice_get entries i ≡ Some x → slice_get entries k ≡ Some x → i ≡ k

@@ -6,8 +6,8 @@ ghost use Rattle.wl_plan.specs.Plan.{function_maps};
 ghost use Rattle.wl_plan.specs.Building.{fixup_by, HasIndex};
 
 use crate::layout::{Fixup, FixupTo, WasmObjectIndexMap};
-use crate::relocated::Relocated;
 use std::alloc::{AllocError, Global};
+use wl_bind::Relocated;
 use wl_linking::File;
 
 /// What a relocation becomes: the index to which the map of its object leads its function.

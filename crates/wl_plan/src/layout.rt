@@ -6,6 +6,7 @@ ghost use Rattle.wl_plan.specs.Imports.{is_function_import, is_global_import};
 
 use std::alloc::Global;
 use std::marker::Model;
+use wl_bind::FixupPlace;
 use wl_linking::{DebugSectionInput, ItemList, RelocationType};
 use wl_module::{
     FuncType, GlobalType, MemoryType, OutputExport, OutputGlobal, TableType, WasmFunctionBody,
@@ -100,15 +101,6 @@ pub struct PlannedGlobal<'a> {
     pub global: OutputGlobal<'a>,
     /// Where it is from.
     pub origin: GlobalOrigin,
-}
-
-/// What the field of a relocation lies in.
-#[derive(Clone, Copy, Debug, PartialEq, Eq)]
-pub enum FixupPlace {
-    /// The body of a function.
-    Code,
-    /// The payload of a segment.
-    Segment,
 }
 
 /// What a field takes.

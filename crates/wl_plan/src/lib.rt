@@ -13,19 +13,18 @@ mod merge;
 mod objects;
 mod plan;
 mod planned;
-mod relocated;
 mod spaces;
-mod types;
 
 pub use laws::{functions_stand_once, link_plan_or_fault, plan_or_fault, types_stand_once};
 pub use layout::{
-    Fixup, FixupPlace, FixupTo, FunctionOrigin, GlobalOrigin, LinkPlan, MadeGlobal, OutputFunction,
+    Fixup, FixupTo, FunctionOrigin, GlobalOrigin, LinkPlan, MadeGlobal, OutputFunction,
     OutputImport, OutputImportEntity, PlannedGlobal, WasmLayout, WasmObjectIndexMap,
     count_output_imports,
 };
 pub use link::{plan_files, plan_link};
 pub use objects::{MAX_OBJECT, ObjectList, PushError};
-pub use types::{TypeMerger, WASM_DEAD_INDEX};
+pub use wl_bind::FixupPlace;
+pub use wl_types::{TypeMerger, WASM_DEAD_INDEX};
 
 #[cfg(test)]
 mod tests;

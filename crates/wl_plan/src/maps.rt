@@ -4,16 +4,17 @@ ghost use Rattle.std.specs.Prelude.{◌≡◌, ◌≤◌, ◌+◌, length, IfOk,
 ghost use Rattle.std.specs.List.{AllByRecursion};
 ghost use Rattle.wl_linking.specs.Fitting.{IsWhole};
 ghost use Rattle.wl_plan.specs.Planned.{AllPlanned};
-ghost use Rattle.wl_plan.specs.Space.{function_space, max_entries};
+ghost use Rattle.wl_plan.specs.Space.{function_space};
+ghost use Rattle.wl_types.specs.Types.{max_entries};
 ghost use Rattle.wl_plan.specs.Maps.{AreMaps};
 ghost use Rattle.wl_plan.specs.Plan.{type_maps, function_maps};
 ghost use Rattle.wl_plan.specs.Building.{kept_here, kept_below, index_at, indices_in};
 
 use crate::layout::WasmObjectIndexMap;
-use crate::types::WASM_DEAD_INDEX;
 use std::alloc::{AllocError, Global};
 use wl_linking::{File, ItemList};
 use wl_live::{LiveSet, WasmGcUnit};
+use wl_types::WASM_DEAD_INDEX;
 
 /// The next index for a function of an object, where it is kept.
 fn take_index(live: &LiveSet, object: usize, function: u32, next: &mut u32) -> u32

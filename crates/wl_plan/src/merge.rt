@@ -3,16 +3,18 @@
 ghost use Rattle.std.specs.Prelude.{◌≡◌, ◌≤◌, length, true, false, IfOk, IfErr, Some, slice_get, if◌then◌else◌};
 ghost use Rattle.std.specs.List.{AllByRecursion};
 ghost use Rattle.wl_linking.specs.Fitting.{IsWhole};
-ghost use Rattle.wl_plan.specs.Space.{max_entries};
-ghost use Rattle.wl_plan.specs.Types.{types_exist, add_new, firsts_onto, is_live_type, types_where, output_types};
-ghost use Rattle.wl_plan.specs.Merging.{IsFull, marked, AreMarked, LeadsToTypes, AreMerged};
-ghost use Rattle.wl_plan.specs.declared.types.TheConstants.{WASM_DEAD_INDEX};
+ghost use Rattle.wl_types.specs.Types.{max_entries, add_type, IsFull};
+ghost use Rattle.wl_module.specs.Types.{same_type};
+ghost use Rattle.indexmap.specs.IndexSet.{insert_all};
+ghost use Rattle.wl_plan.specs.Types.{types_exist, is_live_type, types_where, output_types};
+ghost use Rattle.wl_plan.specs.Merging.{marked, AreMarked, LeadsToTypes, AreMerged};
+ghost use Rattle.wl_types.specs.declared.types.TheConstants.{WASM_DEAD_INDEX};
 
-use crate::types::{TypeMerger, WASM_DEAD_INDEX};
 use std::alloc::{AllocError, Global};
 use wl_linking::{File, ItemList, LinkError};
 use wl_live::{LiveSet, WasmGcUnit};
 use wl_module::FuncType;
+use wl_types::{TypeMerger, WASM_DEAD_INDEX};
 
 /// Which of an object's types a function has that is kept.
 fn mark_types(
@@ -37,10 +39,10 @@ fn mark_types(
 /// The place of a type among the output types, where a kept function has it.
 fn merge_type(merger: &mut TypeMerger, ty: &FuncType, used: bool) -> Result<u32, LinkError>
     ensures merged { IfOk result
-        (λ index. merger.new ≡ (if used then add_new merger.old ty.now else merger.old)) }
+        (λ index. merger.new ≡ (if used then add_type merger.old ty.now else merger.old)) }
     ensures place { IfOk result (λ index. used ≡ true → slice_get merger.new index ≡ Some ty.now) }
     ensures removed { IfOk result (λ index. used ≡ false → index ≡ WASM_DEAD_INDEX) }
-    ensures err { IfErr result (λ e. (used ≡ true) × IsFull (add_new merger.old ty.now) e) }
+    ensures err { IfErr result (λ e. (used ≡ true) × IsFull (add_type merger.old ty.now) e) }
 {
     if used {
         merger.add(ty)
@@ -57,12 +59,12 @@ fn merge_types(
     marks: &[bool],
 ) -> Result<Vec<u32>, LinkError>
     requires { length marks.now ≡ length types.now }
-    ensures merged { IfOk result
-        (λ indices. merger.new ≡ firsts_onto merger.old (types_where (marked marks.now) 0 types.now)) }
+    ensures merged { IfOk result (λ indices.
+        merger.new ≡ insert_all same_type merger.old (types_where (marked marks.now) 0 types.now)) }
     ensures places { IfOk result
         (λ indices. LeadsToTypes merger.new types.now (marked marks.now) indices.items) }
     ensures err { IfErr result
-        (IsFull (firsts_onto merger.old (types_where (marked marks.now) 0 types.now))) }
+        (IsFull (insert_all same_type merger.old (types_where (marked marks.now) 0 types.now))) }
 {
     let mut indices = Vec::new(alloc);
     for (local, ty) in types.iter().enumerate() {

@@ -15,9 +15,9 @@ use crate::globals::made_globals;
 use crate::layout::{LinkPlan, WasmLayout};
 use crate::maps::index_maps;
 use crate::merge::merge_all;
-use crate::relocated::kept_relocations;
 use crate::spaces::function_space;
 use std::alloc::Global;
+use wl_bind::{LinkInput, kept_relocations};
 use wl_linking::{ItemList, LinkError};
 use wl_live::{LiveSet, live_sets_are_one, live_units_are_closed};
 use wl_module::MemoryType;
@@ -54,11 +54,12 @@ pub(crate) fn plan_objects<'a>(
     let merged = merge_all(alloc, files, live)?;
     let functions = function_space(alloc, files, live, &merged)?;
     let maps = index_maps(alloc, files, live, merged.indices)?;
-    let relocations = kept_relocations(alloc, files, live)?;
+    let input = LinkInput::new(symbols.files(), symbols, live, args);
+    let relocations = kept_relocations(alloc, &input)?;
     let fixups = all_fixups(alloc, files, maps.as_slice(), &relocations)?;
     Ok(LinkPlan {
         layout: WasmLayout {
-            output_types: merged.merger.into_types(),
+            output_types: merged.merger.into_types()?,
             imports: ItemList::empty(alloc),
             function_bodies: ItemList::new(all_bodies(alloc, files, &functions)?),
             function_type_indices: ItemList::new(functions),

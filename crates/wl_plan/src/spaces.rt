@@ -4,16 +4,17 @@ ghost use Rattle.std.specs.Prelude.{◌≡◌, ◌≤◌, ◌++◌, length, true
 ghost use Rattle.std.specs.List.{AllByRecursion};
 ghost use Rattle.wl_linking.specs.Fitting.{IsWhole};
 ghost use Rattle.wl_plan.specs.Types.{types_exist};
-ghost use Rattle.wl_plan.specs.Space.{function_space, max_entries};
-ghost use Rattle.wl_plan.specs.Merging.{IsFull, AreMerged};
+ghost use Rattle.wl_plan.specs.Space.{function_space};
+ghost use Rattle.wl_types.specs.Types.{max_entries, IsFull};
+ghost use Rattle.wl_plan.specs.Merging.{AreMerged};
 ghost use Rattle.wl_plan.specs.Building.{output_where, outputs_in, AreFunctions};
 
 use crate::layout::{FunctionOrigin, OutputFunction};
 use crate::merge::MergedTypes;
-use crate::types::MAX_ENTRIES;
 use std::alloc::Global;
 use wl_linking::{File, LinkError, Quantity};
 use wl_live::{LiveSet, WasmGcUnit};
+use wl_types::MAX_ENTRIES;
 
 /// Adds a function of an object with its output type, where it is kept.
 ///

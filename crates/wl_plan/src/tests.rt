@@ -72,7 +72,7 @@ fn equal_types_are_one(rt: HostRuntime) -> Result<(), Fail> {
         assert_eq!(rt; merger.add(&ty).ok(), Some(place));
     }
     assert_eq!(rt; merger.types().len(), 3);
-    assert_eq!(rt; merger.into_types().as_slice().len(), 3);
+    assert_eq!(rt; merger.into_types()?.as_slice().len(), 3);
     Ok(())
 }
 

@@ -16,8 +16,8 @@ returns-in_err-scan-clause-err c =
     let e = c.in_err-scan.field-0.0 in
     let refuses : Refuses (bind_fault input) e = record {
       cause_is = λ not. one_of_three (IsWrongKind input) (IsMismatch input) (IsUndefinedData input)
-        (Step (IsStubConflict input) (Step (IsUndefinedImport input) (Step (IsHostConflict input) NoStep))) e
-        (c.in_err-scan.ensures.err.cause_is not);
+          (Step (IsStubConflict input) (Step (IsUndefinedImport input) (Step (IsHostConflict input) NoStep))) e
+          (c.in_err-scan.ensures.err.cause_is not);
     } in
     rw (p.1, p.2) refuses
 
@@ -27,7 +27,7 @@ returns-in_err-stubs-clause-err c =
     let scanned = c.in_ok-scan.ensures in
     let refuses : Refuses (bind_fault c.args.input.now) c.in_err-stubs.field-0.0 = record {
       cause_is = λ not. behind scanned.kinds (behind scanned.signatures (behind scanned.undefined
-        (here (c.in_err-stubs.ensures.err.cause_is not))));
+          (here (c.in_err-stubs.ensures.err.cause_is not))));
     } in
     rw (p.1, p.2) refuses
 
@@ -39,8 +39,8 @@ returns-in_err-report_disallowed_unresolved_imports-clause-err c =
     let scanned = c.in_ok-scan.ensures in
     let refuses : Refuses (bind_fault c.args.input.now) c.in_err-report_disallowed_unresolved_imports.field-0.0 = record {
       cause_is = λ not. behind scanned.kinds (behind scanned.signatures (behind scanned.undefined
-        (behind c.in_ok-stubs.ensures.clear
-        (here (c.in_err-report_disallowed_unresolved_imports.ensures.err.cause_is not)))));
+          (behind c.in_ok-stubs.ensures.clear
+          (here (c.in_err-report_disallowed_unresolved_imports.ensures.err.cause_is not)))));
     } in
     rw (p.1, p.2) refuses
 
@@ -50,9 +50,9 @@ returns-in_err-shared-clause-err c =
     let scanned = c.in_ok-scan.ensures in
     let refuses : Refuses (bind_fault c.args.input.now) c.in_err-shared.field-0.0 = record {
       cause_is = λ not. behind scanned.kinds (behind scanned.signatures (behind scanned.undefined
-        (behind c.in_ok-stubs.ensures.clear
-        (behind c.in_ok-report_disallowed_unresolved_imports.ensures.clear
-        (here (c.in_err-shared.ensures.err.cause_is not))))));
+          (behind c.in_ok-stubs.ensures.clear
+          (behind c.in_ok-report_disallowed_unresolved_imports.ensures.clear
+          (here (c.in_err-shared.ensures.err.cause_is not))))));
     } in
     rw (p.1, p.2) refuses
 

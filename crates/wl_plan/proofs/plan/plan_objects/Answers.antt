@@ -7,7 +7,8 @@ use Rattle.wl_symbols.specs.Link.{Link, link_of}
 use Rattle.wl_live.specs.Live.{Live, IsLiveOf}
 use Rattle.wl_plan.specs.Planned.{AllPlanned}
 use Rattle.wl_plan.specs.Types.{output_types}
-use Rattle.wl_plan.specs.Space.{function_space, max_entries}
+use Rattle.wl_plan.specs.Space.{function_space}
+use Rattle.wl_types.specs.Types.{max_entries}
 use Rattle.wl_plan.specs.Maps.{AreMaps}
 use Rattle.wl_plan.specs.Entry.{AreExports}
 use Rattle.wl_plan.specs.Plan.{function_maps, IsPlan}
@@ -25,12 +26,17 @@ pub index_maps-requires-clause-as_many : goal.index_maps-requires-clause-as_many
 index_maps-requires-clause-as_many c =
     led_length c.args.live.now c.in_ok-merged.merged.merger 0 c.as_slice-files.result.now c.in_ok-merged.merged.indices.items c.in_ok-merged.ensures.ok.led
 
+pub new-input-requires : goal.new-input-requires
+new-input-requires c =
+    let table : c.args.symbols.now ≡ link_of c.files-2.result.now c.args.args.now = rw (c.files-2.ensures, c.requires.fit) refl in
+    record { fit = record { table = table; kept = c.requires.kept } }
+
 pub all_fixups-requires : goal.all_fixups-requires
 all_fixups-requires c =
     let files = c.as_slice-files.result.now in
     let objects : files ≡ c.args.symbols.now.objects = c.as_slice-files.ensures.objects ∙ c.files.ensures in
     let planned : AllPlanned files = subst AllPlanned (sym objects) c.requires.planned in
-    rw (c.deref.ensures.value, c.in_ok-relocations.ensures, c.as_slice.ensures) (all_indexed c.args.live.now files (function_maps c.in_ok-maps.maps) (all_fitting files c.as_slice-files.ensures.whole) planned c.in_ok-maps.ensures.functions)
+    rw (c.deref.ensures.value, c.in_ok-relocations.ensures, c.new-input.ensures, ← objects, c.as_slice.ensures) (all_indexed c.args.live.now files (function_maps c.in_ok-maps.maps) (all_fitting files c.as_slice-files.ensures.whole) planned c.in_ok-maps.ensures.functions)
 
 pub all_bodies-requires : goal.all_bodies-requires
 all_bodies-requires c =
@@ -52,7 +58,7 @@ returns-clause-clear c =
     let merged = c.in_ok-merged.ensures.ok in
     let functions = c.in_ok-functions.ensures.ok in
     let files : c.as_slice-files.result.now ≡ link.objects = c.as_slice-files.ensures.objects ∙ c.files.ensures in
-    let types : length (output_types live c.as_slice-files.result.now) ≤ max_entries = rw (← merged.types, ← c.into_types.ensures.types) c.into_types.ensures.room in
+    let types : length (output_types live c.as_slice-files.result.now) ≤ max_entries = rw (← merged.types, ← c.in_ok-into_types.ensures.types) c.in_ok-into_types.ensures.room in
     let space : length (function_space live c.as_slice-files.result.now) ≤ max_entries = omega (arith, functions.room, ap length functions.origins, length-map c.in_ok-functions.functions.items origin_of) in
     room_clear link live c.live_sets_are_one.ensures.one c.requires.kept (subst (λ (os : List Object). length (output_types live os) ≤ max_entries) files types) (subst (λ (os : List Object). length (function_space live os) ≤ max_entries) files space)
 
@@ -77,16 +83,16 @@ returns-clause-ok c =
       entities = record { imports = c.empty.ensures; table = refl; start_function = refl };
       places = record { memory = refl };
       spaces = record {
-        types = c.into_types.ensures.types ∙ merged.types;
+        types = c.in_ok-into_types.ensures.types ∙ merged.types;
         functions = rw c.new-2.ensures functions.origins;
-        typed = rw (c.new-2.ensures, c.into_types.ensures.types) functions.typed;
+        typed = rw (c.new-2.ensures, c.in_ok-into_types.ensures.types) functions.typed;
         globals = rw (no_globals live 0 files planned) c.in_ok-made_globals.ensures.origins;
         started = c.in_ok-made_globals.ensures.started files;
-        led = rw (c.into_types.ensures.types, c.in_ok-maps.ensures.types) merged.led;
+        led = rw (c.in_ok-into_types.ensures.types, c.in_ok-maps.ensures.types) merged.led;
         placed = c.in_ok-maps.ensures.functions;
         exports = subst (λ (l : Link). AreExports (function_space live l.objects) l c.in_ok-exports.field-0) (sym same) exported;
       };
-      fixups = rw (c.new-4.ensures, c.in_ok-fixups.ensures, c.deref.ensures.value, c.in_ok-relocations.ensures, c.as_slice.ensures, c.new-2.ensures, functions.origins) (fixups_are c.live_units_are_closed.ensures.symbol (link_of files link.args) live maps _ kept c.in_ok-maps.ensures.functions (all_kept_relocations live files fit planned));
+      fixups = rw (c.new-4.ensures, c.in_ok-fixups.ensures, c.deref.ensures.value, c.in_ok-relocations.ensures, c.new-input.ensures, ← objects, c.as_slice.ensures, c.new-2.ensures, functions.origins) (fixups_are c.live_units_are_closed.ensures.symbol (link_of files link.args) live maps _ kept c.in_ok-maps.ensures.functions (all_kept_relocations live files fit planned));
       bodies = record {
         bodies = rw (c.new.ensures, c.new-2.ensures) (rw c.deref-2.ensures.value at c.in_ok-all_bodies.ensures);
         debug_sections = c.new-3.ensures ∙ c.in_ok-all_debug_sections.ensures;

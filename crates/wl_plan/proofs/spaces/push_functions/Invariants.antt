@@ -1,6 +1,7 @@
 use Rattle.std.proofs.Common.{◌≡◌, ◌≤◌, ◌++◌, map, filter, length}
 use Rattle.std.specs.List.{range_with_len}
-use Rattle.wl_plan.specs.Space.{keeps_function, max_entries}
+use Rattle.wl_plan.specs.Space.{keeps_function}
+use Rattle.wl_types.specs.Types.{max_entries}
 use Rattle.wl_plan.specs.Building.{output_at}
 use Rattle.wl_plan.proofs.spaces.push_functions.Given as goal
 

@@ -1,0 +1,128 @@
+//! Functions whose addresses are asked for, a weak one that nothing defines, and data that nothing
+//! defines: what they are bound to.
+
+ghost use Rattle.std.specs.Prelude.{◌≤◌, ◌^◌, length};
+
+use super::*;
+use std::alloc::Global;
+use std::process::Abort;
+use std::test::Fail;
+use wl_linking::{FileList, LinkError, WasmSymbolKind, parse_wasm_module};
+use wl_live::collect_live;
+use wl_symbols::{SymbolTable, WasmArgs};
+
+/// A function `f` that takes the addresses of the functions `h` of two modules through globals, and
+/// calls the function `g`, which is named weakly.
+const ADDRESSES: &[u8; 117] = b"\0asm\x01\0\0\0\
+    \x01\x04\x01\x60\0\0\
+    \x02\x13\x03\x01a\x01h\0\0\x01b\x01h\0\0\x01e\x01g\0\0\
+    \x03\x02\x01\0\
+    \x0a\x18\x01\x16\0\x23\x80\x80\x80\x80\0\x1a\x23\x80\x80\x80\x80\0\x1a\
+    \x10\x80\x80\x80\x80\0\x0b\
+    \0\x1a\x07linking\x02\x08\x0f\x04\0\x10\0\0\x10\x01\0\x11\x02\0\0\x03\x01f\
+    \0\x16\x0areloc.CODE\x03\x03\x07\x04\0\x07\x0b\x01\0\x12\x02";
+
+/// The list of that object alone.
+fn one_object<'a>(rt: &impl Abort, alloc: Global, bytes: &'a [u8]) -> Result<FileList<'a>, Fail>
+    requires { length bytes.now ≤ 2 ^ 30 }
+{
+    let mut files = FileList::new(alloc);
+    let added = files.push(parse_wasm_module(alloc, bytes)?);
+    assert!(rt; added.is_ok());
+    Ok(files)
+}
+
+/// What these words ask for.
+fn args_of(alloc: Global, texts: &[&str]) -> Result<WasmArgs, Fail> {
+    let mut words = Vec::new(alloc);
+    for text in texts {
+        words.push(String::from_str(alloc, text)?)?;
+    }
+    Ok(WasmArgs::parse(alloc, &words)?)
+}
+
+/// Hands the names of that object under these words to a closure. A test that holds an object
+/// itself takes minutes to prove.
+fn look_at<F: FnOnce(&SymbolTable<'_, '_>)>(
+    rt: &impl Abort,
+    alloc: Global,
+    bytes: &[u8],
+    texts: &[&str],
+    look: F,
+) -> Result<(), Fail>
+    requires size { length bytes.now ≤ 2 ^ 30 }
+    requires callable { F.IsAlwaysCallable look }
+{
+    let files = one_object(rt, alloc, bytes)?;
+    let args = args_of(alloc, texts)?;
+    match SymbolTable::build(alloc, &files, &args) {
+        Ok(symbols) => look(&symbols),
+        Err(_) => panic!(rt; "no table"),
+    }
+    Ok(())
+}
+
+/// What is found, how often: entries of GOT.func, functions of the table, stubs, and functions that
+/// the host is asked for.
+fn counts_of(alloc: Global, symbols: &SymbolTable<'_, '_>) -> Result<[usize; 4], LinkError> {
+    let live = collect_live(alloc, symbols.files(), symbols, symbols.args())?;
+    let input = LinkInput::new(symbols.files(), symbols, &live, symbols.args());
+    let bound = bind_references(alloc, &input)?;
+    let scan = &bound.scan;
+    let pairs = scan.got_func.len();
+    let functions = scan.table_functions.as_slice().len();
+    let stubs = bound.stubs.as_slice().len();
+    let imports = bound.shared.functions().len();
+    Ok([pairs, functions, stubs, imports])
+}
+
+/// The place among the host's functions of each of the first three function slots.
+fn places_of(
+    alloc: Global,
+    symbols: &SymbolTable<'_, '_>,
+) -> Result<[Option<usize>; 3], LinkError> {
+    let live = collect_live(alloc, symbols.files(), symbols, symbols.args())?;
+    let input = LinkInput::new(symbols.files(), symbols, &live, symbols.args());
+    let shared = bind_references(alloc, &input)?.shared;
+    let kind = WasmSymbolKind::Func;
+    Ok([
+        shared.place(0, kind, 0),
+        shared.place(0, kind, 1),
+        shared.place(0, kind, 2),
+    ])
+}
+
+#[test]
+fn references_are_bound(rt: HostRuntime) -> Result<(), Fail> {
+    let alloc = rt.alloc();
+    let words = ["--no-gc-sections", "--no-entry", "--allow-undefined"];
+    look_at(&rt, alloc, ADDRESSES, &words, |symbols| {
+        assert_eq!(rt; counts_of(alloc, symbols).ok(), Some([2, 2, 1, 2]));
+        assert_eq!(rt;
+            places_of(alloc, symbols).ok(),
+            Some([Some(0), Some(1), None])
+        );
+    })
+}
+
+/// How many names are told that nothing defines.
+fn undefined_of(alloc: Global, symbols: &SymbolTable<'_, '_>) -> Option<usize> {
+    match counts_of(alloc, symbols) {
+        Err(LinkError::UndefinedSymbols(names)) => Some(names.as_slice().len()),
+        Ok(_) | Err(_) => None,
+    }
+}
+
+#[test]
+fn functions_have_to_be_defined(rt: HostRuntime) -> Result<(), Fail> {
+    let alloc = rt.alloc();
+    look_at(
+        &rt,
+        alloc,
+        ADDRESSES,
+        &["--no-gc-sections", "--no-entry"],
+        |symbols| {
+            assert_eq!(rt; undefined_of(alloc, symbols), Some(1));
+        },
+    )
+}
