@@ -5,6 +5,7 @@ use Rattle.std.specs.Option.{option_map_or, option_and_then, option_to_list}
 use Rattle.std.specs.Str.{bytes_eq}
 use Rattle.indexmap.specs.IndexSet.{insert_all}
 use Rattle.wl_linking.specs.Object.{Object}
+use Rattle.wl_linking.specs.RelocationTypes.{names_a_type}
 use Rattle.wl_linking.specs.Symbols.{Symbol as LinkedSymbol, is_data, is_undefined, is_weak, has_flag}
 use Rattle.wl_linking.specs.declared.error.LinkError.{LinkError}
 use Rattle.wl_linking.specs.declared.error.LinkError.TheVariants.{UndefinedSymbols}
@@ -47,9 +48,11 @@ is_undefined_definition input (Symbol object number) =
     option_map_or is_undefined (symbol_in input.link.objects object number) false
 is_undefined_definition input (Made m) = false
 
--- a data symbol that has to be defined, and stands for an undefined one
+-- a data symbol that has to be defined, and stands for an undefined one; a relocation against a
+-- type names no symbol
 abbrev pub undefined_data_of : Input → Relocated → Option UndefinedSymbol
 undefined_data_of input r =
+    if names_a_type r.relocation.ty then None else
     option_and_then
     (λ (s : LinkedSymbol).
     if is_data s.kind && wants_definition s && is_undefined_definition input (definition_of input r)

@@ -147,6 +147,9 @@ fn undefined_data_of<'a>(
 ) -> Option<(usize, &'a str)>
     ensures { option_map as_undefined result ≡ undefined_data_of input.now relocated.now }
 {
+    if relocated.relocation.ty.names_a_type() {
+        return None;
+    }
     let symbol = input
         .symbols()
         .symbol(relocated.object, relocated.relocation.index)?;
