@@ -9,7 +9,7 @@ use wl_linking::{LinkError, Text, WasmSymbol, WasmSymbolKind};
 use wl_symbols::{Definition, SymbolTable};
 
 /// Whether symbols of that kind are functions'.
-fn is_function_kind(kind: WasmSymbolKind) -> bool
+pub fn is_function_kind(kind: WasmSymbolKind) -> bool
     ensures { result ≡ is_function_kind kind }
 {
     match kind {
@@ -23,7 +23,7 @@ fn is_function_kind(kind: WasmSymbolKind) -> bool
 }
 
 /// Whether the symbol is a function that its object defines.
-fn is_defined_function(symbol: &WasmSymbol<'_>) -> bool
+pub fn is_defined_function(symbol: &WasmSymbol<'_>) -> bool
     ensures { result ≡ is_defined_function symbol.now }
 {
     is_function_kind(symbol.kind) && !symbol.is_undefined()

@@ -23,11 +23,12 @@ mod tests;
 mod units;
 
 pub use collecting::{collect_live, collect_live_counted, collect_live_from};
-pub use entry::check_entry;
+pub use entry::{check_entry, is_defined_function, is_function_kind};
 pub use laws::{
     kept_units_are_closed, live_sets_are_one, live_units_are_closed, ordinals_are_dense,
     undecoded_bodies_refer_to_none,
 };
 pub use live_set::LiveSet;
 pub use object_facts::{ObjectFacts, facts};
+pub use roots::is_candidate;
 pub use units::{LinkUnit, WasmGcUnit, wasm_gc_unit_for_symbol};

@@ -143,8 +143,8 @@ fn is_exportable(kind: WasmSymbolKind) -> bool
 }
 
 /// Whether a symbol is a definition that others see, that isn't kept for the host anyway, and that
-/// stands for itself.
-fn is_candidate(
+/// stands for itself: those are exported with `--export-dynamic`.
+pub fn is_candidate(
     symbols: &SymbolTable<'_, '_>,
     object: usize,
     number: u32,

@@ -18,7 +18,10 @@ pub const MAX_ENTRIES: usize = 4_294_967_294;
 pub const WASM_DEAD_INDEX: u32 = 4_294_967_295;
 
 /// The same type, in memory of its own.
-fn copy_type(alloc: Global, ty: &FuncType) -> Result<FuncType, AllocError>
+///
+/// # Errors
+/// `AllocError` where memory runs out.
+pub fn copy_type(alloc: Global, ty: &FuncType) -> Result<FuncType, AllocError>
     ensures { IfOk result (λ t. t ≡ ty.now) }
 {
     let params = Vec::from_slice(alloc, ty.params())?;
@@ -56,7 +59,7 @@ impl TypeMerger {
     }
 
     /// The place of a type, if it is there.
-    fn place(&self, ty: &FuncType) -> Option<usize>
+    pub fn place(&self, ty: &FuncType) -> Option<usize>
         ensures place { result ≡ position (same_type ty.now) self.now }
         ensures found { is_some result ≡ list_any (same_type ty.now) self.now }
         ensures within { IfSome result (λ place. place < length self.now) }
