@@ -1,0 +1,20 @@
+//! What the field of a relocation takes, by where the things of its object stand in the output.
+//!
+//! A [`WasmObjectIndexMap`] tells where they stand; [`resolve_reloc`] gives the value, and
+//! [`deferred_tls_template_pointer`] an address in the data of a thread, which is known only when
+//! the thread starts.
+#![tactic(auto)]
+
+mod addresses;
+mod error;
+mod index_map;
+mod resolving;
+mod takings;
+
+pub use addresses::deferred_tls_template_pointer;
+pub use error::RelocError;
+pub use index_map::WasmObjectIndexMap;
+pub use resolving::resolve_reloc;
+
+#[cfg(test)]
+mod tests;
