@@ -1,5 +1,5 @@
 -- Definitions and functions that are the same are one; lists of first occurrences hold each once.
-use Rattle.std.proofs.Common.{◌≡◌, ◌⊎◌, ◌&&◌, ◌||◌, ◌+◌, ◌<◌, ◌≤◌, ℕ, zero, suc, Bool, true, false, cond, eqb, List, [], ◌∷◌, ◌++◌, length, Option, Some, None, refl, sym, ap, ◌∙◌, arith, inl, inr, if◌then◌else◌, subst, slice_get, true≢false, filter_map, eq-eqb, rules}
+use Rattle.std.proofs.Common.{◌≡◌, ◌⊎◌, ◌&&◌, ◌||◌, ℕ, zero, suc, Bool, true, false, eqb, List, [], ◌∷◌, ◌++◌, length, Option, Some, None, refl, sym, ap, ◌∙◌, inl, inr, if◌then◌else◌, subst, slice_get, true≢false, filter_map, eq-eqb, rules}
 use Rattle.std.specs.List.{list_any, cons_option}
 use Rattle.std.specs.Option.{option_and_then}
 use Rattle.indexmap.specs.IndexSet.{insert_key, insert_all}
@@ -15,10 +15,10 @@ use Rattle.wl_bind.specs.declared.binding.FunctionTarget.{FunctionTarget}
 use Rattle.wl_bind.specs.declared.binding.FunctionTarget.TheVariants as function
 use Rattle.wl_bind.specs.Sameness.{same_definition, same_target, same_pair}
 
-made_one : (a b : WasmLinkerSymbol) → made.ghosts.eq a b ≡ true → a ≡ b
+pub made_one : (a b : WasmLinkerSymbol) → made.ghosts.eq a b ≡ true → a ≡ b
 made_one a b e = same_true the_type (search rules) a b e
 
-made_self : (a : WasmLinkerSymbol) → made.ghosts.eq a a ≡ true
+pub made_self : (a : WasmLinkerSymbol) → made.ghosts.eq a a ≡ true
 made_self a = true_same the_type a a refl
 
 both : (a b : Bool) → (a && b) ≡ true → (a ≡ true) × (b ≡ true)
@@ -26,14 +26,14 @@ both true true e = (refl, refl)
 both true false e = absurd cc
 both false b e = absurd cc
 
-eqb_self : (n : ℕ) → eqb n n ≡ true
+pub eqb_self : (n : ℕ) → eqb n n ≡ true
 eqb_self n = eq-eqb n n refl
 
 -- the two numbers of two things
 pairs_one : {T : Type 0} (f : ℕ → ℕ → T) (a b c d : ℕ) → (eqb a c && eqb b d) ≡ true → f a b ≡ f c d
 pairs_one f a b c d e = let h = both (eqb a c) (eqb b d) e in rw (eqb-true a c h.0, eqb-true b d h.1) refl
 
-pairs_self : (a b : ℕ) → (eqb a a && eqb b b) ≡ true
+pub pairs_self : (a b : ℕ) → (eqb a a && eqb b b) ≡ true
 pairs_self a b = rw (eqb_self a, eqb_self b) refl
 
 pub definition_one : (a b : Definition) → same_definition a b ≡ true → a ≡ b

@@ -69,7 +69,7 @@ filter_three p q r xs = filter_both p q (filter r xs) ∙ filter_both (λ y. q y
 -- ---- the slots of an object
 
 -- the slot of a place is that of its numbers
-host_here : (input : Input) (object : ℕ) (kind : WasmSymbolKind) (k : ℕ) (t : ImportSlot)
+pub host_here : (input : Input) (object : ℕ) (kind : WasmSymbolKind) (k : ℕ) (t : ImportSlot)
     → slice_get (import_slots input.link.objects object kind) k ≡ Some t → is_host_of input t ≡ is_host_slot input kind t
 host_here input object kind k t here =
     let at = placed input.link.objects object kind k t here in

@@ -31,9 +31,17 @@ bound_of input = record {
   shared = shared_of input;
 }
 
--- the reasons, in the order in which they are judged
-abbrev pub bind_fault : Input → LinkError → Type 0
-bind_fault input =
+-- the reasons, in the order in which they are judged: those by which slots can't be resolved, and
+-- what is judged behind them
+abbrev pub slot_steps : Input → (LinkError → Type 0) → LinkError → Type 0
+slot_steps input behind =
     Step (IsWrongKind input) (Step (IsMismatch input) (Step (IsUndefinedData input)
-    (Step (IsStubConflict input) (Step (IsUndefinedImport input) (Step (IsHostConflict input)
-    NoStep)))))
+    (Step (IsStubConflict input) behind)))
+
+-- then those by which slots can't be left to the host, and what is judged behind them
+abbrev pub bind_steps : Input → (LinkError → Type 0) → LinkError → Type 0
+bind_steps input behind =
+    slot_steps input (Step (IsUndefinedImport input) (Step (IsHostConflict input) behind))
+
+abbrev pub bind_fault : Input → LinkError → Type 0
+bind_fault input = bind_steps input NoStep

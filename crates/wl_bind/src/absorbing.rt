@@ -21,7 +21,8 @@ fn absorb_globals_at(
     file: &File<'_>,
     rows: &mut [ObjectImportResolutions],
 )
-    ensures { rows.new ≡ step_at (globals_walked input.now scan.now) object object file.now rows.old }
+    ensures { rows.new
+        ≡ step_at (globals_walked input.now scan.now) object object file.now rows.old }
 {
     if object < rows.len() {
         let walk = Walk {
@@ -41,7 +42,8 @@ fn absorb_globals(
     scan: &RelocScan<'_>,
     rows: &mut [ObjectImportResolutions],
 )
-    ensures { rows.new ≡ stepped (globals_walked input.now scan.now) 0 input.now.link.objects rows.old }
+    ensures { rows.new
+        ≡ stepped (globals_walked input.now scan.now) 0 input.now.link.objects rows.old }
 {
     for (object, file) in input.files().as_slice().iter().enumerate() {
         absorb_globals_at(input, scan, object, file, rows);

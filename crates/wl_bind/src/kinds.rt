@@ -4,7 +4,6 @@ ghost use Rattle.std.specs.Prelude.{◌≡◌, Some, find, OnOk, IfErr};
 ghost use Rattle.wl_linking.specs.Steps.{Clear};
 ghost use Rattle.wl_linking.specs.Symbols.{is_data};
 ghost use Rattle.wl_symbols.specs.LinkerNames.{row_of};
-ghost use Rattle.wl_live.specs.Entry.{is_function_kind, is_defined_function};
 ghost use Rattle.wl_bind.specs.FunctionSymbols.{function_bindings};
 ghost use Rattle.wl_bind.specs.FunctionTypes.{target_type};
 ghost use Rattle.wl_bind.specs.Kinds.{has_global, takes_kind, is_no_data, is_wrong_use, takes_parameters, leads_to_parameters, IsWrongUse, IsWrongInit, IsWrongKind};
@@ -17,16 +16,10 @@ use crate::relocated::Relocated;
 use crate::targets::FunctionBindings;
 use crate::types::type_of_defined;
 use wl_linking::{LinkError, RelocationType, WasmInitFunc, WasmSymbol, WasmSymbolKind};
+use wl_live::{is_defined_function, is_function_kind};
 use wl_symbols::{Definition, WasmLinkerSymbol};
 
 // ---- relocations
-
-/// Whether symbols of that kind are functions'.
-pub(crate) fn is_function_kind(kind: WasmSymbolKind) -> bool
-    ensures { result ≡ is_function_kind kind }
-{
-    matches!(kind, WasmSymbolKind::Func)
-}
 
 /// Whether symbols of that kind are data.
 pub(crate) fn is_data(kind: WasmSymbolKind) -> bool
@@ -179,13 +172,6 @@ fn leads_to_parameters(
         None => false,
         Some(target) => takes_parameters(input, target),
     }
-}
-
-/// Whether the symbol is a function that its object defines.
-fn is_defined_function(symbol: &WasmSymbol<'_>) -> bool
-    ensures { result ≡ is_defined_function symbol.now }
-{
-    is_function_kind(symbol.kind) && !symbol.is_undefined()
 }
 
 /// Whether the symbol of a function isn't for one that runs at the start.

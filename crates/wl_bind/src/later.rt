@@ -88,7 +88,8 @@ impl<'w, 'i, 'a, R: LaterRule> Walk<'w, 'i, 'a, R> {
     /// The slot of that number with the rule, where it is kept and isn't resolved yet.
     fn resolve(&self, number: u32, import: &Import<'_>, old: ImportResolution) -> ImportResolution
         ensures { let w = self.now in
-            result ≡ walked_at (walk_of w.input.now (R.resolves w.rule.now) w.kind w.object) number import.now old }
+            result ≡ walked_at (walk_of w.input.now (R.resolves w.rule.now) w.kind w.object)
+            number import.now old }
     {
         if old.is_unresolved() && self.input.keeps_slot(self.kind, self.object, number) {
             self.rule.resolve(import)
@@ -101,7 +102,8 @@ impl<'w, 'i, 'a, R: LaterRule> Walk<'w, 'i, 'a, R> {
     #[tactic(auto, using(crate::proofs::SteppedLaws::set_steps, crate::proofs::SteppedLaws::none_steps))]
     fn resolve_at(&self, number: u32, import: &Import<'_>, resolutions: &mut ResolutionList)
         ensures { let w = self.now in
-            resolutions.new ≡ step_at (walked_at (walk_of w.input.now (R.resolves w.rule.now) w.kind w.object))
+            resolutions.new
+            ≡ step_at (walked_at (walk_of w.input.now (R.resolves w.rule.now) w.kind w.object))
             number number import.now resolutions.old }
     {
         if let Some(old) = resolutions.get(number as usize) {

@@ -2,12 +2,12 @@
 
 ghost use Rattle.std.specs.Prelude.{◌≡◌, ℕ, ◌<◌, ◌^◌, ◌++◌, length, OnOk, IfOk, Some, slice_get};
 ghost use Rattle.wl_linking.specs.declared.sites.Site.{Site as SiteRecord};
-ghost use Rattle.wl_bind.specs.Relocations.{unit_in, relocated_if, relocated_in};
+ghost use Rattle.wl_bind.specs.Relocations.{unit_in, relocated_if, relocated_in, object_relocations};
 ghost use Rattle.wl_bind.specs.Scan.{relocations};
 
 use crate::input::LinkInput;
 use std::alloc::{AllocError, Global};
-use wl_linking::{Site, WasmRelocation, whole_objects};
+use wl_linking::{File, Site, WasmRelocation, whole_objects};
 use wl_live::{LiveSet, WasmGcUnit};
 
 /// What the field of a relocation lies in.
@@ -89,6 +89,36 @@ fn push_section(
     Ok(())
 }
 
+/// Adds the kept relocations of an object: code before data, in order of the fields.
+pub(crate) fn push_object(
+    kept: &mut Vec<Relocated>,
+    live: &LiveSet,
+    object: usize,
+    file: &File<'_>,
+) -> Result<(), AllocError>
+    ensures { OnOk result
+        (kept.new.items ≡ kept.old.items ++ object_relocations live.now object file.now) }
+{
+    whole_objects();
+    file.stands_for_an_object();
+    push_section(
+        kept,
+        live,
+        object,
+        FixupPlace::Code,
+        file.code_relocations(),
+        file.code_sites(),
+    )?;
+    push_section(
+        kept,
+        live,
+        object,
+        FixupPlace::Segment,
+        file.data_relocations(),
+        file.data_sites(),
+    )
+}
+
 /// The kept relocations of all objects: object by object, code before data, in order of the fields.
 ///
 /// # Errors
@@ -99,27 +129,10 @@ pub fn kept_relocations(
 ) -> Result<Vec<Relocated>, AllocError>
     ensures { IfOk result (λ kept. kept.items ≡ relocations input.now) }
 {
-    whole_objects();
     let live = input.live();
     let mut kept = Vec::new(alloc);
     for (object, file) in input.files().as_slice().iter().enumerate() {
-        file.stands_for_an_object();
-        push_section(
-            &mut kept,
-            live,
-            object,
-            FixupPlace::Code,
-            file.code_relocations(),
-            file.code_sites(),
-        )?;
-        push_section(
-            &mut kept,
-            live,
-            object,
-            FixupPlace::Segment,
-            file.data_relocations(),
-            file.data_sites(),
-        )?;
+        push_object(&mut kept, live, object, file)?;
     }
     Ok(kept)
 }

@@ -10,12 +10,13 @@ ghost use Rattle.wl_bind.specs.Scan.{is_global_index, is_table_index, is_table_n
 use crate::binding::FunctionTarget;
 use crate::got::{GotFunc, GotMem, NamedKeys, TableFunctions};
 use crate::input::LinkInput;
-use crate::kinds::{is_data, is_function_kind};
+use crate::kinds::is_data;
 use crate::relocated::Relocated;
 use crate::targets::FunctionBindings;
 use std::alloc::{AllocError, Global};
 use std::marker::Model;
 use wl_linking::{ItemList, RelocationType};
+use wl_live::is_function_kind;
 use wl_symbols::Definition;
 
 /// What kept relocations ask the linker for.

@@ -10,12 +10,12 @@ ghost use Rattle.wl_bind.specs.BindingSteps.{slot_numbers, differs, is_mismatch,
 
 use crate::binding::FunctionTarget;
 use crate::input::LinkInput;
-use crate::kinds::is_function_kind;
 use crate::relocated::Relocated;
 use crate::targets::FunctionBindings;
 use crate::types::{SlotTypes, declared_type, is_other_type};
 use std::alloc::Global;
 use wl_linking::{File, LinkError, WasmSymbol, WasmSymbolKind};
+use wl_live::is_function_kind;
 
 /// What types are compared by: what function slots are bound to, and their types.
 #[derive(Drop)]

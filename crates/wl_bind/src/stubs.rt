@@ -20,17 +20,9 @@ use std::alloc::{AllocError, Global};
 use wl_linking::{File, FileList, LinkError, WasmSymbolKind};
 use wl_module::FuncType;
 use wl_slots::{Stubs, divide_slots, stubs_are_found_by_name};
+use wl_types::copy_type;
 
 // ---- the types of stubs
-
-/// The same type, in memory of its own.
-fn copy_type(alloc: Global, ty: &FuncType) -> Result<FuncType, AllocError>
-    ensures { IfOk result (λ t. t ≡ ty.now) }
-{
-    let params = Vec::from_slice(alloc, ty.params())?;
-    let results = Vec::from_slice(alloc, ty.results())?;
-    Ok(FuncType::new(params, results))
-}
 
 /// Adds the type of a slot, if it has one.
 fn push_type(
@@ -72,7 +64,8 @@ fn absorb_functions_at(
     file: &File<'_>,
     rows: &mut [ObjectImportResolutions],
 )
-    ensures { rows.new ≡ step_at (functions_walked input.now stubs.now) object object file.now rows.old }
+    ensures { rows.new
+        ≡ step_at (functions_walked input.now stubs.now) object object file.now rows.old }
 {
     if object < rows.len() {
         let walk = Walk {
@@ -92,7 +85,8 @@ fn absorb_functions(
     stubs: &Stubs<'_>,
     rows: &mut [ObjectImportResolutions],
 )
-    ensures { rows.new ≡ stepped (functions_walked input.now stubs.now) 0 input.now.link.objects rows.old }
+    ensures { rows.new
+        ≡ stepped (functions_walked input.now stubs.now) 0 input.now.link.objects rows.old }
 {
     for (object, file) in input.files().as_slice().iter().enumerate() {
         absorb_functions_at(input, stubs, object, file, rows);

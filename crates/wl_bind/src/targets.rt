@@ -12,11 +12,11 @@ ghost use Rattle.wl_bind.specs.BindingSteps.{row_at, stub_named, host_named, hos
 
 use crate::binding::FunctionTarget;
 use crate::input::LinkInput;
-use crate::kinds::is_function_kind;
 use crate::slots::{is_kept_slot, left_slots};
 use std::alloc::{AllocError, Global};
 use std::marker::Model;
 use wl_linking::{File, ItemList, WasmSymbol, WasmSymbolKind};
+use wl_live::is_function_kind;
 use wl_slots::{
     HostImport, HostImports, ImportSlot, SlotTarget, Stubs, divide_slots, host_imports,
     import_slots, object_target, slot_target, symbol_target,

@@ -7,7 +7,7 @@ use super::*;
 use std::alloc::Global;
 use std::process::Abort;
 use std::test::Fail;
-use wl_linking::{FileList, LinkError, WasmSymbolKind, parse_wasm_module};
+use wl_linking::{FileList, LinkError, parse_wasm_module};
 use wl_live::collect_live;
 use wl_symbols::{SymbolTable, WasmArgs};
 
@@ -76,19 +76,32 @@ fn counts_of(alloc: Global, symbols: &SymbolTable<'_, '_>) -> Result<[usize; 4],
     Ok([pairs, functions, stubs, imports])
 }
 
-/// The place among the host's functions of each of the first three function slots.
-fn places_of(
-    alloc: Global,
-    symbols: &SymbolTable<'_, '_>,
-) -> Result<[Option<usize>; 3], LinkError> {
+/// The entry at a place of a list.
+fn at(list: &[u32], place: usize) -> Option<u32> {
+    list.get(place).copied()
+}
+
+/// Indices: six of them, if there are.
+type Indices = [Option<u32>; 6];
+
+/// The indices of the first four functions of the first object, and of the globals with the slots of
+/// what its first two symbols lead to.
+fn indices_of(alloc: Global, symbols: &SymbolTable<'_, '_>) -> Result<Indices, LinkError> {
     let live = collect_live(alloc, symbols.files(), symbols, symbols.args())?;
     let input = LinkInput::new(symbols.files(), symbols, &live, symbols.args());
-    let shared = bind_references(alloc, &input)?.shared;
-    let kind = WasmSymbolKind::Func;
+    let maps = build_index_maps(alloc, &input)?.maps;
+    let Some(map) = maps.as_slice().get(0) else {
+        return Ok([None; 6]);
+    };
+    let functions = map.function_indices.as_slice();
+    let globals = map.got_func_globals.as_slice();
     Ok([
-        shared.place(0, kind, 0),
-        shared.place(0, kind, 1),
-        shared.place(0, kind, 2),
+        at(functions, 0),
+        at(functions, 1),
+        at(functions, 2),
+        at(functions, 3),
+        globals.get(0).copied().unwrap_or(None),
+        globals.get(1).copied().unwrap_or(None),
     ])
 }
 
@@ -99,8 +112,8 @@ fn references_are_bound(rt: HostRuntime) -> Result<(), Fail> {
     look_at(&rt, alloc, ADDRESSES, &words, |symbols| {
         assert_eq!(rt; counts_of(alloc, symbols).ok(), Some([2, 2, 1, 2]));
         assert_eq!(rt;
-            places_of(alloc, symbols).ok(),
-            Some([Some(0), Some(1), None])
+            indices_of(alloc, symbols).ok(),
+            Some([Some(0), Some(1), Some(2), Some(3), Some(1), Some(2)])
         );
     })
 }

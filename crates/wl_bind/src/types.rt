@@ -44,7 +44,7 @@ pub(crate) fn type_of_defined<'f>(
 }
 
 /// The number of the type under which a function is imported.
-fn type_number(entity: ImportEntity) -> Option<u32>
+pub(crate) fn type_number(entity: ImportEntity) -> Option<u32>
     ensures { result ≡ type_number entity }
 {
     match entity {

@@ -1,65 +1,58 @@
-use Rattle.std.proofs.Common.{rules}
 use Rattle.std.proofs.lemmas.Result.{err_from_is_err_and}
-use Rattle.wl_linking.specs.Steps.{Step, NoStep, here, behind, Clear, Refuses}
+use Rattle.wl_linking.specs.Steps.{Step, NoStep}
 use Rattle.wl_bind.specs.Kinds.{IsWrongKind}
 use Rattle.wl_bind.specs.Signatures.{IsMismatch}
 use Rattle.wl_bind.specs.Undefined.{IsUndefinedData, IsUndefinedImport}
 use Rattle.wl_bind.specs.Conflicts.{IsStubConflict, IsHostConflict}
-use Rattle.wl_bind.specs.Bound.{bind_fault}
-use Rattle.wl_bind.proofs.StepLaws.{clear_end, clear_step, one_of_three}
+use Rattle.wl_bind.proofs.StepLaws.{clear_end, clear_step, clear_four, four_refuse, behind_four, refuses_here, refuses_behind}
 use Rattle.wl_bind.proofs.bound.bind_references.Goals as goal
 
-pub returns-in_err-scan-clause-err : goal.returns-in_err-scan-clause-err
-returns-in_err-scan-clause-err c =
-    let p = err_from_is_err_and c.from_residual-in_err-scan.result c.from_residual-in_err-scan.ensures.1 in
+pub returns-in_err-slots-clause-err : goal.returns-in_err-slots-clause-err
+returns-in_err-slots-clause-err c =
+    let p = err_from_is_err_and c.from_residual.result c.from_residual.ensures.1 in
     let input = c.args.input.now in
-    let e = c.in_err-scan.field-0.0 in
-    let refuses : Refuses (bind_fault input) e = record {
-      cause_is = λ not. one_of_three (IsWrongKind input) (IsMismatch input) (IsUndefinedData input)
-          (Step (IsStubConflict input) (Step (IsUndefinedImport input) (Step (IsHostConflict input) NoStep))) e
-          (c.in_err-scan.ensures.err.cause_is not);
-    } in
-    rw (p.1, p.2) refuses
-
-pub returns-in_err-stubs-clause-err : goal.returns-in_err-stubs-clause-err
-returns-in_err-stubs-clause-err c =
-    let p = err_from_is_err_and c.from_residual-in_err-stubs.result c.from_residual-in_err-stubs.ensures.1 in
-    let scanned = c.in_ok-scan.ensures in
-    let refuses : Refuses (bind_fault c.args.input.now) c.in_err-stubs.field-0.0 = record {
-      cause_is = λ not. behind scanned.kinds (behind scanned.signatures (behind scanned.undefined
-          (here (c.in_err-stubs.ensures.err.cause_is not))));
-    } in
-    rw (p.1, p.2) refuses
+    rw (p.1, p.2)
+    (four_refuse (IsWrongKind input) (IsMismatch input) (IsUndefinedData input)
+    (IsStubConflict input)
+    (Step (IsUndefinedImport input) (Step (IsHostConflict input) NoStep)) c.in_err-slots.field-0.0
+    c.in_err-slots.ensures.err)
 
 pub returns-in_err-report_disallowed_unresolved_imports-clause-err :
     goal.returns-in_err-report_disallowed_unresolved_imports-clause-err
 returns-in_err-report_disallowed_unresolved_imports-clause-err c =
     let residual = c.from_residual-in_err-report_disallowed_unresolved_imports in
     let p = err_from_is_err_and residual.result residual.ensures.1 in
-    let scanned = c.in_ok-scan.ensures in
-    let refuses : Refuses (bind_fault c.args.input.now) c.in_err-report_disallowed_unresolved_imports.field-0.0 = record {
-      cause_is = λ not. behind scanned.kinds (behind scanned.signatures (behind scanned.undefined
-          (behind c.in_ok-stubs.ensures.clear
-          (here (c.in_err-report_disallowed_unresolved_imports.ensures.err.cause_is not)))));
-    } in
-    rw (p.1, p.2) refuses
+    let refused = c.in_err-report_disallowed_unresolved_imports in
+    let input = c.args.input.now in
+    let host = Step (IsHostConflict input) NoStep in
+    rw (p.1, p.2)
+    (behind_four (IsWrongKind input) (IsMismatch input) (IsUndefinedData input)
+    (IsStubConflict input)
+    (Step (IsUndefinedImport input) host) refused.field-0.0 c.in_ok-slots.ensures.clear
+    (refuses_here (IsUndefinedImport input) host refused.field-0.0 refused.ensures.err))
 
 pub returns-in_err-shared-clause-err : goal.returns-in_err-shared-clause-err
 returns-in_err-shared-clause-err c =
-    let p = err_from_is_err_and c.from_residual-in_err-shared.result c.from_residual-in_err-shared.ensures.1 in
-    let scanned = c.in_ok-scan.ensures in
-    let refuses : Refuses (bind_fault c.args.input.now) c.in_err-shared.field-0.0 = record {
-      cause_is = λ not. behind scanned.kinds (behind scanned.signatures (behind scanned.undefined
-          (behind c.in_ok-stubs.ensures.clear
-          (behind c.in_ok-report_disallowed_unresolved_imports.ensures.clear
-          (here (c.in_err-shared.ensures.err.cause_is not))))));
-    } in
-    rw (p.1, p.2) refuses
+    let p =
+    err_from_is_err_and c.from_residual-in_err-shared.result
+    c.from_residual-in_err-shared.ensures.1 in
+    let e = c.in_err-shared.field-0.0 in
+    let input = c.args.input.now in
+    let host = Step (IsHostConflict input) NoStep in
+    rw (p.1, p.2)
+    (behind_four (IsWrongKind input) (IsMismatch input) (IsUndefinedData input)
+    (IsStubConflict input)
+    (Step (IsUndefinedImport input) host) e c.in_ok-slots.ensures.clear
+    (refuses_behind (IsUndefinedImport input) host e
+    c.in_ok-report_disallowed_unresolved_imports.ensures.clear
+    (refuses_here (IsHostConflict input) NoStep e c.in_err-shared.ensures.err)))
 
 pub returns-clause-clear : goal.returns-clause-clear
 returns-clause-clear c =
-    let scanned = c.in_ok-scan.ensures in
-    clear_step _ _ scanned.kinds (clear_step _ _ scanned.signatures (clear_step _ _ scanned.undefined
-    (clear_step _ _ c.in_ok-stubs.ensures.clear
-    (clear_step _ _ c.in_ok-report_disallowed_unresolved_imports.ensures.clear
-    (clear_step _ _ c.in_ok-shared.ensures.clear clear_end)))))
+    let input = c.args.input.now in
+    let host = Step (IsHostConflict input) NoStep in
+    clear_four (IsWrongKind input) (IsMismatch input) (IsUndefinedData input) (IsStubConflict input)
+    (Step (IsUndefinedImport input) host) c.in_ok-slots.ensures.clear
+    (clear_step (IsUndefinedImport input) host
+    c.in_ok-report_disallowed_unresolved_imports.ensures.clear
+    (clear_step (IsHostConflict input) NoStep c.in_ok-shared.ensures.clear clear_end))

@@ -1,0 +1,170 @@
+-- The globals of the symbols of an object.
+use Rattle.std.proofs.Common.{◌≡◌, ◌∙◌, ◌<◌, ◌≤◌, ◌^◌, ℕ, zero, suc, ◌+◌, Bool, List, [], ◌∷◌, ◌++◌, length, map, get_or, take, position, refl, sym, ap, subst, arith, inl, inr, nat_lt, Option, Some, None, slice_get, unwrap_or}
+use Rattle.std.specs.List.{list_any, range_with_len, position_or_len}
+use Rattle.std.specs.Option.{IsSome, option_and_then}
+use Rattle.std.proofs.lemmas.Bool.{cases_Bool}
+use Rattle.std.proofs.lemmas.List.{take_more}
+use Rattle.std.proofs.lemmas.List.Folds.{list_any_more}
+use Rattle.std.proofs.lemmas.List.FromFn.{length-map-range_with_len, get_or-map-range_with_len}
+use Rattle.std.proofs.lemmas.Option.{get_or_from_slice_get}
+use Rattle.indexmap.proofs.SetLemmas.{AllZip-push}
+use Rattle.wl_bytes.specs.declared.reader.TheConstants.{MAX_LEN}
+use Rattle.wl_linking.specs.Object.{Object}
+use Rattle.wl_symbols.specs.Entries.{symbol_in}
+use Rattle.wl_symbols.specs.Names.{def}
+use Rattle.wl_symbols.specs.declared.entry.Definition.{Definition}
+use Rattle.wl_bind.specs.FunctionSymbols.{fun}
+use Rattle.wl_bind.specs.GlobalSpace.{GlobalOf, global_parts, got_mem_part, got_func_part}
+use Rattle.wl_bind.specs.GlobalSteps.{marked}
+use Rattle.wl_bind.specs.IndexMaps.{is_global_of, mem_place, func_place}
+use Rattle.wl_bind.specs.Input.{Input}
+use Rattle.wl_bind.specs.Numbering.{IsNumbering}
+use Rattle.wl_bind.specs.Parts.{AreStarts, starts_from, total, lengths_of, IsPlaceOf, ArePlacesOf, HasEntry}
+use Rattle.wl_bind.specs.Sameness.{same_definition, same_pair}
+use Rattle.wl_bind.specs.Scan.{is_global_index, got_mem, got_func, got_mem_entry, got_func_entry, GotMemEntry, GotFuncEntry}
+use Rattle.wl_bind.specs.declared.binding.FunctionTarget.{FunctionTarget}
+use Rattle.wl_bind.specs.declared.binding.GlobalTarget.TheVariants.{GotMem, GotFunc}
+use Rattle.wl_bind.specs.declared.numbering.Numbering.{Numbering}
+use Rattle.wl_bind.specs.declared.parts.PartStarts.{PartStarts}
+use Rattle.wl_bind.specs.declared.relocated.Relocated.{Relocated}
+use Rattle.wl_bind.proofs.GotLaws.{position_map}
+use Rattle.wl_bind.proofs.MarkLaws.{one_more}
+use Rattle.wl_bind.proofs.RowLaws.{splits}
+use Rattle.wl_bind.proofs.SlotIndexLaws.{has_entry}
+
+-- ---- marks of symbols
+
+-- one relocation more
+pub relocation_more : (n : ℕ) (rs : List Relocated) (i : ℕ) (d : Relocated) (old new : List Bool)
+    → i < length rs → new ≡ marked old (get_or rs i d)
+    → old ≡ map (λ k. list_any (is_global_of k) (take i rs)) (range_with_len 0 n)
+    → new ≡ map (λ k. list_any (is_global_of k) (take (i + 1) rs)) (range_with_len 0 n)
+relocation_more n rs i d old new lt is so_far =
+    let r : Relocated = get_or rs i d in
+    let f = λ (k : ℕ). list_any (is_global_of k) (take i rs) in
+    let g = λ (k : ℕ). list_any (is_global_of k) (take (i + 1) rs) in
+    is ∙ (ap (λ (bs : List Bool). marked bs r) so_far
+    ∙ one_more f g n r.relocation.index (is_global_index r.relocation.ty)
+    (λ k. list_any_more (is_global_of k) rs i d lt))
+
+-- ---- places in the GOT lists
+
+pub mem_placed : (input : Input) (mems : List GotMemEntry) (d : Definition)
+    → mems ≡ map (got_mem_entry input) (got_mem input)
+    → position (λ e. same_definition d e.definition) mems
+    ≡ position (same_definition d) (got_mem input)
+mem_placed input mems d are =
+    ap (position (λ (e : GotMemEntry). same_definition d e.definition)) are
+    ∙ position_map (got_mem_entry input) (λ e. same_definition d e.definition) (got_mem input)
+
+pub func_placed : (input : Input) (funcs : List GotFuncEntry) (d : Definition)
+    (f : FunctionTarget) → funcs ≡ map (got_func_entry input) (got_func input)
+    → position (λ e. same_pair (d, f) (e.definition, e.target)) funcs
+    ≡ position (same_pair (d, f)) (got_func input)
+func_placed input funcs d f are =
+    ap (position (λ (e : GotFuncEntry). same_pair (d, f) (e.definition, e.target))) are
+    ∙ position_map (got_func_entry input) (λ e. same_pair (d, f) (e.definition, e.target))
+    (got_func input)
+
+-- ---- entries of parts
+
+-- ---- entries of the GOT lists
+
+place_lt : {X : Type 0} (test : X → Bool) (xs : List X) (p : ℕ) → position test xs ≡ Some p
+    → p < length xs
+place_lt test xs p is = elim (cases_Bool (nat_lt (position_or_len test xs) (length xs))) [
+  | inl y ↦ (let some : Some (position_or_len test xs) ≡ Some p = rw y at is in
+      let at : position_or_len test xs ≡ p = cc in
+      let lt : position_or_len test xs < length xs = grind (arith, y) in
+      omega (arith, at, lt))
+  | inr none ↦ absurd (let nothing : None ≡ Some p = rw none at is in cc)
+]
+
+then_lt : {F X : Type 0} (test : F → X → Bool) (xs : List X) (o : Option F) (p : ℕ)
+    → option_and_then (λ f. position (test f) xs) o ≡ Some p → p < length xs
+then_lt test xs None p is = absurd cc
+then_lt test xs (Some f) p is = place_lt (test f) xs p is
+
+-- the place of a definition has a global
+pub mem_has : (n : Numbering) → IsNumbering n.input.now n → (object number place : ℕ)
+    → mem_place n.input.now object number ≡ Some place → HasEntry n.indices.now.globals 8 place
+mem_has n is object number place at =
+    let input : Input = n.input.now in
+    let long : length (got_mem_part input) ≡ length (got_mem input) =
+    length-map-range_with_len (λ k. GlobalOf (GotMem k)) 0 (length (got_mem input)) in
+    let lt : place < length (got_mem input) =
+    place_lt (same_definition (def input.link object number)) (got_mem input) place at in
+    has_entry (global_parts input) n.indices.now.globals 8 9 place (length (got_mem_part input))
+    is.indices.globals refl refl (omega (arith, lt, long))
+
+pub func_has : (n : Numbering) → IsNumbering n.input.now n → (object number place : ℕ)
+    → func_place n.input.now object number ≡ Some place → HasEntry n.indices.now.globals 9 place
+func_has n is object number place at =
+    let input : Input = n.input.now in
+    let long : length (got_func_part input) ≡ length (got_func input) =
+    length-map-range_with_len (λ k. GlobalOf (GotFunc k)) 0 (length (got_func input)) in
+    let lt : place < length (got_func input) =
+    then_lt (λ (f : FunctionTarget). same_pair (def input.link object number, f)) (got_func input)
+    (fun input object number) place at in
+    has_entry (global_parts input) n.indices.now.globals 9 10 place (length (got_func_part input))
+    is.indices.globals refl refl (omega (arith, lt, long))
+
+-- ---- by symbols
+
+-- a number of a symbol is small
+pub few_marks : (g : ℕ → Bool) (n i : ℕ) (marks : List Bool) → marks ≡ map g (range_with_len 0 n)
+    → n ≤ MAX_LEN → i < length marks → i < 2 ^ 32
+few_marks g n i marks are few lt =
+    let long : length marks ≡ n =
+    ap (λ (bs : List Bool). length bs) are ∙ length-map-range_with_len g 0 n in
+    omega (arith, long, few, lt)
+
+there_at : {X : Type 0} (xs : List X) (i : ℕ) → i < length xs → IsSome (slice_get xs i)
+there_at xs i lt = let s = splits xs i lt in rw s.here refl
+
+-- there is a symbol for each mark
+pub symbol_there : (objects : List Object) (object : ℕ) (o : Object) (g : ℕ → Bool) (i : ℕ)
+    (marks : List Bool) → slice_get objects object ≡ Some o
+    → marks ≡ map g (range_with_len 0 (length o.symbols)) → i < length marks
+    → IsSome (symbol_in objects object i)
+symbol_there objects object o g i marks here are lt =
+    let long : length marks ≡ length o.symbols =
+    ap (λ (bs : List Bool). length bs) are ∙ length-map-range_with_len g 0 (length o.symbols) in
+    rw here (there_at o.symbols i (omega (arith, long, lt)))
+
+-- one place more
+place_more : {X : Type 0} (space : List X) (os : List (Option X)) (old new : List (Option ℕ))
+    (i : ℕ) (place : Option ℕ) → i < length os
+    → ((o : Option X) → slice_get os i ≡ Some o → IsPlaceOf space o place)
+    → new ≡ old ++ place ∷ [] → ArePlacesOf space (take i os) old
+    → ArePlacesOf space (take (i + 1) os) new
+place_more {X} space os old new i place lt stands pushed so_far =
+    let s = splits os i lt in
+    let more : take (i + 1) os ≡ take i os ++ s.x ∷ [] =
+    take_more os i s.x lt
+    ∙ ap (λ (o : Option X). take i os ++ o ∷ []) (get_or_from_slice_get os i s.x s.x s.here) in
+    rw (more, pushed)
+    (AllZip-push (IsPlaceOf space) (take i os) old s.x place so_far (stands s.x s.here))
+
+-- the place of what one more symbol gives by its mark
+pub symbol_more : {X : Type 0} (space : List X) (f : ℕ → Bool → Option X) (g : ℕ → Bool)
+    (n i : ℕ) (marks : List Bool) (mark : Bool) (old new : List (Option ℕ)) (place : Option ℕ)
+    → marks ≡ map g (range_with_len 0 n) → i < length marks → IsPlaceOf space (f i mark) place
+    → mark ≡ get_or marks i mark → new ≡ old ++ place ∷ []
+    → ArePlacesOf space (take i (map (λ k. f k (g k)) (range_with_len 0 n))) old
+    → ArePlacesOf space (take (i + 1) (map (λ k. f k (g k)) (range_with_len 0 n))) new
+symbol_more {X} space f g n i marks mark old new place are lt stands at pushed so_far =
+    let h : ℕ → Option X = λ k. f k (g k) in
+    let os : List (Option X) = map h (range_with_len 0 n) in
+    let long : length marks ≡ n =
+    ap (λ (bs : List Bool). length bs) are ∙ length-map-range_with_len g 0 n in
+    let within : i < n = omega (arith, long, lt) in
+    let all : length os ≡ n = length-map-range_with_len h 0 n in
+    let same : 0 + i ≡ i = omega arith in
+    let set : mark ≡ g i = at ∙ (ap (λ (bs : List Bool). get_or bs i mark) are
+    ∙ get_or-map-range_with_len g 0 n i i mark within same) in
+    place_more space os old new i place (omega (arith, within, all)) (λ o here.
+    let is : o ≡ h i = sym (get_or_from_slice_get os i o o here)
+    ∙ get_or-map-range_with_len h 0 n i i o within same in
+    subst (λ (x : Option X). IsPlaceOf space x place)
+    (ap (λ (b : Bool). f i b) set ∙ sym is) stands) pushed so_far

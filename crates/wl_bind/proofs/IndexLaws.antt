@@ -1,0 +1,268 @@
+-- The lengths of the parts of spaces, and the addresses of the linker's that are exported.
+use Rattle.std.proofs.Common.{◌≡◌, ◌∙◌, ◌⊎◌, ℕ, zero, suc, ◌+◌, ◌<◌, ◌≤◌, Bool, true, false, List, [], ◌∷◌, ◌++◌, length, map, refl, sym, ap, subst, arith, inl, inr, Option, Some, None, is_some, Result, Ok, Err, IfOk, IfErr, slice_get, get_or, position, filter_map, if◌then◌else◌, MatchOption, length-append}
+use Rattle.std.specs.List.{list_any, range_with_len, cons_option}
+use Rattle.std.specs.Str.{bytes_eq}
+use Rattle.std.proofs.lemmas.Bool.{cases_Bool}
+use Rattle.std.proofs.lemmas.List.Quantifiers.{position-Some}
+use Rattle.std.proofs.lemmas.Option.{slice_get-get_or}
+use Rattle.std.proofs.lemmas.Slice.Eq.{bytes_eq-Decides}
+use Rattle.wl_slots.proofs.PlaceLaws.{any_placed}
+use Rattle.indexmap.specs.IndexSet.{insert_all}
+use Rattle.wl_types.specs.Types.{max_entries}
+use Rattle.wl_linking.specs.Symbols.{is_data}
+use Rattle.wl_linking.specs.declared.error.LinkError.{LinkError}
+use Rattle.wl_linking.specs.declared.error.LinkError.TheVariants as fault
+use Rattle.wl_linking.specs.declared.symbols.WasmSymbolKind.{WasmSymbolKind}
+use Rattle.wl_linking.specs.declared.symbols.WasmSymbolKind.TheVariants as kind
+use Rattle.wl_symbols.specs.LinkerNames.{row_of, name_of}
+use Rattle.wl_symbols.specs.declared.args.WasmArgs.{WasmArgs}
+use Rattle.wl_symbols.specs.declared.linker_symbol.WasmLinkerSymbol.{WasmLinkerSymbol}
+use Rattle.wl_symbols.specs.declared.linker_symbol.WasmLinkerSymbol.TheVariants as made
+use Rattle.wl_bind.specs.Input.{Input}
+use Rattle.wl_bind.specs.ExportedAddresses.{data_named, exported_addresses}
+use Rattle.wl_bind.specs.FunctionSpace.{function_parts, object_functions}
+use Rattle.wl_bind.specs.GlobalSpace.{AddressOf, address_part, global_parts, object_globals, global_space}
+use Rattle.wl_bind.specs.Made.{is_forced, is_made}
+use Rattle.wl_bind.specs.MadeIndices.{AreMadeIndices, StandsAt, IsMadeIndex}
+use Rattle.wl_bind.specs.Parts.{joined, lengths_of, starts_from, total, AreStarts, IsOver}
+use Rattle.wl_bind.specs.PartSteps.{entry_of}
+use Rattle.wl_bind.specs.Sameness.{same_made}
+use Rattle.wl_bind.specs.SpaceFaults.{AreTooMany, IsSpaceOver}
+use Rattle.wl_bind.specs.declared.indices.LinkerDefinedIndices.{LinkerDefinedIndices}
+use Rattle.wl_bind.specs.declared.parts.PartStarts.{PartStarts}
+use Rattle.wl_bind.proofs.OnceParts.{IsIn, in_split}
+use Rattle.wl_bind.proofs.OwnLaws.{mapped_at}
+use Rattle.wl_bind.proofs.PlaceLaws.{joined_length}
+use Rattle.wl_bind.proofs.SameLaws.{made_one, made_self}
+use Rattle.wl_bind.proofs.StartLaws.{entry_found}
+
+-- ---- lengths of parts
+
+pub length_if : {X : Type 0} (b : Bool) (x : X) → length (if b then x ∷ [] else []) ≡ (if b then 1 else 0)
+length_if true x = refl
+length_if false x = refl
+
+pub length_mapped : {X Y : Type 0} (f : X → Y) (xs : List X) → length (map f xs) ≡ length xs
+length_mapped f [] = refl
+length_mapped f (x ∷ xs) = ap suc (length_mapped f xs)
+
+pub lengths_mapped : {X Y Z : Type 0} (f : X → Y) (g : X → Z) (xs : List X) → length (map f xs) ≡ length (map g xs)
+lengths_mapped f g xs = length_mapped f xs ∙ sym (length_mapped g xs)
+
+pub length_numbered : {X : Type 0} (f : ℕ → X) (a n : ℕ) → length (map f (range_with_len a n)) ≡ n
+length_numbered f a zero = refl
+length_numbered f a (suc n) = ap suc (length_numbered f (a + 1) n)
+
+-- starts by the lengths of parts are those of the parts
+pub starts_ok : {X : Type 0} (r : Result PartStarts LinkError) (parts : List (List X)) (lengths : List ℕ)
+    → lengths ≡ lengths_of parts → IfOk r (λ s. s.starts ≡ starts_from 0 lengths) → IfOk r (λ s. s.end ≡ total lengths)
+    → IfOk r (λ s. s.end ≤ max_entries) → IfOk r (AreStarts parts)
+starts_ok (Ok s) parts lengths same starts end room = record {
+  starts = starts ∙ ap (starts_from 0) same;
+  end = end ∙ ap total same;
+  room = room;
+}
+starts_ok (Err e) parts lengths same starts end room = tt
+
+pub starts_err : {X : Type 0} (r : Result PartStarts LinkError) (parts : List (List X)) (lengths : List ℕ)
+    → lengths ≡ lengths_of parts → IfErr r (IsOver (total lengths)) → IfErr r (IsOver (total (lengths_of parts)))
+starts_err r parts lengths same err = subst (λ (ls : List ℕ). IfErr r (IsOver (total ls))) same err
+
+-- ---- where parts are too long, so is the space
+
+longer : {X : Type 0} (parts : List (List X)) (rest : List X) → max_entries < total (lengths_of parts)
+    → max_entries < length (joined parts ++ rest)
+longer parts rest lt =
+    let all = length-append (joined parts) rest in
+    let front = joined_length parts in
+    omega (arith, lt, all, front)
+
+over_as : (input : Input) (count : ℕ) (e : LinkError) → (max_entries < count → AreTooMany input) → IsOver count e
+    → IsSpaceOver input e
+over_as input count fault.OutOfMemory many over = tt
+over_as input count (fault.TooLarge what) many over = (over.0, many over.1)
+over_as input count (fault.Malformed a b) many over = absurd over
+over_as input count (fault.Unsupported a b) many over = absurd over
+over_as input count (fault.DuplicateSymbol a b c d e) many over = absurd over
+over_as input count (fault.BadFeature a b) many over = absurd over
+over_as input count (fault.SharedMemoryFeature a) many over = absurd over
+over_as input count (fault.FeatureConflict a b) many over = absurd over
+over_as input count (fault.EntryNotDefined a) many over = absurd over
+over_as input count (fault.WrongKind a b) many over = absurd over
+over_as input count (fault.SignatureMismatch a b) many over = absurd over
+over_as input count (fault.UndefinedSymbols a) many over = absurd over
+over_as input count (fault.ConflictingTypes a b c d e) many over = absurd over
+over_as input count (fault.BadStackSize a) many over = absurd over
+over_as input count (fault.BadMemorySize a b c) many over = absurd over
+over_as input count (fault.RelocationRange a b c) many over = absurd over
+over_as input count (fault.ConstantRange a) many over = absurd over
+over_as input count (fault.ExportNotFound a) many over = absurd over
+over_as input count (fault.DuplicateExport a) many over = absurd over
+
+pub functions_over : (input : Input) (e : LinkError) → IsOver (total (lengths_of (function_parts input))) e → IsSpaceOver input e
+functions_over input e over =
+    over_as input (total (lengths_of (function_parts input))) e
+    (λ lt. inl (longer (function_parts input) (object_functions input) lt)) over
+
+pub globals_over : (input : Input) (e : LinkError) → IsOver (total (lengths_of (global_parts input))) e → IsSpaceOver input e
+globals_over input e over =
+    over_as input (total (lengths_of (global_parts input))) e
+    (λ lt. inr (longer (global_parts input) (object_globals input) lt)) over
+
+-- ---- first occurrences keep each
+
+in_front : {X : Type 0} (xs ys : List X) (z : X) → IsIn xs z → IsIn (xs ++ ys) z
+in_front [] ys z h = absurd h
+in_front (x ∷ xs) ys z h = elim h [ inl e ↦ inl e | inr r ↦ inr (in_front xs ys z r) ]
+
+in_back : {X : Type 0} (xs ys : List X) (z : X) → IsIn ys z → IsIn (xs ++ ys) z
+in_back [] ys z h = h
+in_back (x ∷ xs) ys z h = inr (in_back xs ys z h)
+
+found_any : {X : Type 0} (same : X → X → Bool) → ((a b : X) → same a b ≡ true → a ≡ b) → (xs : List X) (x : X)
+    → list_any (same x) xs ≡ true → IsIn xs x
+found_any same one [] x h = absurd cc
+found_any same one (y ∷ xs) x h = elim (cases_Bool (same x y)) [
+  | inl t ↦ inl (sym (one x y t))
+  | inr f ↦ inr (found_any same one xs x (rw f at h))
+]
+
+kept_firsts : {X : Type 0} (same : X → X → Bool) → ((a b : X) → same a b ≡ true → a ≡ b) → (seen xs : List X) (z : X)
+    → IsIn seen z ⊎ IsIn xs z → IsIn (insert_all same seen xs) z
+kept_firsts same one seen [] z h = elim h [ inl a ↦ a | inr b ↦ absurd b ]
+kept_firsts {X} same one seen (x ∷ xs) z h = elim (cases_Bool (list_any (same x) seen)) [
+  | inl t ↦ rw t (kept_firsts same one seen xs z (elim h [
+    | inl a ↦ inl a
+    | inr b ↦ elim b [
+      | inl e ↦ inl (subst (λ (y : X). IsIn seen y) e (found_any same one seen x t))
+      | inr r ↦ inr r
+    ]
+  ]))
+  | inr f ↦ rw f (kept_firsts same one (seen ++ x ∷ []) xs z (elim h [
+    | inl a ↦ inl (in_front seen (x ∷ []) z a)
+    | inr b ↦ elim b [
+      | inl e ↦ inl (in_back seen (x ∷ []) z (inl e))
+      | inr r ↦ inr r
+    ]
+  ]))
+]
+
+in_filter_map : {X Y : Type 0} (f : X → Option Y) (xs : List X) (x : X) (y : Y) → IsIn xs x → f x ≡ Some y → IsIn (filter_map f xs) y
+in_filter_map f [] x y h is = absurd h
+in_filter_map {X} f (a ∷ xs) x y h is = elim h [
+  | inl e ↦ (let here : f a ≡ Some y = ap f e ∙ is in rw here (inl refl))
+  | inr r ↦ by (f a) (in_filter_map f xs x y r is)
+]
+  where
+    by : (o : Option _) → IsIn (filter_map f xs) y → IsIn (cons_option o (filter_map f xs)) y
+    by None rest = rest
+    by (Some b) rest = inr rest
+
+-- ---- places of exported addresses
+
+same_names : (a b : List ℕ) → bytes_eq a b ≡ true → a ≡ b
+same_names a b e = (bytes_eq-Decides a b).0 e
+
+any_named : (name : List ℕ) (names : List (List ℕ)) → list_any (bytes_eq name) names ≡ true → IsIn names name
+any_named name [] h = absurd cc
+any_named name (n ∷ names) h = elim (cases_Bool (bytes_eq name n)) [
+  | inl t ↦ inl (sym (same_names name n t))
+  | inr f ↦ inr (any_named name names (rw f at h))
+]
+
+data_by_name : (m : WasmLinkerSymbol) → is_data (row_of m).kind ≡ true → data_named (name_of m) ≡ Some m
+data_by_name made.DataEnd e = refl
+data_by_name made.GlobalBase e = refl
+data_by_name made.HeapBase e = refl
+data_by_name made.HeapEnd e = refl
+data_by_name made.WasmFirstPageEnd e = refl
+data_by_name made.DsoHandle e = refl
+data_by_name made.MemoryBase e = absurd cc
+data_by_name made.TableBase e = absurd cc
+data_by_name made.StackPointer e = absurd cc
+data_by_name made.TlsBase e = absurd cc
+data_by_name made.TlsSize e = absurd cc
+data_by_name made.TlsAlign e = absurd cc
+data_by_name made.CallCtors e = absurd cc
+data_by_name made.InitTls e = absurd cc
+
+forced_is_made : (input : Input) (m : WasmLinkerSymbol) → is_data (row_of m).kind ≡ true → is_made input m ≡ is_forced input m
+forced_is_made input made.DataEnd e = refl
+forced_is_made input made.GlobalBase e = refl
+forced_is_made input made.HeapBase e = refl
+forced_is_made input made.HeapEnd e = refl
+forced_is_made input made.WasmFirstPageEnd e = refl
+forced_is_made input made.DsoHandle e = refl
+forced_is_made input made.MemoryBase e = absurd cc
+forced_is_made input made.TableBase e = absurd cc
+forced_is_made input made.StackPointer e = absurd cc
+forced_is_made input made.TlsBase e = absurd cc
+forced_is_made input made.TlsSize e = absurd cc
+forced_is_made input made.TlsAlign e = absurd cc
+forced_is_made input made.CallCtors e = absurd cc
+forced_is_made input made.InitTls e = absurd cc
+
+any_in : {X : Type 0} (p : X → Bool) (xs : List X) (x : X) → IsIn xs x → p x ≡ true → list_any p xs ≡ true
+any_in p [] x h t = absurd h
+any_in {X} p (y ∷ xs) x h t = elim h [
+  | inl e ↦ (let here : p y ≡ true = ap p e ∙ t in rw here refl)
+  | inr r ↦ elim (cases_Bool (p y)) [ inl so ↦ rw so refl | inr f ↦ rw f (any_in p xs x r t) ]
+]
+
+placed_one : {X : Type 0} (p : X → Bool) (xs : List X) (x : X) → IsIn xs x → p x ≡ true → position p xs ≡ None → ⊥
+placed_one p xs x h t none =
+    let any : is_some (position p xs) ≡ true = sym (any_placed p xs) ∙ any_in p xs x h t in
+    let no : is_some (position p xs) ≡ false = ap is_some none in
+    absurd cc
+
+-- where the address of data has no place, its name isn't to be exported
+not_listed : (args : WasmArgs) (m : WasmLinkerSymbol) → is_data (row_of m).kind ≡ true
+    → position (λ a. same_made a m) (exported_addresses args) ≡ None
+    → (list_any (bytes_eq (name_of m)) args.export_symbols ≡ true) ⊎ (list_any (bytes_eq (name_of m)) args.export_symbols ≡ false)
+    → list_any (bytes_eq (name_of m)) args.export_symbols ≡ false
+not_listed args m is_data_of none (inr f) = f
+not_listed args m is_data_of none (inl t) =
+    let named = any_named (name_of m) args.export_symbols t in
+    let among = in_filter_map data_named args.export_symbols (name_of m) m named (data_by_name m is_data_of) in
+    let first = kept_firsts same_made made_one [] (filter_map data_named args.export_symbols) m (inr among) in
+    absurd (placed_one (λ a. same_made a m) (exported_addresses args) m first (made_self m) none)
+
+-- the address of data has no index where its place isn't found
+pub address_absent : (input : Input) (i : LinkerDefinedIndices) (m : WasmLinkerSymbol) → AreMadeIndices input i
+    → is_data (row_of m).kind ≡ true → position (λ a. same_made a m) i.exported.addresses ≡ None
+    → is_made input m ≡ false
+address_absent input i m are is none =
+    let none' = ap (λ (list : List WasmLinkerSymbol). position (λ a. same_made a m) list) (sym are.exported.addresses) ∙ none in
+    forced_is_made input m is
+    ∙ not_listed input.link.args m is none' (cases_Bool (list_any (bytes_eq (name_of m)) input.link.args.export_symbols))
+
+stands_as : (input : Input) (m : WasmLinkerSymbol) (k : WasmSymbolKind) (place : ℕ) → is_data k ≡ true
+    → slice_get (global_space input) place ≡ Some (AddressOf m) → StandsAt input m k place
+stands_as input m kind.Func place is at = absurd cc
+stands_as input m kind.Data place is at = at
+stands_as input m kind.Global place is at = absurd cc
+stands_as input m kind.Section place is at = absurd cc
+stands_as input m kind.Event place is at = absurd cc
+stands_as input m kind.Table place is at = absurd cc
+
+found_as : (input : Input) (m : WasmLinkerSymbol) (index : Option ℕ) → is_data (row_of m).kind ≡ true
+    → MatchOption index ⊥ (λ place. slice_get (global_space input) place ≡ Some (AddressOf m)) → IsMadeIndex input m index
+found_as input m None is at = absurd at
+found_as input m (Some place) is at = stands_as input m (row_of m).kind place is at
+
+-- the address of data stands behind the start of its part by its place
+pub address_there : (input : Input) (i : LinkerDefinedIndices) (m : WasmLinkerSymbol) (place : ℕ) (index : Option ℕ)
+    → AreMadeIndices input i → is_data (row_of m).kind ≡ true
+    → position (λ a. same_made a m) i.exported.addresses ≡ Some place → index ≡ entry_of i.globals 7 place
+    → IsMadeIndex input m index
+address_there input i m place index are is at entry =
+    let at' : position (λ a. same_made a m) (exported_addresses input.link.args) ≡ Some place =
+    ap (λ (list : List WasmLinkerSymbol). position (λ a. same_made a m) list) (sym are.exported.addresses) ∙ at in
+    let found = position-Some (λ a. same_made a m) (exported_addresses input.link.args) place m at' in
+    let same : get_or (exported_addresses input.link.args) place m ≡ m =
+    made_one (get_or (exported_addresses input.link.args) place m) m found.1 in
+    let there : slice_get (exported_addresses input.link.args) place ≡ Some m =
+    slice_get-get_or (exported_addresses input.link.args) place m found.0 ∙ ap (λ (x : WasmLinkerSymbol). Some x) same in
+    found_as input m index is
+    (entry_found (global_parts input) (object_globals input) i.globals 7 (address_part input) place (AddressOf m) index ⊥
+    entry are.globals refl (mapped_at AddressOf (exported_addresses input.link.args) place m there))

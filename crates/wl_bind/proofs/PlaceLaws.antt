@@ -1,0 +1,88 @@
+-- Lists that stand in a space from a place on, and the parts of a space.
+use Rattle.std.proofs.Common.{◌≡◌, ℕ, zero, suc, ◌+◌, List, [], ◌∷◌, ◌++◌, length, refl, sym, ap, subst, ◌∙◌, arith, Some, slice_get, length-append, append_assoc}
+use Rattle.wl_bind.specs.Parts.{joined, lengths_of, starts_from, total}
+
+-- ---- a list stands in a space from a place on
+
+pub record StandsFrom {X : Type 0} (space : List X) (n : ℕ) (xs : List X) : Type 0 where
+  pub is : (k : ℕ) (x : X) → slice_get xs k ≡ Some x → slice_get space (n + k) ≡ Some x
+
+pub get_behind : {X : Type 0} (xs ys : List X) (k n : ℕ) → length xs + k ≡ n
+    → slice_get (xs ++ ys) n ≡ slice_get ys k
+get_behind [] ys k n e = let e' : n ≡ k = omega (arith, e) in rw e'
+get_behind (x ∷ xs) ys k zero e = absurd (omega (arith, e))
+get_behind (x ∷ xs) ys k (suc n) e = get_behind xs ys k n (omega (arith, e))
+
+pub get_in_front : {X : Type 0} (xs ys : List X) (k : ℕ) (x : X) → slice_get xs k ≡ Some x
+    → slice_get (xs ++ ys) k ≡ Some x
+get_in_front [] ys k x e = absurd (cc)
+get_in_front (y ∷ xs) ys zero x e = e
+get_in_front (y ∷ xs) ys (suc k) x e = get_in_front xs ys k x e
+
+pub from_head : {X : Type 0} (space : List X) (n : ℕ) (x : X) (xs : List X)
+    → StandsFrom space n (x ∷ xs) → slice_get space n ≡ Some x
+from_head space n x xs s = let e : n + 0 ≡ n = omega arith in rw e at (s.is 0 x refl)
+
+pub from_tail : {X : Type 0} (space : List X) (n : ℕ) (x : X) (xs : List X)
+    → StandsFrom space n (x ∷ xs) → StandsFrom space (n + 1) xs
+from_tail space n x xs s = record {
+  is = λ k y e. let at : n + suc k ≡ (n + 1) + k = omega arith in rw at at (s.is (suc k) y e);
+}
+
+pub from_left : {X : Type 0} (space : List X) (n : ℕ) (xs ys : List X)
+    → StandsFrom space n (xs ++ ys) → StandsFrom space n xs
+from_left space n xs ys s = record { is = λ k x e. s.is k x (get_in_front xs ys k x e) }
+
+pub from_right : {X : Type 0} (space : List X) (n : ℕ) (xs ys : List X)
+    → StandsFrom space n (xs ++ ys) → StandsFrom space (n + length xs) ys
+from_right space n xs ys s = record {
+  is = λ k x e.
+      let at : n + (length xs + k) ≡ (n + length xs) + k = omega arith in
+      rw at at (s.is (length xs + k) x (get_behind xs ys k (length xs + k) refl ∙ e));
+}
+
+-- a list stands behind what is in front of it
+pub stands_behind : {X : Type 0} (front xs behind : List X)
+    → StandsFrom (front ++ (xs ++ behind)) (length front) xs
+stands_behind front xs behind = record {
+  is = λ k x e.
+      get_behind front (xs ++ behind) k (length front + k) refl ∙ get_in_front xs behind k x e;
+}
+
+-- ---- parts
+
+-- each part stands from its start on
+pub part_stands_from : {X : Type 0} (front : List X) (parts : List (List X)) (rest : List X)
+    (k : ℕ) (part : List X) (start : ℕ) → slice_get parts k ≡ Some part
+    → slice_get (starts_from (length front) (lengths_of parts)) k ≡ Some start
+    → StandsFrom (front ++ (joined parts ++ rest)) start part
+part_stands_from front [] rest k part start p s = absurd (cc)
+part_stands_from {X} front (xs ∷ parts) rest zero part start p s =
+    let same : xs ≡ part = cc in
+    let at : length front ≡ start = cc in
+    rw (← same, ← at, append_assoc xs (joined parts) rest) (stands_behind front xs (joined parts ++ rest))
+part_stands_from {X} front (xs ∷ parts) rest (suc k) part start p s =
+    let len : length (front ++ xs) ≡ length front + length xs = length-append front xs in
+    let more = part_stands_from (front ++ xs) parts rest k part start p (rw len s) in
+    subst (λ (s : List X). StandsFrom s start part)
+    (append_assoc front xs (joined parts ++ rest)
+    ∙ ap (λ (ys : List X). front ++ ys) (sym (append_assoc xs (joined parts) rest))) more
+
+pub part_stands : {X : Type 0} (parts : List (List X)) (rest : List X) (k : ℕ) (part : List X)
+    (start : ℕ) → slice_get parts k ≡ Some part
+    → slice_get (starts_from 0 (lengths_of parts)) k ≡ Some start
+    → StandsFrom (joined parts ++ rest) start part
+part_stands parts rest k part start p s = part_stands_from [] parts rest k part start p s
+
+-- the parts have as many entries as their lengths together
+pub joined_length : {X : Type 0} (parts : List (List X)) → length (joined parts) ≡ total (lengths_of parts)
+joined_length [] = refl
+joined_length (xs ∷ parts) = length-append xs (joined parts) ∙ ap (λ n. length xs + n) (joined_length parts)
+
+-- what comes behind all parts stands there
+pub rest_stands : {X : Type 0} (parts : List (List X)) (rest : List X)
+    → StandsFrom (joined parts ++ rest) (total (lengths_of parts)) rest
+rest_stands parts rest = record {
+  is = λ k x e. get_behind (joined parts) rest k (total (lengths_of parts) + k)
+      (ap (λ n. n + k) (joined_length parts)) ∙ e;
+}

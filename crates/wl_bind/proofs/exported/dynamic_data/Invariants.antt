@@ -1,0 +1,9 @@
+use Rattle.std.proofs.Common.{◌≡◌, ◌++◌, drop}
+use Rattle.wl_bind.specs.ExportedData.{dynamic_in}
+use Rattle.wl_bind.specs.Parts.{by_object}
+use Rattle.wl_bind.proofs.exported.dynamic_data.Given as goal
+
+abbrev pub invariant-loop-object : goal.invariant-loop-object
+invariant-loop-object l =
+    l.list ++ by_object (dynamic_in l.input) l.object (drop l.object l.input.link.objects)
+    ≡ by_object (dynamic_in l.input) 0 l.input.link.objects

@@ -1,0 +1,24 @@
+-- What the things of objects are numbered by.
+use Rattle.std.specs.Prelude.{◌≡◌, ◌≤◌, length}
+use Rattle.wl_types.specs.Types.{max_entries}
+use Rattle.wl_bind.specs.Input.{Input}
+use Rattle.wl_bind.specs.FunctionSpace.{function_space}
+use Rattle.wl_bind.specs.GlobalSpace.{global_space}
+use Rattle.wl_bind.specs.MadeIndices.{AreMadeIndices}
+use Rattle.wl_bind.specs.OwnIndices.{function_firsts, global_firsts}
+use Rattle.wl_bind.specs.Resolutions.{resolutions, by_all_rules}
+use Rattle.wl_bind.specs.Scan.{scan_of}
+use Rattle.wl_bind.specs.Shared.{shared_of}
+use Rattle.wl_bind.specs.declared.numbering.Numbering.{Numbering}
+
+-- all of it is that of the link, and there is room in both spaces
+pub record IsNumbering (input : Input) (n : Numbering) : Type 0 where
+  pub input_is : n.input.now ≡ input
+  pub rows : n.rows.now ≡ resolutions input (by_all_rules input)
+  pub scan : n.scan.now ≡ scan_of input
+  pub shared : n.shared.now ≡ shared_of input
+  pub indices : AreMadeIndices input n.indices.now
+  pub function_firsts : n.function_firsts.items ≡ function_firsts input
+  pub global_firsts : n.global_firsts.items ≡ global_firsts input
+  pub functions_fit : length (function_space input) ≤ max_entries
+  pub globals_fit : length (global_space input) ≤ max_entries

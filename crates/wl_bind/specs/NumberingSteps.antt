@@ -1,0 +1,116 @@
+-- While the things of objects are numbered.
+use Rattle.std.specs.Prelude.{◌≡◌, ◌≤◌, ℕ, ◌+◌, true, false, List, map, Option, Some, None, unwrap_or, slice_get, ⊤}
+use Rattle.std.specs.List.{AllZip, range_with_len}
+use Rattle.std.specs.Option.{option_and_then}
+use Rattle.wl_linking.specs.Object.{Object}
+use Rattle.wl_linking.specs.declared.symbols.WasmSymbolKind.{WasmSymbolKind}
+use Rattle.wl_linking.specs.declared.symbols.WasmSymbolKind.TheVariants.{Func, Data, Global, Section, Event, Table}
+use Rattle.wl_symbols.specs.LinkerNames.{row_of}
+use Rattle.wl_symbols.specs.declared.linker_symbol.WasmLinkerSymbol.{WasmLinkerSymbol}
+use Rattle.wl_live.specs.Live.{ordinal_of}
+use Rattle.wl_live.specs.declared.units.WasmGcUnit.{WasmGcUnit}
+use Rattle.wl_slots.specs.ImportSlots.{ImportSlot}
+use Rattle.wl_types.specs.Types.{max_entries}
+use Rattle.wl_types.specs.declared.types.TheConstants.{WASM_DEAD_INDEX}
+use Rattle.wl_bind.specs.FunctionSpace.{stub_part, function_space}
+use Rattle.wl_bind.specs.GlobalSpace.{GlobalOf, global_space}
+use Rattle.wl_bind.specs.Input.{Input}
+use Rattle.wl_bind.specs.KeptSlots.{is_kept_slot}
+use Rattle.wl_bind.specs.Made.{is_made}
+use Rattle.wl_bind.specs.MadeIndices.{StandsAt}
+use Rattle.wl_bind.specs.OwnIndices.{own_unit, own_count, own_index}
+use Rattle.wl_bind.specs.Parts.{HasEntry}
+use Rattle.wl_bind.specs.Resolutions.{function_resolution, global_resolution}
+use Rattle.wl_bind.specs.Shared.{place_at}
+use Rattle.wl_bind.specs.declared.binding.GlobalTarget.TheVariants as global
+use Rattle.wl_bind.specs.declared.numbering.Numbering.{Numbering}
+use Rattle.wl_bind.specs.declared.own_indices.Own.{Own}
+use Rattle.wl_bind.specs.declared.resolution.ImportResolution.{ImportResolution}
+use Rattle.wl_bind.specs.declared.resolution.ImportResolution.TheVariants.{Unresolved, ResolvedFunction, ResolvedGlobal, LinkerDefined, WeakUndefStub, GotMemSlot, GotFuncSlot}
+
+-- ---- what objects define
+
+-- the object has a first index, and there is room for that number behind it
+pub record HasRoom (firsts : List ℕ) (object n : ℕ) : Type 0 where
+  pub first : ℕ
+  pub first_is : slice_get firsts object ≡ Some first
+  pub room : first + n ≤ max_entries
+
+-- that number behind the first index of the object
+abbrev pub behind_first : List ℕ → ℕ → ℕ → ℕ
+behind_first firsts object n = unwrap_or (slice_get firsts object) 0 + n
+
+-- there is room for each kept unit of the object
+abbrev pub FitsOwn : Input → List ℕ → ℕ → WasmGcUnit → Type 0
+FitsOwn input firsts object unit =
+    (n : ℕ) → ordinal_of input.live (record { object = object; unit = unit }) ≡ Some n
+    → HasRoom firsts object n
+
+-- the indices of what an object defines
+abbrev pub own_indices_of : Input → Own → List ℕ → ℕ → Object → List ℕ
+own_indices_of input own firsts object o =
+    map (λ k. own_index input firsts object (own_unit own k)) (range_with_len 0 (own_count own o))
+
+-- ---- what import slots are resolved to
+
+-- the place has room
+abbrev pub FitsPlace : Option ℕ → Type 0
+FitsPlace None = ⊤
+FitsPlace (Some place) = place ≤ max_entries
+
+-- there is an index for what a slot of that kind and number of an object is resolved to
+abbrev pub HasIndex : Numbering → WasmSymbolKind → ℕ → ℕ → ImportResolution → Type 0
+HasIndex n kind object slot Unresolved = FitsPlace (place_at n.shared.now kind object slot)
+HasIndex n kind object slot (ResolvedFunction i k) = HasRoom n.function_firsts.items i k
+HasIndex n kind object slot (ResolvedGlobal i k) = HasRoom n.global_firsts.items i k
+HasIndex n kind object slot (LinkerDefined m) = ⊤
+HasIndex n kind object slot (WeakUndefStub place) = HasEntry n.indices.now.functions 4 place
+HasIndex n kind object slot (GotMemSlot place) = HasEntry n.indices.now.globals 8 place
+HasIndex n kind object slot (GotFuncSlot place) = HasEntry n.indices.now.globals 9 place
+
+-- what the linker makes stands there, if the output has it
+abbrev pub IsIndexOfMade : Input → WasmLinkerSymbol → ℕ → Type 0
+IsIndexOfMade input m index = is_made input m ≡ true → StandsAt input m (row_of m).kind index
+
+-- the index of what a slot of that kind and number of an object is resolved to
+abbrev pub IsResolvedIndex : Numbering → WasmSymbolKind → ℕ → ℕ → ImportResolution → ℕ → Type 0
+IsResolvedIndex n kind object slot Unresolved index =
+    index ≡ unwrap_or (place_at n.shared.now kind object slot) WASM_DEAD_INDEX
+IsResolvedIndex n kind object slot (ResolvedFunction i k) index =
+    index ≡ behind_first n.function_firsts.items i k
+IsResolvedIndex n kind object slot (ResolvedGlobal i k) index =
+    index ≡ behind_first n.global_firsts.items i k
+IsResolvedIndex n kind object slot (LinkerDefined m) index = IsIndexOfMade n.input.now m index
+IsResolvedIndex n kind object slot (WeakUndefStub place) index =
+    slice_get (function_space n.input.now) index ≡ slice_get (stub_part n.input.now) place
+IsResolvedIndex n kind object slot (GotMemSlot place) index =
+    slice_get (global_space n.input.now) index ≡ Some (GlobalOf (global.GotMem place))
+IsResolvedIndex n kind object slot (GotFuncSlot place) index =
+    slice_get (global_space n.input.now) index ≡ Some (GlobalOf (global.GotFunc place))
+
+-- what a slot of that kind is resolved to by all rules
+abbrev pub resolution_of : Input → WasmSymbolKind → ImportSlot → ImportResolution
+resolution_of input Func t = function_resolution input t
+resolution_of input Global t = global_resolution input t
+resolution_of input Data t = Unresolved
+resolution_of input Section t = Unresolved
+resolution_of input Event t = Unresolved
+resolution_of input Table t = Unresolved
+
+-- there is an index for a slot that is kept
+abbrev pub HasSlotIndex : Numbering → WasmSymbolKind → ImportSlot → Type 0
+HasSlotIndex n kind t =
+    is_kept_slot n.input.now t ≡ true
+    → HasIndex n kind t.object t.number (resolution_of n.input.now kind t)
+
+-- there is one for each of these slots that is kept
+abbrev pub HaveSlotIndices : Numbering → WasmSymbolKind → List ImportSlot → Type 0
+HaveSlotIndices n kind slots =
+    (k : ℕ) (t : ImportSlot) → slice_get slots k ≡ Some t → HasSlotIndex n kind t
+
+-- the index of a slot; 4294967295 where it isn't kept
+pub record IsSlotIndex (n : Numbering) (kind : WasmSymbolKind) (t : ImportSlot) (index : ℕ)
+    : Type 0 where
+  pub kept : is_kept_slot n.input.now t ≡ true
+      → IsResolvedIndex n kind t.object t.number (resolution_of n.input.now kind t) index
+  pub dead : is_kept_slot n.input.now t ≡ false → index ≡ WASM_DEAD_INDEX

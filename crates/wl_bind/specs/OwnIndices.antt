@@ -1,0 +1,57 @@
+-- The indices of what objects define, by the first index of each object.
+use Rattle.std.specs.Prelude.{ℕ, ◌+◌, List, [], ◌∷◌, length, Option, Some, None, unwrap_or, slice_get}
+use Rattle.std.specs.List.{filter, range_with_len}
+use Rattle.std.specs.Option.{option_map_or}
+use Rattle.wl_linking.specs.Object.{Object}
+use Rattle.wl_live.specs.Live.{ordinal_of}
+use Rattle.wl_live.specs.declared.units.WasmGcUnit.{WasmGcUnit}
+use Rattle.wl_live.specs.declared.units.WasmGcUnit.TheVariants.{DefinedFunction, DefinedGlobal}
+use Rattle.wl_types.specs.declared.types.TheConstants.{WASM_DEAD_INDEX}
+use Rattle.wl_bind.specs.Input.{Input, keeps}
+use Rattle.wl_bind.specs.FunctionSpace.{function_parts}
+use Rattle.wl_bind.specs.GlobalSpace.{global_parts}
+use Rattle.wl_bind.specs.Parts.{lengths_of, total}
+use Rattle.wl_bind.specs.declared.own_indices.Own.{Own}
+use Rattle.wl_bind.specs.declared.own_indices.Own.TheVariants.{Functions, Globals}
+
+-- the unit of that number
+abbrev pub own_unit : Own → ℕ → WasmGcUnit
+own_unit Functions number = DefinedFunction number
+own_unit Globals number = DefinedGlobal number
+
+-- how many an object defines
+abbrev pub own_count : Own → Object → ℕ
+own_count Functions o = length o.functions
+own_count Globals o = length o.globals
+
+-- the numbers of those that are kept
+abbrev pub kept_own : Input → Own → ℕ → Object → List ℕ
+kept_own input own object o =
+    filter (λ k. keeps input object (own_unit own k)) (range_with_len 0 (own_count own o))
+
+-- the first index of each of these objects, the first of which has that number, and takes that index
+abbrev pub firsts_from : Input → Own → ℕ → ℕ → List Object → List ℕ
+firsts_from input own index object [] = []
+firsts_from input own index object (o ∷ objects) =
+    index ∷ firsts_from input own (index + length (kept_own input own object o)) (object + 1) objects
+
+-- how many are kept of these objects, the first of which has that number
+abbrev pub kept_count : Input → Own → ℕ → List Object → ℕ
+kept_count input own object [] = 0
+kept_count input own object (o ∷ objects) =
+    length (kept_own input own object o) + kept_count input own (object + 1) objects
+
+-- the first index of each object, behind what no object defines
+abbrev pub function_firsts : Input → List ℕ
+function_firsts input =
+    firsts_from input Functions (total (lengths_of (function_parts input))) 0 input.link.objects
+
+abbrev pub global_firsts : Input → List ℕ
+global_firsts input =
+    firsts_from input Globals (total (lengths_of (global_parts input))) 0 input.link.objects
+
+-- the index of a kept one: so many behind the first of its object
+abbrev pub own_index : Input → List ℕ → ℕ → WasmGcUnit → ℕ
+own_index input firsts object unit =
+    option_map_or (λ n. unwrap_or (slice_get firsts object) 0 + n)
+    (ordinal_of input.live (record { object = object; unit = unit })) WASM_DEAD_INDEX

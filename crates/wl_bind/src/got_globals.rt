@@ -1,0 +1,220 @@
+//! The globals that hold the addresses and slots of the symbols of an object.
+
+ghost use Rattle.std.specs.Prelude.{◌≡◌, map, length, IfOk, IsSome, Some, slice_get};
+ghost use Rattle.std.specs.List.{range_with_len};
+ghost use Rattle.wl_symbols.specs.Entries.{symbol_in};
+ghost use Rattle.wl_bind.specs.FunctionSymbols.{function_bindings};
+ghost use Rattle.wl_bind.specs.GlobalSpace.{global_space};
+ghost use Rattle.wl_bind.specs.GlobalSteps.{marked, mem_entry_at, mem_global_if, func_entry_at, func_global_if};
+ghost use Rattle.wl_bind.specs.IndexMaps.{has_global, is_data_symbol, mem_place, got_mem_globals, func_place, got_func_globals};
+ghost use Rattle.wl_bind.specs.Numbering.{IsNumbering};
+ghost use Rattle.wl_bind.specs.Parts.{IsPlaceOf, ArePlacesOf};
+
+use crate::input::LinkInput;
+use crate::kinds::is_data;
+use crate::numbering::Numbering;
+use crate::relocated::{Relocated, push_object};
+use crate::scan::is_global_index;
+use crate::targets::FunctionBindings;
+use std::alloc::{AllocError, Global};
+use wl_linking::{File, ItemList};
+
+// ---- which symbols are named
+
+/// Marks the symbol that a relocation names by the number of a global, if there is one of that
+/// number.
+fn mark_symbol(marks: &mut Vec<bool>, relocated: &Relocated)
+    ensures { marks.new.items ≡ marked marks.old.items relocated.now }
+{
+    let number = relocated.relocation.index as usize;
+    if is_global_index(relocated.relocation.ty) && number < marks.len() {
+        marks[number] = true;
+    }
+}
+
+/// For each symbol of an object, whether a kept relocation of the object names it by the number of
+/// a global.
+fn global_marks(
+    alloc: Global,
+    input: &LinkInput<'_, '_>,
+    object: usize,
+    file: &File<'_>,
+) -> Result<Vec<bool>, AllocError>
+    ensures { IfOk result (λ marks. marks.items
+        ≡ map (has_global input.now object file.now) (range_with_len 0 (length file.now.symbols))) }
+{
+    let mut relocations = Vec::new(alloc);
+    push_object(&mut relocations, input.live(), object, file)?;
+    let mut marks = vec![in alloc; false; file.symbols().len()]?;
+    for relocated in &relocations {
+        mark_symbol(&mut marks, relocated);
+    }
+    Ok(marks)
+}
+
+// ---- data
+
+/// Whether a symbol is data.
+fn is_data_symbol(input: &LinkInput<'_, '_>, object: usize, number: u32) -> bool
+    ensures { result ≡ is_data_symbol input.now object number }
+{
+    match input.symbols().symbol(object, number) {
+        None => false,
+        Some(symbol) => is_data(symbol.kind),
+    }
+}
+
+/// The place of the definition of a symbol in the GOT list of data.
+fn mem_place(numbering: &Numbering<'_, '_, '_>, object: usize, number: u32) -> Option<usize>
+    requires numbering { IsNumbering numbering.now.input.now numbering.now }
+    requires there { IsSome (symbol_in numbering.now.input.now.link.objects object number) }
+    ensures { result ≡ mem_place numbering.now.input.now object number }
+{
+    let definition = numbering.input.symbols().definition(object, number);
+    let scan = numbering.scan;
+    scan.got_mem.place(definition)
+}
+
+/// The index of the global with the address of a symbol, where the GOT list of data has its
+/// definition.
+fn mem_index(numbering: &Numbering<'_, '_, '_>, object: usize, number: u32) -> Option<u32>
+    requires numbering { IsNumbering numbering.now.input.now numbering.now }
+    requires there { IsSome (symbol_in numbering.now.input.now.link.objects object number) }
+    ensures { IsPlaceOf (global_space numbering.now.input.now)
+        (mem_entry_at (mem_place numbering.now.input.now object number)) result }
+{
+    let place = mem_place(numbering, object, number)?;
+    Some(numbering.indices.got_mem(place))
+}
+
+/// The index of the global with the address of a symbol, if it is data that is marked.
+fn got_mem_global(
+    numbering: &Numbering<'_, '_, '_>,
+    object: usize,
+    number: u32,
+    mark: bool,
+) -> Option<u32>
+    requires numbering { IsNumbering numbering.now.input.now numbering.now }
+    requires there { IsSome (symbol_in numbering.now.input.now.link.objects object number) }
+    ensures { IsPlaceOf (global_space numbering.now.input.now)
+        (mem_global_if numbering.now.input.now object number mark) result }
+{
+    if is_data_symbol(numbering.input, object, number) && mark {
+        mem_index(numbering, object, number)
+    } else {
+        None
+    }
+}
+
+/// For each symbol of an object, the index of the global with its address, where it is data and a
+/// kept relocation of the object names it by the number of a global.
+///
+/// # Errors
+/// `AllocError` where memory runs out.
+pub(crate) fn got_mem_globals(
+    alloc: Global,
+    numbering: &Numbering<'_, '_, '_>,
+    object: usize,
+    file: &File<'_>,
+) -> Result<ItemList<Option<u32>>, AllocError>
+    requires numbering { IsNumbering numbering.now.input.now numbering.now }
+    requires here { slice_get numbering.now.input.now.link.objects object ≡ Some file.now }
+    ensures { let input = numbering.now.input.now in IfOk result
+        (ArePlacesOf (global_space input) (got_mem_globals input object file.now)) }
+{
+    file.stands_for_an_object();
+    let marks = global_marks(alloc, numbering.input, object, file)?;
+    let mut globals = ItemList::empty(alloc);
+    for (number, mark) in marks.iter().enumerate() {
+        globals.push(got_mem_global(numbering, object, number as u32, *mark))?;
+    }
+    Ok(globals)
+}
+
+// ---- functions
+
+/// The place of the definition of a symbol, with the function that it leads to, in the GOT list of
+/// functions.
+fn func_place(
+    numbering: &Numbering<'_, '_, '_>,
+    bindings: &FunctionBindings,
+    object: usize,
+    number: u32,
+) -> Option<usize>
+    requires numbering { IsNumbering numbering.now.input.now numbering.now }
+    requires bindings { bindings.now ≡ function_bindings numbering.now.input.now }
+    requires there { IsSome (symbol_in numbering.now.input.now.link.objects object number) }
+    ensures { result ≡ func_place numbering.now.input.now object number }
+{
+    let function = bindings.function(numbering.input, object, number)?;
+    let definition = numbering.input.symbols().definition(object, number);
+    let scan = numbering.scan;
+    scan.got_func.place(definition, function)
+}
+
+/// The index of the global with the slot of the function that a symbol leads to, where the GOT list
+/// of functions has its definition.
+fn func_index(
+    numbering: &Numbering<'_, '_, '_>,
+    bindings: &FunctionBindings,
+    object: usize,
+    number: u32,
+) -> Option<u32>
+    requires numbering { IsNumbering numbering.now.input.now numbering.now }
+    requires bindings { bindings.now ≡ function_bindings numbering.now.input.now }
+    requires there { IsSome (symbol_in numbering.now.input.now.link.objects object number) }
+    ensures { IsPlaceOf (global_space numbering.now.input.now)
+        (func_entry_at (func_place numbering.now.input.now object number)) result }
+{
+    let place = func_place(numbering, bindings, object, number)?;
+    Some(numbering.indices.got_func(place))
+}
+
+/// The index of the global with the slot of the function that a symbol leads to, if it is a
+/// function's that is marked.
+fn got_func_global(
+    numbering: &Numbering<'_, '_, '_>,
+    bindings: &FunctionBindings,
+    object: usize,
+    number: u32,
+    mark: bool,
+) -> Option<u32>
+    requires numbering { IsNumbering numbering.now.input.now numbering.now }
+    requires bindings { bindings.now ≡ function_bindings numbering.now.input.now }
+    requires there { IsSome (symbol_in numbering.now.input.now.link.objects object number) }
+    ensures { IsPlaceOf (global_space numbering.now.input.now)
+        (func_global_if numbering.now.input.now object number mark) result }
+{
+    if mark {
+        func_index(numbering, bindings, object, number)
+    } else {
+        None
+    }
+}
+
+/// For each symbol of an object, the index of the global with the slot of the function that it
+/// leads to, where a kept relocation of the object names it by the number of a global.
+///
+/// # Errors
+/// `AllocError` where memory runs out.
+pub(crate) fn got_func_globals(
+    alloc: Global,
+    numbering: &Numbering<'_, '_, '_>,
+    bindings: &FunctionBindings,
+    object: usize,
+    file: &File<'_>,
+) -> Result<ItemList<Option<u32>>, AllocError>
+    requires numbering { IsNumbering numbering.now.input.now numbering.now }
+    requires bindings { bindings.now ≡ function_bindings numbering.now.input.now }
+    requires here { slice_get numbering.now.input.now.link.objects object ≡ Some file.now }
+    ensures { let input = numbering.now.input.now in IfOk result
+        (ArePlacesOf (global_space input) (got_func_globals input object file.now)) }
+{
+    file.stands_for_an_object();
+    let marks = global_marks(alloc, numbering.input, object, file)?;
+    let mut globals = ItemList::empty(alloc);
+    for (number, mark) in marks.iter().enumerate() {
+        globals.push(got_func_global(numbering, bindings, object, number as u32, *mark))?;
+    }
+    Ok(globals)
+}

@@ -1,0 +1,119 @@
+//! Where the things of each object stand in the output.
+
+ghost use Rattle.std.specs.Prelude.{◌≡◌, ◌<◌, length, slice_get, IfOk, Some};
+ghost use Rattle.wl_bind.specs.IndexMapSteps.{AreMapSources};
+ghost use Rattle.wl_bind.specs.IndexMaps.{IsIndexMap, AreIndexMaps};
+ghost use Rattle.wl_bind.specs.Numbering.{IsNumbering};
+ghost use Rattle.wl_bind.specs.OutputTypes.{IsMerged};
+
+use crate::got_globals::{got_func_globals, got_mem_globals};
+use crate::merging::MergedTypes;
+use crate::numbering::Numbering;
+use crate::redirects::function_redirects;
+use crate::targets::FunctionBindings;
+use std::alloc::{AllocError, Global};
+use wl_linking::{File, ItemList};
+use wl_reloc::WasmObjectIndexMap;
+
+/// What the maps of all objects are made from.
+#[derive(Drop)]
+struct MapSources<'m, 'n, 'i, 'a> {
+    /// What the things of objects are numbered by.
+    numbering: &'m Numbering<'n, 'i, 'a>,
+    /// The functions that function slots are bound to.
+    bindings: &'m FunctionBindings,
+    /// The output types of the types of each object.
+    types: &'m [ItemList<u32>],
+    /// The indices of the functions of each object.
+    functions: &'m [ItemList<u32>],
+    /// The indices of the globals of each object.
+    globals: &'m [ItemList<u32>],
+}
+
+/// A copy of the row of an object.
+fn row_copy(
+    alloc: Global,
+    rows: &[ItemList<u32>],
+    object: usize,
+) -> Result<ItemList<u32>, AllocError>
+    requires { object < length rows.now }
+    ensures { IfOk result (λ row. slice_get rows.now object ≡ Some row) }
+{
+    let mut row = ItemList::empty(alloc);
+    row.extend(rows[object].as_slice())?;
+    Ok(row)
+}
+
+/// The map of an object.
+fn index_map(
+    alloc: Global,
+    sources: &MapSources<'_, '_, '_, '_>,
+    object: usize,
+    file: &File<'_>,
+) -> Result<WasmObjectIndexMap, AllocError>
+    requires sources { AreMapSources sources.now.numbering.now.input.now sources.now }
+    requires here { slice_get sources.now.numbering.now.input.now.link.objects object
+        ≡ Some file.now }
+    ensures { IfOk result (IsIndexMap sources.now.numbering.now.input.now object file.now) }
+{
+    let numbering = sources.numbering;
+    let functions = sources.functions;
+    Ok(WasmObjectIndexMap {
+        type_indices: row_copy(alloc, sources.types, object)?,
+        function_indices: row_copy(alloc, functions, object)?,
+        global_indices: row_copy(alloc, sources.globals, object)?,
+        segment_indices: ItemList::empty(alloc),
+        data_addresses: ItemList::empty(alloc),
+        function_symbol_redirects: function_redirects(
+            alloc,
+            numbering.input,
+            functions,
+            object,
+            file,
+        )?,
+        got_mem_globals: got_mem_globals(alloc, numbering, object, file)?,
+        got_func_globals: got_func_globals(alloc, numbering, sources.bindings, object, file)?,
+    })
+}
+
+/// The maps of all objects, made from these.
+fn maps_from(
+    alloc: Global,
+    sources: &MapSources<'_, '_, '_, '_>,
+) -> Result<ItemList<WasmObjectIndexMap>, AllocError>
+    requires { AreMapSources sources.now.numbering.now.input.now sources.now }
+    ensures { IfOk result (AreIndexMaps sources.now.numbering.now.input.now) }
+{
+    let input = sources.numbering.input;
+    let mut maps = ItemList::empty(alloc);
+    for (object, file) in input.files().as_slice().iter().enumerate() {
+        maps.push(index_map(alloc, sources, object, file)?)?;
+    }
+    Ok(maps)
+}
+
+/// The maps of all objects.
+///
+/// # Errors
+/// `AllocError` where memory runs out.
+pub(crate) fn index_maps_of(
+    alloc: Global,
+    numbering: &Numbering<'_, '_, '_>,
+    types: &MergedTypes,
+) -> Result<ItemList<WasmObjectIndexMap>, AllocError>
+    requires numbering { IsNumbering numbering.now.input.now numbering.now }
+    requires types { IsMerged numbering.now.input.now types.now }
+    ensures { IfOk result (AreIndexMaps numbering.now.input.now) }
+{
+    let bindings = FunctionBindings::new(alloc, numbering.input)?;
+    let functions = numbering.function_rows(alloc)?;
+    let globals = numbering.global_rows(alloc)?;
+    let sources = MapSources {
+        numbering,
+        bindings: &bindings,
+        types: types.indices.as_slice(),
+        functions: functions.as_slice(),
+        globals: globals.as_slice(),
+    };
+    maps_from(alloc, &sources)
+}

@@ -1,0 +1,362 @@
+//! The indices of functions and globals, by the numbers that objects give them.
+
+ghost use Rattle.std.specs.Prelude.{◌≡◌, ◌<◌, ◌≤◌, ◌^◌, ◌++◌, ℕ, true, false, length, map, IfOk, IfErr, OnOk, Some, unwrap_or, slice_get};
+ghost use Rattle.std.specs.List.{AllZip};
+ghost use Rattle.wl_slots.specs.ImportSlots.{import_slots};
+ghost use Rattle.wl_types.specs.Types.{max_entries};
+ghost use Rattle.wl_types.specs.declared.types.TheConstants.{WASM_DEAD_INDEX};
+ghost use Rattle.wl_bind.specs.FunctionSpace.{function_space, local_functions};
+ghost use Rattle.wl_bind.specs.GlobalSpace.{global_space, local_globals};
+ghost use Rattle.wl_bind.specs.Input.{keeps_slot};
+ghost use Rattle.wl_bind.specs.MadeIndices.{AreMadeIndices};
+ghost use Rattle.wl_bind.specs.Numbering.{IsNumbering};
+ghost use Rattle.wl_bind.specs.NumberingSteps.{HasRoom, behind_first, FitsOwn, own_indices_of, FitsPlace, HasIndex, IsIndexOfMade, IsResolvedIndex, resolution_of, HaveSlotIndices, IsSlotIndex};
+ghost use Rattle.wl_bind.specs.OwnIndices.{own_unit, own_index, function_firsts, global_firsts};
+ghost use Rattle.wl_bind.specs.Parts.{AreIndicesOf, AreRows};
+ghost use Rattle.wl_bind.specs.Resolutions.{resolutions, by_all_rules};
+ghost use Rattle.wl_bind.specs.Scan.{scan_of};
+ghost use Rattle.wl_bind.specs.Shared.{shared_of, place_at};
+ghost use Rattle.wl_bind.specs.declared.resolution.ObjectImportResolutions.{ObjectImportResolutions as Row};
+ghost use Rattle.wl_bind.specs.SpaceFaults.{IsSpaceOver};
+
+use crate::indices::LinkerDefinedIndices;
+use crate::input::LinkInput;
+use crate::own_indices::{Own, first_indices};
+use crate::resolution::{ImportResolution, ObjectImportResolutions};
+use crate::scan::RelocScan;
+use crate::shared::SharedUnresolvedImports;
+use std::alloc::{AllocError, Global};
+use wl_linking::{File, ItemList, LinkError, WasmSymbolKind, whole_objects};
+use wl_live::WasmGcUnit;
+use wl_slots::slots_are_numbered;
+use wl_symbols::WasmLinkerSymbol;
+use wl_types::WASM_DEAD_INDEX;
+
+/// What the things of objects are numbered by.
+#[derive(Drop)]
+pub(crate) struct Numbering<'n, 'i, 'a> {
+    /// The link.
+    pub(crate) input: &'n LinkInput<'i, 'a>,
+    /// What import slots are resolved to.
+    pub(crate) rows: &'n [ObjectImportResolutions],
+    /// What kept relocations ask for.
+    pub(crate) scan: &'n RelocScan<'a>,
+    /// What the host is asked for.
+    pub(crate) shared: &'n SharedUnresolvedImports<'a>,
+    /// Where the parts of the spaces begin.
+    pub(crate) indices: &'n LinkerDefinedIndices,
+    /// The first index of the functions of each object.
+    pub(crate) function_firsts: Vec<u32>,
+    /// The first index of the globals of each object.
+    pub(crate) global_firsts: Vec<u32>,
+}
+
+/// The index so many behind the first one of an object.
+fn behind_first(firsts: &[u32], object: usize, number: u32) -> u32
+    requires { HasRoom firsts.now object number }
+    ensures { result ≡ behind_first firsts.now object number }
+{
+    firsts[object] + number
+}
+
+/// The index of what an object defines; 4294967295 where it isn't kept.
+fn own_index(input: &LinkInput<'_, '_>, firsts: &[u32], object: usize, unit: WasmGcUnit) -> u32
+    requires { FitsOwn input.now firsts.now object unit }
+    ensures { result ≡ own_index input.now firsts.now object unit }
+{
+    match input.live().live_ordinal(object, unit) {
+        None => WASM_DEAD_INDEX,
+        Some(number) => behind_first(firsts, object, number),
+    }
+}
+
+/// The first index of the functions of each object.
+fn function_firsts(
+    alloc: Global,
+    input: &LinkInput<'_, '_>,
+    indices: &LinkerDefinedIndices,
+) -> Result<Vec<u32>, LinkError>
+    requires { AreMadeIndices input.now indices.now }
+    ensures firsts { IfOk result (λ firsts. firsts.items ≡ function_firsts input.now) }
+    ensures room { OnOk result (length (function_space input.now) ≤ max_entries) }
+    ensures err { IfErr result (IsSpaceOver input.now) }
+{
+    first_indices(alloc, input, Own::Functions, indices.functions_end())
+}
+
+/// The first index of the globals of each object.
+fn global_firsts(
+    alloc: Global,
+    input: &LinkInput<'_, '_>,
+    indices: &LinkerDefinedIndices,
+) -> Result<Vec<u32>, LinkError>
+    requires { AreMadeIndices input.now indices.now }
+    ensures firsts { IfOk result (λ firsts. firsts.items ≡ global_firsts input.now) }
+    ensures room { OnOk result (length (global_space input.now) ≤ max_entries) }
+    ensures err { IfErr result (IsSpaceOver input.now) }
+{
+    first_indices(alloc, input, Own::Globals, indices.globals_end())
+}
+
+impl<'n, 'i, 'a> Numbering<'n, 'i, 'a> {
+    /// What the things of objects are numbered by.
+    ///
+    /// # Errors
+    /// `TooLarge` where a space would get more than 4294967294 entries.
+    pub(crate) fn new(
+        alloc: Global,
+        input: &'n LinkInput<'i, 'a>,
+        rows: &'n [ObjectImportResolutions],
+        scan: &'n RelocScan<'a>,
+        shared: &'n SharedUnresolvedImports<'a>,
+        indices: &'n LinkerDefinedIndices,
+    ) -> Result<Self, LinkError>
+        requires rows { rows.now ≡ resolutions input.now (by_all_rules input.now) }
+        requires scan { scan.now ≡ scan_of input.now }
+        requires shared { shared.now ≡ shared_of input.now }
+        requires indices { AreMadeIndices input.now indices.now }
+        ensures ok { IfOk result (IsNumbering input.now) }
+        ensures err { IfErr result (IsSpaceOver input.now) }
+    {
+        let functions = function_firsts(alloc, input, indices)?;
+        let globals = global_firsts(alloc, input, indices)?;
+        Ok(Numbering {
+            input,
+            rows,
+            scan,
+            shared,
+            indices,
+            function_firsts: functions,
+            global_firsts: globals,
+        })
+    }
+
+    /// What the function slots of an object are resolved to.
+    fn function_row(&self, object: usize) -> &'n [ImportResolution]
+        requires { object < length self.now.rows.now }
+        ensures { (row : Row) → slice_get self.now.rows.now object ≡ Some row
+            → result.now ≡ row.function_resolutions }
+    {
+        self.rows[object].function_resolutions.as_slice()
+    }
+
+    /// What the global slots of an object are resolved to.
+    fn global_row(&self, object: usize) -> &'n [ImportResolution]
+        requires { object < length self.now.rows.now }
+        ensures { (row : Row) → slice_get self.now.rows.now object ≡ Some row
+            → result.now ≡ row.global_resolutions }
+    {
+        self.rows[object].global_resolutions.as_slice()
+    }
+
+    /// The index of the host import that a slot is.
+    fn host_index(&self, kind: WasmSymbolKind, object: usize, slot: u32) -> u32
+        requires { FitsPlace (place_at self.now.shared.now kind object slot) }
+        ensures { result
+            ≡ unwrap_or (place_at self.now.shared.now kind object slot) WASM_DEAD_INDEX }
+    {
+        match self.shared.place(object, kind, slot) {
+            None => WASM_DEAD_INDEX,
+            Some(place) => place as u32,
+        }
+    }
+
+    /// The index of what the linker makes.
+    fn made_index(&self, made: WasmLinkerSymbol) -> u32
+        requires { AreMadeIndices self.now.input.now self.now.indices.now }
+        ensures { IsIndexOfMade self.now.input.now made result }
+    {
+        match self.indices.index(made) {
+            None => WASM_DEAD_INDEX,
+            Some(index) => index,
+        }
+    }
+
+    /// The index of what a slot is resolved to.
+    fn resolved_index(
+        &self,
+        kind: WasmSymbolKind,
+        object: usize,
+        slot: u32,
+        resolution: ImportResolution,
+    ) -> u32
+        requires indices { AreMadeIndices self.now.input.now self.now.indices.now }
+        requires there { HasIndex self.now kind object slot resolution }
+        ensures { IsResolvedIndex self.now kind object slot resolution result }
+    {
+        match resolution {
+            ImportResolution::Unresolved => self.host_index(kind, object, slot),
+            ImportResolution::ResolvedFunction {
+                object_index,
+                local_defined_index,
+            } => behind_first(&self.function_firsts, object_index, local_defined_index),
+            ImportResolution::ResolvedGlobal {
+                object_index,
+                local_defined_index,
+            } => behind_first(&self.global_firsts, object_index, local_defined_index),
+            ImportResolution::LinkerDefined(made) => self.made_index(made),
+            ImportResolution::WeakUndefStub { stub_index } => self.indices.stub(stub_index),
+            ImportResolution::GotMemSlot(place) => self.indices.got_mem(place),
+            ImportResolution::GotFuncSlot(place) => self.indices.got_func(place),
+        }
+    }
+
+    /// The index of what a slot is resolved to; 4294967295 where it isn't kept.
+    fn slot_index(
+        &self,
+        kind: WasmSymbolKind,
+        object: usize,
+        slot: u32,
+        resolution: ImportResolution,
+    ) -> u32
+        requires indices { AreMadeIndices self.now.input.now self.now.indices.now }
+        requires there { keeps_slot self.now.input.now kind object slot ≡ true
+            → HasIndex self.now kind object slot resolution }
+        ensures kept { keeps_slot self.now.input.now kind object slot ≡ true
+            → IsResolvedIndex self.now kind object slot resolution result }
+        ensures dead { keeps_slot self.now.input.now kind object slot ≡ false
+            → result ≡ WASM_DEAD_INDEX }
+    {
+        if self.input.keeps_slot(kind, object, slot) {
+            self.resolved_index(kind, object, slot, resolution)
+        } else {
+            WASM_DEAD_INDEX
+        }
+    }
+
+    /// The indices of what the slots of a kind of an object are resolved to.
+    fn slot_indices(
+        &self,
+        alloc: Global,
+        kind: WasmSymbolKind,
+        object: usize,
+        resolutions: &[ImportResolution],
+    ) -> Result<ItemList<u32>, AllocError>
+        requires indices { AreMadeIndices self.now.input.now self.now.indices.now }
+        requires row { resolutions.now ≡ map (resolution_of self.now.input.now kind)
+            (import_slots self.now.input.now.link.objects object kind) }
+        requires few { length resolutions.now < 2 ^ 32 }
+        requires there { HaveSlotIndices self.now kind
+            (import_slots self.now.input.now.link.objects object kind) }
+        ensures { IfOk result (AllZip (IsSlotIndex self.now kind)
+            (import_slots self.now.input.now.link.objects object kind)) }
+    {
+        let mut indices = ItemList::empty(alloc);
+        for (slot, resolution) in resolutions.iter().enumerate() {
+            indices.push(self.slot_index(kind, object, slot as u32, *resolution))?;
+        }
+        Ok(indices)
+    }
+
+    /// Adds the indices of what an object defines.
+    fn push_own(
+        &self,
+        indices: &mut ItemList<u32>,
+        own: Own,
+        firsts: &[u32],
+        object: usize,
+        file: &File<'_>,
+    ) -> Result<(), AllocError>
+        requires { (k : ℕ) → FitsOwn self.now.input.now firsts.now object (own_unit own k) }
+        ensures { OnOk result (indices.new
+            ≡ indices.old ++ own_indices_of self.now.input.now own firsts.now object file.now) }
+    {
+        file.stands_for_an_object();
+        for number in 0..own.count(file) {
+            let unit = own.unit(number as u32);
+            indices.push(own_index(self.input, firsts, object, unit))?;
+        }
+        Ok(())
+    }
+
+    /// The index of each function of an object: of what its import slots are bound to, and then of
+    /// what it defines.
+    fn functions_of(
+        &self,
+        alloc: Global,
+        object: usize,
+        file: &File<'_>,
+    ) -> Result<ItemList<u32>, AllocError>
+        requires numbering { IsNumbering self.now.input.now self.now }
+        requires here { slice_get self.now.input.now.link.objects object ≡ Some file.now }
+        ensures { let input = self.now.input.now in IfOk result
+            (AreIndicesOf (function_space input) (local_functions input object file.now)) }
+    {
+        file.stands_for_an_object();
+        whole_objects();
+        slots_are_numbered();
+        let _ = self.input.live();
+        let row = self.function_row(object);
+        let mut indices = self.slot_indices(alloc, WasmSymbolKind::Func, object, row)?;
+        self.push_own(
+            &mut indices,
+            Own::Functions,
+            &self.function_firsts,
+            object,
+            file,
+        )?;
+        Ok(indices)
+    }
+
+    /// The same of globals.
+    fn globals_of(
+        &self,
+        alloc: Global,
+        object: usize,
+        file: &File<'_>,
+    ) -> Result<ItemList<u32>, AllocError>
+        requires numbering { IsNumbering self.now.input.now self.now }
+        requires here { slice_get self.now.input.now.link.objects object ≡ Some file.now }
+        ensures { let input = self.now.input.now in IfOk result
+            (AreIndicesOf (global_space input) (local_globals input object file.now)) }
+    {
+        file.stands_for_an_object();
+        whole_objects();
+        slots_are_numbered();
+        let _ = self.input.live();
+        let row = self.global_row(object);
+        let mut indices = self.slot_indices(alloc, WasmSymbolKind::Global, object, row)?;
+        self.push_own(
+            &mut indices,
+            Own::Globals,
+            &self.global_firsts,
+            object,
+            file,
+        )?;
+        Ok(indices)
+    }
+
+    /// The indices of the functions of each object.
+    ///
+    /// # Errors
+    /// `AllocError` where memory runs out.
+    pub(crate) fn function_rows(&self, alloc: Global) -> Result<Vec<ItemList<u32>>, AllocError>
+        requires { IsNumbering self.now.input.now self.now }
+        ensures { let input = self.now.input.now in IfOk result (λ rows. AreRows
+            (λ object o. AreIndicesOf (function_space input) (local_functions input object o))
+            0 input.link.objects rows.items) }
+    {
+        let mut rows = Vec::new(alloc);
+        for (object, file) in self.input.files().as_slice().iter().enumerate() {
+            rows.push(self.functions_of(alloc, object, file)?)?;
+        }
+        Ok(rows)
+    }
+
+    /// The indices of the globals of each object.
+    ///
+    /// # Errors
+    /// `AllocError` where memory runs out.
+    pub(crate) fn global_rows(&self, alloc: Global) -> Result<Vec<ItemList<u32>>, AllocError>
+        requires { IsNumbering self.now.input.now self.now }
+        ensures { let input = self.now.input.now in IfOk result (λ rows. AreRows
+            (λ object o. AreIndicesOf (global_space input) (local_globals input object o))
+            0 input.link.objects rows.items) }
+    {
+        let mut rows = Vec::new(alloc);
+        for (object, file) in self.input.files().as_slice().iter().enumerate() {
+            rows.push(self.globals_of(alloc, object, file)?)?;
+        }
+        Ok(rows)
+    }
+}

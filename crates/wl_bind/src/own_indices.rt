@@ -1,0 +1,82 @@
+//! The indices of what objects define.
+
+ghost use Rattle.std.specs.Prelude.{◌≡◌, ◌≤◌, ◌+◌, length, IfOk, IfErr, OnOk};
+ghost use Rattle.wl_types.specs.Types.{max_entries};
+ghost use Rattle.wl_bind.specs.OwnIndices.{own_unit, own_count, kept_own, firsts_from, kept_count};
+ghost use Rattle.wl_bind.specs.Parts.{IsOver};
+
+use crate::input::LinkInput;
+use crate::parts::behind;
+use std::alloc::Global;
+use wl_linking::{File, LinkError};
+use wl_live::WasmGcUnit;
+
+/// What objects define that has a space.
+#[derive(Clone, Copy, Debug, PartialEq, Eq)]
+pub(crate) enum Own {
+    Functions,
+    Globals,
+}
+
+impl Own {
+    /// The unit of that number.
+    pub(crate) fn unit(self, number: u32) -> WasmGcUnit
+        ensures { result ≡ own_unit self number }
+    {
+        match self {
+            Own::Functions => WasmGcUnit::DefinedFunction(number),
+            Own::Globals => WasmGcUnit::DefinedGlobal(number),
+        }
+    }
+
+    /// How many an object defines.
+    pub(crate) fn count(self, file: &File<'_>) -> usize
+        ensures { result ≡ own_count self file.now }
+    {
+        match self {
+            Own::Functions => file.functions().len(),
+            Own::Globals => file.globals().len(),
+        }
+    }
+}
+
+/// How many an object defines that are kept.
+fn count_kept(input: &LinkInput<'_, '_>, own: Own, object: usize, file: &File<'_>) -> usize
+    ensures { result ≡ length (kept_own input.now own object file.now) }
+{
+    file.stands_for_an_object();
+    let mut kept = 0;
+    for number in 0..own.count(file) {
+        if input.live().is_live(object, own.unit(number as u32)) {
+            kept += 1;
+        }
+    }
+    kept
+}
+
+/// The first index of what each object defines and is kept, where that of all has this one.
+///
+/// # Errors
+/// `TooLarge` where the last index of all would be above 4294967293.
+pub(crate) fn first_indices(
+    alloc: Global,
+    input: &LinkInput<'_, '_>,
+    own: Own,
+    start: u32,
+) -> Result<Vec<u32>, LinkError>
+    requires { start ≤ max_entries }
+    ensures firsts { IfOk result
+        (λ firsts. firsts.items ≡ firsts_from input.now own start 0 input.now.link.objects) }
+    ensures room { OnOk result
+        (start + kept_count input.now own 0 input.now.link.objects ≤ max_entries) }
+    ensures err { IfErr result
+        (IsOver (start + kept_count input.now own 0 input.now.link.objects)) }
+{
+    let mut firsts = Vec::new(alloc);
+    let mut next = start;
+    for (object, file) in input.files().as_slice().iter().enumerate() {
+        firsts.push(next)?;
+        next = behind(next, count_kept(input, own, object, file))?;
+    }
+    Ok(firsts)
+}

@@ -1,0 +1,19 @@
+//! What callers may count on: functions with an empty body, each of which states a law of spaces.
+
+ghost use Rattle.std.specs.Prelude.{◌≡◌, ◌<◌, ℕ, List, Option, Some, true, length, slice_get, Contains};
+ghost use Rattle.wl_linking.specs.Fitting.{IsWhole};
+ghost use Rattle.wl_linking.specs.RelocationTypes.{names_a_type};
+ghost use Rattle.wl_live.specs.Live.{IsLiveOf};
+ghost use Rattle.wl_bind.specs.Input.{Input};
+ghost use Rattle.wl_bind.specs.FunctionSpace.{FunctionEntry, function_space};
+ghost use Rattle.wl_bind.specs.GlobalSpace.{GlobalEntry, global_space};
+ghost use Rattle.wl_bind.specs.OutputTypes.{output_types};
+ghost use Rattle.wl_bind.specs.Parts.{StandOnce};
+
+/// No entry stands at two places of a space: so two kept definitions have different indices.
+#[tactic(auto, using(crate::proofs::OnceSpaces::functions_once, crate::proofs::OnceSpaces::globals_once, crate::proofs::OnceSpaces::output_types_once))]
+pub fn entries_stand_once()
+    ensures functions { (input : Input) → StandOnce (function_space input) }
+    ensures globals { (input : Input) → StandOnce (global_space input) }
+    ensures types { (input : Input) → StandOnce (output_types input) }
+{}

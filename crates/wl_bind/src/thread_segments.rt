@@ -1,0 +1,70 @@
+//! Segments that hold data of which each thread has its own.
+
+ghost use Rattle.std.specs.Prelude.{◌≡◌, map, slice_set, IfOk};
+ghost use Rattle.std.specs.List.{list_any, range_with_len};
+ghost use Rattle.wl_bind.specs.ThreadData.{is_thread_symbol_on, thread_data};
+ghost use Rattle.wl_bind.specs.ThreadSteps.{is_thread_symbol, marked};
+
+use crate::kinds::is_data;
+use bitflags::Flags;
+use std::alloc::{AllocError, Global};
+use wl_linking::{File, SymbolFlags, WasmSymbol};
+
+/// Whether data of a thread that its object defines lies on a segment.
+fn is_thread_symbol(symbol: &WasmSymbol<'_>) -> bool
+    ensures { result ≡ is_thread_symbol symbol.now }
+{
+    is_data(symbol.kind)
+        && !symbol.is_undefined()
+        && !symbol.is_absolute()
+        && symbol.flags.contains(SymbolFlags::TLS)
+}
+
+/// Marks a segment, if there is one of that number.
+fn set_mark(marks: &mut Vec<bool>, segment: usize, mark: bool)
+    ensures { marks.new.items ≡ slice_set marks.old.items segment mark }
+{
+    if segment < marks.len() {
+        marks[segment] = mark;
+    }
+}
+
+/// Marks the segment on which a symbol lies, if that is data of a thread.
+fn mark_by_symbol(marks: &mut Vec<bool>, symbol: &WasmSymbol<'_>)
+    ensures { marks.new.items ≡ marked marks.old.items symbol.now }
+{
+    if is_thread_symbol(symbol) {
+        set_mark(marks, symbol.index as usize, true);
+    }
+}
+
+/// For each of so many segments, whether data of a thread lies on it.
+fn marks_by_symbols(
+    alloc: Global,
+    count: usize,
+    symbols: &[WasmSymbol<'_>],
+) -> Result<Vec<bool>, AllocError>
+    ensures { IfOk result (λ marks. marks.items
+        ≡ map (λ k. list_any (is_thread_symbol_on k) symbols.now) (range_with_len 0 count)) }
+{
+    let mut marks = vec![in alloc; false; count]?;
+    for symbol in symbols {
+        mark_by_symbol(&mut marks, symbol);
+    }
+    Ok(marks)
+}
+
+/// Whether each thread has its own of each segment of an object: its info says so, or, where it has
+/// none, data of a thread that lies on it does.
+///
+/// # Errors
+/// `AllocError` where memory runs out.
+pub fn thread_data(alloc: Global, file: &File<'_>) -> Result<Vec<bool>, AllocError>
+    ensures { IfOk result (λ marks. marks.items ≡ thread_data file.now) }
+{
+    let mut marks = marks_by_symbols(alloc, file.segments().len(), file.symbols())?;
+    for (segment, info) in file.segment_infos().iter().enumerate() {
+        set_mark(&mut marks, segment, info.is_tls());
+    }
+    Ok(marks)
+}
