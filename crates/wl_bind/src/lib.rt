@@ -69,6 +69,8 @@ pub use stubs::absorb_weak_undef_function_imports;
 pub use targets::FunctionBindings;
 pub use thread_segments::thread_data;
 pub use wl_reloc::WasmObjectIndexMap;
+pub use wl_slots::HostImport;
+pub use wl_types::{TypeMerger, WASM_DEAD_INDEX};
 
 #[cfg(test)]
 mod tests;
