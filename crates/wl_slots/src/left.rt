@@ -32,7 +32,12 @@ impl<'a> Model for HostImport<'a> {
 
     ghost Value = { Import };
 
-    ghost view = { λ h. record { module_ = h.module.now; name = h.name.now; object = h.object; slot = h.slot } };
+    ghost view = { λ h. record {
+      module_ = h.module.now;
+      name = h.name.now;
+      object = h.object;
+      slot = h.slot;
+    } };
 }
 
 impl<'a> HostImport<'a> {
@@ -299,7 +304,8 @@ pub fn divide_slots<'t, 'a>(
 ) -> Result<DividedSlots<'t, 'a>, AllocError>
     ensures stub_slots { IfOk result
         (λ d. d.stub_slots.items ≡ stub_slots table.now.objects slots.entry.items) }
-    ensures stubs { IfOk result (λ d. d.stubs ≡ map first_slot (stubs table.now.objects slots.entry.items)) }
+    ensures stubs { IfOk result
+        (λ d. d.stubs ≡ map first_slot (stubs table.now.objects slots.entry.items)) }
     ensures host_slots { IfOk result
         (λ d. d.host_slots.items ≡ host_slots table.now.objects slots.entry.items) }
 {
