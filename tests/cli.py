@@ -98,9 +98,32 @@ def options():
     for others in idle:
         check(f"words {others}", run([*others, made, *FLAGS]), 0, listing)
         check(f"words {others}", run(["--gc-sections", "-e", "a", *others, *FLAGS, made]), 0, listing)
-    unplanned = """--export=a --export-if-defined=a --export-dynamic --allow-undefined
-        --stack-first --no-check-features -z=stack-size=16 --initial-memory=65536 --max-memory=65536
-        --import-memory --export-memory --extra-features=a --strip-all -s --strip-debug -S"""
+    check("words that change nothing here", run([*FLAGS, "--allow-undefined", "--export-memory", made]), 0, listing)
+    memories = [
+        (["--initial-memory=65536", "--stack-first"], "memory 2 - -"),
+        (["--initial-memory=196608"], "memory 3 - -"),
+        (["--max-memory=1048576"], "memory 2 16 -"),
+        (["-z", "stack-size=262144"], "memory 4 - -"),
+        (["--stack-first", "-z", "stack-size=262144"], "memory 4 - -"),
+    ]
+    for others, memory in memories:
+        top = b"41808010" if "stack-size=262144" in others else b"41808004"
+        wanted = listing.replace(b"memory 2 - -", memory.encode()).replace(b"41808004", top)
+        check(f"words {others}", run([*FLAGS, *others, made]), 0, wanted)
+    imported = run([*FLAGS, "--import-memory=host,mem", made])
+    wanted = listing.replace(b"memory 2 - -\n", b"").replace(b'export "memory" memory 0\n', b"")
+    wanted = wanted.replace(b"func 0", b'import memory "host" "mem" 2 - -\nfunc 0', 1)
+    check("an imported memory", imported, 0, wanted)
+    refused = [
+        (["-z", "stack-size=8"], b"BadStackSize 8"),
+        (["-z", "stack-size=4294967280"], b"TooLarge HeapEnd"),
+        (["--initial-memory=1"], b"BadMemorySize Initial 1 65536"),
+        (["--max-memory=65536"], b"BadMemorySize Maximum 65536 131072"),
+    ]
+    for others, line in refused:
+        check(f"words {others}", run([*FLAGS, *others, made]), 1, err=b"error: " + line + b"\n")
+    unplanned = """--export=a --export-if-defined=a --export-dynamic --no-check-features
+        --extra-features=a --strip-all -s --strip-debug -S"""
     for option in unplanned.split():
         check(f"word {option}", run([*FLAGS, option, made]), 1, err=b"error: Unsupported 0 NotYet\n")
 
@@ -321,11 +344,24 @@ def documented_relocations(folder):
 
 
 def compiled(folder):
-    """Objects that clang made are read whole: they are refused for what has no plan yet, and for nothing else."""
+    """Objects that clang made are read whole, and planned, alone or together, where they have a listing."""
     bare = EXAMPLES / "bare_module.o"
-    for made in sorted(OBJECTS.glob("*.o")):
-        check(made.name, run([*FLAGS, made]), 1, err=b"error: Unsupported 0 NotYet\n")
-        check(f"{made.name}, second", run([*FLAGS, bare, made]), 1, err=b"error: Unsupported 1 NotYet\n")
+    planned = sorted(OBJECTS.glob("planned_*.o"))
+    for words, listing in [(FLAGS, "planned_whole.plan"), ([], "planned_kept.plan")]:
+        wanted = (OBJECTS / listing).read_bytes()
+        check(listing, run([*words, *planned]), 0, wanted)
+    check("the function at which it begins alone", run(planned[1:2]), 1, err=b'error: UndefinedSymbols 0 "apply"\n')
+    undefined = [("globals.o", b'"fill"'), ("weak_and_external.o", b'"external_data"')]
+    for name, symbol in undefined:
+        line = b"error: UndefinedSymbols 0 " + symbol + b"\n"
+        check(f"{name}, which nothing completes", run([*FLAGS, OBJECTS / name]), 1, err=line)
+    for made in sorted(set(OBJECTS.glob("*.o")) - set(planned)):
+        listing = made.with_suffix(".plan")
+        if listing.exists():
+            check(made.name, run([*FLAGS, "--allow-undefined", made]), 0, listing.read_bytes())
+        else:
+            check(made.name, run([*FLAGS, made]), 1, err=b"error: Unsupported 0 NotYet\n")
+            check(f"{made.name}, second", run([*FLAGS, bare, made]), 1, err=b"error: Unsupported 1 NotYet\n")
         cut = folder / "cut.o"
         cut.write_bytes(made.read_bytes()[:-1])
         check(f"{made.name}, cut off", run([*FLAGS, bare, cut]), 1, err=b"error: Malformed 1 Truncated\n")

@@ -8,6 +8,7 @@ for source in *.c; do
     case $source in
     debug_info.c) options=-g ;;
     memory.c) options=-mbulk-memory ;;
+    planned_*.c) options=-mcpu=mvp ;;
     thread_local.c) options='-mthread-model posix -matomics -mbulk-memory -ftls-model=local-exec' ;;
     *) options= ;;
     esac

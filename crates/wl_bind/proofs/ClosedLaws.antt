@@ -124,7 +124,7 @@ below a b lt = elim (cases_Bool (nat_lt a b)) [
   | inr above ↦ absurd (let le : b ≤ a = grind (arith, above) in omega (arith, le, lt))
 ]
 
-is_function : (kind : WasmSymbolKind) → is_imported_as Func kind ≡ true → kind ≡ Func
+pub is_function : (kind : WasmSymbolKind) → is_imported_as Func kind ≡ true → kind ≡ Func
 is_function Func e = refl
 is_function Data e = absurd cc
 is_function Global e = absurd cc
@@ -141,13 +141,13 @@ is_global Event e = absurd cc
 is_global Table e = absurd cc
 
 -- the units of slots of a kind, and of definitions of that kind
-record AreUnits (kind : WasmSymbolKind) (slot_unit own : ℕ → WasmGcUnit) : Type 0 where
-  undefined : (object k : ℕ) (o : Object) (s : LinkedSymbol) → is_imported_as kind s.kind ≡ true → is_undefined s ≡ true
+pub record AreUnits (kind : WasmSymbolKind) (slot_unit own : ℕ → WasmGcUnit) : Type 0 where
+  pub undefined : (object k : ℕ) (o : Object) (s : LinkedSymbol) → is_imported_as kind s.kind ≡ true → is_undefined s ≡ true
       → s.index < length (object_slots object kind o) → unit_of o s ≡ Some (slot_unit s.index)
-  defined : (o : Object) (s : LinkedSymbol) (j : ℕ) → is_definition_of kind s ≡ true → own_number kind o s.index ≡ Some j
+  pub defined : (o : Object) (s : LinkedSymbol) (j : ℕ) → is_definition_of kind s ≡ true → own_number kind o s.index ≡ Some j
       → unit_of o s ≡ Some (own j)
 
-function_units : AreUnits Func FunctionImport DefinedFunction
+pub function_units : AreUnits Func FunctionImport DefinedFunction
 function_units = record {
   undefined = λ object k o s of_kind so lt.
       let is : s.kind ≡ Func = is_function s.kind of_kind in
@@ -164,7 +164,7 @@ function_units = record {
       rw (is, so) (ap (λ (n : Option ℕ). option_map DefinedFunction n) number);
 }
 
-global_units : AreUnits Global GlobalImport DefinedGlobal
+pub global_units : AreUnits Global GlobalImport DefinedGlobal
 global_units = record {
   undefined = λ object k o s of_kind so lt.
       let is : s.kind ≡ Global = is_global s.kind of_kind in
@@ -181,14 +181,14 @@ global_units = record {
       rw (is, so) (ap (λ (n : Option ℕ). option_map DefinedGlobal n) number);
 }
 
-counts_at : (objects : List Object) (i : ℕ) (o : Object) → slice_get objects i ≡ Some o
+pub counts_at : (objects : List Object) (i : ℕ) (o : Object) → slice_get objects i ≡ Some o
     → units_at (units_of objects) i ≡ counts_of o
 counts_at [] i o at = absurd cc
 counts_at (p ∷ objects) zero o at = let e : p ≡ o = cc in ap counts_of e
 counts_at (p ∷ objects) (suc i) o at = counts_at objects i o at
 
 -- the unit of a definition
-definition_is : (link : Link) (i symbol : ℕ) (o : Object) (s : LinkedSymbol) (unit : WasmGcUnit)
+pub definition_is : (link : Link) (i symbol : ℕ) (o : Object) (s : LinkedSymbol) (unit : WasmGcUnit)
     → slice_get link.objects i ≡ Some o → slice_get o.symbols symbol ≡ Some s → is_undefined s ≡ false → unit_of o s ≡ Some unit
     → definition_unit link (units_of link.objects) (Symbol i symbol) ≡ Some (record { object = i; unit = unit })
 definition_is link i symbol o s unit there at so is =
@@ -205,7 +205,7 @@ definition_is link i symbol o s unit there at so is =
     leads ∙ (made ∙ here)
 
 -- what a symbol of a place stands for
-other_is : (link : Link) (object number : ℕ) (s : LinkedSymbol) (d : Definition) → symbol_in link.objects object number ≡ Some s
+pub other_is : (link : Link) (object number : ℕ) (s : LinkedSymbol) (d : Definition) → symbol_in link.objects object number ≡ Some s
     → def link object number ≡ d → other_unit link (units_of link.objects) object number ≡ definition_unit link (units_of link.objects) d
 other_is link object number s d found stands =
     let one : def link object number ≡ def_for link object number s =

@@ -128,7 +128,7 @@ found_global by object number (Some o) = slice_get-map by.globals (object_slots 
 -- ---- a slot in its row
 
 -- it is kept, where it is that of the numbers
-kept_at : (input : Input) (object : ℕ) (kind : WasmSymbolKind) (number : ℕ) (t : ImportSlot) → IsAt object kind number t
+pub kept_at : (input : Input) (object : ℕ) (kind : WasmSymbolKind) (number : ℕ) (t : ImportSlot) → IsAt object kind number t
     → keeps_slot input kind object number ≡ is_kept_slot input t
 kept_at input object kind number t at =
     ap (λ (k : WasmSymbolKind). keeps_slot input k object number) (sym at.kind_is)

@@ -136,7 +136,7 @@ all_at test (y ∷ xs) x (suc k) lt is every = all_at test xs x k (omega (arith,
 
 -- ---- stubs
 
-itself : (t : ImportSlot) → same_field t t ≡ true
+pub itself : (t : ImportSlot) → same_field t t ≡ true
 itself t = (bytes_eq-Decides t.item.name t.item.name).1 refl
 
 -- one of the slots of a name that is a stub's is such a one

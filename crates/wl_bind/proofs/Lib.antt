@@ -38,3 +38,8 @@ pub mod IndexLaws
 pub mod OnceSpaces
 pub mod GotGlobalLaws
 pub mod RedirectLaws
+pub mod ListedLaws
+pub mod FirstSlotLaws
+pub mod ReferenceLaws
+pub mod GlobalReferenceLaws
+pub mod EntryTypeLaws

@@ -73,7 +73,7 @@ listed_of same xs x among = elim (inserted_of same [] xs x among) [ inl none ↦
 
 -- ---- slots
 
-own_import : (t : ImportSlot) → same_import t t ≡ true
+pub own_import : (t : ImportSlot) → same_import t t ≡ true
 own_import t = rw ((bytes_eq-Decides t.item.origin t.item.origin).1 refl, (bytes_eq-Decides t.item.name t.item.name).1 refl) refl
 
 -- the slot is a stub's

@@ -141,7 +141,7 @@ right_and true b both = both
 right_and false b both = absurd cc
 
 -- a test that each of a list passes
-test_at : {X : Type 0} (test : X → Bool) (xs : List X) (k : ℕ) (x : X) → list_all test xs ≡ true → slice_get xs k ≡ Some x
+pub test_at : {X : Type 0} (test : X → Bool) (xs : List X) (k : ℕ) (x : X) → list_all test xs ≡ true → slice_get xs k ≡ Some x
     → test x ≡ true
 test_at test [] k x all at = absurd cc
 test_at test (y ∷ xs) zero x all at =
@@ -173,7 +173,7 @@ neither true b h = absurd cc
 neither false b h = (refl, h)
 
 -- the number among what is defined, and the index
-under : (imports count index n : ℕ) → defined_under imports count index ≡ Some n → (imports + n ≡ index) × (n < count)
+pub under : (imports count index n : ℕ) → defined_under imports count index ≡ Some n → (imports + n ≡ index) × (n < count)
 under imports count index n is = elim (cases_Bool (nat_lt index imports || nat_le count (index - imports))) [
   | inl y ↦ absurd (let none : None ≡ Some n = rw y at is in cc)
   | inr not_so ↦
@@ -187,7 +187,7 @@ under imports count index n is = elim (cases_Bool (nat_lt index imports || nat_l
       (omega (arith, same, le), omega (arith, same, lt)))
 ]
 
-range_at : (m n : ℕ) → n < m → slice_get (range_with_len 0 m) n ≡ Some n
+pub range_at : (m n : ℕ) → n < m → slice_get (range_with_len 0 m) n ≡ Some n
 range_at m n lt =
     let long = length-range_with_len 0 m in
     let same : 0 + n ≡ n = omega arith in
@@ -236,7 +236,7 @@ same_test s = swapped (not (is_undefined s)) (is_imported_as Func s.kind)
     ∙ ap (λ (b : Bool). b && not (is_undefined s)) (same_kind s.kind)
 
 -- what a symbol defines
-target_is : (object : ℕ) (o : Object) (s : LinkedSymbol) (n : ℕ) → is_definition_of Func s ≡ true
+pub target_is : (object : ℕ) (o : Object) (s : LinkedSymbol) (n : ℕ) → is_definition_of Func s ≡ true
     → own_number Func o s.index ≡ Some n → symbol_target Func object o s ≡ Some (slot.Defined object n)
 target_is object o s n so number =
     ap (λ (b : Bool). if b then option_map (λ (m : ℕ). slot.Defined object m) (own_number Func o s.index) else None) so
@@ -245,7 +245,7 @@ target_is object o s n so number =
 -- ---- functions that objects import
 
 -- the index of an undefined one is that of a slot
-undefined_below : (spaces : Counts) (s : LinkedSymbol) → s.kind ≡ Func → is_undefined s ≡ true → symbol_exists spaces s ≡ true
+pub undefined_below : (spaces : Counts) (s : LinkedSymbol) → s.kind ≡ Func → is_undefined s ≡ true → symbol_exists spaces s ≡ true
     → s.index < spaces.imported_functions
 undefined_below spaces s kind so there =
     let e : symbol_exists spaces s ≡ nat_lt s.index spaces.imported_functions = rw (kind, so) refl in
@@ -287,7 +287,7 @@ entry_is : (input : Input) (kept : Bool) (target : FunctionTarget) → (kept ≡
 entry_is input true target there = ap (λ (b : Bool). if b then Some (FunctionOf target) else None) (there refl)
 entry_is input false target there = refl
 
-kind_is : (k : WasmSymbolKind) → is_function_kind k ≡ true → k ≡ Func
+pub kind_is : (k : WasmSymbolKind) → is_function_kind k ≡ true → k ≡ Func
 kind_is Func e = refl
 kind_is Data e = absurd cc
 kind_is Global e = absurd cc

@@ -91,7 +91,7 @@ type_by_number objects i o None ty at is = is
 type_by_number objects i o (Some n) ty at is = rw at is
 
 -- a function slot of whole objects has a type
-slot_typed : (objects : List Object) (t : ImportSlot) → AllByRecursion IsWhole objects
+pub slot_typed : (objects : List Object) (t : ImportSlot) → AllByRecursion IsWhole objects
     → ((o : Object) → IsWhole o → IsFitting o) → IsIn (slots_from Func 0 objects) t
     → (ty : FunctionType) × (slot_type objects t ≡ Some ty)
 slot_typed objects t whole fitting h =

@@ -47,3 +47,5 @@ pub mod NumberingSteps
 pub mod GlobalSteps
 pub mod RedirectSteps
 pub mod IndexMapSteps
+pub mod References
+pub mod EntryTypes

@@ -63,6 +63,17 @@ fn left_functions<'a>(
     })
 }
 
+/// The stubs of a link, in order of their first slots.
+///
+/// # Errors
+/// `AllocError` where memory runs out.
+pub fn stub_imports<'a>(alloc: Global, input: &LinkInput<'_, 'a>) -> Result<Stubs<'a>, AllocError>
+    ensures { IfOk result (λ stubs. stubs ≡ map first_slot (link_stubs input.now)) }
+{
+    let left = left_functions(alloc, input)?;
+    Ok(left.stubs)
+}
+
 /// The stub of that field name.
 fn stub_named<'s, 'a>(stubs: &'s Stubs<'a>, name: &str) -> Option<&'s HostImport<'a>>
     ensures { option_map (λ h. h.now) result ≡ stub_named name.now stubs.now }

@@ -67,7 +67,7 @@ pub(crate) fn slot_type<'f>(
 /// The numbers of the types under which the function slots of each object are imported. Clauses see
 /// it as a row for each object.
 #[derive(Drop)]
-pub(crate) struct SlotTypes {
+pub struct SlotTypes {
     rows: Vec<ItemList<u32>>,
 }
 
@@ -106,7 +106,7 @@ impl SlotTypes {
     ///
     /// # Errors
     /// `AllocError` where memory runs out.
-    pub(crate) fn new(alloc: Global, files: &FileList<'_>) -> Result<Self, AllocError>
+    pub fn new(alloc: Global, files: &FileList<'_>) -> Result<Self, AllocError>
         ensures { IfOk result (λ types. types ≡ slot_numbers files.now) }
     {
         let mut rows = Vec::new(alloc);
@@ -126,7 +126,7 @@ impl SlotTypes {
 }
 
 /// The type under which the function slot of that number of an object is imported.
-fn type_of_slot<'f>(
+pub fn type_of_slot<'f>(
     files: &'f FileList<'_>,
     types: &SlotTypes,
     object: usize,

@@ -1,437 +1,755 @@
--- The kept relocations and what they become; the bodies, and the exports.
-use Rattle.std.proofs.Common.{◌≡◌, ◌⊎◌, ◌<◌, ◌≤◌, ◌+◌, ◌-◌, ◌++◌, ◌||◌, ◌&&◌, ℕ, zero, suc, Bool, true, false, not, cond, leb, ltb, List, [], ◌∷◌, length, get_or, drop, take, map, filter, Option, Some, None, refl, sym, ap, subst, ◌∙◌, arith, slice_get, add-one, drop-cons, append_assoc, append-nil, pos, Contains, inl, inr}
-use Rattle.std.specs.List.{AllByRecursion, AllZip, list_any, range_with_len}
-use Rattle.std.specs.Option.{option_and_then, option_map, option_map_or}
-use Rattle.std.specs.Str.{bytes_eq}
-use Rattle.std.proofs.lemmas.Bool.{cases_Bool, ltb-true, leb-true}
-use Rattle.std.proofs.lemmas.List.{drop_all, length-map}
-use Rattle.std.proofs.lemmas.Option.{slice_get-get_or, slice_get_within, get_or_from_slice_get, slice_get-map}
-use Rattle.wl_module.specs.Bodies.{Body}
-use Rattle.wl_module.specs.Exports.{Exported}
-use Rattle.wl_linking.specs.Symbols.{Symbol, is_undefined, is_data, has_flag}
+-- What the field of a kept relocation takes, or why it takes nothing.
+use Rattle.std.proofs.Common.{◌≡◌, ◌⊎◌, ◌∙◌, ◌||◌, ◌<◌, ◌≤◌, inl, inr, ℕ, zero, suc, ◌+◌, ◌-◌, Bool, true, false, eqb, List, [], ◌∷◌, length, map, refl, sym, ap, subst, arith, Option, Some, None, slice_get, Contains, if◌then◌else◌}
+use Rattle.std.specs.Prelude.{ℤ, pos, ◌+ℤ◌, ◌-ℤ◌, Result, Ok, Err}
+use Rattle.std.specs.List.{range_with_len}
+use Rattle.std.specs.Option.{option_map, option_map_or, option_and_then, unwrap_or}
+use Rattle.std.proofs.lemmas.Bool.{cases_lt, ne_eqb}
+use Rattle.std.proofs.lemmas.Int.{ints}
+use Rattle.std.proofs.lemmas.List.FromFn.{length-map-range_with_len, get_or-map-range_with_len}
+use Rattle.std.proofs.lemmas.Option.{slice_get-get_or, slice_get-map, slice_get_past, slice_get_within, same_Some}
 use Rattle.wl_linking.specs.Object.{Object}
-use Rattle.wl_linking.specs.Fitting.{IsFitting, IsWhole}
 use Rattle.wl_linking.specs.RelocationTypes.{names_a_type}
-use Rattle.wl_linking.specs.Sites.{PieceOf, AreSites, body_piece}
-use Rattle.wl_linking.specs.declared.relocations.WasmRelocation.{WasmRelocation}
-use Rattle.wl_linking.specs.declared.sites.Site.{Site}
-use Rattle.wl_linking.specs.declared.symbols.WasmSymbolKind.{WasmSymbolKind}
-use Rattle.wl_linking.specs.declared.symbols.WasmSymbolKind.TheVariants.{Func, Data, Global, Section, Event, Table}
-use Rattle.wl_symbols.specs.Link.{Link}
-use Rattle.wl_symbols.specs.Entries.{symbol_in}
-use Rattle.wl_symbols.specs.Names.{named}
-use Rattle.wl_symbols.specs.declared.entry.Definition.{Definition}
-use Rattle.wl_symbols.specs.declared.entry.Definition.TheVariants as definition
-use Rattle.wl_live.specs.Units.{exists, counts_of, units_of, units_at, no_units, defined, unit_by, unit_in}
-use Rattle.wl_live.specs.Definitions.{unit_at, defined_unit, definition_unit, named_unit}
-use Rattle.wl_live.specs.Entry.{is_function_kind, is_defined_function, gives_function, IsEntryFault}
 use Rattle.wl_linking.specs.Steps.{Clear}
-use Rattle.wl_linking.specs.declared.error.LinkError.TheVariants.{EntryNotDefined}
-use Rattle.wl_live.specs.Roots.{IsRoot, by_name}
-use Rattle.wl_live.specs.Live.{Live, IsLiveOf, is_live}
-use Rattle.wl_live.specs.References.{RefersBySymbol}
-use Rattle.wl_live.specs.declared.units.LinkUnit.{LinkUnit}
-use Rattle.wl_live.specs.declared.units.UnitCounts.{UnitCounts}
-use Rattle.wl_live.specs.declared.units.WasmGcUnit.{WasmGcUnit}
-use Rattle.wl_live.specs.declared.units.WasmGcUnit.TheVariants.{DefinedFunction, DefinedGlobal, DataSegment, FunctionImport, GlobalImport}
-use Rattle.wl_plan.specs.Planned.{is_planned, is_unplanned_relocation, AllPlanned}
-use Rattle.wl_plan.specs.Space.{keeps_function, kept_functions, functions_from, function_space}
+use Rattle.wl_linking.specs.Symbols.{Symbol as LinkedSymbol, is_data}
+use Rattle.wl_linking.specs.declared.relocation_type.RelocationType.{RelocationType}
+use Rattle.wl_linking.specs.declared.relocation_type.RelocationType.TheVariants as type
+use Rattle.wl_linking.specs.declared.relocations.WasmRelocation.{WasmRelocation}
+use Rattle.wl_linking.specs.declared.symbols.WasmSymbolKind.{WasmSymbolKind}
+use Rattle.wl_linking.specs.declared.symbols.WasmSymbolKind.TheVariants as kind
+use Rattle.wl_data.specs.declared.segments.WasmDataAddress.{WasmDataAddress}
+use Rattle.wl_data.specs.declared.segments.WasmDataAddress.TheVariants as address
 use Rattle.wl_types.specs.Types.{max_entries}
-use Rattle.wl_plan.specs.Maps.{imported_functions, LeadsToPlaces, AreMaps}
-use Rattle.wl_bind.specs.Relocations.{keeps_unit, relocated_at, relocated_if, relocated_in, object_relocations, relocations_from, kept_relocations}
-use Rattle.wl_plan.specs.Fixups.{bound_origin, IsFixup, AreFixups}
-use Rattle.wl_plan.specs.Entry.{function_in, named_function, memory_export, IsFunctionExport, IsExportedOnce, IsEntryExport, AreExports}
-use Rattle.wl_plan.specs.Plan.{function_origins, body_of, body_in, IsBodyOf}
-use Rattle.wl_plan.specs.Building.{map_of, number_in, fixup_by, HasIndex, HasBody, imported_in, index_by, IsMapped, IsNameMapped, IsEntryMapped, exported_as, named_exports, exports_by}
-use Rattle.wl_plan.specs.declared.layout.FunctionOrigin.{FunctionOrigin}
-use Rattle.wl_plan.specs.declared.layout.FunctionOrigin.TheVariants as origin
-use Rattle.wl_plan.specs.declared.layout.OutputFunction.{OutputFunction}
-use Rattle.wl_plan.specs.declared.layout.Fixup.{Fixup}
-use Rattle.wl_bind.specs.declared.relocated.FixupPlace.{FixupPlace}
-use Rattle.wl_bind.specs.declared.relocated.FixupPlace.TheVariants.{Code, Segment}
+use Rattle.wl_types.specs.declared.types.TheConstants.{WASM_DEAD_INDEX}
+use Rattle.wl_reloc.specs.Addresses.{as_word}
+use Rattle.wl_reloc.specs.Resolving.{Resolver, kept_index, redirect, got_global, slot_in, function_index, slot_of as resolved_slot, behind_first, global_index, table_number, address_in, address_of, taken_of, taken_at, taken, resolved}
+use Rattle.wl_reloc.specs.Takings.{taking_of}
+use Rattle.wl_reloc.specs.declared.addresses.AddressBases.{AddressBases}
+use Rattle.wl_reloc.specs.declared.error.RelocError.{RelocError}
+use Rattle.wl_reloc.specs.declared.index_map.WasmObjectIndexMap.{WasmObjectIndexMap}
+use Rattle.wl_reloc.specs.declared.takings.AddressBase.{AddressBase}
+use Rattle.wl_reloc.specs.declared.takings.AddressBase.TheVariants.{Memory, MemoryBase, ThreadData}
+use Rattle.wl_reloc.specs.declared.takings.Taking.{Taking}
+use Rattle.wl_reloc.specs.declared.takings.Taking.TheVariants.{FunctionIndex, Slot, SlotBehindBase, GlobalIndex, TableNumber, Address}
+use Rattle.wl_symbols.specs.Entries.{symbol_in}
+use Rattle.wl_live.specs.Entry.{is_function_kind}
+use Rattle.wl_bind.specs.FunctionSpace.{FunctionEntry, FunctionOf, function_space}
+use Rattle.wl_bind.specs.FunctionSymbols.{fun}
+use Rattle.wl_bind.specs.GlobalSpace.{GlobalEntry, global_space, local_globals}
+use Rattle.wl_bind.specs.IndexMaps.{is_kept_target, entry_of, symbol_function, symbol_functions, got_mem_global, got_mem_globals, got_func_global, got_func_globals}
+use Rattle.wl_bind.specs.Input.{Input}
+use Rattle.wl_bind.specs.Kinds.{takes_kind, is_table_kind}
+use Rattle.wl_bind.specs.OutputTypes.{output_types, local_types}
+use Rattle.wl_bind.specs.Parts.{IsIndexOf, AreIndicesOf, IsPlaceOf, ArePlacesOf, AreRows}
+use Rattle.wl_bind.specs.References.{there, live_type, symbol_global, HasSlot, IsInOutput, IsSettled, NamesType, NamesSymbol, NamesFunction, NamesGlobal}
+use Rattle.wl_bind.specs.Scan.{relocations, symbol_of, names_function, is_table_index, is_global_index}
+use Rattle.wl_bind.specs.declared.binding.FunctionTarget.{FunctionTarget}
+use Rattle.wl_bind.specs.declared.binding.FunctionTarget.TheVariants as function
 use Rattle.wl_bind.specs.declared.relocated.Relocated.{Relocated}
-use Rattle.wl_plan.proofs.Folds.{both, all_at, none_at, each_at}
-use Rattle.wl_plan.proofs.PlannedLaws.{holds, nothing_imported, NamesFunction, function_named, defined_function, takes_function, nothing_in_data, as_many_bodies}
-use Rattle.wl_plan.proofs.PlanLaws.{splits, all_append, each_kept, leads_at, maps_length, map_at}
+use Rattle.wl_plan.specs.Addresses.{symbol_address}
+use Rattle.wl_plan.specs.FixupSteps.{AreFixupSources, HasRoom, is_absolute, left_of, counted_base, number_by, IsRefusedAt}
+use Rattle.wl_plan.specs.Fixups.{type_named, global_named, slot_named, address_named, bases_of, address_taken, addend_left, number_taken, IsTaken}
+use Rattle.wl_plan.specs.IndexedMaps.{IsWholeMap, AreWholeMaps}
+use Rattle.wl_plan.specs.Table.{slot_of, slot_of_entry, function_slots}
+use Rattle.wl_plan.specs.declared.fixups.FixupSources.{FixupSources}
+use Rattle.wl_plan.specs.declared.placing.Placing.{Placing}
+use Rattle.wl_plan.proofs.SlotLaws.{TableLaws, slot_is}
 
--- ---- the relocations of a section
+-- ---- lists
 
-module _ (live : Live) (place : FixupPlace) (i : ℕ) where
-  pub relocated_step : (rs : List WasmRelocation) (ss : List Site) (k : ℕ) (r : WasmRelocation) (s : Site) → k < length rs → k < length ss → r ≡ get_or rs k r → s ≡ get_or ss k s
-      → relocated_in live place i (drop k rs) (drop k ss) ≡ relocated_if live (relocated_at place i r s) ++ relocated_in live place i (drop (k + 1) rs) (drop (k + 1) ss)
-  relocated_step rs ss k r s lt lt' r-is s-is =
-      rw (add-one, drop-cons rs k r, drop-cons ss k s, ← r-is, ← s-is) refl
+-- the index of an entry that is there
+index_at : {X : Type 0} (space : List X) (entries : List (Option X)) (indices : List ℕ) (k : ℕ)
+    (x : X) → AreIndicesOf space entries indices → there entries k ≡ Some x
+    → (i : ℕ) × (slice_get indices k ≡ Some i) × (slice_get space i ≡ Some x)
+index_at space [] [] k x h e = absurd cc
+index_at space [] (i ∷ indices) k x h e = absurd h
+index_at space (o ∷ entries) [] k x h e = absurd h
+index_at {X} space (o ∷ entries) (i ∷ indices) zero x h e =
+    (i, refl, subst (λ (p : Option X). IsIndexOf space p i) e h.0)
+index_at space (o ∷ entries) (i ∷ indices) (suc k) x h e =
+    index_at space entries indices k x h.1 e
 
-  pub relocated_more : (rs : List WasmRelocation) (ss : List Site) (k : ℕ) (r : WasmRelocation) (s : Site) (so_far whole : List Relocated) → k < length rs → length ss ≡ length rs → r ≡ get_or rs k r → s ≡ get_or ss k s
-      → so_far ++ relocated_in live place i (drop k rs) (drop k ss) ≡ whole
-      → (so_far ++ relocated_if live (relocated_at place i r s)) ++ relocated_in live place i (drop (k + 1) rs) (drop (k + 1) ss) ≡ whole
-  relocated_more rs ss k r s so_far whole lt as_many r-is s-is h =
-      append_assoc so_far (relocated_if live (relocated_at place i r s)) (relocated_in live place i (drop (k + 1) rs) (drop (k + 1) ss))
-      ∙ ap (λ (xs : List Relocated). so_far ++ xs) (sym (relocated_step rs ss k r s lt (omega (arith, as_many)) r-is s-is)) ∙ h
+place_here : {X : Type 0} (space : List X) (x : X) (p : Option ℕ) → IsPlaceOf space (Some x) p
+    → (n : ℕ) × (p ≡ Some n) × (slice_get space n ≡ Some x)
+place_here space x None h = absurd h
+place_here space x (Some n) h = (n, refl, h)
 
-  pub relocated_done : (rs : List WasmRelocation) (ss : List Site) (k : ℕ) (so_far whole : List Relocated) → length rs ≤ k → so_far ++ relocated_in live place i (drop k rs) (drop k ss) ≡ whole → so_far ≡ whole
-  relocated_done rs ss k so_far whole le h = sym (append-nil so_far) ∙ rw (drop_all k rs le) at h
+-- the place of an entry that is there
+place_at : {X : Type 0} (space : List X) (entries : List (Option X)) (places : List (Option ℕ))
+    (k : ℕ) (x : X) → ArePlacesOf space entries places → slice_get entries k ≡ Some (Some x)
+    → (n : ℕ) × (slice_get places k ≡ Some (Some n)) × (slice_get space n ≡ Some x)
+place_at space [] [] k x h e = absurd cc
+place_at space [] (i ∷ places) k x h e = absurd h
+place_at space (o ∷ entries) [] k x h e = absurd h
+place_at {X} space (o ∷ entries) (p ∷ places) zero x h e =
+    let here = place_here space x p
+    (subst (λ (q : Option X). IsPlaceOf space q p) (same_Some o (Some x) e) h.0) in
+    (here.0, ap (λ (q : Option ℕ). Some q) here.1, here.2)
+place_at space (o ∷ entries) (p ∷ places) (suc k) x h e = place_at space entries places k x h.1 e
 
-pub relocations_on : (live : Live) (objects : List Object) (i : ℕ) (o : Object) (so_far whole : List Relocated) → i < length objects → o ≡ get_or objects i o → so_far ++ relocations_from live i (drop i objects) ≡ whole
-    → ((so_far ++ relocated_in live Code i o.code_relocations o.code_sites) ++ relocated_in live Segment i o.data_relocations o.data_sites) ++ relocations_from live (i + 1) (drop (i + 1) objects) ≡ whole
-relocations_on live objects i o so_far whole lt is h =
-    let code = relocated_in live Code i o.code_relocations o.code_sites in
-    let data' = relocated_in live Segment i o.data_relocations o.data_sites in
-    ap (λ (xs : List Relocated). xs ++ relocations_from live (i + 1) (drop (i + 1) objects)) (append_assoc so_far code data')
-    ∙ append_assoc so_far (code ++ data') (relocations_from live (i + 1) (drop (i + 1) objects))
-    ∙ sym (ap (λ (os : List Object). so_far ++ relocations_from live i os) (splits objects i o lt is)) ∙ h
+of_range : {Y : Type 0} (f : ℕ → Y) (n k : ℕ) → k < n
+    → slice_get (map f (range_with_len 0 n)) k ≡ Some (f k)
+of_range {Y} f n k lt =
+    slice_get-get_or (map f (range_with_len 0 n)) k (f k)
+    (omega (arith, lt, length-map-range_with_len f 0 n))
+    ∙ ap (λ (y : Y). Some y) (get_or-map-range_with_len f 0 n k k (f k) lt (omega arith))
 
-pub relocations_done : (live : Live) (objects : List Object) (i : ℕ) (so_far whole : List Relocated) → length objects ≤ i → so_far ++ relocations_from live i (drop i objects) ≡ whole → so_far ≡ whole
-relocations_done live objects i so_far whole le h = sym (append-nil so_far) ∙ rw (drop_all i objects le) at h
+not_dead : (i : ℕ) → i < WASM_DEAD_INDEX → eqb i WASM_DEAD_INDEX ≡ false
+not_dead i lt = ne_eqb i WASM_DEAD_INDEX (λ e. absurd (omega (arith, lt, e)))
 
--- ---- where each is from
+index_kept : {X : Type 0} (space : List X) (i : ℕ) (x : X) → length space ≤ max_entries
+    → slice_get space i ≡ Some x → kept_index (Some i) ≡ Ok i
+index_kept space i x few at =
+    rw (not_dead i (omega (arith, few, slice_get_within space i x at))) refl
 
--- a kept relocation of the code of an object that is planned
-pub record IsKeptRelocation (live : Live) (objects : List Object) (r : Relocated) : Type 0 where
-  pub object : Object
-  pub here : slice_get objects r.object ≡ Some object
-  pub fits : IsFitting object
-  pub planned : is_planned object ≡ true
-  pub number : ℕ
-  pub relocation : slice_get object.code_relocations number ≡ Some r.relocation
-  pub site : slice_get object.code_sites number ≡ Some r.site
-  pub kept : keeps_function live r.object r.site.unit ≡ true
+-- ---- what is known of a kept relocation
 
-from_section : (live : Live) (objects : List Object) (i : ℕ) (o : Object) (rs : List WasmRelocation) (ss : List Site) → slice_get objects i ≡ Some o → IsFitting o → is_planned o ≡ true
-    → (k : ℕ) → ((j : ℕ) (r : WasmRelocation) → slice_get rs j ≡ Some r → slice_get o.code_relocations (k + j) ≡ Some r) → ((j : ℕ) (s : Site) → slice_get ss j ≡ Some s → slice_get o.code_sites (k + j) ≡ Some s)
-    → AllByRecursion (IsKeptRelocation live objects) (relocated_in live Code i rs ss)
-from_section live objects i o [] ss here fits planned k rs-are ss-are = tt
-from_section live objects i o (r ∷ rs) [] here fits planned k rs-are ss-are = tt
-from_section live objects i o (r ∷ rs) (s ∷ ss) here fits planned k rs-are ss-are =
-    let z : k + 0 ≡ k = omega arith in
-    let r-is : slice_get o.code_relocations k ≡ Some r = rw z at (rs-are 0 r refl) in
-    let s-is : slice_get o.code_sites k ≡ Some s = rw z at (ss-are 0 s refl) in
-    let rest = from_section live objects i o rs ss here fits planned (k + 1) (λ j q e. let y : k + suc j ≡ k + 1 + j = omega arith in rw y at (rs-are (suc j) q e)) (λ j q e. let y : k + suc j ≡ k + 1 + j = omega arith in rw y at (ss-are (suc j) q e)) in
-    elim (cases_Bool (keeps_function live i s.unit)) [
-      | inl kept ↦ rw kept (record { object = o; here = here; fits = fits; planned = planned; number = k; relocation = r-is; site = s-is; kept = kept }, rest)
-      | inr dropped ↦ rw dropped rest
-    ]
+-- what is told of kept relocations
+pub record Laws : Type 0 where
+  pub types : (input : Input) (r : Relocated) → IsSettled input
+      → Contains (relocations input) r → names_a_type r.relocation.ty ≡ true → NamesType input r
+  pub symbols : (input : Input) (r : Relocated) → IsSettled input
+      → Contains (relocations input) r → names_a_type r.relocation.ty ≡ false → NamesSymbol input r
+  pub functions : (input : Input) (r : Relocated) → IsSettled input
+      → Contains (relocations input) r → names_a_type r.relocation.ty ≡ false
+      → names_function input r ≡ true → NamesFunction input r
+  pub globals : (input : Input) (r : Relocated) → IsSettled input
+      → Contains (relocations input) r → is_global_index r.relocation.ty ≡ true
+      → NamesGlobal input r
+  pub slots : (input : Input) (r : Relocated) (target : FunctionTarget) → IsSettled input
+      → Contains (relocations input) r
+      → (is_table_index r.relocation.ty || is_global_index r.relocation.ty) ≡ true
+      → names_function input r ≡ true → fun input r.object r.relocation.index ≡ Some target
+      → HasSlot input target
 
-no_relocations : (live : Live) (objects : List Object) (i : ℕ) (o : Object) (ss : List Site) → o.data_relocations ≡ [] → AllByRecursion (IsKeptRelocation live objects) (relocated_in live Segment i o.data_relocations ss)
-no_relocations live objects i o ss none = rw none tt
+-- the relocation, its object, and the map of that
+pub record IsKnown (input : Input) (g : Placing) (r : Relocated) (o : Object)
+    (m : WasmObjectIndexMap) : Type 0 where
+  pub laws : Laws
+  pub table : TableLaws
+  pub settled : IsSettled input
+  pub room : HasRoom input
+  pub kept : Contains (relocations input) r
+  pub here : slice_get input.link.objects r.object ≡ Some o
+  pub map : IsWholeMap input g r.object o m
 
-from_objects : (live : Live) (all : List Object) (i : ℕ) (objects : List Object) → ((k : ℕ) (o : Object) → slice_get objects k ≡ Some o → slice_get all (i + k) ≡ Some o) → AllByRecursion IsFitting objects → AllPlanned objects → AllByRecursion (IsKeptRelocation live all) (relocations_from live i objects)
-from_objects live all i [] at fit planned = tt
-from_objects live all i (o ∷ objects) at fit planned =
-    let z : i + 0 ≡ i = omega arith in
-    let here : slice_get all i ≡ Some o = rw z at (at 0 o refl) in
-    let each = both (is_planned o) _ planned in
-    let fits = fit.0 in
-    let code = from_section live all i o o.code_relocations o.code_sites here fits each.0 0 (λ j r e. let y : 0 + j ≡ j = omega arith in rw y e) (λ j s e. let y : 0 + j ≡ j = omega arith in rw y e) in
-    let data' = no_relocations live all i o o.data_sites (nothing_in_data o fits each.0) in
-    all_append (IsKeptRelocation live all) (object_relocations live i o) (relocations_from live (i + 1) objects)
-    (all_append (IsKeptRelocation live all) (relocated_in live Code i o.code_relocations o.code_sites) (relocated_in live Segment i o.data_relocations o.data_sites) code data')
-    (from_objects live all (i + 1) objects (λ k p e. let y : i + suc k ≡ i + 1 + k = omega arith in rw y at (at (suc k) p e)) fit.1 each.1)
+-- what it is resolved by
+abbrev pub resolver_of : Input → Placing → Object → WasmObjectIndexMap → Resolver
+resolver_of input g o m = record {
+  map = m;
+  symbols = o.symbols;
+  slots = function_slots input;
+  bases = bases_of g;
+}
 
-pub all_kept_relocations : (live : Live) (objects : List Object) → AllByRecursion IsFitting objects → AllPlanned objects → AllByRecursion (IsKeptRelocation live objects) (kept_relocations live objects)
-all_kept_relocations live objects fit planned = from_objects live objects 0 objects (λ k o e. let z : 0 + k ≡ k = omega arith in rw z e) fit planned
+-- what its field takes, or why it can't take the address of what it names
+abbrev pub Answers : Input → Placing → Relocated → Option Taking → ℤ → Result ℕ RelocError → Type 0
+Answers input g r taking left (Ok value) = IsTaken input g r taking value left
+Answers input g r taking left (Err why) =
+    (base : AddressBase) × (taking ≡ Some (Address base)) × (address_taken input g r base ≡ Err why)
 
-pub all_fitting : (objects : List Object) → AllByRecursion IsWhole objects → AllByRecursion IsFitting objects
-all_fitting [] h = tt
-all_fitting (o ∷ objects) h = (h.0.object.fitting, all_fitting objects h.1)
+pub answers_as : (input : Input) (g : Placing) (r : Relocated) (taking : Option Taking) (left : ℤ)
+    (result other : Result ℕ RelocError) → result ≡ other → Answers input g r taking left other
+    → Answers input g r taking left result
+answers_as input g r taking left result other is h =
+    subst (λ (x : Result ℕ RelocError). Answers input g r taking left x) (sym is) h
 
-pub each_of : {X : Type 0} (P Q : X → Type 0) (xs : List X) → ((x : X) → P x → Q x) → AllByRecursion P xs → AllByRecursion Q xs
-each_of P Q [] f h = tt
-each_of P Q (x ∷ xs) f h = (f x h.0, each_of P Q xs f h.1)
+-- ---- what is left to be added
 
--- the function that it names
-pub named_by : (live : Live) (objects : List Object) (r : Relocated) (k : IsKeptRelocation live objects r) → NamesFunction k.object r.relocation
-named_by live objects r k = function_named k.object r.relocation k.fits k.planned (none_at (is_unplanned_relocation k.object.symbols) k.object.code_relocations k.number r.relocation (holds k.object k.planned).relocations k.relocation)
+left_zero : (a : WasmDataAddress) (r : WasmRelocation) → is_absolute r.ty ≡ false
+    → left_of a r ≡ pos 0
+left_zero address.Missing r e = refl
+left_zero (address.Placed place) r e = rw e refl
+left_zero address.Passive r e = refl
+left_zero (address.TlsOffset place) r e = refl
 
--- ---- what is named by a kept unit is kept
+left_addend : (a : WasmDataAddress) (r : WasmRelocation) → is_absolute r.ty ≡ true
+    → left_of a r ≡ addend_left Memory a r.addend
+left_addend address.Missing r e = refl
+left_addend (address.Placed place) r e = rw e refl
+left_addend address.Passive r e = refl
+left_addend (address.TlsOffset place) r e = refl
 
-abbrev pub SymbolsAreKept : Type 0
-SymbolsAreKept = (link : Link) (live : Live) (u v : LinkUnit) → IsLiveOf link live → is_live live u ≡ true → RefersBySymbol link u v → is_live live v ≡ true
+left_none : (base : AddressBase) (a : WasmDataAddress) (r : WasmRelocation)
+    → is_absolute r.ty ≡ false → (addend_left base a r.addend ≡ pos 0)
+    → left_of a r ≡ addend_left base a r.addend
+left_none base a r e none = left_zero a r e ∙ sym none
 
-counts_at : (objects : List Object) (i : ℕ) (o : Object) → slice_get objects i ≡ Some o → units_at (units_of objects) i ≡ counts_of o
-counts_at objects i o here = get_or_from_slice_get (units_of objects) i (counts_of o) no_units (slice_get-map counts_of objects i ∙ rw here refl)
+-- ---- the number that would stand there
 
-defined_is : (imports count index : ℕ) → imports ≡ 0 → index < count → defined imports count index ≡ Some index
-defined_is imports count index none lt =
-    let low : ltb index imports ≡ false = not_below in
-    let high : leb count (index - imports) ≡ false = below in
-    let z : index - imports ≡ index = omega (arith, none) in
-    rw (low, high) (ap (λ (n : ℕ). Some n) z)
-  where
-    not_below : ltb index imports ≡ false
-    not_below =
-        elim (cases_Bool (ltb index imports)) [
-          | inl under ↦ absurd (omega (arith, none, ltb-true index imports under))
-          | inr right ↦ right
-        ]
+minus_zero : (n : ℕ) (z : ℤ) → (pos n -ℤ pos 0) +ℤ z ≡ pos n +ℤ z
+minus_zero n z = omega (arith, ints)
 
-    below : leb count (index - imports) ≡ false
-    below =
-        elim (cases_Bool (leb count (index - imports))) [
-          | inl over ↦ absurd (omega (arith, none, lt, leb-true count (index - imports) over))
-          | inr right ↦ right
-        ]
+base_address : AddressBase → AddressBases → ℕ
+base_address Memory bases = 0
+base_address MemoryBase bases = bases.memory_base
+base_address ThreadData bases = bases.tls_base
 
-by_kind : (n : UnitCounts) (kind : WasmSymbolKind) (undefined flag : Bool) (index : ℕ) → kind ≡ Func → undefined ≡ false → n.function_imports ≡ 0 → index < n.functions
-    → cond (is_data kind && not undefined && flag) None (unit_by n kind undefined index) ≡ Some (DefinedFunction index)
-by_kind n Func false flag index is not none lt = ap (λ (d : Option ℕ). option_map DefinedFunction d) (defined_is n.function_imports n.functions index none lt)
-by_kind n Func true flag index is not none lt = absurd cc
-by_kind n Data undefined flag index is not none lt = absurd cc
-by_kind n Global undefined flag index is not none lt = absurd cc
-by_kind n Section undefined flag index is not none lt = absurd cc
-by_kind n Event undefined flag index is not none lt = absurd cc
-by_kind n Table undefined flag index is not none lt = absurd cc
+number_of_base : (b : AddressBase) (bases : AddressBases) (a : WasmDataAddress) (addend : ℤ)
+    → number_by (base_address b bases) a addend ≡ number_taken b bases a addend
+unfolding base_address
+number_of_base Memory bases address.Missing addend = minus_zero 0 addend
+number_of_base Memory bases (address.Placed place) addend = minus_zero place addend
+number_of_base Memory bases address.Passive addend = refl
+number_of_base Memory bases (address.TlsOffset place) addend = minus_zero place addend
+number_of_base MemoryBase bases address.Missing addend = refl
+number_of_base MemoryBase bases (address.Placed place) addend = refl
+number_of_base MemoryBase bases address.Passive addend = refl
+number_of_base MemoryBase bases (address.TlsOffset place) addend = minus_zero place addend
+number_of_base ThreadData bases address.Missing addend = refl
+number_of_base ThreadData bases (address.Placed place) addend = refl
+number_of_base ThreadData bases address.Passive addend = refl
+number_of_base ThreadData bases (address.TlsOffset place) addend = minus_zero place addend
 
--- the unit of a function's symbol
-pub function_unit : (objects : List Object) (i : ℕ) (o : Object) (s : Symbol) → slice_get objects i ≡ Some o → s.kind ≡ Func → is_undefined s ≡ false → imported_functions o ≡ 0 → s.index < length o.functions
-    → unit_at (units_of objects) i s ≡ Some (record { object = i; unit = DefinedFunction s.index })
-function_unit objects i o s here kind not none lt =
-    ap (λ (n : UnitCounts). option_map (λ (u : WasmGcUnit). in_object i u) (unit_in n s)) (counts_at objects i o here)
-    ∙ ap (option_map (in_object i)) (by_kind (counts_of o) s.kind (is_undefined s) (has_flag s.flags 0x200) s.index kind not none lt)
-  where
-    in_object : ℕ → WasmGcUnit → LinkUnit
-    in_object object unit = record { object = object; unit = unit }
+same_base : (b base : AddressBase) → ◌≡◌ {A = Option Taking} (Some (Address b)) (Some (Address base))
+    → b ≡ base
+same_base b base e = cc
 
-pub keeps_named : SymbolsAreKept → (link : Link) (live : Live) (r : Relocated) → IsLiveOf link live → (k : IsKeptRelocation live link.objects r) → keeps_function live r.object (named_by live link.objects r k).symbol.index ≡ true
-keeps_named closed link live r of k =
-    let n = named_by live link.objects r k in
-    let none = nothing_imported k.object k.planned in
-    let planned = none_at (is_unplanned_relocation k.object.symbols) k.object.code_relocations k.number r.relocation (holds k.object k.planned).relocations k.relocation in
-    let ty = takes_function k.object r.relocation planned in
-    let u : LinkUnit = record { object = r.object; unit = DefinedFunction r.site.unit } in
-    let v : LinkUnit = record { object = r.object; unit = DefinedFunction n.symbol.index } in
-    closed link live u v of k.kept (record {
-      object = k.object;
-      here = k.here;
-      relocation = r.relocation;
-      holds = (k.number, r.site, k.relocation, k.site, refl);
-      other = rw ty refl;
-      symbol = n.symbol;
-      names = n.at;
-      leads = inl (function_unit link.objects r.object k.object n.symbol k.here n.kind n.defined none n.within);
-    })
+number_as : (b base : AddressBase) (bases : AddressBases) (a : WasmDataAddress) (addend : ℤ)
+    → ◌≡◌ {A = Option Taking} (Some (Address b)) (Some (Address base))
+    → number_by (base_address b bases) a addend ≡ number_taken base bases a addend
+number_as b base bases a addend e =
+    subst (λ (x : AddressBase). number_by (base_address b bases) a addend
+    ≡ number_taken x bases a addend) (same_base b base e) (number_of_base b bases a addend)
 
--- ---- fixups
+pub number_is : (ty : RelocationType) (base : AddressBase) (bases : AddressBases)
+    (a : WasmDataAddress) (addend : ℤ) → taking_of ty ≡ Some (Address base)
+    → number_by (counted_base ty bases) a addend ≡ number_taken base bases a addend
+unfolding base_address
+number_is type.FunctionIndexLeb base bases a addend e = absurd cc
+number_is type.FunctionIndexI32 base bases a addend e = absurd cc
+number_is type.TableIndexSleb base bases a addend e = absurd cc
+number_is type.TableIndexI32 base bases a addend e = absurd cc
+number_is type.TableIndexRelSleb base bases a addend e = absurd cc
+number_is type.TypeIndexLeb base bases a addend e = absurd cc
+number_is type.GlobalIndexLeb base bases a addend e = absurd cc
+number_is type.GlobalIndexI32 base bases a addend e = absurd cc
+number_is type.TableNumberLeb base bases a addend e = absurd cc
+number_is type.MemoryAddrLeb base bases a addend e = number_as Memory base bases a addend e
+number_is type.MemoryAddrSleb base bases a addend e = number_as Memory base bases a addend e
+number_is type.MemoryAddrI32 base bases a addend e = number_as Memory base bases a addend e
+number_is type.MemoryAddrRelSleb base bases a addend e = number_as MemoryBase base bases a addend e
+number_is type.MemoryAddrTlsSleb base bases a addend e = number_as ThreadData base bases a addend e
 
-site_at : (pieces : List PieceOf) (rs : List WasmRelocation) (ss : List Site) (i : ℕ) (s : Site) → AreSites pieces rs ss → slice_get ss i ≡ Some s → s.unit < length pieces
-site_at pieces [] [] i s h at = absurd cc
-site_at pieces [] (t ∷ ss) i s h at = absurd h
-site_at pieces (r ∷ rs) [] i s h at = absurd h
-site_at pieces (r ∷ rs) (t ∷ ss) zero s h at = let same : t ≡ s = cc in rw (← same) (slice_get_within pieces t.unit h.0.piece h.0.here)
-site_at pieces (r ∷ rs) (t ∷ ss) (suc i) s h at = site_at pieces rs ss i s h.1 at
+-- ---- rows of objects
 
--- what can be fixed
-pub has_index : (live : Live) (objects : List Object) (maps : List (List ℕ)) → AreMaps (function_space live objects) live 0 objects maps → (r : Relocated) → IsKeptRelocation live objects r → HasIndex objects maps r
-has_index live objects maps all r k =
-    let n = named_by live objects r k in
-    let none = nothing_imported k.object k.planned in
-    let within : r.object < length maps = omega (arith, slice_get_within objects r.object k.object k.here, maps_length live (function_space live objects) 0 objects maps all) in
-    let there = slice_get-get_or maps r.object [] within in
-    let leads = leads_at live (function_space live objects) 0 objects maps r.object k.object (map_of maps r.object) all k.here there in
-    record {
-      object = k.object;
-      here = k.here;
-      symbol = n.symbol;
-      at = n.at;
-      map = within;
-      within = omega (arith, leads.len, none, n.within);
-      unit = omega (arith, site_at (map body_piece k.object.bodies) k.object.code_relocations k.object.code_sites k.number r.site k.fits.code.sited k.site, length-map k.object.bodies body_piece, as_many_bodies k.object k.fits);
-    }
+rows_length : {X : Type 0} (IsRow : ℕ → Object → X → Type 0) (n : ℕ) (objects : List Object)
+    (rows : List X) → AreRows IsRow n objects rows → length rows ≡ length objects
+rows_length IsRow n [] [] h = refl
+rows_length IsRow n [] (row ∷ rows) h = absurd h
+rows_length IsRow n (o ∷ objects) [] h = absurd h
+rows_length IsRow n (o ∷ objects) (row ∷ rows) h =
+    ap suc (rows_length IsRow (n + 1) objects rows h.1)
 
-fixed_value : SymbolsAreKept → (link : Link) (live : Live) (maps : List (List ℕ)) (r : Relocated) → IsLiveOf link live → AreMaps (function_space live link.objects) live 0 link.objects maps → IsKeptRelocation live link.objects r
-    → slice_get (function_space live link.objects) (get_or (map_of maps r.object) (number_in (symbol_in link.objects r.object r.relocation.index)) 0) ≡ bound_origin link.objects r
-fixed_value closed link live maps r of all k =
-    let objects = link.objects in
-    let n = named_by live objects r k in
-    let none = nothing_imported k.object k.planned in
-    let within : r.object < length maps = omega (arith, slice_get_within objects r.object k.object k.here, maps_length live (function_space live objects) 0 objects maps all) in
-    let there = slice_get-get_or maps r.object [] within in
-    let z : 0 + r.object ≡ r.object = omega arith in
-    let leads : LeadsToPlaces (function_space live objects) live r.object k.object (map_of maps r.object) = rw z at (leads_at live (function_space live objects) 0 objects maps r.object k.object (map_of maps r.object) all k.here there) in
-    let y : 0 + n.symbol.index ≡ n.symbol.index = omega arith in
-    let x : n.symbol.index - 0 ≡ n.symbol.index = omega arith in
-    let place : slice_get (function_space live objects) (get_or (map_of maps r.object) n.symbol.index 0) ≡ Some (origin.Object r.object n.symbol.index) = rw (none, y) at (leads.place n.symbol.index n.within (keeps_named closed link live r of k)) in
-    rw (k.here, n.at, n.defined, none, x) place
+row_at : {X : Type 0} (IsRow : ℕ → Object → X → Type 0) (n k m : ℕ) (objects : List Object)
+    (rows : List X) (o : Object) (row : X) → n + k ≡ m → AreRows IsRow n objects rows
+    → slice_get objects k ≡ Some o → slice_get rows k ≡ Some row → IsRow m o row
+row_at IsRow n k m [] rows o row e h here at = absurd cc
+row_at IsRow n k m (p ∷ objects) [] o row e h here at = absurd h
+row_at {X} IsRow n zero m (p ∷ objects) (q ∷ rows) o row e h here at =
+    let number : n ≡ m = omega (arith, e) in
+    let object : p ≡ o = cc in
+    let same : q ≡ row = cc in
+    subst (λ (i : ℕ). IsRow i o row) number (subst (λ (x : Object). IsRow n x row) object
+    (subst (λ (y : X). IsRow n p y) same h.0))
+row_at IsRow n (suc k) m (p ∷ objects) (q ∷ rows) o row e h here at =
+    row_at IsRow (n + 1) k m objects rows o row (omega (arith, e)) h.1 here at
 
--- they are the fixups of the plan
-pub fixups_are : SymbolsAreKept → (link : Link) (live : Live) (maps : List (List ℕ)) (rs : List Relocated) → IsLiveOf link live → AreMaps (function_space live link.objects) live 0 link.objects maps → AllByRecursion (IsKeptRelocation live link.objects) rs
-    → AreFixups (function_space live link.objects) link.objects rs (map (fixup_by link.objects maps) rs)
-fixups_are closed link live maps [] of all h = tt
-fixups_are closed link live maps (r ∷ rs) of all h = (
-  record { object = refl; place = refl; unit = refl; position = refl; ty = refl; value = (refl, fixed_value closed link live maps r of all h.0) },
-  fixups_are closed link live maps rs of all h.1,
-)
+pub maps_within : (input : Input) (g : Placing) (maps : List WasmObjectIndexMap) (object : ℕ)
+    → AreWholeMaps input g maps → object < length input.link.objects → object < length maps
+maps_within input g maps object h lt =
+    omega (arith, lt, rows_length (IsWholeMap input g) 0 input.link.objects maps h)
 
--- ---- bodies
+pub map_of : (input : Input) (g : Placing) (maps : List WasmObjectIndexMap) (object : ℕ) (o : Object)
+    (m : WasmObjectIndexMap) → AreWholeMaps input g maps → slice_get input.link.objects object ≡ Some o
+    → slice_get maps object ≡ Some m → IsWholeMap input g object o m
+map_of input g maps object o m h here at =
+    row_at (IsWholeMap input g) 0 object object input.link.objects maps o m (omega arith) h here at
 
-body_there : (objects : List Object) (i k : ℕ) (o : Object) → slice_get objects i ≡ Some o → IsFitting o → k < length o.functions → HasBody objects (origin.Object i k)
-body_there objects i k o here fits lt =
-    let d : Body = record { bytes = []; code_offset = 0; object_index = 0; owned = false } in
-    let within : k < length o.bodies = omega (arith, lt, as_many_bodies o fits) in
-    (record (get_or o.bodies k d) { object_index = i }, rw (here, slice_get-get_or o.bodies k d within) refl)
+-- ---- the address of a data symbol
 
-bodies_there : (live : Live) (all : List Object) (i : ℕ) (objects : List Object) → ((k : ℕ) (o : Object) → slice_get objects k ≡ Some o → slice_get all (i + k) ≡ Some o) → AllByRecursion IsFitting objects → AllByRecursion (HasBody all) (functions_from live i objects)
-bodies_there live all i [] at fit = tt
-bodies_there live all i (o ∷ objects) at fit =
-    let z : i + 0 ≡ i = omega arith in
-    let here : slice_get all i ≡ Some o = rw z at (at 0 o refl) in
-    all_append (HasBody all) (map (origin.Object i) (kept_functions live i o)) (functions_from live (i + 1) objects)
-    (each_kept (HasBody all) (origin.Object i) (keeps_function live i) 0 (length o.functions) (λ k lt kept. body_there all i k o here fit.0 (omega (arith, lt))))
-    (bodies_there live all (i + 1) objects (λ k p e. let y : i + suc k ≡ i + 1 + k = omega arith in rw y at (at (suc k) p e)) fit.1)
+address_cases : (input : Input) (g : Placing) (object : ℕ) (o : Object) (m : WasmObjectIndexMap)
+    (index : ℕ) → slice_get input.link.objects object ≡ Some o → IsWholeMap input g object o m
+    → (index < length o.symbols ⊎ length o.symbols ≤ index)
+    → unwrap_or (slice_get m.data_addresses index) address.Missing ≡ symbol_address input g object index
+address_cases input g object o m index here h (inl lt) =
+    let listed : slice_get m.data_addresses index ≡ Some (symbol_address input g object index) =
+    ap (λ (xs : List WasmDataAddress). slice_get xs index) h.addresses
+    ∙ of_range (symbol_address input g object) (length o.symbols) index lt in
+    ap (λ (x : Option WasmDataAddress). unwrap_or x address.Missing) listed
+address_cases input g object o m index here h (inr past) =
+    let f : ℕ → WasmDataAddress = symbol_address input g object in
+    let count : length (map f (range_with_len 0 (length o.symbols))) ≡ length o.symbols =
+    length-map-range_with_len f 0 (length o.symbols) in
+    let listed : slice_get m.data_addresses index ≡ None =
+    ap (λ (xs : List WasmDataAddress). slice_get xs index) h.addresses
+    ∙ slice_get_past (map f (range_with_len 0 (length o.symbols))) index (omega (arith, past, count)) in
+    let no_symbol : symbol_in input.link.objects object index ≡ None =
+    ap (option_and_then (λ (p : Object). slice_get p.symbols index)) here
+    ∙ slice_get_past o.symbols index past in
+    let none : symbol_address input g object index ≡ address.Missing = rw no_symbol refl in
+    ap (λ (x : Option WasmDataAddress). unwrap_or x address.Missing) listed ∙ sym none
 
-pub all_have_bodies : (live : Live) (objects : List Object) → AllByRecursion IsFitting objects → AllByRecursion (HasBody objects) (function_space live objects)
-all_have_bodies live objects fit = bodies_there live objects 0 objects (λ k o e. let z : 0 + k ≡ k = omega arith in rw z e) fit
+pub address_found : (input : Input) (g : Placing) (object : ℕ) (o : Object) (m : WasmObjectIndexMap)
+    (index : ℕ) → slice_get input.link.objects object ≡ Some o → IsWholeMap input g object o m
+    → unwrap_or (slice_get m.data_addresses index) address.Missing ≡ symbol_address input g object index
+address_found input g object o m index here h =
+    address_cases input g object o m index here h (cases_lt index (length o.symbols))
 
--- ---- the entry
+-- ---- types
 
-abbrev pub RootsAreKept : Type 0
-RootsAreKept = (link : Link) (live : Live) (u : LinkUnit) → IsLiveOf link live → IsRoot link u → is_live live u ≡ true
+module _ (input : Input) (g : Placing) (r : Relocated) (o : Object) (m : WasmObjectIndexMap)
+    (known : IsKnown input g r o m) where
+  same_object : (p : Object) → slice_get input.link.objects r.object ≡ Some p → p ≡ o
+  same_object p here = same_Some p o (sym here ∙ known.here)
 
--- a function that is kept exists
-pub record FunctionThere (objects : List Object) (i k : ℕ) : Type 0 where
-  pub object : Object
-  pub here : slice_get objects i ≡ Some object
-  pub within : k < length object.functions
+  type_answers : (left : ℤ) → left ≡ pos 0 → names_a_type r.relocation.ty ≡ true
+      → Answers input g r None left (taken (resolver_of input g o m) r.relocation None)
+  type_answers left no_rest names =
+      let h = known.laws.types input r known.settled known.kept names in
+      let live : live_type input r.object o r.relocation.index ≡ Some h.ty =
+      subst (λ (p : Object). live_type input r.object p r.relocation.index ≡ Some h.ty)
+      (same_object h.object h.here) h.live in
+      let at = index_at (output_types input) (local_types input r.object o) m.type_indices
+      r.relocation.index h.ty known.map.types live in
+      let named : type_named input r ≡ Some h.ty =
+      ap (option_and_then (λ (p : Object). live_type input r.object p r.relocation.index)) known.here
+      ∙ live in
+      answers_as input g r None left (kept_index (slice_get m.type_indices r.relocation.index))
+      (Ok at.0) (ap kept_index at.1
+      ∙ index_kept (output_types input) at.0 h.ty known.room.types at.2)
+      (no_rest, (h.ty, named, at.2))
 
-abbrev unit_of_function : ℕ → ℕ → LinkUnit
-unit_of_function i k = record { object = i; unit = DefinedFunction k }
+  -- ---- symbols
 
-in_units : (objects : List Object) (i k : ℕ) → exists (units_of objects) (unit_of_function i k) ≡ true → FunctionThere objects i k
-in_units [] zero k h = absurd (let lt = ltb-true k 0 h in omega arith)
-in_units [] (suc i) k h = absurd (let lt = ltb-true k 0 h in omega arith)
-in_units (o ∷ objects) zero k h = record { object = o; here = refl; within = ltb-true k (length o.functions) h }
-in_units (o ∷ objects) (suc i) k h = let later = in_units objects i k h in record { object = later.object; here = later.here; within = later.within }
+  record Names : Type 0 where
+    symbol : LinkedSymbol
+    at : slice_get o.symbols r.relocation.index ≡ Some symbol
+    takes : takes_kind r.relocation.ty symbol.kind ≡ true
+    within : r.relocation.index < length o.symbols
 
-pub kept_there : (link : Link) (live : Live) (i k : ℕ) → IsLiveOf link live → keeps_function live i k ≡ true → FunctionThere link.objects i k
-kept_there link live i k of kept =
-    let there = (both (exists live.units (unit_of_function i k)) _ kept).0 in
-    in_units link.objects i k (rw of.units at there)
+  named : names_a_type r.relocation.ty ≡ false → Names
+  named none =
+      let h = known.laws.symbols input r known.settled known.kept none in
+      let at : slice_get o.symbols r.relocation.index ≡ Some h.symbol =
+      subst (λ (p : Object). slice_get p.symbols r.relocation.index ≡ Some h.symbol)
+      (same_object h.object h.here) h.at in
+      record {
+        symbol = h.symbol;
+        at = at;
+        takes = h.taken;
+        within = slice_get_within o.symbols r.relocation.index h.symbol at;
+      }
 
--- the unit of the function that a name stands for
-named_is : (link : Link) (name : List ℕ) (i k : ℕ) → named_function link name ≡ Some (origin.Object i k) → named_unit link (units_of link.objects) name ≡ Some (unit_of_function i k)
-named_is link name i k e = by_unit (named_unit link (units_of link.objects) name) e
-  where
-    is_unit : (u : WasmGcUnit) (object : ℕ) → function_in object u ≡ Some (origin.Object i k) → ◌≡◌ {A = LinkUnit} (record { object = object; unit = u }) (unit_of_function i k)
-    is_unit (DefinedFunction f) object h = let a : object ≡ i = cc in let b : f ≡ k = cc in rw (a, b) refl
-    is_unit (DefinedGlobal g) object h = absurd cc
-    is_unit (DataSegment g) object h = absurd cc
-    is_unit (FunctionImport g) object h = absurd cc
-    is_unit (GlobalImport g) object h = absurd cc
+  -- of a symbol of that kind
+  of_symbol : (taking : Taking) (s : LinkedSymbol)
+      → slice_get o.symbols r.relocation.index ≡ Some s
+      → taken (resolver_of input g o m) r.relocation (Some taking)
+      ≡ taken_of (resolver_of input g o m) r.relocation taking s
+  of_symbol taking s at =
+      ap (taken_at (resolver_of input g o m) r.relocation taking) at
 
-    by_unit : (found : Option LinkUnit) → option_and_then (λ (u : LinkUnit). function_in u.object u.unit) found ≡ Some (origin.Object i k) → found ≡ Some (unit_of_function i k)
-    by_unit None h = absurd cc
-    by_unit (Some u) h = ap (λ (v : LinkUnit). Some v) (is_unit u.unit u.object h)
+  -- ---- functions
 
-pub entry_kept : RootsAreKept → (link : Link) (live : Live) (name : List ℕ) (i k : ℕ) → IsLiveOf link live → link.args.entry ≡ Some name → named_function link name ≡ Some (origin.Object i k) → keeps_function live i k ≡ true
-entry_kept roots link live name i k of asked e = roots link live (unit_of_function i k) of (by_name (record { name = name; asked = inr asked; leads = named_is link name i k e }))
+  function_kind : (k : WasmSymbolKind) → is_function_kind k ≡ true → k ≡ kind.Func
+  function_kind kind.Func e = refl
+  function_kind kind.Data e = absurd cc
+  function_kind kind.Global e = absurd cc
+  function_kind kind.Section e = absurd cc
+  function_kind kind.Event e = absurd cc
+  function_kind kind.Table e = absurd cc
 
--- the maps have an index for the entry
-pub entry_mapped : RootsAreKept → (link : Link) (live : Live) (maps : List (List ℕ)) → IsLiveOf link live → AllPlanned link.objects → AreMaps (function_space live link.objects) live 0 link.objects maps → IsEntryMapped link maps link.args.entry
-entry_mapped roots link live maps of planned all = λ name asked f e. by_origin name asked f e
-  where
-    by_origin : (name : List ℕ) → link.args.entry ≡ Some name → (f : FunctionOrigin) → named_function link name ≡ Some f → IsMapped link.objects maps f
-    by_origin name asked (origin.Object i k) e =
-        let o = kept_there link live i k of (entry_kept roots link live name i k of asked e) in
-        let none = nothing_imported o.object (all_at is_planned link.objects i o.object planned o.here) in
-        let in_objects = slice_get_within link.objects i o.object o.here in
-        let in_maps : i < length maps = omega (arith, in_objects, maps_length live (function_space live link.objects) 0 link.objects maps all) in
-        let leads = leads_at live (function_space live link.objects) 0 link.objects maps i o.object (map_of maps i) all o.here (slice_get-get_or maps i [] in_maps) in
-        let imported : imported_in link.objects i ≡ imported_functions o.object = rw o.here refl in
-        (in_objects, in_maps, omega (arith, imported, leads.len, o.within))
+  kept_target : (t : FunctionTarget) → IsInOutput input t → is_kept_target input t ≡ true
+  kept_target (function.Defined object number) h = h.kept
+  kept_target (function.Made made) h = refl
+  kept_target (function.Host object slot) h = refl
+  kept_target (function.Stub object slot) h = refl
 
--- its index is its place in the space
-index_is_place : RootsAreKept → (link : Link) (live : Live) (maps : List (List ℕ)) (name : List ℕ) (f : FunctionOrigin) → IsLiveOf link live → AreMaps (function_space live link.objects) live 0 link.objects maps → link.args.entry ≡ Some name → named_function link name ≡ Some f
-    → slice_get (function_space live link.objects) (index_by link.objects maps f) ≡ Some f
-index_is_place roots link live maps name (origin.Object i k) of all asked e =
-    let kept = entry_kept roots link live name i k of asked e in
-    let o = kept_there link live i k of kept in
-    let in_objects = slice_get_within link.objects i o.object o.here in
-    let in_maps : i < length maps = omega (arith, in_objects, maps_length live (function_space live link.objects) 0 link.objects maps all) in
-    let z : 0 + i ≡ i = omega arith in
-    let leads : LeadsToPlaces (function_space live link.objects) live i o.object (map_of maps i) = rw z at (leads_at live (function_space live link.objects) 0 link.objects maps i o.object (map_of maps i) all o.here (slice_get-get_or maps i [] in_maps)) in
-    let imported : imported_in link.objects i ≡ imported_functions o.object = rw o.here refl in
-    rw imported (leads.place k o.within kept)
+  record Leads : Type 0 where
+    target : FunctionTarget
+    leads : fun input r.object r.relocation.index ≡ Some target
+    entry : symbol_function input r.object r.relocation.index ≡ Some (FunctionOf target)
+    place : ℕ
+    index : function_index (resolver_of input g o m) kind.Func r.relocation.index ≡ Ok place
+    stands : slice_get (function_space input) place ≡ Some (FunctionOf target)
+    names : names_function input r ≡ true
 
--- the function of a unit that an object defines
-found_unit : (undefined : Bool) (found : Option LinkUnit) (u : LinkUnit) → undefined ≡ false → found ≡ Some u
-    → option_and_then (λ (v : LinkUnit). function_in v.object v.unit) (cond undefined None found) ≡ function_in u.object u.unit
-found_unit false found u not is = ap (λ (v : Option LinkUnit). option_and_then (λ (w : LinkUnit). function_in w.object w.unit) v) is
-found_unit true found u not is = absurd cc
+  leads_to : (n : Names) → names_a_type r.relocation.ty ≡ false
+      → is_function_kind n.symbol.kind ≡ true → Leads
+  leads_to n none is =
+      let at = n.at in
+      let symbol : symbol_of input r ≡ Some n.symbol =
+      ap (option_and_then (λ (p : Object). slice_get p.symbols r.relocation.index)) known.here ∙ at in
+      let names : names_function input r ≡ true =
+      ap (λ (s : Option LinkedSymbol). option_map_or
+      (λ (t : LinkedSymbol). is_function_kind t.kind) s false) symbol ∙ is in
+      let h = known.laws.functions input r known.settled known.kept none names in
+      let entry : symbol_function input r.object r.relocation.index ≡ Some (FunctionOf h.target) =
+      ap (option_and_then (entry_of input)) h.leads
+      ∙ ap (λ (b : Bool). if b then Some (FunctionOf h.target) else None)
+      (kept_target h.target h.there_is) in
+      let listed : slice_get (symbol_functions input r.object o) r.relocation.index
+      ≡ Some (Some (FunctionOf h.target)) =
+      of_range (symbol_function input r.object) (length o.symbols) r.relocation.index n.within
+      ∙ ap (λ (x : Option FunctionEntry). Some x) entry in
+      let found = place_at (function_space input) (symbol_functions input r.object o)
+      m.function_symbol_redirects r.relocation.index (FunctionOf h.target) known.map.redirects
+      listed in
+      record {
+        target = h.target;
+        leads = h.leads;
+        entry = entry;
+        place = found.0;
+        index = ap redirect found.1;
+        stands = found.2;
+        names = names;
+      }
 
--- an entry that no step refuses stands for a function
-pub entry_found : (link : Link) (name : List ℕ) → AllByRecursion IsFitting link.objects → AllPlanned link.objects → gives_function link (named link name) ≡ true → (f : FunctionOrigin) × (named_function link name ≡ Some f)
-entry_found link name fit planned gives = by_definition (named link name) gives
-  where
-    by_symbol : (i : ℕ) (o : Object) (s : Symbol) (n : ℕ) → slice_get link.objects i ≡ Some o → slice_get o.symbols n ≡ Some s → is_defined_function s ≡ true
-        → (f : FunctionOrigin) × (option_and_then (λ (u : LinkUnit). function_in u.object u.unit) (defined_unit (units_of link.objects) i s) ≡ Some f)
-    by_symbol i o s n here at is =
-        let parts = both (is_function_kind s.kind) (not (is_undefined s)) is in
-        let is_planned_here = all_at is_planned link.objects i o planned here in
-        let lt = slice_get_within link.objects i o here in
-        let fits : IsFitting o = rw (get_or_from_slice_get link.objects i o o here) at (each_at IsFitting link.objects i o fit lt) in
-        let n' = defined_function o s n fits is_planned_here at parts.0 in
-        let none = nothing_imported o is_planned_here in
-        let unit = function_unit link.objects i o s here n'.kind n'.defined none n'.within in
-        (origin.Object i s.index, found_unit (is_undefined s) (unit_at (units_of link.objects) i s) (unit_of_function i s.index) n'.defined unit)
+  index_of : (n : Names) → is_function_kind n.symbol.kind ≡ true → (l : Leads)
+      → function_index (resolver_of input g o m) n.symbol.kind r.relocation.index ≡ Ok l.place
+  index_of n is l =
+      ap (λ (k : WasmSymbolKind). function_index (resolver_of input g o m) k r.relocation.index)
+      (function_kind n.symbol.kind is)
+      ∙ l.index
 
-    by_object : (i n : ℕ) (found : Option Object) → slice_get link.objects i ≡ found → option_map_or is_defined_function (option_and_then (λ (o : Object). slice_get o.symbols n) found) false ≡ true
-        → (f : FunctionOrigin) × (option_and_then (λ (u : LinkUnit). function_in u.object u.unit) (option_and_then (λ s. defined_unit (units_of link.objects) i s) (option_and_then (λ (o : Object). slice_get o.symbols n) found)) ≡ Some f)
-    by_object i n None here is = absurd cc
-    by_object i n (Some o) here is = by_found (slice_get o.symbols n) refl is
-      where
-        by_found : (s : Option Symbol) → slice_get o.symbols n ≡ s → option_map_or is_defined_function s false ≡ true
-            → (f : FunctionOrigin) × (option_and_then (λ (u : LinkUnit). function_in u.object u.unit) (option_and_then (λ t. defined_unit (units_of link.objects) i t) s) ≡ Some f)
-        by_found None at is = absurd cc
-        by_found (Some s) at is = by_symbol i o s n here at is
+  function_answers : (left : ℤ) → left ≡ pos 0 → names_a_type r.relocation.ty ≡ false
+      → (n : Names) → is_function_kind n.symbol.kind ≡ true
+      → Answers input g r (Some FunctionIndex) left
+      (taken (resolver_of input g o m) r.relocation (Some FunctionIndex))
+  function_answers left no_rest none n is =
+      let l = leads_to n none is in
+      answers_as input g r (Some FunctionIndex) left
+      (taken (resolver_of input g o m) r.relocation (Some FunctionIndex)) (Ok l.place)
+      (of_symbol FunctionIndex n.symbol n.at ∙ index_of n is l)
+      (no_rest, (FunctionOf l.target, l.entry, l.stands))
 
-    by_definition : (d : Option Definition) → gives_function link d ≡ true → (f : FunctionOrigin) × (option_and_then (λ (u : LinkUnit). function_in u.object u.unit) (option_and_then (λ e. definition_unit link (units_of link.objects) e) d) ≡ Some f)
-    by_definition None is = absurd cc
-    by_definition (Some (definition.Made m)) is = absurd cc
-    by_definition (Some (definition.Symbol i n)) is = by_object i n (slice_get link.objects i) refl is
+  -- ---- slots
 
--- ---- exports
+  record Slotted : Type 0 where
+    slot : ℕ
+    named_slot : slot_named input r ≡ Some slot
+    resolves : (s : LinkedSymbol) → slice_get o.symbols r.relocation.index ≡ Some s
+        → is_function_kind s.kind ≡ true
+        → resolved_slot (resolver_of input g o m)
+        (function_index (resolver_of input g o m) s.kind r.relocation.index) ≡ Ok slot
 
--- an entry that is asked for stands for a function
-abbrev pub EntryIsFunction : Link → Type 0
-EntryIsFunction link = (name : List ℕ) → link.args.entry ≡ Some name → (f : FunctionOrigin) × (named_function link name ≡ Some f)
+  slotted : (n : Names) → names_a_type r.relocation.ty ≡ false
+      → is_function_kind n.symbol.kind ≡ true
+      → (is_table_index r.relocation.ty || is_global_index r.relocation.ty) ≡ true → Slotted
+  slotted n none is asks =
+      let l = leads_to n none is in
+      let has = known.laws.slots input r l.target known.settled known.kept asks l.names l.leads in
+      let s = slot_is known.table input l.target known.room.table has in
+      let own : slot_of_entry input (FunctionOf l.target) ≡ s.slot =
+      ap (λ (x : Option ℕ). unwrap_or x WASM_DEAD_INDEX) s.is in
+      let at : slice_get (function_slots input) l.place ≡ Some s.slot =
+      slice_get-map (slot_of_entry input) (function_space input) l.place
+      ∙ (ap (option_map (slot_of_entry input)) l.stands ∙ ap (λ (x : ℕ). Some x) own) in
+      let live : slot_in (Some s.slot) ≡ Ok s.slot = rw (not_dead s.slot s.low) refl in
+      record {
+        slot = s.slot;
+        named_slot = ap (option_and_then (slot_of input)) l.leads ∙ s.is;
+        resolves = λ t there is_one.
+            ap (λ (k : WasmSymbolKind). resolved_slot (resolver_of input g o m)
+            (function_index (resolver_of input g o m) k r.relocation.index))
+            (function_kind t.kind is_one)
+            ∙ (ap (resolved_slot (resolver_of input g o m)) l.index
+            ∙ (ap slot_in at ∙ live));
+      }
 
-pub exports_are : RootsAreKept → (link : Link) (live : Live) (maps : List (List ℕ)) → IsLiveOf link live → AreMaps (function_space live link.objects) live 0 link.objects maps → EntryIsFunction link
-    → AreExports (function_space live link.objects) link (exports_by link maps link.args.entry)
-exports_are roots link live maps of all found = (option_map_or (named_exports link maps) link.args.entry [], refl, by_entry link.args.entry refl)
-  where
-    by_taken : (name : List ℕ) (taken : Bool) → link.args.entry ≡ Some name → (f : FunctionOrigin) → named_function link name ≡ Some f
-        → IsExportedOnce taken (function_space live link.objects) (named_function link name) name (cond taken [] (option_map_or (λ g. exported_as link.objects maps name g ∷ []) (named_function link name) []))
-    by_taken name true asked f e = refl
-    by_taken name false asked f e = rw e (exported_as link.objects maps name f, refl, record { name = refl; kind = refl; index = index_is_place roots link live maps name f of all asked e })
+  slot_answers : (left : ℤ) → left ≡ pos 0 → names_a_type r.relocation.ty ≡ false
+      → (n : Names) → is_function_kind n.symbol.kind ≡ true
+      → (is_table_index r.relocation.ty || is_global_index r.relocation.ty) ≡ true
+      → Answers input g r (Some Slot) left
+      (taken (resolver_of input g o m) r.relocation (Some Slot))
+  slot_answers left no_rest none n is asks =
+      let s = slotted n none is asks in
+      answers_as input g r (Some Slot) left
+      (taken (resolver_of input g o m) r.relocation (Some Slot)) (Ok s.slot)
+      (of_symbol Slot n.symbol n.at ∙ s.resolves n.symbol n.at is)
+      (no_rest, s.named_slot)
 
-    by_entry : (entry : Option (List ℕ)) → link.args.entry ≡ entry → IsEntryExport (function_space live link.objects) link entry (option_map_or (named_exports link maps) entry [])
-    by_entry None asked = refl
-    by_entry (Some name) asked = let f = found name asked in by_taken name (bytes_eq name memory_export.name) asked f.0 f.1
+  relative_answers : (left : ℤ) → left ≡ pos 0 → names_a_type r.relocation.ty ≡ false
+      → (n : Names) → is_function_kind n.symbol.kind ≡ true
+      → (is_table_index r.relocation.ty || is_global_index r.relocation.ty) ≡ true
+      → Answers input g r (Some SlotBehindBase) left
+      (taken (resolver_of input g o m) r.relocation (Some SlotBehindBase))
+  relative_answers left no_rest none n is asks =
+      let s = slotted n none is asks in
+      answers_as input g r (Some SlotBehindBase) left
+      (taken (resolver_of input g o m) r.relocation (Some SlotBehindBase)) (Ok (s.slot - 1))
+      (of_symbol SlotBehindBase n.symbol n.at ∙ ap behind_first (s.resolves n.symbol n.at is))
+      (no_rest, ap (option_map (λ (slot : ℕ). slot - 1)) s.named_slot)
 
--- where no step refuses the entry, it is a function
-pub entry_from : (link : Link) → AllByRecursion IsFitting link.objects → AllPlanned link.objects → Clear (IsEntryFault link) → EntryIsFunction link
-entry_from link fit planned clear = λ name asked.
-    elim (cases_Bool (gives_function link (named link name))) [
-      | inl gives ↦ entry_found link name fit planned gives
-      | inr missing ↦ absurd (clear.none (EntryNotDefined name) (record { name = name; asked = asked; missing = missing; told = refl }))
-    ]
+  -- ---- globals
 
-pub all_indexed : (live : Live) (objects : List Object) (maps : List (List ℕ)) → AllByRecursion IsFitting objects → AllPlanned objects → AreMaps (function_space live objects) live 0 objects maps → AllByRecursion (HasIndex objects maps) (kept_relocations live objects)
-all_indexed live objects maps fit planned all = each_of (IsKeptRelocation live objects) (HasIndex objects maps) (kept_relocations live objects) (λ r k. has_index live objects maps all r k) (all_kept_relocations live objects fit planned)
+  record Resolves (k : WasmSymbolKind) (number index : ℕ) (x : GlobalEntry) : Type 0 where
+    place : ℕ
+    is : global_index (resolver_of input g o m) k number index ≡ Ok place
+    stands : slice_get (global_space input) place ≡ Some x
 
--- ---- bodies, one by one
+  global_resolves : (k : WasmSymbolKind) (index : ℕ) (x : GlobalEntry)
+      → r.relocation.index < length o.symbols
+      → symbol_global input r.object o k r.relocation.index index ≡ Some x
+      → Resolves k r.relocation.index index x
+  global_resolves kind.Global index x within e =
+      let at = index_at (global_space input) (local_globals input r.object o) m.global_indices index x
+      known.map.globals e in
+      record {
+        place = at.0;
+        is = ap kept_index at.1 ∙ index_kept (global_space input) at.0 x known.room.globals at.2;
+        stands = at.2;
+      }
+  global_resolves kind.Data index x within e =
+      let listed : slice_get (got_mem_globals input r.object o) r.relocation.index ≡ Some (Some x) =
+      of_range (got_mem_global input r.object o) (length o.symbols) r.relocation.index within
+      ∙ ap (λ (y : Option GlobalEntry). Some y) e in
+      let at = place_at (global_space input) (got_mem_globals input r.object o) m.got_mem_globals
+      r.relocation.index x known.map.got_mem listed in
+      record { place = at.0; is = ap got_global at.1; stands = at.2 }
+  global_resolves kind.Func index x within e =
+      let listed : slice_get (got_func_globals input r.object o) r.relocation.index ≡ Some (Some x) =
+      of_range (got_func_global input r.object o) (length o.symbols) r.relocation.index within
+      ∙ ap (λ (y : Option GlobalEntry). Some y) e in
+      let at = place_at (global_space input) (got_func_globals input r.object o) m.got_func_globals
+      r.relocation.index x known.map.got_func listed in
+      record { place = at.0; is = ap got_global at.1; stands = at.2 }
+  global_resolves kind.Section index x within e = absurd cc
+  global_resolves kind.Event index x within e = absurd cc
+  global_resolves kind.Table index x within e = absurd cc
 
-pub body_at : (objects : List Object) (fs : List OutputFunction) (i : ℕ) (d : OutputFunction) → AllByRecursion (HasBody objects) (function_origins fs) → i < length fs → HasBody objects (get_or fs i d).origin
-body_at objects [] i d h lt = absurd (omega arith)
-body_at objects (f ∷ fs) zero d h lt = h.0
-body_at objects (f ∷ fs) (suc i) d h lt = body_at objects fs i d h.1 (omega (arith, lt))
+  global_answers : (left : ℤ) → left ≡ pos 0 → is_global_index r.relocation.ty ≡ true
+      → Answers input g r (Some GlobalIndex) left
+      (taken (resolver_of input g o m) r.relocation (Some GlobalIndex))
+  global_answers left no_rest is =
+      let h = known.laws.globals input r known.settled known.kept is in
+      let same = same_object h.named.object h.named.here in
+      let s = h.named.symbol in
+      let at : slice_get o.symbols r.relocation.index ≡ Some s =
+      subst (λ (p : Object). slice_get p.symbols r.relocation.index ≡ Some s) same h.named.at in
+      let stands : symbol_global input r.object o s.kind r.relocation.index s.index ≡ Some h.global =
+      subst (λ (p : Object). symbol_global input r.object p s.kind r.relocation.index s.index
+      ≡ Some h.global) same h.stands in
+      let found = global_resolves s.kind s.index h.global
+      (slice_get_within o.symbols r.relocation.index s at) stands in
+      let named_one : global_named input r ≡ Some h.global =
+      ap (option_and_then (λ (p : Object). option_and_then
+      (λ (t : LinkedSymbol). symbol_global input r.object p t.kind r.relocation.index t.index)
+      (slice_get p.symbols r.relocation.index))) known.here
+      ∙ (ap (option_and_then
+      (λ (t : LinkedSymbol). symbol_global input r.object o t.kind r.relocation.index t.index)) at
+      ∙ stands) in
+      answers_as input g r (Some GlobalIndex) left
+      (taken (resolver_of input g o m) r.relocation (Some GlobalIndex)) (Ok found.place)
+      (of_symbol GlobalIndex s at ∙ found.is)
+      (no_rest, (h.global, named_one, found.stands))
 
-bodies_suc : (objects : List Object) (fs : List OutputFunction) (i : ℕ) (d : OutputFunction) (bodies : List Body) (b : Body) → i < length fs → IsBodyOf objects (get_or fs i d).origin b → AllZip (IsBodyOf objects) (take i (function_origins fs)) bodies → AllZip (IsBodyOf objects) (take (suc i) (function_origins fs)) (bodies ++ b ∷ [])
-bodies_suc objects [] i d bodies b lt is h = absurd (omega arith)
-bodies_suc objects (f ∷ fs) zero d [] b lt is h = (is, tt)
-bodies_suc objects (f ∷ fs) zero d (y ∷ bodies) b lt is h = absurd h
-bodies_suc objects (f ∷ fs) (suc i) d [] b lt is h = absurd h
-bodies_suc objects (f ∷ fs) (suc i) d (y ∷ bodies) b lt is h = (h.0, bodies_suc objects fs i d bodies b (omega (arith, lt)) is h.1)
+  -- ---- tables
 
-pub bodies_more : (objects : List Object) (fs : List OutputFunction) (i : ℕ) (d : OutputFunction) (bodies : List Body) (b : Body) → i < length fs → IsBodyOf objects (get_or fs i d).origin b → AllZip (IsBodyOf objects) (take i (function_origins fs)) bodies → AllZip (IsBodyOf objects) (take (i + 1) (function_origins fs)) (bodies ++ b ∷ [])
-bodies_more objects fs i d bodies b lt is h = rw add-one (bodies_suc objects fs i d bodies b lt is h)
+  table_kind : (k : WasmSymbolKind) → is_table_kind k ≡ true → table_number k ≡ Ok 0
+  table_kind kind.Table e = refl
+  table_kind kind.Func e = absurd cc
+  table_kind kind.Data e = absurd cc
+  table_kind kind.Global e = absurd cc
+  table_kind kind.Section e = absurd cc
+  table_kind kind.Event e = absurd cc
+
+  table_answers : (left : ℤ) → left ≡ pos 0 → (n : Names) → is_table_kind n.symbol.kind ≡ true
+      → Answers input g r (Some TableNumber) left
+      (taken (resolver_of input g o m) r.relocation (Some TableNumber))
+  table_answers left no_rest n is =
+      answers_as input g r (Some TableNumber) left
+      (taken (resolver_of input g o m) r.relocation (Some TableNumber)) (Ok 0)
+      (of_symbol TableNumber n.symbol n.at ∙ table_kind n.symbol.kind is)
+      (no_rest, refl)
+
+  -- ---- addresses
+
+  data_kind : (k : WasmSymbolKind) → is_data k ≡ true → k ≡ kind.Data
+  data_kind kind.Data e = refl
+  data_kind kind.Func e = absurd cc
+  data_kind kind.Global e = absurd cc
+  data_kind kind.Section e = absurd cc
+  data_kind kind.Event e = absurd cc
+  data_kind kind.Table e = absurd cc
+
+  value_answers : (base : AddressBase) (left : ℤ) (value : Result ℤ RelocError)
+      → left ≡ addend_left base (address_named input g r) r.relocation.addend
+      → address_taken input g r base ≡ value
+      → Answers input g r (Some (Address base)) left (as_word value)
+  value_answers base left (Ok z) is at = (is, (z, at, refl))
+  value_answers base left (Err why) is at = (base, refl, at)
+
+  address_answers : (base : AddressBase) (left : ℤ)
+      → left ≡ addend_left base (address_named input g r) r.relocation.addend
+      → (n : Names) → is_data n.symbol.kind ≡ true
+      → Answers input g r (Some (Address base)) left
+      (taken (resolver_of input g o m) r.relocation (Some (Address base)))
+  address_answers base left is n data_is =
+      let by = resolver_of input g o m in
+      let listed : slice_get m.data_addresses r.relocation.index ≡ Some (address_named input g r) =
+      ap (λ (xs : List WasmDataAddress). slice_get xs r.relocation.index) known.map.addresses
+      ∙ of_range (symbol_address input g r.object) (length o.symbols) r.relocation.index n.within in
+      answers_as input g r (Some (Address base)) left
+      (taken by r.relocation (Some (Address base))) (as_word (address_taken input g r base))
+      (of_symbol (Address base) n.symbol n.at
+      ∙ (ap (λ (k : WasmSymbolKind). address_of by base r.relocation.addend k r.relocation.index)
+      (data_kind n.symbol.kind data_is)
+      ∙ ap (address_in by base r.relocation.addend) listed))
+      (value_answers base left (address_taken input g r base) is refl)
+
+  -- ---- all types
+
+  abbrev left_here : ℤ
+  left_here = left_of (address_named input g r) r.relocation
+
+  by_type : (ty : RelocationType) → r.relocation.ty ≡ ty
+      → Answers input g r (taking_of ty) left_here
+      (taken (resolver_of input g o m) r.relocation (taking_of ty))
+  by_type ty is = by ty is (left_zero (address_named input g r) r.relocation)
+    where
+      takes_at : (ty : RelocationType) → r.relocation.ty ≡ ty → (n : Names)
+          → takes_kind ty n.symbol.kind ≡ true
+      takes_at ty is n = ap (λ (t : RelocationType). takes_kind t n.symbol.kind) (sym is) ∙ n.takes
+
+      symbols : (ty : RelocationType) → r.relocation.ty ≡ ty → names_a_type ty ≡ false
+          → names_a_type r.relocation.ty ≡ false
+      symbols ty is e = ap names_a_type is ∙ e
+
+      asks : (ty : RelocationType) → r.relocation.ty ≡ ty
+          → (is_table_index ty || is_global_index ty) ≡ true
+          → (is_table_index r.relocation.ty || is_global_index r.relocation.ty) ≡ true
+      asks ty is e = ap (λ (t : RelocationType). is_table_index t || is_global_index t) is ∙ e
+
+      by : (ty : RelocationType) → r.relocation.ty ≡ ty
+          → (is_absolute r.relocation.ty ≡ false → left_here ≡ pos 0)
+          → Answers input g r (taking_of ty) left_here
+          (taken (resolver_of input g o m) r.relocation (taking_of ty))
+      by type.FunctionIndexLeb is no_rest =
+          let none = symbols type.FunctionIndexLeb is refl in
+          function_answers left_here (no_rest (ap is_absolute is)) none (named none)
+          (takes_at type.FunctionIndexLeb is (named none))
+      by type.FunctionIndexI32 is no_rest =
+          let none = symbols type.FunctionIndexI32 is refl in
+          function_answers left_here (no_rest (ap is_absolute is)) none (named none)
+          (takes_at type.FunctionIndexI32 is (named none))
+      by type.TableIndexSleb is no_rest =
+          let none = symbols type.TableIndexSleb is refl in
+          slot_answers left_here (no_rest (ap is_absolute is)) none (named none)
+          (takes_at type.TableIndexSleb is (named none)) (asks type.TableIndexSleb is refl)
+      by type.TableIndexI32 is no_rest =
+          let none = symbols type.TableIndexI32 is refl in
+          slot_answers left_here (no_rest (ap is_absolute is)) none (named none)
+          (takes_at type.TableIndexI32 is (named none)) (asks type.TableIndexI32 is refl)
+      by type.TableIndexRelSleb is no_rest =
+          let none = symbols type.TableIndexRelSleb is refl in
+          relative_answers left_here (no_rest (ap is_absolute is)) none (named none)
+          (takes_at type.TableIndexRelSleb is (named none)) (asks type.TableIndexRelSleb is refl)
+      by type.TypeIndexLeb is no_rest =
+          type_answers left_here (no_rest (ap is_absolute is)) (ap names_a_type is)
+      by type.GlobalIndexLeb is no_rest =
+          global_answers left_here (no_rest (ap is_absolute is)) (ap is_global_index is)
+      by type.GlobalIndexI32 is no_rest =
+          global_answers left_here (no_rest (ap is_absolute is)) (ap is_global_index is)
+      by type.TableNumberLeb is no_rest =
+          let none = symbols type.TableNumberLeb is refl in
+          table_answers left_here (no_rest (ap is_absolute is)) (named none)
+          (takes_at type.TableNumberLeb is (named none))
+      by type.MemoryAddrLeb is no_rest =
+          let none = symbols type.MemoryAddrLeb is refl in
+          address_answers Memory left_here
+          (left_addend (address_named input g r) r.relocation (ap is_absolute is)) (named none)
+          (takes_at type.MemoryAddrLeb is (named none))
+      by type.MemoryAddrSleb is no_rest =
+          let none = symbols type.MemoryAddrSleb is refl in
+          address_answers Memory left_here
+          (left_addend (address_named input g r) r.relocation (ap is_absolute is)) (named none)
+          (takes_at type.MemoryAddrSleb is (named none))
+      by type.MemoryAddrI32 is no_rest =
+          let none = symbols type.MemoryAddrI32 is refl in
+          address_answers Memory left_here
+          (left_addend (address_named input g r) r.relocation (ap is_absolute is)) (named none)
+          (takes_at type.MemoryAddrI32 is (named none))
+      by type.MemoryAddrRelSleb is no_rest =
+          let none = symbols type.MemoryAddrRelSleb is refl in
+          address_answers MemoryBase left_here (no_rest (ap is_absolute is)) (named none)
+          (takes_at type.MemoryAddrRelSleb is (named none))
+      by type.MemoryAddrTlsSleb is no_rest =
+          let none = symbols type.MemoryAddrTlsSleb is refl in
+          address_answers ThreadData left_here (no_rest (ap is_absolute is)) (named none)
+          (takes_at type.MemoryAddrTlsSleb is (named none))
+
+-- what a kept relocation takes, or why it can't take its address
+pub resolves_as : (input : Input) (g : Placing) (r : Relocated) (o : Object)
+    (m : WasmObjectIndexMap) → IsKnown input g r o m
+    → Answers input g r (taking_of r.relocation.ty) (left_of (address_named input g r) r.relocation)
+    (resolved (resolver_of input g o m) r.relocation)
+resolves_as input g r o m known = by_type input g r o m known r.relocation.ty refl
+
+-- what takes an address isn't refused one
+pub not_refused : (input : Input) (g : Placing) (r : Relocated) (value : ℕ) (left : ℤ)
+    (base : AddressBase) (why : RelocError) → IsTaken input g r (taking_of r.relocation.ty) value left
+    → taking_of r.relocation.ty ≡ Some (Address base) → address_taken input g r base ≡ Err why → ⊥
+not_refused input g r value left base why h takes fault =
+    let t : IsTaken input g r (Some (Address base)) value left =
+    subst (λ (x : Option Taking). IsTaken input g r x value left) takes h in
+    let is : address_taken input g r base ≡ Ok t.1.0 = t.1.1 in
+    absurd (let e : ◌≡◌ {A = Result ℤ RelocError} (Ok t.1.0) (Err why) = sym is ∙ fault in cc)
+
+-- the same, with what is known given one by one
+abbrev pub given : WasmObjectIndexMap → List LinkedSymbol → List ℕ → Placing → Resolver
+given m symbols slots g =
+    record { map = m; symbols = symbols; slots = slots; bases = bases_of g }
+
+pub answers_by : (input : Input) (g : Placing) (r : Relocated) (o : Object)
+    (m : WasmObjectIndexMap) (symbols : List LinkedSymbol) (slots : List ℕ)
+    → IsKnown input g r o m → symbols ≡ o.symbols → slots ≡ function_slots input
+    → Answers input g r (taking_of r.relocation.ty) (left_of (address_named input g r) r.relocation)
+    (resolved (given m symbols slots g) r.relocation)
+answers_by input g r o m symbols slots known symbols_are slots_are =
+    answers_as input g r (taking_of r.relocation.ty)
+    (left_of (address_named input g r) r.relocation)
+    (resolved (given m symbols slots g) r.relocation)
+    (resolved (resolver_of input g o m) r.relocation)
+    (ap (λ (xs : List LinkedSymbol). resolved (given m xs slots g) r.relocation) symbols_are
+    ∙ ap (λ (xs : List ℕ). resolved (given m o.symbols xs g) r.relocation) slots_are)
+    (resolves_as input g r o m known)
+
+-- ---- by what fixups are made from
+
+pub known_by : (s : FixupSources) (r : Relocated) (o : Object) (m : WasmObjectIndexMap) → Laws
+    → TableLaws → AreFixupSources s → Contains (relocations s.input.now) r
+    → slice_get s.input.now.link.objects r.object ≡ Some o → slice_get s.maps.now r.object ≡ Some m
+    → IsKnown s.input.now s.placing.now r o m
+known_by s r o m laws table sources kept here at = record {
+  laws = laws;
+  table = table;
+  settled = sources.settled;
+  room = sources.room;
+  kept = kept;
+  here = here;
+  map = map_of s.input.now s.placing.now s.maps.now r.object o m sources.maps here at;
+}
+
+-- what a relocation is resolved to, as an answer
+pub answers_of : (s : FixupSources) (r : Relocated) (o : Object) (m : WasmObjectIndexMap)
+    (symbols : List LinkedSymbol) (result : Result ℕ RelocError) → Laws
+    → TableLaws → AreFixupSources s → Contains (relocations s.input.now) r
+    → slice_get s.input.now.link.objects r.object ≡ Some o → slice_get s.maps.now r.object ≡ Some m
+    → symbols ≡ o.symbols
+    → result ≡ resolved (given m symbols s.slots.now s.placing.now) r.relocation
+    → Answers s.input.now s.placing.now r (taking_of r.relocation.ty)
+    (left_of (address_named s.input.now s.placing.now r) r.relocation) result
+answers_of s r o m symbols result laws table sources kept here at symbols_are is =
+    answers_as s.input.now s.placing.now r (taking_of r.relocation.ty)
+    (left_of (address_named s.input.now s.placing.now r) r.relocation) result
+    (resolved (given m symbols s.slots.now s.placing.now) r.relocation) is
+    (answers_by s.input.now s.placing.now r o m symbols s.slots.now
+    (known_by s r o m laws table sources kept here at) symbols_are sources.slots)
+
+-- what takes an address isn't refused
+pub clear_of : (s : FixupSources) (r : Relocated) (value : ℕ) (left : ℤ)
+    → IsTaken s.input.now s.placing.now r (taking_of r.relocation.ty) value left
+    → Clear (IsRefusedAt s r)
+clear_of s r value left h = record {
+  none = λ e f. not_refused s.input.now s.placing.now r value left f.base f.why h f.takes f.fault;
+}

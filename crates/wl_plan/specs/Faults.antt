@@ -1,30 +1,78 @@
 -- Why a link has no plan.
-use Rattle.std.specs.Prelude.{◌≡◌, ◌⊎◌, ◌<◌, List, length}
-use Rattle.wl_linking.specs.Object.{Object}
+use Rattle.std.specs.Prelude.{◌≡◌, ◌⊎◌, ◌≤◌, ◌^◌, List}
+use Rattle.wl_module.specs.Bodies.{Body}
+use Rattle.wl_linking.specs.Steps.{Step, NoStep}
 use Rattle.wl_linking.specs.declared.error.LinkError.{LinkError}
 use Rattle.wl_linking.specs.declared.error.LinkError.TheVariants.{TooLarge}
-use Rattle.wl_linking.specs.declared.error.Quantity.TheVariants.{Space}
-use Rattle.wl_linking.specs.Steps.{Step, NoStep}
+use Rattle.wl_linking.specs.declared.error.Quantity.TheVariants.{Size}
 use Rattle.wl_symbols.specs.Link.{Link}
 use Rattle.wl_symbols.specs.Repeats.{IsDuplicate}
-use Rattle.wl_live.specs.Live.{Live, IsLiveOf}
+use Rattle.wl_data.specs.Sizes.{all_encoded_bytes, body_bytes}
 use Rattle.wl_live.specs.Entry.{IsEntryFault}
 use Rattle.wl_live.specs.Faults.{IsKeptFault}
+use Rattle.wl_live.specs.Live.{Live, IsLiveOf}
+use Rattle.wl_bind.specs.Bound.{bind_steps}
+use Rattle.wl_bind.specs.Input.{Input}
+use Rattle.wl_bind.specs.SpaceFaults.{IsSpaceTooLarge}
+use Rattle.wl_plan.specs.Addresses.{IsAddressTooHigh}
+use Rattle.wl_plan.specs.Bodies.{AreBodies}
+use Rattle.wl_plan.specs.Fixups.{IsFixupFault}
+use Rattle.wl_plan.specs.Globals.{IsGlobalFault}
+use Rattle.wl_plan.specs.Placing.{IsPlacing, place_steps}
 use Rattle.wl_plan.specs.Planned.{IsNotYet, IsUnplannedOption}
-use Rattle.wl_plan.specs.Types.{output_types}
-use Rattle.wl_plan.specs.Space.{function_space}
-use Rattle.wl_types.specs.Types.{max_entries}
+use Rattle.wl_plan.specs.declared.placing.Placing.{Placing}
 
--- a space has too many entries: the types, or the functions
-abbrev pub HasTooMany : Live → List Object → Type 0
-HasTooMany live objects = (max_entries < length (output_types live objects)) ⊎ (max_entries < length (function_space live objects))
+-- ---- where it is known where things lie
 
--- a space of what is kept would have too many entries
-pub record IsTooLarge (link : Link) (e : LinkError) : Type 0 where
+-- a global can't start, or a field can't take an address
+abbrev pub IsValueFault : Input → Placing → LinkError → Type 0
+IsValueFault input g e = IsGlobalFault input g e ⊎ IsFixupFault input g e
+
+-- bodies of so many bytes that the size of their section can't be told
+pub record HasLargeBodies (input : Input) (g : Placing) : Type 0 where
+  pub bodies : List Body
+  pub are_bodies : AreBodies input g bodies
+  pub large : 2 ^ 62 ≤ body_bytes bodies
+
+-- the bodies, or the segments, have that many bytes together
+abbrev pub IsSizeFault : Input → Placing → LinkError → Type 0
+IsSizeFault input g e =
+    (e ≡ TooLarge Size)
+    × (HasLargeBodies input g ⊎ (2 ^ 62 ≤ all_encoded_bytes g.places.layouts))
+
+-- the reasons that are judged where each address is one, in their order
+abbrev pub value_steps : Input → Placing → LinkError → Type 0
+value_steps input g = Step (IsValueFault input g) (Step (IsSizeFault input g) NoStep)
+
+-- all of them
+abbrev pub placed_fault : Input → Placing → LinkError → Type 0
+placed_fault input g = Step (IsAddressTooHigh input g) (value_steps input g)
+
+-- one of them holds where things lie
+pub record IsPlacedFault (input : Input) (e : LinkError) : Type 0 where
+  pub placing : Placing
+  pub placed : IsPlacing input placing
+  pub fault : placed_fault input placing e
+
+-- ---- where it is known what is kept
+
+-- the reasons, in the order in which they are judged
+abbrev pub kept_fault : Input → LinkError → Type 0
+kept_fault input =
+    bind_steps input
+    (Step (IsSpaceTooLarge input) (place_steps input (Step (IsPlacedFault input) NoStep)))
+
+-- the link, and what is kept of it
+abbrev pub input_of : Link → Live → Input
+input_of link live = record { link = link; live = live }
+
+-- one of them holds where things are kept
+pub record IsLaterFault (link : Link) (e : LinkError) : Type 0 where
   pub live : Live
   pub kept : IsLiveOf link live
-  pub told : e ≡ TooLarge Space
-  pub over : HasTooMany live link.objects
+  pub fault : kept_fault (input_of link live) e
+
+-- ---- all of them
 
 -- why these objects have no plan: the first of these steps that has a cause
 abbrev pub link_fault : Link → LinkError → Type 0
@@ -34,5 +82,5 @@ link_fault link =
     (Step (IsUnplannedOption link.args)
     (Step (IsEntryFault link)
     (Step (IsKeptFault link)
-    (Step (IsTooLarge link)
+    (Step (IsLaterFault link)
     NoStep)))))

@@ -7,17 +7,17 @@ use Rattle.wl_linking.specs.Steps.{Clear}
 use Rattle.wl_symbols.specs.Link.{Link, link_of}
 use Rattle.wl_live.specs.Live.{Live, IsLiveOf}
 use Rattle.wl_plan.specs.Objects.{AreObjects, IsBadObject}
-use Rattle.wl_plan.specs.Faults.{link_fault}
+use Rattle.wl_plan.specs.Faults.{link_fault, input_of}
 use Rattle.wl_plan.specs.Plan.{IsPlan}
 use Rattle.wl_plan.specs.declared.layout.LinkPlan.{LinkPlan}
 
--- the plan of a link, to which no step has a cause: a unit is kept where collection is off, and else exactly where a chain of
--- references leads to it from a root
+-- the plan of a link, to which no step has a cause: a unit is kept where collection is off, and
+-- else exactly where a chain of references leads to it from a root
 pub record IsPlanOf (link : Link) (plan : LinkPlan) : Type 0 where
   pub clear : Clear (link_fault link)
   pub live : Live
   pub kept : IsLiveOf link live
-  pub is_plan : IsPlan link live plan
+  pub is_plan : IsPlan (input_of link live) plan
 
 -- the plan of the objects that these bytes are
 pub record IsLinkPlan (objects : List (List ℕ)) (args : WasmArgs) (plan : LinkPlan) : Type 0 where
@@ -27,4 +27,6 @@ pub record IsLinkPlan (objects : List (List ℕ)) (args : WasmArgs) (plan : Link
 
 -- an object isn't in the grammar, or all are, and have no plan
 abbrev pub HasLinkFault : List (List ℕ) → WasmArgs → LinkError → Type 0
-HasLinkFault objects args e = IsBadObject objects e ⊎ ((files : List Object) × AreObjects files objects × link_fault (link_of files args) e)
+HasLinkFault objects args e =
+    IsBadObject objects e
+    ⊎ ((files : List Object) × AreObjects files objects × link_fault (link_of files args) e)

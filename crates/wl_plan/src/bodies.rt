@@ -1,67 +1,289 @@
 //! The bodies of the functions, and the debug sections beside them.
 
-ghost use Rattle.std.specs.Prelude.{◌≡◌, ◌++◌, map, OnOk, IfOk};
-ghost use Rattle.std.specs.List.{AllByRecursion, AllZip};
-ghost use Rattle.wl_plan.specs.Plan.{function_origins, IsBodyOf, object_debug_sections};
-ghost use Rattle.wl_plan.specs.Building.{HasBody, placed_body, debug_in};
+ghost use Rattle.std.specs.Prelude.{◌≡◌, ◌≤◌, ◌<◌, ◌^◌, ◌++◌, ◌||◌, length, map, false, if◌then◌else◌, Some, OnOk, IfOk, IfErr, slice_get};
+ghost use Rattle.std.specs.Cow.{cow_slice_items};
+ghost use Rattle.wl_module.specs.Slices.{is_owned};
+ghost use Rattle.wl_linking.specs.declared.error.LinkError.TheVariants.{OutOfMemory};
+ghost use Rattle.wl_types.specs.Types.{max_entries};
+ghost use Rattle.wl_symbols.specs.declared.linker_symbol.WasmLinkerSymbol.TheVariants.{CallCtors};
+ghost use Rattle.wl_bind.specs.FunctionSpace.{made_function_part, stub_part, functions_of};
+ghost use Rattle.wl_plan.specs.Addresses.{segment_space};
+ghost use Rattle.wl_plan.specs.Bodies.{body_in, AreBodies, object_debug_sections};
+ghost use Rattle.wl_plan.specs.BodySteps.{kept_number, AreNewNumbers, AreAllNumbers, AreSoundBodies, HasSoundBody, IsBodyFrom, AddsMadeBody, AddsBodies, debug_in};
+ghost use Rattle.wl_plan.specs.Bound.{AreBindings};
+ghost use Rattle.wl_plan.specs.FunctionSteps.{own_function_part};
+ghost use Rattle.wl_plan.specs.IndexedMaps.{AreWholeMaps};
+ghost use Rattle.wl_plan.specs.Placing.{IsPlacing};
 
-use crate::layout::{FunctionOrigin, OutputFunction};
+use crate::bindings::Bindings;
+use crate::parsing::link_error;
+use crate::placing::Placing;
 use std::alloc::{AllocError, Global};
 use std::borrow::CowSlice;
-use wl_linking::{DebugSectionInput, File};
+use wl_bind::{LinkInput, WASM_DEAD_INDEX, WasmObjectIndexMap, stub_imports};
+use wl_data::segments_have_layouts;
+use wl_linking::{
+    DebugSectionInput, File, ItemList, LinkError, parts_of_objects_stand, whole_objects,
+};
+use wl_live::{WasmGcUnit, live_units_are_closed};
 use wl_module::WasmFunctionBody;
+use wl_ops::remap_body_data_indices;
+use wl_symbols::WasmLinkerSymbol;
+use wl_synth::{EMPTY_FUNCTION_BODY, UNREACHABLE_FUNCTION_BODY};
 
-/// The same body, of that object.
-fn copy_body<'a>(
-    alloc: Global,
-    object: usize,
-    body: &WasmFunctionBody<'a>,
-) -> Result<WasmFunctionBody<'a>, AllocError>
-    ensures { IfOk result (λ copy. copy ≡ placed_body object body.now) }
+// ---- numbers of segments
+
+/// The number, unless it says that there is none.
+fn kept_number(index: u32) -> Option<u32>
+    ensures { result ≡ kept_number index }
 {
-    let bytes = match &body.bytes {
-        CowSlice::Borrowed(bytes) => CowSlice::Borrowed(*bytes),
-        CowSlice::Owned(bytes) => CowSlice::Owned(Vec::from_slice(alloc, bytes.as_slice())?),
+    if index == WASM_DEAD_INDEX {
+        None
+    } else {
+        Some(index)
+    }
+}
+
+/// The numbers of an object's segments in the output; none for what isn't kept.
+fn object_numbers(alloc: Global, indices: &[u32]) -> Result<ItemList<Option<u32>>, AllocError>
+    ensures { IfOk result (λ numbers. numbers ≡ map kept_number indices.now) }
+{
+    let mut numbers = Vec::new(alloc);
+    for index in indices {
+        numbers.push(kept_number(*index))?;
+    }
+    Ok(ItemList::new(numbers))
+}
+
+/// Those of all objects, object by object.
+///
+/// # Errors
+/// `AllocError` where memory runs out.
+pub(crate) fn all_numbers(
+    alloc: Global,
+    input: &LinkInput<'_, '_>,
+    placing: &Placing<'_>,
+    maps: &[WasmObjectIndexMap],
+) -> Result<ItemList<ItemList<Option<u32>>>, AllocError>
+    requires maps { AreWholeMaps input.now placing.now maps.now }
+    requires placed { IsPlacing input.now placing.now }
+    requires room { length (segment_space placing.now) ≤ max_entries }
+    ensures { IfOk result (AreAllNumbers input.now placing.now) }
+{
+    segments_have_layouts();
+    let _live = input.live();
+    let mut numbers = Vec::new(alloc);
+    for map in maps {
+        numbers.push(object_numbers(alloc, map.segment_indices.as_slice())?)?;
+    }
+    Ok(ItemList::new(numbers))
+}
+
+/// The same bytes.
+fn copy_bytes<'a>(alloc: Global, bytes: &CowSlice<'a, u8>) -> Result<CowSlice<'a, u8>, AllocError>
+    ensures bytes { IfOk result (λ copy. cow_slice_items copy ≡ cow_slice_items bytes.now) }
+    ensures owned { IfOk result (λ copy. is_owned copy ≡ is_owned bytes.now) }
+{
+    match bytes {
+        CowSlice::Borrowed(bytes) => Ok(CowSlice::Borrowed(*bytes)),
+        CowSlice::Owned(bytes) => Ok(CowSlice::Owned(Vec::from_slice(alloc, bytes.as_slice())?)),
+    }
+}
+
+/// The bytes of a body that was rewritten, or wasn't.
+fn rewritten<'a>(
+    alloc: Global,
+    bytes: &CowSlice<'a, u8>,
+    copy: CowSlice<'a, u8>,
+    changed: bool,
+) -> Result<CowSlice<'a, u8>, AllocError>
+    ensures bytes { IfOk result (λ b. cow_slice_items b
+        ≡ (if changed then cow_slice_items copy.entry else cow_slice_items bytes.now)) }
+    ensures owned { IfOk result (λ b. is_owned b ≡ (is_owned bytes.now || changed)) }
+{
+    if changed {
+        Ok(CowSlice::Owned(copy.into_owned(alloc)?))
+    } else {
+        copy_bytes(alloc, bytes)
+    }
+}
+
+/// The body of a kept function of an object, with the numbers that segments have in the output.
+///
+/// # Errors
+/// Want of memory alone: kept bodies are decoded, and what they number is kept.
+fn renumbered<'a>(
+    alloc: Global,
+    input: &LinkInput<'_, '_>,
+    placing: &Placing<'_>,
+    body: &WasmFunctionBody<'a>,
+    object: usize,
+    numbers: &[Option<u32>],
+) -> Result<WasmFunctionBody<'a>, LinkError>
+    requires sound { HasSoundBody input.now object body.now }
+    requires numbers { AreNewNumbers input.now placing.now object numbers.now }
+    ensures ok { IfOk result (IsBodyFrom input.now placing.now object body.now) }
+    ensures err { IfErr result (λ e. e ≡ OutOfMemory) }
+{
+    live_units_are_closed();
+    parts_of_objects_stand();
+    let mut copy = copy_bytes(alloc, &body.bytes)?;
+    let changed = match remap_body_data_indices(alloc, &mut copy, numbers, &mut []) {
+        Ok(changed) => changed,
+        Err(error) => return Err(link_error(object, error)),
     };
     Ok(WasmFunctionBody {
-        bytes,
+        bytes: rewritten(alloc, &body.bytes, copy, changed)?,
         code_offset: body.code_offset,
         object_index: object,
     })
 }
 
-/// The body of a function.
-fn body_of<'a>(
+// ---- bodies
+
+/// Adds a body that the linker makes.
+fn push_made<'a>(
     alloc: Global,
-    files: &[File<'a>],
-    origin: FunctionOrigin,
-) -> Result<WasmFunctionBody<'a>, AllocError>
-    requires { HasBody files.now origin }
-    ensures { IfOk result (IsBodyOf files.now origin) }
+    bodies: &mut Vec<WasmFunctionBody<'a>>,
+    bytes: &[u8],
+) -> Result<(), AllocError>
+    ensures { OnOk result (AddsMadeBody bytes.now bodies.old.items bodies.new.items) }
 {
-    match origin {
-        FunctionOrigin::Object { object, unit } => {
-            copy_body(alloc, object, &files[object].bodies()[unit as usize])
-        }
+    bodies.push(WasmFunctionBody {
+        bytes: CowSlice::Owned(Vec::from_slice(alloc, bytes)?),
+        code_offset: 0,
+        object_index: 0,
+    })?;
+    Ok(())
+}
+
+/// Adds the body of what calls the constructors, where the output has it.
+fn push_call_ctors<'a>(
+    alloc: Global,
+    bodies: &mut Vec<WasmFunctionBody<'a>>,
+    input: &LinkInput<'_, 'a>,
+    placing: &Placing<'a>,
+    bindings: &Bindings<'a>,
+) -> Result<(), AllocError>
+    requires { AreBindings input.now bindings.now }
+    ensures { OnOk result (AddsBodies input.now placing.now
+        (made_function_part input.now CallCtors) bodies.old.items bodies.new.items) }
+{
+    match bindings.indices.index(WasmLinkerSymbol::CallCtors) {
+        Some(_) => push_made(alloc, bodies, EMPTY_FUNCTION_BODY.as_slice()),
+        None => Ok(()),
     }
 }
 
-/// A body for each of these functions.
-pub(crate) fn all_bodies<'a>(
+/// Adds the bodies of the stubs.
+fn push_stubs<'a>(
     alloc: Global,
-    files: &[File<'a>],
-    functions: &[OutputFunction],
-) -> Result<Vec<WasmFunctionBody<'a>>, AllocError>
-    requires { AllByRecursion (HasBody files.now) (function_origins functions.now) }
-    ensures { IfOk result
-        (λ bodies. AllZip (IsBodyOf files.now) (function_origins functions.now) bodies.items) }
+    bodies: &mut Vec<WasmFunctionBody<'a>>,
+    input: &LinkInput<'_, 'a>,
+    placing: &Placing<'a>,
+) -> Result<(), AllocError>
+    ensures { OnOk result (AddsBodies input.now placing.now (stub_part input.now)
+        bodies.old.items bodies.new.items) }
+{
+    let stubs = stub_imports(alloc, input)?;
+    let list = stubs.as_slice();
+    let mut made = 0;
+    while made < list.len() {
+        push_made(alloc, bodies, UNREACHABLE_FUNCTION_BODY.as_slice())?;
+        made += 1;
+    }
+    Ok(())
+}
+
+/// Adds the body of a function of an object, where that is kept.
+fn push_kept<'a>(
+    alloc: Global,
+    bodies: &mut Vec<WasmFunctionBody<'a>>,
+    input: &LinkInput<'_, 'a>,
+    placing: &Placing<'a>,
+    site: (usize, usize),
+    body: &WasmFunctionBody<'a>,
+    numbers: &[Option<u32>],
+) -> Result<(), LinkError>
+    requires sound { AreSoundBodies input.now }
+    requires few { site.1 < 2 ^ 32 }
+    requires here { body_in input.now site.0 site.1 ≡ Some body.now }
+    requires numbers { AreNewNumbers input.now placing.now site.0 numbers.now }
+    ensures ok { OnOk result (AddsBodies input.now placing.now
+        (own_function_part input.now site.0 site.1) bodies.old.items bodies.new.items) }
+    ensures err { IfErr result (λ e. e ≡ OutOfMemory) }
+{
+    let (object, function) = site;
+    let unit = WasmGcUnit::DefinedFunction(function as u32);
+    if !input.live().is_live(object, unit) {
+        return Ok(());
+    }
+    bodies.push(renumbered(alloc, input, placing, body, object, numbers)?)?;
+    Ok(())
+}
+
+/// Adds the bodies of the kept functions of an object.
+fn push_bodies<'a>(
+    alloc: Global,
+    bodies: &mut Vec<WasmFunctionBody<'a>>,
+    input: &LinkInput<'_, 'a>,
+    placing: &Placing<'a>,
+    object: usize,
+    file: &File<'a>,
+    numbers: &[Option<u32>],
+) -> Result<(), LinkError>
+    requires sound { AreSoundBodies input.now }
+    requires here { slice_get input.now.link.objects object ≡ Some file.now }
+    requires numbers { AreNewNumbers input.now placing.now object numbers.now }
+    ensures ok { OnOk result (AddsBodies input.now placing.now
+        (functions_of input.now object file.now) bodies.old.items bodies.new.items) }
+    ensures err { IfErr result (λ e. e ≡ OutOfMemory) }
+{
+    file.stands_for_an_object();
+    whole_objects();
+    for (function, body) in file.bodies().iter().enumerate() {
+        push_kept(
+            alloc,
+            bodies,
+            input,
+            placing,
+            (object, function),
+            body,
+            numbers,
+        )?;
+    }
+    Ok(())
+}
+
+/// The bodies of the functions that aren't imported, in order.
+///
+/// # Errors
+/// Want of memory alone.
+pub(crate) fn output_bodies<'a>(
+    alloc: Global,
+    input: &LinkInput<'_, 'a>,
+    placing: &Placing<'a>,
+    bindings: &Bindings<'a>,
+    numbers: &[ItemList<Option<u32>>],
+) -> Result<ItemList<WasmFunctionBody<'a>>, LinkError>
+    requires sound { AreSoundBodies input.now }
+    requires bindings { AreBindings input.now bindings.now }
+    requires numbers { AreAllNumbers input.now placing.now numbers.now }
+    requires alone { input.now.link.args.shared_memory ≡ false }
+    ensures ok { IfOk result (AreBodies input.now placing.now) }
+    ensures err { IfErr result (λ e. e ≡ OutOfMemory) }
 {
     let mut bodies = Vec::new(alloc);
-    for function in functions {
-        bodies.push(body_of(alloc, files, function.origin)?)?;
+    push_call_ctors(alloc, &mut bodies, input, placing, bindings)?;
+    push_stubs(alloc, &mut bodies, input, placing)?;
+    for (object, file) in input.files().as_slice().iter().enumerate() {
+        let row = numbers[object].as_slice();
+        push_bodies(alloc, &mut bodies, input, placing, object, file, row)?;
     }
-    Ok(bodies)
+    Ok(ItemList::new(bodies))
 }
+
+// ---- debug sections
 
 /// Adds the debug sections of an object.
 fn push_debug_sections<'a>(
@@ -86,12 +308,12 @@ fn push_debug_sections<'a>(
 pub(crate) fn all_debug_sections<'a>(
     alloc: Global,
     files: &[File<'a>],
-) -> Result<Vec<DebugSectionInput<'a>>, AllocError>
-    ensures { IfOk result (λ sections. sections.items ≡ object_debug_sections 0 files.now) }
+) -> Result<ItemList<DebugSectionInput<'a>>, AllocError>
+    ensures { IfOk result (λ sections. sections ≡ object_debug_sections 0 files.now) }
 {
     let mut sections = Vec::new(alloc);
     for (object, file) in files.iter().enumerate() {
         push_debug_sections(&mut sections, object, file.debug_inputs())?;
     }
-    Ok(sections)
+    Ok(ItemList::new(sections))
 }

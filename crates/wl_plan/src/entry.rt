@@ -1,23 +1,31 @@
 //! The function at which the program begins, and the exports.
 
-ghost use Rattle.std.specs.Prelude.{◌≡◌, ◌++◌, OnOk, IfOk};
-ghost use Rattle.wl_plan.specs.Plan.{function_maps};
-ghost use Rattle.wl_plan.specs.Entry.{function_in, named_function};
-ghost use Rattle.wl_plan.specs.Building.{index_by, named_exports, exports_by, IsMapped, IsNameMapped, IsEntryMapped};
+ghost use Rattle.std.specs.Prelude.{◌≡◌, ◌++◌, Some, OnOk, IfOk};
+ghost use Rattle.wl_linking.specs.Steps.{Clear};
+ghost use Rattle.wl_live.specs.Entry.{IsEntryFault};
+ghost use Rattle.wl_bind.specs.Input.{Input};
+ghost use Rattle.wl_plan.specs.Bound.{AreBindings};
+ghost use Rattle.wl_plan.specs.Entry.{memory_exports, is_memory_name, AreExports};
+ghost use Rattle.wl_plan.specs.EntrySteps.{target_in, named_target, IsEntryTarget, AddsEntry};
+ghost use Rattle.wl_plan.specs.IndexedMaps.{AreWholeMaps};
 
-use crate::layout::{FunctionOrigin, WasmObjectIndexMap};
+use crate::bindings::Bindings;
+use crate::placing::Placing;
+use crate::table::function_index;
 use std::alloc::{AllocError, Global};
-use wl_linking::{File, ItemList};
-use wl_live::{WasmGcUnit, wasm_gc_unit_for_symbol};
+use wl_bind::{FunctionTarget, LinkInput, WasmObjectIndexMap};
+use wl_linking::ItemList;
+use wl_live::{WasmGcUnit, live_units_are_closed, wasm_gc_unit_for_symbol};
 use wl_module::{ExternalKind, OutputExport};
+use wl_slots::definitions_have_numbers;
 use wl_symbols::{Definition, SymbolTable, WasmArgs};
 
 /// The function that a unit of an object is.
-fn function_in(object: usize, unit: WasmGcUnit) -> Option<FunctionOrigin>
-    ensures { result ≡ function_in object unit }
+fn target_in(object: usize, unit: WasmGcUnit) -> Option<FunctionTarget>
+    ensures { result ≡ target_in object unit }
 {
     match unit {
-        WasmGcUnit::DefinedFunction(unit) => Some(FunctionOrigin::Object { object, unit }),
+        WasmGcUnit::DefinedFunction(function) => Some(FunctionTarget::Defined { object, function }),
         WasmGcUnit::DefinedGlobal(_)
         | WasmGcUnit::DataSegment(_)
         | WasmGcUnit::FunctionImport(_)
@@ -26,76 +34,142 @@ fn function_in(object: usize, unit: WasmGcUnit) -> Option<FunctionOrigin>
 }
 
 /// The function that a name stands for, where an object defines it.
-fn named_function(symbols: &SymbolTable<'_, '_>, name: &str) -> Option<FunctionOrigin>
-    ensures { result ≡ named_function symbols.now name.now }
+fn named_target(symbols: &SymbolTable<'_, '_>, name: &str) -> Option<FunctionTarget>
+    ensures { result ≡ named_target symbols.now name.now }
 {
     let Definition::Symbol { object, symbol } = symbols.lookup(name)? else {
         return None;
     };
     let file = symbols.files().get(object)?;
     let symbol = file.symbols().get(symbol as usize)?;
-    function_in(object, wasm_gc_unit_for_symbol(file, symbol)?)
+    target_in(object, wasm_gc_unit_for_symbol(file, symbol)?)
 }
 
-/// The name under which the memory is exported.
-const MEMORY_NAME: &str = "memory";
-
-/// The index of a function in the space, by the map of its object.
-fn index_of(files: &[File<'_>], maps: &[WasmObjectIndexMap], function: FunctionOrigin) -> u32
-    requires { IsMapped files.now (function_maps maps.now) function }
-    ensures { result ≡ index_by files.now (function_maps maps.now) function }
+/// Adds the export of the memory, where it is exported.
+fn push_memory<'a>(
+    exports: &mut Vec<OutputExport<'a>>,
+    input: &LinkInput<'_, 'a>,
+    args: &'a WasmArgs,
+) -> Result<(), AllocError>
+    requires { args.now ≡ input.now.link.args }
+    ensures { OnOk result (exports.new.items ≡ exports.old.items ++ memory_exports input.now) }
 {
-    match function {
-        FunctionOrigin::Object { object, unit } => {
-            let imported = files[object].num_function_imports();
-            maps[object].function_indices.as_slice()[imported + unit as usize]
+    let Some(name) = args.memory_export_name() else {
+        return Ok(());
+    };
+    exports.push(OutputExport {
+        name,
+        kind: ExternalKind::Memory,
+        index: 0,
+    })?;
+    Ok(())
+}
+
+/// The name is taken by the memory.
+fn is_memory_name(args: &WasmArgs, name: &str) -> bool
+    ensures { (link : Input) → args.now ≡ link.link.args → result ≡ is_memory_name link name.now }
+{
+    match args.memory_export_name() {
+        Some(memory) => memory == name,
+        None => false,
+    }
+}
+
+/// The function that the name of the entry stands for.
+fn entry_target(
+    input: &LinkInput<'_, '_>,
+    bindings: &Bindings<'_>,
+    name: &str,
+) -> Option<FunctionTarget>
+    requires bindings { AreBindings input.now bindings.now }
+    requires entry { Clear (IsEntryFault input.now.link) }
+    requires asked { input.now.link.args.entry ≡ Some name.now }
+    ensures { IsEntryTarget input.now name.now result }
+{
+    live_units_are_closed();
+    definitions_have_numbers();
+    let symbols = input.symbols();
+    named_target(symbols, name)
+}
+
+/// Adds the export of the entry of that name, unless the name is taken.
+fn push_function<'a>(
+    exports: &mut Vec<OutputExport<'a>>,
+    input: &LinkInput<'_, 'a>,
+    args: &'a WasmArgs,
+    placing: &Placing<'a>,
+    bindings: &Bindings<'a>,
+    maps: &[WasmObjectIndexMap],
+    name: &'a str,
+) -> Result<(), AllocError>
+    requires args { args.now ≡ input.now.link.args }
+    requires bindings { AreBindings input.now bindings.now }
+    requires maps { AreWholeMaps input.now placing.now maps.now }
+    requires entry { Clear (IsEntryFault input.now.link) }
+    requires asked { input.now.link.args.entry ≡ Some name.now }
+    ensures { OnOk result (AddsEntry input.now exports.old.items exports.new.items) }
+{
+    if is_memory_name(args, name) {
+        return Ok(());
+    }
+    match entry_target(input, bindings, name) {
+        Some(target) => {
+            let index = function_index(input, placing, bindings, maps, target);
+            exports.push(OutputExport {
+                name,
+                kind: ExternalKind::Func,
+                index,
+            })?;
+            Ok(())
         }
+        None => Ok(()),
     }
 }
 
 /// Adds the export of the entry, unless its name is taken.
 fn push_entry<'a>(
     exports: &mut Vec<OutputExport<'a>>,
-    symbols: &SymbolTable<'_, '_>,
+    input: &LinkInput<'_, 'a>,
+    args: &'a WasmArgs,
+    placing: &Placing<'a>,
+    bindings: &Bindings<'a>,
     maps: &[WasmObjectIndexMap],
-    name: &'a str,
 ) -> Result<(), AllocError>
-    requires { IsNameMapped symbols.now (function_maps maps.now) name.now }
-    ensures { OnOk result (exports.new.items
-        ≡ exports.old.items ++ named_exports symbols.now (function_maps maps.now) name.now) }
+    requires args { args.now ≡ input.now.link.args }
+    requires bindings { AreBindings input.now bindings.now }
+    requires maps { AreWholeMaps input.now placing.now maps.now }
+    requires entry { Clear (IsEntryFault input.now.link) }
+    ensures { OnOk result (AddsEntry input.now exports.old.items exports.new.items) }
 {
-    if name == MEMORY_NAME {
-        return Ok(());
+    match &args.entry {
+        Some(entry) => {
+            let name = entry.as_str();
+            push_function(exports, input, args, placing, bindings, maps, name)
+        }
+        None => Ok(()),
     }
-    if let Some(function) = named_function(symbols, name) {
-        exports.push(OutputExport {
-            name,
-            kind: ExternalKind::Func,
-            index: index_of(symbols.files().as_slice(), maps, function),
-        })?;
-    }
-    Ok(())
 }
 
 /// The exports: the memory, and then the entry.
-pub(crate) fn exports<'a>(
+///
+/// # Errors
+/// `AllocError` where memory runs out.
+pub(crate) fn output_exports<'a>(
     alloc: Global,
-    symbols: &SymbolTable<'_, '_>,
+    input: &LinkInput<'_, 'a>,
     args: &'a WasmArgs,
+    placing: &Placing<'a>,
+    bindings: &Bindings<'a>,
     maps: &[WasmObjectIndexMap],
 ) -> Result<ItemList<OutputExport<'a>>, AllocError>
-    requires { IsEntryMapped symbols.now (function_maps maps.now) args.now.entry }
-    ensures { IfOk result (λ exports.
-        exports ≡ exports_by symbols.now (function_maps maps.now) args.now.entry) }
+    requires args { args.now ≡ input.now.link.args }
+    requires bindings { AreBindings input.now bindings.now }
+    requires maps { AreWholeMaps input.now placing.now maps.now }
+    requires entry { Clear (IsEntryFault input.now.link) }
+    ensures { IfOk result (AreExports input.now) }
 {
     let mut exports = Vec::new(alloc);
-    exports.push(OutputExport {
-        name: MEMORY_NAME,
-        kind: ExternalKind::Memory,
-        index: 0,
-    })?;
-    if let Some(name) = &args.entry {
-        push_entry(&mut exports, symbols, maps, name.as_str())?;
-    }
+    push_memory(&mut exports, input, args)?;
+    push_entry(&mut exports, input, args, placing, bindings, maps)?;
     Ok(ItemList::new(exports))
 }

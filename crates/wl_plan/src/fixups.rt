@@ -1,52 +1,254 @@
 //! What the kept relocations become.
 
-ghost use Rattle.std.specs.Prelude.{◌≡◌, map, IfOk};
-ghost use Rattle.std.specs.List.{AllByRecursion};
-ghost use Rattle.wl_plan.specs.Plan.{function_maps};
-ghost use Rattle.wl_plan.specs.Building.{fixup_by, HasIndex};
+ghost use Rattle.std.specs.Prelude.{◌≡◌, ◌<◌, pos, ◌+ℤ◌, ◌-ℤ◌, length, Some, Contains, IfOk, OnOk, IfErr, slice_get};
+ghost use Rattle.std.specs.List.{AllZip};
+ghost use Rattle.wl_linking.specs.Steps.{Clear, Refuses};
+ghost use Rattle.wl_reloc.specs.Takings.{taking_of};
+ghost use Rattle.wl_reloc.specs.declared.takings.AddressBase.{AddressBase as Base};
+ghost use Rattle.wl_reloc.specs.declared.takings.Taking.TheVariants.{Address};
+ghost use Rattle.wl_bind.specs.Scan.{relocations};
+ghost use Rattle.wl_plan.specs.Bodies.{IsMovedIn};
+ghost use Rattle.wl_plan.specs.FixupSteps.{AreFixupSources, is_absolute, left_at, left_of, counted_base, number_by, IsRefusedAt};
+ghost use Rattle.wl_plan.specs.Fixups.{no_address, address_named, bases_of, address_refusal, IsFixup, AreFixups, IsFixupFault};
 
-use crate::layout::{Fixup, FixupTo, WasmObjectIndexMap};
-use std::alloc::{AllocError, Global};
-use wl_bind::Relocated;
-use wl_linking::File;
+use crate::layout::{Fixup, FixupTo};
+use crate::placing::Placing;
+use std::alloc::Global;
+use wl_bind::{
+    LinkInput, Relocated, WasmObjectIndexMap, references_are_kept, same_targets_are_one,
+    table_functions_stand_once,
+};
+use wl_data::WasmDataAddress;
+use wl_linking::{File, ItemList, LinkError, RelocationType, whole_objects};
+use wl_module::Form;
+use wl_reloc::{RelocError, resolve_reloc};
 
-/// What a relocation becomes: the index to which the map of its object leads its function.
-fn fixup_at(files: &[File<'_>], maps: &[WasmObjectIndexMap], relocated: &Relocated) -> Fixup
-    requires { HasIndex files.now (function_maps maps.now) relocated.now }
-    ensures { result ≡ fixup_by files.now (function_maps maps.now) relocated.now }
+/// What fixups are made from.
+#[derive(Drop)]
+pub(crate) struct FixupSources<'s, 'i, 'a> {
+    /// The link, and what is kept of it.
+    pub(crate) input: &'s LinkInput<'i, 'a>,
+    /// Where data, stack and heap lie.
+    pub(crate) placing: &'s Placing<'a>,
+    /// Where the things of each object stand.
+    pub(crate) maps: &'s [WasmObjectIndexMap],
+    /// The slots of functions by their indices.
+    pub(crate) slots: &'s [u32],
+}
+
+/// The relocation takes an address that counts from the start of the memory.
+fn is_absolute(ty: RelocationType) -> bool
+    ensures { result ≡ is_absolute ty }
 {
-    let object = relocated.object;
-    let file = &files[object];
-    file.stands_for_an_object();
-    let symbol = &file.symbols()[relocated.relocation.index as usize];
-    let indices = maps[object].function_indices.as_slice();
-    Fixup {
-        object,
-        place: relocated.place,
-        unit: relocated.site.unit as u32,
-        position: relocated.site.position,
-        ty: relocated.relocation.ty,
-        to: FixupTo::Value {
-            value: indices[symbol.index as usize],
-            addend_left: 0,
-        },
+    matches!(
+        ty,
+        RelocationType::MemoryAddrLeb
+            | RelocationType::MemoryAddrSleb
+            | RelocationType::MemoryAddrI32
+    )
+}
+
+/// The refusal of an address without a place, or in the block of a thread.
+fn no_address(object: usize, address: WasmDataAddress) -> LinkError
+    ensures { result ≡ no_address object address }
+{
+    let form = match address {
+        WasmDataAddress::Passive => Form::PassiveAddress,
+        WasmDataAddress::Missing | WasmDataAddress::Placed(_) | WasmDataAddress::TlsOffset(_) =>
+            Form::TlsAddress,
+    };
+    LinkError::Unsupported { object, form }
+}
+
+/// What is left to be added to the value of a relocation of that type, which takes that address.
+fn left_of(address: WasmDataAddress, ty: RelocationType, addend: i32) -> i32
+    ensures { result ≡ left_at address (is_absolute ty) addend }
+{
+    match address {
+        WasmDataAddress::Placed(_) => { if is_absolute(ty) { addend } else { 0 } }
+        WasmDataAddress::Missing | WasmDataAddress::Passive | WasmDataAddress::TlsOffset(_) => 0,
     }
 }
 
-/// The fixups of these relocations, whose functions the maps lead to the space.
+/// A place counted from a base, with what is added to it.
+fn counted_from(place: u32, base: u32, addend: i32) -> i64
+    ensures { result ≡ (pos place -ℤ pos base) +ℤ addend }
+{
+    i64::from(place) - i64::from(base) + i64::from(addend)
+}
+
+/// The number that would stand in the field that takes the address, counted from that base.
+fn number_by(base: u32, address: WasmDataAddress, addend: i32) -> i64
+    ensures { result ≡ number_by base address addend }
+{
+    match address {
+        WasmDataAddress::Missing => counted_from(0, base, addend),
+        WasmDataAddress::Placed(place) => counted_from(place, base, addend),
+        WasmDataAddress::Passive => 0,
+        WasmDataAddress::TlsOffset(place) => counted_from(place, 0, addend),
+    }
+}
+
+/// The map of an object.
+fn map_at(maps: &[WasmObjectIndexMap], object: usize) -> &WasmObjectIndexMap
+    requires { object < length maps.now }
+    ensures { slice_get maps.now object ≡ Some result.now }
+{
+    &maps[object]
+}
+
+/// An object.
+fn file_at<'f, 'a>(files: &'f [File<'a>], object: usize) -> &'f File<'a>
+    requires { object < length files.now }
+    ensures { slice_get files.now object ≡ Some result.now }
+{
+    &files[object]
+}
+
+impl<'s, 'i, 'a> FixupSources<'s, 'i, 'a> {
+    /// The address of the data symbol that a relocation names.
+    fn address(&self, relocated: &Relocated) -> WasmDataAddress
+        requires sources { AreFixupSources self.now }
+        requires kept { Contains (relocations self.now.input.now) relocated.now }
+        ensures { result ≡ address_named self.now.input.now self.now.placing.now relocated.now }
+    {
+        let map = map_at(self.maps, relocated.object);
+        map.data_address(relocated.relocation.index)
+            .unwrap_or(WasmDataAddress::Missing)
+    }
+
+    /// What is added to what the symbol stands for.
+    fn addend(&self, relocated: &Relocated) -> i32
+        requires sources { AreFixupSources self.now }
+        requires kept { Contains (relocations self.now.input.now) relocated.now }
+        ensures { result ≡ relocated.now.relocation.addend }
+    {
+        relocated.relocation.addend as i32
+    }
+
+    /// What is left to be added to the value of a relocation: an address in the memory leaves the
+    /// addend.
+    fn addend_left(&self, relocated: &Relocated) -> i32
+        requires sources { AreFixupSources self.now }
+        requires kept { Contains (relocations self.now.input.now) relocated.now }
+        ensures { result ≡ left_of (address_named self.now.input.now self.now.placing.now
+            relocated.now) relocated.now.relocation }
+    {
+        let addend = self.addend(relocated);
+        left_of(self.address(relocated), relocated.relocation.ty, addend)
+    }
+
+    /// The address from which that in a field of that type is counted.
+    fn counted_base(&self, ty: RelocationType) -> u32
+        ensures { result ≡ counted_base ty (bases_of self.now.placing.now) }
+    {
+        match ty {
+            RelocationType::MemoryAddrRelSleb => self.placing.memory_base,
+            RelocationType::MemoryAddrTlsSleb => self.placing.places.tls_base,
+            _ => 0,
+        }
+    }
+
+    /// The number that would stand in the field of a relocation that takes an address.
+    fn number_taken(&self, relocated: &Relocated) -> i64
+        requires sources { AreFixupSources self.now }
+        requires kept { Contains (relocations self.now.input.now) relocated.now }
+        ensures { result ≡ number_by
+            (counted_base relocated.now.relocation.ty (bases_of self.now.placing.now))
+            (address_named self.now.input.now self.now.placing.now relocated.now)
+            relocated.now.relocation.addend }
+    {
+        let base = self.counted_base(relocated.relocation.ty);
+        number_by(base, self.address(relocated), self.addend(relocated))
+    }
+
+    /// Why a relocation has no value, as a refusal of the plan.
+    fn refusal(&self, relocated: &Relocated, error: RelocError) -> LinkError
+        requires sources { AreFixupSources self.now }
+        requires kept { Contains (relocations self.now.input.now) relocated.now }
+        ensures { (base : Base) → taking_of relocated.now.relocation.ty ≡ Some (Address base)
+            → result ≡ address_refusal self.now.placing.now relocated.now base
+            (address_named self.now.input.now self.now.placing.now relocated.now) error }
+    {
+        match error {
+            RelocError::Range => LinkError::RelocationRange {
+                object: relocated.object,
+                offset: relocated.relocation.offset,
+                value: self.number_taken(relocated),
+            },
+            RelocError::OutOfRange
+            | RelocError::Removed
+            | RelocError::WrongKind
+            | RelocError::NoSlot
+            | RelocError::NoGot
+            | RelocError::Unsupported => no_address(relocated.object, self.address(relocated)),
+        }
+    }
+
+    /// What a kept relocation becomes, whose field stands there in what the output has.
+    fn fixup(&self, relocated: &Relocated, position: u32) -> Result<Fixup, LinkError>
+        requires sources { AreFixupSources self.now }
+        requires kept { Contains (relocations self.now.input.now) relocated.now }
+        requires moved { IsMovedIn self.now.input.now self.now.placing.now relocated.now position }
+        ensures ok { IfOk result (IsFixup self.now.input.now self.now.placing.now relocated.now) }
+        ensures clear { OnOk result (Clear (IsRefusedAt self.now relocated.now)) }
+        ensures err { IfErr result (IsRefusedAt self.now relocated.now) }
+    {
+        references_are_kept();
+        same_targets_are_one();
+        table_functions_stand_once();
+        whole_objects();
+        let file = file_at(self.input.files().as_slice(), relocated.object);
+        let symbols = file.symbols();
+        let value = match resolve_reloc(
+            map_at(self.maps, relocated.object),
+            &relocated.relocation,
+            symbols,
+            self.slots,
+            self.placing.memory_base,
+            self.placing.places.tls_base,
+        ) {
+            Ok(value) => value,
+            Err(error) => return Err(self.refusal(relocated, error)),
+        };
+        Ok(Fixup {
+            object: relocated.object,
+            place: relocated.place,
+            unit: relocated.site.unit as u32,
+            position,
+            ty: relocated.relocation.ty,
+            to: FixupTo::Value {
+                value,
+                addend_left: self.addend_left(relocated),
+            },
+        })
+    }
+}
+
+/// What the kept relocations become, whose fields stand there in what the output has.
+///
+/// # Errors
+/// `Unsupported` where the address of the data that one names has no value in its field, and
+/// `RelocationRange` where the value doesn't fit.
 pub(crate) fn all_fixups(
     alloc: Global,
-    files: &[File<'_>],
-    maps: &[WasmObjectIndexMap],
-    relocations: &[Relocated],
-) -> Result<Vec<Fixup>, AllocError>
-    requires { AllByRecursion (HasIndex files.now (function_maps maps.now)) relocations.now }
-    ensures { IfOk result
-        (λ fixups. fixups.items ≡ map (fixup_by files.now (function_maps maps.now)) relocations.now) }
+    sources: &FixupSources<'_, '_, '_>,
+    kept: &[Relocated],
+    positions: &[u32],
+) -> Result<ItemList<Fixup>, LinkError>
+    requires sources { AreFixupSources sources.now }
+    requires kept { kept.now ≡ relocations sources.now.input.now }
+    requires positions { AllZip (IsMovedIn sources.now.input.now sources.now.placing.now)
+        kept.now positions.now }
+    ensures ok { IfOk result (AreFixups sources.now.input.now sources.now.placing.now) }
+    ensures clear { OnOk result
+        (Clear (IsFixupFault sources.now.input.now sources.now.placing.now)) }
+    ensures err { IfErr result
+        (Refuses (IsFixupFault sources.now.input.now sources.now.placing.now)) }
 {
     let mut fixups = Vec::new(alloc);
-    for relocated in relocations {
-        fixups.push(fixup_at(files, maps, relocated))?;
+    for (place, relocated) in kept.iter().enumerate() {
+        fixups.push(sources.fixup(relocated, positions[place])?)?;
     }
-    Ok(fixups)
+    Ok(ItemList::new(fixups))
 }

@@ -1,57 +1,427 @@
-//! The globals that the linker makes.
+//! The globals of the output that aren't imported, each with what it starts with.
 
-ghost use Rattle.std.specs.Prelude.{◌≡◌, IfOk, pos, true};
+ghost use Rattle.std.specs.Prelude.{◌≡◌, ◌++◌, List, [], ◌∷◌, map, true, Some, Contains, IfOk, OnOk, IfErr, slice_get};
 ghost use Rattle.std.specs.Cow.{cow_slice_items};
 ghost use Rattle.wl_module.specs.Slices.{is_owned};
-ghost use Rattle.wl_plan.specs.Space.{made_globals};
-ghost use Rattle.wl_plan.specs.Globals.{IsConstant, IsMadeGlobal, AreRightGlobals};
-ghost use Rattle.wl_plan.specs.Plan.{global_origins};
-ghost use Rattle.wl_plan.specs.declared.layout.MadeGlobal.TheVariants.{StackPointer as StackPointerCase};
+ghost use Rattle.wl_linking.specs.Steps.{Clear, Refuses};
+ghost use Rattle.wl_bind.specs.ExportedAddresses.{exported_addresses};
+ghost use Rattle.wl_bind.specs.GlobalSpace.{GlobalOf, AddressOf, DataOf, made_global_part, address_part, got_mem_part, got_func_part, globals_of, object_globals};
+ghost use Rattle.wl_bind.specs.declared.binding.GlobalTarget.TheVariants as global;
+ghost use Rattle.wl_plan.specs.GlobalSteps.{AreSources, IsStarted, AddsMade, AddsPart, IsPartFault, is_linker_global, linker_parts, made_parts, own_global_part};
+ghost use Rattle.wl_plan.specs.Globals.{IsConstant, word_of_made, global_in, ArePlannedGlobals, IsGlobalFault};
 
+use crate::global_starts::{GlobalSources, Start};
 use crate::layout::{GlobalOrigin, MadeGlobal, PlannedGlobal};
 use std::alloc::{AllocError, Global};
 use std::borrow::CowSlice;
+use wl_bind::DataSymbol;
 use wl_bytes::push_sleb;
-use wl_linking::ItemList;
+use wl_linking::{File, ItemList, LinkError};
+use wl_live::WasmGcUnit;
 use wl_module::{GlobalType, OutputGlobal, ValType};
-use wl_symbols::DEFAULT_STACK_SIZE;
+use wl_symbols::WasmLinkerSymbol;
+
+// ---- constants
 
 /// The opcode of `i32.const`.
 const I32_CONST: u8 = 0x41;
 
 /// The expression of a number.
 fn constant<'a>(alloc: Global, number: u32) -> Result<CowSlice<'a, u8>, AllocError>
-    ensures value { IfOk result (λ body. IsConstant (pos number) (cow_slice_items body)) }
+    ensures value { IfOk result (λ body. IsConstant number (cow_slice_items body)) }
     ensures owned { IfOk result (λ body. is_owned body ≡ true) }
 {
     let mut body = Vec::new(alloc);
     body.push(I32_CONST)?;
-    push_sleb(&mut body, i64::from(number))?;
+    push_sleb(&mut body, number.cast_signed() as i64)?;
     Ok(CowSlice::Owned(body))
 }
 
-/// The stack pointer: at the top of the stack, below which no data lies.
-fn stack_pointer<'a>(alloc: Global) -> Result<OutputGlobal<'a>, AllocError>
-    ensures { IfOk result (IsMadeGlobal StackPointerCase) }
+// ---- the globals, part by part
+
+/// What a thing of the linker's is told as.
+fn word_of(made: WasmLinkerSymbol) -> MadeGlobal
+    ensures { result ≡ word_of_made made }
 {
+    match made {
+        WasmLinkerSymbol::MemoryBase => MadeGlobal::MemoryBase,
+        WasmLinkerSymbol::TableBase => MadeGlobal::TableBase,
+        WasmLinkerSymbol::StackPointer => MadeGlobal::StackPointer,
+        WasmLinkerSymbol::TlsBase => MadeGlobal::TlsBase,
+        WasmLinkerSymbol::TlsSize => MadeGlobal::TlsSize,
+        WasmLinkerSymbol::TlsAlign => MadeGlobal::TlsAlign,
+        WasmLinkerSymbol::DataEnd
+        | WasmLinkerSymbol::GlobalBase
+        | WasmLinkerSymbol::HeapBase
+        | WasmLinkerSymbol::HeapEnd
+        | WasmLinkerSymbol::WasmFirstPageEnd
+        | WasmLinkerSymbol::DsoHandle
+        | WasmLinkerSymbol::CallCtors
+        | WasmLinkerSymbol::InitTls => MadeGlobal::Address,
+    }
+}
+
+/// A global that starts so.
+fn started_global<'a>(alloc: Global, start: Start) -> Result<OutputGlobal<'a>, AllocError>
+    ensures { IfOk result (IsStarted start) }
+{
+    let init_expr_body = constant(alloc, start.number)?;
     Ok(OutputGlobal {
         ty: GlobalType {
             content_type: ValType::I32,
-            mutable: true,
+            mutable: start.mutable,
         },
-        init_expr_body: constant(alloc, DEFAULT_STACK_SIZE)?,
+        init_expr_body,
     })
 }
 
-/// The globals of the output: those that the linker makes.
-pub(crate) fn made_globals<'a>(alloc: Global) -> Result<ItemList<PlannedGlobal<'a>>, AllocError>
-    ensures origins { IfOk result (λ globals. global_origins globals ≡ made_globals) }
-    ensures started { IfOk result AreRightGlobals }
+/// Adds a global that the linker makes.
+fn push_made<'a>(
+    alloc: Global,
+    globals: &mut Vec<PlannedGlobal<'a>>,
+    made: MadeGlobal,
+    start: Start,
+) -> Result<(), AllocError>
+    ensures { OnOk result (AddsMade made start globals.old.items globals.new.items) }
+{
+    let global = started_global(alloc, start)?;
+    globals.push(PlannedGlobal {
+        global,
+        origin: GlobalOrigin::Made(made),
+    })?;
+    Ok(())
+}
+
+/// Adds the global that the linker makes under a name.
+fn push_named<'a>(
+    alloc: Global,
+    globals: &mut Vec<PlannedGlobal<'a>>,
+    sources: &GlobalSources<'_, '_, '_, 'a>,
+    made: WasmLinkerSymbol,
+) -> Result<(), LinkError>
+    requires { AreSources sources.now }
+    ensures ok { OnOk result (AddsPart sources.now (GlobalOf (global.Made made) ∷ [])
+        globals.old.items globals.new.items) }
+    ensures err { IfErr result (Refuses (IsPartFault sources.now
+        (GlobalOf (global.Made made) ∷ []))) }
+{
+    let start = sources.made_start(made)?;
+    push_made(alloc, globals, word_of(made), start)?;
+    Ok(())
+}
+
+/// Adds the global that the linker makes under a name, where the output has it.
+fn push_if_made<'a>(
+    alloc: Global,
+    globals: &mut Vec<PlannedGlobal<'a>>,
+    sources: &GlobalSources<'_, '_, '_, 'a>,
+    made: WasmLinkerSymbol,
+) -> Result<(), LinkError>
+    requires sources { AreSources sources.now }
+    requires kind { is_linker_global made ≡ true }
+    ensures ok { OnOk result (AddsPart sources.now
+        (made_global_part sources.now.book.now.input.now made)
+        globals.old.items globals.new.items) }
+    ensures err { IfErr result (Refuses (IsPartFault sources.now
+        (made_global_part sources.now.book.now.input.now made))) }
+{
+    match sources.bindings.indices.index(made) {
+        Some(_) => push_named(alloc, globals, sources, made),
+        None => Ok(()),
+    }
+}
+
+/// Adds the globals that the linker makes under names of their own.
+fn push_linker_globals<'a>(
+    alloc: Global,
+    globals: &mut Vec<PlannedGlobal<'a>>,
+    sources: &GlobalSources<'_, '_, '_, 'a>,
+) -> Result<(), LinkError>
+    requires { AreSources sources.now }
+    ensures ok { OnOk result (AddsPart sources.now
+        (linker_parts sources.now.book.now.input.now) globals.old.items globals.new.items) }
+    ensures err { IfErr result (Refuses (IsPartFault sources.now
+        (linker_parts sources.now.book.now.input.now))) }
+{
+    push_if_made(alloc, globals, sources, WasmLinkerSymbol::MemoryBase)?;
+    push_if_made(alloc, globals, sources, WasmLinkerSymbol::TableBase)?;
+    push_if_made(alloc, globals, sources, WasmLinkerSymbol::StackPointer)?;
+    push_if_made(alloc, globals, sources, WasmLinkerSymbol::TlsBase)?;
+    push_if_made(alloc, globals, sources, WasmLinkerSymbol::TlsSize)?;
+    push_if_made(alloc, globals, sources, WasmLinkerSymbol::TlsAlign)?;
+    Ok(())
+}
+
+/// Adds an exported address of the linker's.
+fn push_address<'a>(
+    alloc: Global,
+    globals: &mut Vec<PlannedGlobal<'a>>,
+    sources: &GlobalSources<'_, '_, '_, 'a>,
+    made: WasmLinkerSymbol,
+) -> Result<(), LinkError>
+    requires sources { AreSources sources.now }
+    requires exported { Contains
+        (exported_addresses sources.now.book.now.input.now.link.args) made }
+    ensures ok { OnOk result (AddsPart sources.now (AddressOf made ∷ [])
+        globals.old.items globals.new.items) }
+    ensures err { IfErr result (Refuses (IsPartFault sources.now (AddressOf made ∷ []))) }
+{
+    let start = sources.address_start(made)?;
+    push_made(alloc, globals, MadeGlobal::Address, start)?;
+    Ok(())
+}
+
+/// Adds the exported addresses of the linker's.
+fn push_addresses<'a>(
+    alloc: Global,
+    globals: &mut Vec<PlannedGlobal<'a>>,
+    sources: &GlobalSources<'_, '_, '_, 'a>,
+    addresses: &[WasmLinkerSymbol],
+) -> Result<(), LinkError>
+    requires sources { AreSources sources.now }
+    requires all { addresses.now ≡ exported_addresses sources.now.book.now.input.now.link.args }
+    ensures ok { OnOk result (AddsPart sources.now
+        (address_part sources.now.book.now.input.now) globals.old.items globals.new.items) }
+    ensures err { IfErr result (Refuses (IsPartFault sources.now
+        (address_part sources.now.book.now.input.now))) }
+{
+    for made in addresses {
+        push_address(alloc, globals, sources, *made)?;
+    }
+    Ok(())
+}
+
+/// Adds an entry of the GOT list of data.
+fn push_mem<'a>(
+    alloc: Global,
+    globals: &mut Vec<PlannedGlobal<'a>>,
+    sources: &GlobalSources<'_, '_, '_, 'a>,
+    place: usize,
+) -> Result<(), LinkError>
+    requires { AreSources sources.now }
+    ensures ok { OnOk result (AddsPart sources.now (GlobalOf (global.GotMem place) ∷ [])
+        globals.old.items globals.new.items) }
+    ensures err { IfErr result (Refuses (IsPartFault sources.now
+        (GlobalOf (global.GotMem place) ∷ []))) }
+{
+    let start = sources.got_mem_start(place)?;
+    push_made(alloc, globals, MadeGlobal::GotMem, start)?;
+    Ok(())
+}
+
+/// Adds the entries of the GOT list of data.
+fn push_got_mem<'a>(
+    alloc: Global,
+    globals: &mut Vec<PlannedGlobal<'a>>,
+    sources: &GlobalSources<'_, '_, '_, 'a>,
+) -> Result<(), LinkError>
+    requires { AreSources sources.now }
+    ensures ok { OnOk result (AddsPart sources.now
+        (got_mem_part sources.now.book.now.input.now) globals.old.items globals.new.items) }
+    ensures err { IfErr result (Refuses (IsPartFault sources.now
+        (got_mem_part sources.now.book.now.input.now))) }
+{
+    for place in 0..sources.mem_count() {
+        push_mem(alloc, globals, sources, place)?;
+    }
+    Ok(())
+}
+
+/// Adds an entry of the GOT list of functions.
+fn push_func<'a>(
+    alloc: Global,
+    globals: &mut Vec<PlannedGlobal<'a>>,
+    sources: &GlobalSources<'_, '_, '_, 'a>,
+    place: usize,
+) -> Result<(), LinkError>
+    requires { AreSources sources.now }
+    ensures ok { OnOk result (AddsPart sources.now (GlobalOf (global.GotFunc place) ∷ [])
+        globals.old.items globals.new.items) }
+    ensures err { IfErr result (Refuses (IsPartFault sources.now
+        (GlobalOf (global.GotFunc place) ∷ []))) }
+{
+    let start = sources.got_func_start(place)?;
+    push_made(alloc, globals, MadeGlobal::GotFunc, start)?;
+    Ok(())
+}
+
+/// Adds the entries of the GOT list of functions.
+fn push_got_func<'a>(
+    alloc: Global,
+    globals: &mut Vec<PlannedGlobal<'a>>,
+    sources: &GlobalSources<'_, '_, '_, 'a>,
+) -> Result<(), LinkError>
+    requires { AreSources sources.now }
+    ensures ok { OnOk result (AddsPart sources.now
+        (got_func_part sources.now.book.now.input.now) globals.old.items globals.new.items) }
+    ensures err { IfErr result (Refuses (IsPartFault sources.now
+        (got_func_part sources.now.book.now.input.now))) }
+{
+    for place in 0..sources.func_count() {
+        push_func(alloc, globals, sources, place)?;
+    }
+    Ok(())
+}
+
+/// Adds the address of exported data of an object.
+fn push_datum<'a>(
+    alloc: Global,
+    globals: &mut Vec<PlannedGlobal<'a>>,
+    sources: &GlobalSources<'_, '_, '_, 'a>,
+    datum: DataSymbol,
+) -> Result<(), LinkError>
+    requires { AreSources sources.now }
+    ensures ok { OnOk result (AddsPart sources.now (DataOf datum ∷ [])
+        globals.old.items globals.new.items) }
+    ensures err { IfErr result (Refuses (IsPartFault sources.now (DataOf datum ∷ []))) }
+{
+    let start = sources.data_start(datum)?;
+    push_made(alloc, globals, MadeGlobal::Data, start)?;
+    Ok(())
+}
+
+/// Adds the addresses of exported data of objects.
+fn push_data<'a>(
+    alloc: Global,
+    globals: &mut Vec<PlannedGlobal<'a>>,
+    sources: &GlobalSources<'_, '_, '_, 'a>,
+    exported: &[DataSymbol],
+) -> Result<(), LinkError>
+    requires { AreSources sources.now }
+    ensures ok { OnOk result (AddsPart sources.now
+        (map DataOf exported.now) globals.old.items globals.new.items) }
+    ensures err { IfErr result (Refuses (IsPartFault sources.now (map DataOf exported.now))) }
+{
+    for datum in exported {
+        push_datum(alloc, globals, sources, *datum)?;
+    }
+    Ok(())
+}
+
+// ---- what objects define
+
+/// The same global.
+fn copy_global<'a>(alloc: Global, global: &OutputGlobal<'a>) -> Result<OutputGlobal<'a>, AllocError>
+    ensures { IfOk result (λ copy. copy ≡ global.now) }
+{
+    let init_expr_body = match &global.init_expr_body {
+        CowSlice::Borrowed(bytes) => CowSlice::Borrowed(*bytes),
+        CowSlice::Owned(bytes) => CowSlice::Owned(Vec::from_slice(alloc, bytes.as_slice())?),
+    };
+    Ok(OutputGlobal {
+        ty: global.ty,
+        init_expr_body,
+    })
+}
+
+/// Adds a global of an object, where it is kept.
+fn push_kept<'a>(
+    alloc: Global,
+    globals: &mut Vec<PlannedGlobal<'a>>,
+    sources: &GlobalSources<'_, '_, '_, 'a>,
+    object: usize,
+    number: u32,
+    global: &OutputGlobal<'a>,
+) -> Result<(), AllocError>
+    requires { global_in sources.now.book.now.input.now.link.objects object number
+        ≡ Some global.now }
+    ensures { OnOk result (AddsPart sources.now
+        (own_global_part sources.now.book.now.input.now object number)
+        globals.old.items globals.new.items) }
+{
+    let live = sources.book.input.live();
+    if !live.is_live(object, WasmGcUnit::DefinedGlobal(number)) {
+        return Ok(());
+    }
+    globals.push(PlannedGlobal {
+        global: copy_global(alloc, global)?,
+        origin: GlobalOrigin::Object {
+            object,
+            unit: number,
+        },
+    })?;
+    Ok(())
+}
+
+/// Adds the kept globals of an object.
+fn push_globals<'a>(
+    alloc: Global,
+    globals: &mut Vec<PlannedGlobal<'a>>,
+    sources: &GlobalSources<'_, '_, '_, 'a>,
+    object: usize,
+    file: &File<'a>,
+) -> Result<(), AllocError>
+    requires { slice_get sources.now.book.now.input.now.link.objects object ≡ Some file.now }
+    ensures { OnOk result (AddsPart sources.now
+        (globals_of sources.now.book.now.input.now object file.now)
+        globals.old.items globals.new.items) }
+{
+    file.stands_for_an_object();
+    for (number, global) in file.globals().iter().enumerate() {
+        push_kept(alloc, globals, sources, object, number as u32, global)?;
+    }
+    Ok(())
+}
+
+/// Adds the kept globals of all objects.
+fn push_objects<'a>(
+    alloc: Global,
+    globals: &mut Vec<PlannedGlobal<'a>>,
+    sources: &GlobalSources<'_, '_, '_, 'a>,
+) -> Result<(), AllocError>
+    ensures { OnOk result (AddsPart sources.now
+        (object_globals sources.now.book.now.input.now) globals.old.items globals.new.items) }
+{
+    for (object, file) in sources.book.input.files().as_slice().iter().enumerate() {
+        push_globals(alloc, globals, sources, object, file)?;
+    }
+    Ok(())
+}
+
+// ---- all of them
+
+/// Adds all globals that aren't imported.
+fn push_all<'a>(
+    alloc: Global,
+    globals: &mut Vec<PlannedGlobal<'a>>,
+    sources: &GlobalSources<'_, '_, '_, 'a>,
+) -> Result<(), LinkError>
+    requires { AreSources sources.now }
+    ensures ok { OnOk result (AddsPart sources.now
+        (made_parts sources.now.book.now.input.now
+        ++ object_globals sources.now.book.now.input.now) globals.old.items globals.new.items) }
+    ensures err { IfErr result (Refuses (IsPartFault sources.now
+        (made_parts sources.now.book.now.input.now))) }
+{
+    push_linker_globals(alloc, globals, sources)?;
+    push_addresses(alloc, globals, sources, sources.addresses())?;
+    push_got_mem(alloc, globals, sources)?;
+    push_got_func(alloc, globals, sources)?;
+    push_data(alloc, globals, sources, sources.dynamic())?;
+    push_data(alloc, globals, sources, sources.forced())?;
+    push_objects(alloc, globals, sources)?;
+    Ok(())
+}
+
+/// The globals of the output that aren't imported: what the linker makes, and then what objects
+/// define.
+///
+/// # Errors
+/// `Unsupported` where an entry of the GOT list of data or exported data has an address that has no
+/// value, and `ConstantRange` where a number is above 2147483647.
+pub(crate) fn planned_globals<'a>(
+    alloc: Global,
+    sources: &GlobalSources<'_, '_, '_, 'a>,
+) -> Result<ItemList<PlannedGlobal<'a>>, LinkError>
+    requires { AreSources sources.now }
+    ensures ok { IfOk result
+        (ArePlannedGlobals sources.now.book.now.input.now sources.now.book.now.placing.now) }
+    ensures clear { OnOk result (Clear
+        (IsGlobalFault sources.now.book.now.input.now sources.now.book.now.placing.now)) }
+    ensures err { IfErr result (Refuses
+        (IsGlobalFault sources.now.book.now.input.now sources.now.book.now.placing.now)) }
 {
     let mut globals = Vec::new(alloc);
-    globals.push(PlannedGlobal {
-        global: stack_pointer(alloc)?,
-        origin: GlobalOrigin::Made(MadeGlobal::StackPointer),
-    })?;
+    push_all(alloc, &mut globals, sources)?;
     Ok(ItemList::new(globals))
 }

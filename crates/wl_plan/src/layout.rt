@@ -2,15 +2,17 @@
 
 ghost use Rattle.std.specs.Prelude.{◌≡◌};
 ghost use Rattle.std.specs.List.{count_by};
-ghost use Rattle.wl_plan.specs.Imports.{is_function_import, is_global_import};
+ghost use Rattle.wl_plan.specs.PlannedImports.{is_function_import, is_global_import};
 
 use std::alloc::Global;
 use std::marker::Model;
-use wl_bind::FixupPlace;
+use wl_bind::{FixupPlace, WasmObjectIndexMap};
+use wl_data::SegmentLayouts;
 use wl_linking::{DebugSectionInput, ItemList, RelocationType};
 use wl_module::{
     FuncType, GlobalType, MemoryType, OutputExport, OutputGlobal, TableType, WasmFunctionBody,
 };
+use wl_symbols::WasmLinkerSymbol;
 
 /// What an entity that the output imports is.
 #[derive(Clone, Copy, Debug, PartialEq, Eq)]
@@ -35,7 +37,7 @@ pub struct OutputImport<'a> {
 }
 
 impl<'a> Model for OutputImport<'a> {
-    ghost use Rattle.wl_plan.specs.Imports.{PlannedImport};
+    ghost use Rattle.wl_plan.specs.PlannedImports.{PlannedImport};
 
     ghost Value = { PlannedImport };
 
@@ -44,19 +46,36 @@ impl<'a> Model for OutputImport<'a> {
 
 /// Where a function of the output is from.
 #[derive(Clone, Copy, Debug, PartialEq, Eq)]
-pub enum FunctionOrigin {
+pub enum FunctionOrigin<'a> {
     /// A function that an object defines: the object's number, and the function's in it, where
     /// definitions alone are counted.
     Object { object: usize, unit: u32 },
+    /// A function that the linker makes under a name.
+    Made(WasmLinkerSymbol),
+    /// What copies data for all threads.
+    InitMemory,
+    /// What stands in the place of a weak function of that name that nothing defines.
+    Stub { name: &'a str },
+    /// What runs the constructors around an export of that name.
+    Wrap { name: &'a str },
 }
 
-/// A function of the output that isn't imported.
-#[derive(Clone, Copy, Debug, PartialEq, Eq)]
-pub struct OutputFunction {
+/// A function of the output that isn't imported. Clauses see it as a `PlannedFunction`.
+#[derive(Drop)]
+pub struct OutputFunction<'a> {
     /// Its type among the output types.
     pub type_index: u32,
     /// Where it is from.
-    pub origin: FunctionOrigin,
+    pub origin: FunctionOrigin<'a>,
+}
+
+impl<'a> Model for OutputFunction<'a> {
+    ghost use Rattle.wl_plan.specs.Origins.{PlannedFunction};
+    ghost use Rattle.wl_plan.specs.OriginsSeen.{origin_seen};
+
+    ghost Value = { PlannedFunction };
+
+    ghost view = { λ f. record { type_index = f.type_index; origin = origin_seen f.origin } };
 }
 
 /// What a global that the linker makes stands for.
@@ -130,15 +149,6 @@ pub struct Fixup {
     pub to: FixupTo,
 }
 
-/// Where the things of an object stand in the output, by their numbers in the object.
-#[derive(Drop)]
-pub struct WasmObjectIndexMap {
-    /// The output type of each type, 4294967295 where the output has no use for it.
-    pub type_indices: ItemList<u32>,
-    /// The index of each function in the function space, imported ones first.
-    pub function_indices: ItemList<u32>,
-}
-
 /// What the output module holds, in the order of its spaces.
 #[derive(Drop)]
 pub struct WasmLayout<'a> {
@@ -147,7 +157,7 @@ pub struct WasmLayout<'a> {
     /// What is imported: functions, globals, and then the memory.
     pub imports: ItemList<OutputImport<'a>>,
     /// The functions that aren't imported, with their types.
-    pub function_type_indices: ItemList<OutputFunction>,
+    pub function_type_indices: ItemList<OutputFunction<'a>>,
     /// Their bodies.
     pub function_bodies: ItemList<WasmFunctionBody<'a>>,
     /// The globals that aren't imported.
@@ -156,10 +166,32 @@ pub struct WasmLayout<'a> {
     pub memory: Option<MemoryType>,
     /// The table, where there is one.
     pub table: Option<TableType>,
+    /// The functions of the table by their indices, from its second slot on.
+    pub element_functions: ItemList<u32>,
+    /// The slot of each function by its index: 0 for a stub, 4294967295 for what has none.
+    pub function_table_slots: ItemList<u32>,
+    /// The segments, object by object, where they lie.
+    pub object_data_layouts: ItemList<SegmentLayouts<'a>>,
     /// What others may refer to.
     pub exports: ItemList<OutputExport<'a>>,
     /// The function that runs at the start, where there is one.
     pub start_function: Option<u32>,
+    /// The address from which that of data counts.
+    pub memory_base: u32,
+    /// The address from which that of data counts of which each thread has its own.
+    pub tls_base: u32,
+    /// Whether that data goes into a block of each thread.
+    pub shared_memory_tls: bool,
+    /// The bytes of that block; 0 where there is none.
+    pub tls_size: u32,
+    /// The alignment of that block in bytes; 0 where there is none.
+    pub tls_align: u32,
+    /// The address behind all data.
+    pub data_end: u32,
+    /// How many bytes the code section takes.
+    pub code_section_size: u64,
+    /// How many bytes the data section takes.
+    pub data_section_size: u64,
     /// The debug sections of all objects, by object and place.
     pub debug_sections: ItemList<DebugSectionInput<'a>>,
     /// Where the things of each object stand, by the object's number.

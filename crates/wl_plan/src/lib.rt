@@ -1,30 +1,38 @@
 //! The plan of the output module: [`plan_link`] leads from the bytes of objects to it.
 #![tactic(auto)]
 
+mod addresses;
+mod bindings;
 mod bodies;
 mod entry;
 mod fixups;
+mod functions;
+mod global_starts;
 mod globals;
+mod imports;
+mod index_maps;
+mod kept_data;
 mod laws;
 mod layout;
 mod link;
-mod maps;
-mod merge;
 mod objects;
+mod parsing;
+mod placing;
 mod plan;
 mod planned;
-mod spaces;
+mod positions;
+mod sizes;
+mod table;
 
-pub use laws::{functions_stand_once, link_plan_or_fault, plan_or_fault, types_stand_once};
+pub use laws::{link_plan_or_fault, plan_or_fault};
 pub use layout::{
     Fixup, FixupTo, FunctionOrigin, GlobalOrigin, LinkPlan, MadeGlobal, OutputFunction,
-    OutputImport, OutputImportEntity, PlannedGlobal, WasmLayout, WasmObjectIndexMap,
-    count_output_imports,
+    OutputImport, OutputImportEntity, PlannedGlobal, WasmLayout, count_output_imports,
 };
 pub use link::{plan_files, plan_link};
 pub use objects::{MAX_OBJECT, ObjectList, PushError};
-pub use wl_bind::FixupPlace;
-pub use wl_types::{TypeMerger, WASM_DEAD_INDEX};
+pub use wl_bind::{FixupPlace, TypeMerger, WASM_DEAD_INDEX, WasmObjectIndexMap};
+pub use wl_reloc::{RelocError, deferred_tls_template_pointer, resolve_reloc};
 
 #[cfg(test)]
 mod tests;

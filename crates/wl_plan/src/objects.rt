@@ -50,8 +50,8 @@ impl ObjectList {
     /// Takes an object at the end.
     ///
     /// # Errors
-    /// `TooLong` exactly where it has more than `MAX_OBJECT` bytes, and want of memory. The object is then handed
-    /// back, and the list is as it was.
+    /// `TooLong` exactly where it has more than `MAX_OBJECT` bytes, and want of memory. The object
+    /// is then handed back, and the list is as it was.
     pub fn push(&mut self, bytes: Vec<u8>) -> Result<(), PushError>
         ensures ok { OnOk result (self.new ≡ self.old ++ bytes.items ∷ []) }
         ensures err { OnErr result (self.new ≡ self.old) }

@@ -1,11 +1,10 @@
 //! Plans of no objects and of two.
 
 use super::*;
-use std::alloc::{AllocError, Global};
+use std::alloc::Global;
 use std::process::Abort;
 use std::test::Fail;
 use wl_linking::RelocationType;
-use wl_module::{FuncType, ValType};
 use wl_symbols::WasmArgs;
 
 /// Two functions `()->()`: `a`, which calls `b`, and `b`.
@@ -45,35 +44,6 @@ fn objects_of(rt: &impl Abort, alloc: Global, all: &[&[u8]]) -> Result<ObjectLis
     }
     assert_eq!(rt; objects.len(), all.len());
     Ok(objects)
-}
-
-fn func_type(
-    alloc: Global,
-    params: &[ValType],
-    results: &[ValType],
-) -> Result<FuncType, AllocError> {
-    let params = Vec::from_slice(alloc, params)?;
-    let results = Vec::from_slice(alloc, results)?;
-    Ok(FuncType::new(params, results))
-}
-
-#[test]
-fn equal_types_are_one(rt: HostRuntime) -> Result<(), Fail> {
-    let alloc = rt.alloc();
-    let mut merger = TypeMerger::new(alloc);
-    let cases: [(&[ValType], &[ValType], u32); 4] = [
-        (&[ValType::I32], &[], 0),
-        (&[], &[ValType::I32], 1),
-        (&[ValType::I32], &[], 0),
-        (&[ValType::I32, ValType::I32], &[], 2),
-    ];
-    for (params, results, place) in cases {
-        let ty = func_type(alloc, params, results)?;
-        assert_eq!(rt; merger.add(&ty).ok(), Some(place));
-    }
-    assert_eq!(rt; merger.types().len(), 3);
-    assert_eq!(rt; merger.into_types()?.as_slice().len(), 3);
-    Ok(())
 }
 
 #[test]

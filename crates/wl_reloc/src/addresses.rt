@@ -11,11 +11,11 @@ use wl_linking::{RelocationType, WasmRelocation};
 
 /// From where addresses are counted.
 #[derive(Clone, Copy, Debug, PartialEq, Eq)]
-pub(crate) struct AddressBases {
+pub struct AddressBases {
     /// The value of `__memory_base`.
-    pub(crate) memory_base: u32,
+    pub memory_base: u32,
     /// Where the data of the thread begins.
-    pub(crate) tls_base: u32,
+    pub tls_base: u32,
 }
 
 /// The number, where it is a signed one of 32 bits.

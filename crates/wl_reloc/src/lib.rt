@@ -11,10 +11,11 @@ mod index_map;
 mod resolving;
 mod takings;
 
-pub use addresses::deferred_tls_template_pointer;
+pub use addresses::{AddressBases, deferred_tls_template_pointer};
 pub use error::RelocError;
 pub use index_map::WasmObjectIndexMap;
 pub use resolving::resolve_reloc;
+pub use takings::{AddressBase, Taking};
 
 #[cfg(test)]
 mod tests;

@@ -8,7 +8,7 @@ use wl_linking::RelocationType;
 
 /// From where an address is counted.
 #[derive(Clone, Copy, Debug, PartialEq, Eq)]
-pub(crate) enum AddressBase {
+pub enum AddressBase {
     /// From the start of the memory.
     Memory,
     /// From the value of `__memory_base`.
@@ -19,7 +19,7 @@ pub(crate) enum AddressBase {
 
 /// What a relocation takes of the symbol that it names.
 #[derive(Clone, Copy, Debug, PartialEq, Eq)]
-pub(crate) enum Taking {
+pub enum Taking {
     /// The index of the function that a symbol leads to.
     FunctionIndex,
     /// The slot of that function in the table.

@@ -1,5 +1,5 @@
-use Rattle.wl_plan.specs.Plan.{object_debug_sections}
-use Rattle.wl_plan.proofs.PlanLaws.{debug_on}
+use Rattle.wl_plan.specs.Bodies.{object_debug_sections}
+use Rattle.wl_plan.proofs.DebugLaws.{debug_on}
 use Rattle.wl_plan.proofs.bodies.all_debug_sections.Goals as goal
 
 pub loop-object-preserved : goal.loop-object-preserved

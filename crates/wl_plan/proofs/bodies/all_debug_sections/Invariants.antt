@@ -1,5 +1,5 @@
 use Rattle.std.proofs.Common.{◌≡◌, ◌++◌, drop}
-use Rattle.wl_plan.specs.Plan.{object_debug_sections}
+use Rattle.wl_plan.specs.Bodies.{object_debug_sections}
 use Rattle.wl_plan.proofs.bodies.all_debug_sections.Given as goal
 
 abbrev pub invariant-loop-object : goal.invariant-loop-object

@@ -1,5 +1,5 @@
 use Rattle.std.proofs.Common.{◌≡◌, ◌++◌, drop, map}
-use Rattle.wl_plan.specs.Building.{debug_in}
+use Rattle.wl_plan.specs.BodySteps.{debug_in}
 use Rattle.wl_plan.proofs.bodies.push_debug_sections.Given as goal
 
 abbrev pub invariant-loop-section : goal.invariant-loop-section

@@ -1,9 +1,12 @@
-use Rattle.std.proofs.Common.{◌≡◌, ◌++◌, drop, map}
-use Rattle.wl_plan.specs.Plan.{function_maps}
-use Rattle.wl_plan.specs.Building.{fixup_by}
+use Rattle.std.proofs.Common.{take}
+use Rattle.std.specs.List.{AllZip}
+use Rattle.wl_plan.specs.FixupSteps.{NoneRefused}
+use Rattle.wl_plan.specs.Fixups.{IsFixup}
 use Rattle.wl_plan.proofs.fixups.all_fixups.Given as goal
 
-abbrev pub invariant-loop-relocated : goal.invariant-loop-relocated
-invariant-loop-relocated l =
-    l.fixups.items ++ map (fixup_by l.files (function_maps l.maps)) (drop l.relocated-index l.relocations)
-    ≡ map (fixup_by l.files (function_maps l.maps)) l.relocations
+abbrev pub invariant-loop-place : goal.invariant-loop-place
+invariant-loop-place l = record {
+  so_far : AllZip (IsFixup l.sources.input.now l.sources.placing.now)
+      (take l.place l.kept) l.fixups.items;
+  clear : NoneRefused l.sources (take l.place l.kept);
+}

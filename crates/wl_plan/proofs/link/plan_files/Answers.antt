@@ -1,20 +1,26 @@
-use Rattle.std.proofs.Common.{rules}
+use Rattle.std.proofs.Common.{◌≡◌, ◌∙◌, ap}
 use Rattle.std.proofs.lemmas.Result.{err_from_is_err_and}
 use Rattle.wl_linking.specs.Steps.{Clear, Refuses}
 use Rattle.wl_symbols.specs.Link.{Link, link_of}
 use Rattle.wl_symbols.specs.Repeats.{IsDuplicate}
 use Rattle.wl_live.specs.Entry.{IsEntryFault}
 use Rattle.wl_live.specs.Faults.{IsKeptFault}
+use Rattle.wl_live.specs.Live.{IsLiveOf}
+use Rattle.wl_bind.specs.Input.{Input}
+use Rattle.wl_plan.specs.Faults.{input_of}
 use Rattle.wl_plan.specs.Planned.{IsNotYet, IsUnplannedOption}
-use Rattle.wl_plan.proofs.StepLaws.{steps, refuses_here, refuses_behind}
+use Rattle.wl_plan.proofs.LinkLaws.{AreClear, entry_by, files_err, files_ok, input_alone, sound_by}
+use Rattle.wl_plan.proofs.StepLaws.{refuses_here, refuses_behind}
 use Rattle.wl_plan.proofs.link.plan_files.Goals as goal
 
 pub returns-in_err-check_entry-clause-err : goal.returns-in_err-check_entry-clause-err
 returns-in_err-check_entry-clause-err c =
-    let p = err_from_is_err_and c.from_residual-in_err-check_entry.result c.from_residual-in_err-check_entry.ensures.1 in
+    let residual = c.from_residual-in_err-check_entry in
+    let p = err_from_is_err_and residual.result residual.ensures.1 in
     let link : Link = link_of c.args.files.now c.args.args.now in
     let e = c.in_err-check_entry.field-0.0 in
-    let cause : Refuses (IsEntryFault link) e = rw c.in_ok-symbols.ensures.ok at c.in_err-check_entry.ensures.err in
+    let cause : Refuses (IsEntryFault link) e =
+    rw c.in_ok-symbols.ensures.ok at c.in_err-check_entry.ensures.err in
     rw (p.1, p.2) (refuses_behind (IsDuplicate link.objects) _ e c.in_ok-symbols.ensures.clear
     (refuses_behind (IsNotYet link.objects) _ e c.in_ok-check_planned.ensures.ok
     (refuses_behind (IsUnplannedOption link.args) _ e c.in_ok-check_options.ensures.ok
@@ -22,21 +28,94 @@ returns-in_err-check_entry-clause-err c =
 
 pub returns-in_err-live-clause-err : goal.returns-in_err-live-clause-err
 returns-in_err-live-clause-err c =
-    let p = err_from_is_err_and c.from_residual-in_err-live.result c.from_residual-in_err-live.ensures.1 in
+    let residual = c.from_residual-in_err-live in
+    let p = err_from_is_err_and residual.result residual.ensures.1 in
     let link : Link = link_of c.args.files.now c.args.args.now in
     let e = c.in_err-live.field-0.0 in
-    let clear : Clear (IsEntryFault link) = rw c.in_ok-symbols.ensures.ok at c.in_ok-check_entry.ensures.clear in
-    let cause : Refuses (IsKeptFault link) e = rw c.in_ok-symbols.ensures.ok at c.in_err-live.ensures.err in
+    let clear : Clear (IsEntryFault link) =
+    rw c.in_ok-symbols.ensures.ok at c.in_ok-check_entry.ensures.clear in
+    let cause : Refuses (IsKeptFault link) e =
+    rw c.in_ok-symbols.ensures.ok at c.in_err-live.ensures.err in
     rw (p.1, p.2) (refuses_behind (IsDuplicate link.objects) _ e c.in_ok-symbols.ensures.clear
     (refuses_behind (IsNotYet link.objects) _ e c.in_ok-check_planned.ensures.ok
     (refuses_behind (IsUnplannedOption link.args) _ e c.in_ok-check_options.ensures.ok
     (refuses_behind (IsEntryFault link) _ e clear
     (refuses_here (IsKeptFault link) _ e cause)))))
 
+pub plan_kept-requires-clause-sound : goal.plan_kept-requires-clause-sound
+plan_kept-requires-clause-sound c =
+    let link : Link = link_of c.args.files.now c.args.args.now in
+    let live = c.in_ok-live.live in
+    let input : Input = c.new-input.result in
+    let same : input ≡ input_of link live =
+    c.new-input.ensures ∙ ap (λ (l : Link). input_of l live) c.in_ok-symbols.ensures.ok in
+    let kept : IsLiveOf link live =
+    rw c.in_ok-symbols.ensures.ok at c.in_ok-live.ensures.live in
+    let faults : Clear (IsKeptFault link) =
+    rw c.in_ok-symbols.ensures.ok at c.in_ok-live.ensures.clear in
+    sound_by link live input same c.objects_are_whole.ensures kept faults
+
+pub plan_kept-requires-clause-entry : goal.plan_kept-requires-clause-entry
+plan_kept-requires-clause-entry c =
+    let link : Link = link_of c.args.files.now c.args.args.now in
+    let live = c.in_ok-live.live in
+    let input : Input = c.new-input.result in
+    let same : input ≡ input_of link live =
+    c.new-input.ensures ∙ ap (λ (l : Link). input_of l live) c.in_ok-symbols.ensures.ok in
+    let entry : Clear (IsEntryFault link) =
+    rw c.in_ok-symbols.ensures.ok at c.in_ok-check_entry.ensures.clear in
+    entry_by link live input same entry
+
+pub plan_kept-requires-clause-alone : goal.plan_kept-requires-clause-alone
+plan_kept-requires-clause-alone c =
+    let link : Link = link_of c.args.files.now c.args.args.now in
+    let live = c.in_ok-live.live in
+    let input : Input = c.new-input.result in
+    let same : input ≡ input_of link live =
+    c.new-input.ensures ∙ ap (λ (l : Link). input_of l live) c.in_ok-symbols.ensures.ok in
+    input_alone link live input same c.in_ok-check_options.ensures.ok
+
 pub returns-clause-ok : goal.returns-clause-ok
-returns-clause-ok c = record {
-  clear = search (rules, steps);
-  live = c.in_ok-live.live;
-  kept = rw (← c.in_ok-symbols.ensures.ok) c.in_ok-live.ensures.live;
-  is_plan = rw (← c.in_ok-symbols.ensures.ok) c.in_ok-plan.ensures.ok;
-}
+returns-clause-ok c =
+    let link : Link = link_of c.args.files.now c.args.args.now in
+    let live = c.in_ok-live.live in
+    let input : Input = c.new-input.result in
+    let same : input ≡ input_of link live =
+    c.new-input.ensures ∙ ap (λ (l : Link). input_of l live) c.in_ok-symbols.ensures.ok in
+    let kept : IsLiveOf link live =
+    rw c.in_ok-symbols.ensures.ok at c.in_ok-live.ensures.live in
+    let entry : Clear (IsEntryFault link) =
+    rw c.in_ok-symbols.ensures.ok at c.in_ok-check_entry.ensures.clear in
+    let faults : Clear (IsKeptFault link) =
+    rw c.in_ok-symbols.ensures.ok at c.in_ok-live.ensures.clear in
+    let clear : AreClear link = record {
+      names = c.in_ok-symbols.ensures.clear;
+      planned = c.in_ok-check_planned.ensures.ok;
+      options = c.in_ok-check_options.ensures.ok;
+      entry = entry;
+      kept = faults;
+    } in
+    files_ok c.live_sets_are_one.ensures.one link live input c.plan_kept.result same clear kept
+    c.plan_kept.ensures.clear c.plan_kept.ensures.ok
+
+pub returns-clause-err : goal.returns-clause-err
+returns-clause-err c =
+    let link : Link = link_of c.args.files.now c.args.args.now in
+    let live = c.in_ok-live.live in
+    let input : Input = c.new-input.result in
+    let same : input ≡ input_of link live =
+    c.new-input.ensures ∙ ap (λ (l : Link). input_of l live) c.in_ok-symbols.ensures.ok in
+    let kept : IsLiveOf link live =
+    rw c.in_ok-symbols.ensures.ok at c.in_ok-live.ensures.live in
+    let entry : Clear (IsEntryFault link) =
+    rw c.in_ok-symbols.ensures.ok at c.in_ok-check_entry.ensures.clear in
+    let faults : Clear (IsKeptFault link) =
+    rw c.in_ok-symbols.ensures.ok at c.in_ok-live.ensures.clear in
+    let clear : AreClear link = record {
+      names = c.in_ok-symbols.ensures.clear;
+      planned = c.in_ok-check_planned.ensures.ok;
+      options = c.in_ok-check_options.ensures.ok;
+      entry = entry;
+      kept = faults;
+    } in
+    files_err link live input c.plan_kept.result same clear kept c.plan_kept.ensures.err

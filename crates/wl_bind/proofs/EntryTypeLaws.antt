@@ -1,0 +1,285 @@
+-- Each function of the output has a type, which is one of the output's.
+use Rattle.std.proofs.Common.{◌≡◌, ◌∙◌, ◌||◌, ◌==◌, ◌<◌, ℕ, zero, suc, ◌+◌, Bool, true, false, List, [], ◌∷◌, ◌++◌, length, filter_map, refl, sym, ap, subst, arith, inl, inr, Option, Some, None, slice_get, slice_index, Contains, nat_lt, if◌then◌else◌}
+use Rattle.std.specs.List.{list_any, range_with_len}
+use Rattle.std.specs.Option.{option_and_then, option_map_or}
+use Rattle.std.proofs.lemmas.Bool.{ltb-true}
+use Rattle.std.proofs.lemmas.Option.{get_or_from_slice_get}
+use Rattle.wl_module.specs.SameType.{types_equiv}
+use Rattle.wl_module.specs.Types.{FunctionType, same_type}
+use Rattle.wl_linking.specs.Fitting.{IsWhole, IsFitting}
+use Rattle.wl_linking.specs.Object.{Object}
+use Rattle.wl_linking.specs.Spaces.{spaces_of, type_exists}
+use Rattle.wl_linking.specs.declared.symbols.WasmSymbolKind.TheVariants.{Func}
+use Rattle.wl_symbols.specs.declared.linker_symbol.WasmLinkerSymbol.{WasmLinkerSymbol}
+use Rattle.wl_symbols.specs.declared.linker_symbol.WasmLinkerSymbol.TheVariants.{CallCtors, InitTls}
+use Rattle.wl_live.specs.declared.units.WasmGcUnit.TheVariants.{DefinedFunction}
+use Rattle.wl_slots.specs.ImportSlots.{ImportSlot, object_slots}
+use Rattle.wl_slots.specs.Left.{first_imports}
+use Rattle.wl_bind.specs.EntryTypes.{type_of_slot, HasOutputType}
+use Rattle.wl_bind.specs.FunctionBinding.{link_stubs, host_functions, binds_function}
+use Rattle.wl_bind.specs.FunctionSpace.{FunctionEntry, FunctionOf, InitMemory, host_function_part, made_function_part, init_memory_part, stub_part, kept_functions, functions_of, object_functions, function_parts, function_space}
+use Rattle.wl_bind.specs.FunctionTypes.{type_in, type_number, slot_type, type_of_made, stub_types}
+use Rattle.wl_bind.specs.Input.{Input, keeps}
+use Rattle.wl_bind.specs.KeptSlots.{is_kept_slot}
+use Rattle.wl_bind.specs.Made.{is_made, has_init_memory}
+use Rattle.wl_bind.specs.OutputTypes.{is_type_of_function, is_type_of_host, names_type, is_live_type, local_types, live_types, made_type, init_memory_type, made_types, output_types}
+use Rattle.wl_bind.specs.Parts.{joined, by_object}
+use Rattle.wl_bind.specs.References.{IsSettled}
+use Rattle.wl_bind.specs.Relocations.{object_relocations}
+use Rattle.wl_bind.specs.Undefined.{is_host_function, is_host_slot}
+use Rattle.wl_bind.specs.declared.binding.FunctionTarget.TheVariants.{Defined, Made, Host, Stub}
+use Rattle.wl_bind.proofs.FirstSlotLaws.{LeftSlot, IsFirst, stub_itself, host_itself}
+use Rattle.wl_bind.proofs.ListedLaws.{or_left, or_right, and_both, as_in, as_listed, any_in, made_of_one, still_in}
+use Rattle.wl_bind.proofs.OnceParts.{IsIn, in_at, in_split, in_filter, Came, in_map, Given, given_by}
+use Rattle.wl_bind.proofs.RedirectLaws.{test_at}
+use Rattle.wl_bind.proofs.ReferenceLaws.{live_there}
+use Rattle.wl_bind.proofs.SameLaws.{eqb_self}
+use Rattle.wl_bind.proofs.StartLaws.{there_is}
+use Rattle.wl_bind.proofs.StubTypeLaws.{whole_at, slot_typed}
+
+-- ---- lists
+
+in_left : {X : Type 0} (xs ys : List X) (x : X) → IsIn xs x → IsIn (xs ++ ys) x
+in_left [] ys x h = absurd h
+in_left (y ∷ xs) ys x (inl e) = inl e
+in_left (y ∷ xs) ys x (inr r) = inr (in_left xs ys x r)
+
+in_right : {X : Type 0} (xs ys : List X) (x : X) → IsIn ys x → IsIn (xs ++ ys) x
+in_right [] ys x h = h
+in_right (y ∷ xs) ys x h = inr (in_right xs ys x h)
+
+-- what an object gives is among what all give
+given_in : {X : Type 0} (f : ℕ → Object → List X) (n : ℕ) (objects : List Object) (k m : ℕ) (o : Object) (x : X) → m ≡ n + k
+    → slice_get objects k ≡ Some o → IsIn (f m o) x → IsIn (by_object f n objects) x
+given_in f n [] k m o x is at h = absurd cc
+given_in {X} f n (p ∷ objects) zero m o x is at h =
+    let same : o ≡ p = cc in
+    let here : m ≡ n = omega (arith, is) in
+    in_left (f n p) (by_object f (n + 1) objects) x
+    (subst (λ (q : Object). IsIn (f n q) x) same (subst (λ (i : ℕ). IsIn (f i o) x) here h))
+given_in f n (p ∷ objects) (suc k) m o x is at h =
+    in_right (f n p) (by_object f (n + 1) objects) x (given_in f (n + 1) objects k m o x (omega (arith, is)) at h)
+
+range_below : (a n z : ℕ) → IsIn (range_with_len a n) z → z < a + n
+range_below a zero z h = absurd h
+range_below a (suc n) z (inl e) = omega (arith, e)
+range_below a (suc n) z (inr r) = let lt = range_below (a + 1) n z r in omega (arith, lt)
+
+and_then_some : {X Y : Type 0} (f : X → Option Y) (o : Option X) (y : Y) → option_and_then f o ≡ Some y
+    → (x : X) × (o ≡ Some x) × (f x ≡ Some y)
+and_then_some f None y is = absurd cc
+and_then_some f (Some x) y is = (x, refl, is)
+
+-- the one entry of a part
+single_in : {X : Type 0} (b : Bool) (x y : X) → IsIn (if b then x ∷ [] else []) y → (b ≡ true) × (x ≡ y)
+single_in true x y (inl e) = (refl, e)
+single_in true x y (inr none) = absurd none
+single_in false x y none = absurd none
+
+-- ---- types of the output
+
+abbrev pub AreOne : Type 0
+AreOne = (a b : FunctionType) → same_type a b ≡ true → a ≡ b
+
+abbrev pub AreFitting : Type 0
+AreFitting = (o : Object) → IsWhole o → IsFitting o
+
+-- all that the output takes
+abbrev all_types : Input → List FunctionType
+all_types input = by_object (live_types input) 0 input.link.objects ++ made_types input
+
+in_output : AreOne → (input : Input) (ty : FunctionType) → IsIn (all_types input) ty → Contains (output_types input) ty
+in_output one input ty h =
+    as_listed (output_types input) ty (still_in same_type one (all_types input) ty (types_equiv.refl ty) h)
+
+live_in_output : AreOne → (input : Input) (i : ℕ) (o : Object) (number : ℕ) (ty : FunctionType)
+    → slice_get input.link.objects i ≡ Some o → slice_get o.types number ≡ Some ty → is_live_type input i o number ≡ true
+    → Contains (output_types input) ty
+live_in_output one input i o number ty here at live =
+    let list : List (Option FunctionType) = local_types input i o in
+    let there : IsIn (live_types input i o) ty =
+    made_of_one (λ (x : Option FunctionType). x) list (Some ty) ty
+    (in_at list number (Some ty) (live_there input i o number ty at live)) refl in
+    in_output one input ty
+    (in_left (by_object (live_types input) 0 input.link.objects) (made_types input) ty
+    (given_in (live_types input) 0 input.link.objects i i o ty (omega arith) here there))
+
+made_in_output : AreOne → (input : Input) (ty : FunctionType) → IsIn (made_types input) ty → Contains (output_types input) ty
+made_in_output one input ty h =
+    in_output one input ty (in_right (by_object (live_types input) 0 input.link.objects) (made_types input) ty h)
+
+-- ---- what is imported
+
+slot_has : (input : Input) (t : ImportSlot) (ty : FunctionType) → LeftSlot input t → slot_type input.link.objects t ≡ Some ty
+    → type_of_slot input t.object t.number ≡ Some ty
+slot_has input t ty left is =
+    ap (λ (x : Option ImportSlot). option_and_then (slot_type input.link.objects) x) left.slot.at ∙ is
+
+host_typed : AreOne → AreFitting → (input : Input) → IsSettled input → (t : ImportSlot)
+    → IsIn (first_imports (host_functions input)) t → HasOutputType input (FunctionOf (Host t.object t.number))
+host_typed one fitting input settled t h =
+    let first : IsFirst input t (Host t.object t.number) = host_itself input t h in
+    let left : LeftSlot input t = first.left in
+    let o : Object = left.slot.object in
+    let typed = slot_typed input.link.objects t settled.whole fitting left.among in
+    let numbered = and_then_some (type_in input.link.objects t.object) (type_number t.item.entity) typed.0 typed.1 in
+    let n : ℕ = numbered.0 in
+    let at : slice_get o.types n ≡ Some typed.0 =
+    sym (ap (λ (x : Option Object). option_and_then (λ (p : Object). slice_get p.types n) x) left.slot.here) ∙ numbered.2 in
+    let host : is_host_slot input Func t ≡ true =
+    and_both (is_kept_slot input t) (is_host_function (binds_function input t)) left.kept (ap is_host_function first.bound) in
+    let number : option_map_or (λ m. m == n) (type_number t.item.entity) false ≡ true =
+    ap (λ (x : Option ℕ). option_map_or (λ m. m == n) x false) numbered.1 ∙ eqb_self n in
+    let any : list_any (is_type_of_host input n) (object_slots t.object Func o) ≡ true =
+    any_in (is_type_of_host input n) (object_slots t.object Func o) t left.slot.among
+    (and_both (is_host_slot input Func t) (option_map_or (λ m. m == n) (type_number t.item.entity) false) host number) in
+    let named : Bool = list_any (names_type n) (object_relocations input.live t.object o) in
+    let live : is_live_type input t.object o n ≡ true =
+    or_left (is_type_of_function input t.object o n || list_any (is_type_of_host input n) (object_slots t.object Func o)) named
+    (or_right (is_type_of_function input t.object o n) (list_any (is_type_of_host input n) (object_slots t.object Func o)) any) in
+    record {
+      ty = typed.0;
+      has = slot_has input t typed.0 left typed.1;
+      one = live_in_output one input t.object o n typed.0 left.slot.here at live;
+    }
+
+stub_typed : AreOne → AreFitting → (input : Input) → IsSettled input → (t : ImportSlot)
+    → IsIn (link_stubs input) t → HasOutputType input (FunctionOf (Stub t.object t.number))
+stub_typed one fitting input settled t h =
+    let left : LeftSlot input t = (stub_itself input t h).left in
+    let typed = slot_typed input.link.objects t settled.whole fitting left.among in
+    let there : IsIn (stub_types input) typed.0 = made_of_one (slot_type input.link.objects) (link_stubs input) t typed.0 h typed.1 in
+    record {
+      ty = typed.0;
+      has = slot_has input t typed.0 left typed.1;
+      one = made_in_output one input typed.0
+          (in_right (made_type input CallCtors ++ made_type input InitTls ++ init_memory_type input) (stub_types input) typed.0 there);
+    }
+
+-- ---- what the linker makes
+
+made_there : (input : Input) (m : WasmLinkerSymbol) (ty : FunctionType) → is_made input m ≡ true → type_of_made m ≡ Some ty
+    → IsIn (made_type input m) ty
+made_there input m ty so is =
+    subst (λ (b : Bool). IsIn (if b then filter_map type_of_made (m ∷ []) else []) ty) (sym so)
+    (made_of_one type_of_made (m ∷ []) m ty (inl refl) is)
+
+ctors_typed : AreOne → (input : Input) → is_made input CallCtors ≡ true → HasOutputType input (FunctionOf (Made CallCtors))
+ctors_typed one input so =
+    let ty : FunctionType = record { params = []; results = [] } in
+    record {
+      ty = ty;
+      has = refl;
+      one = made_in_output one input ty
+          (in_left (made_type input CallCtors ++ made_type input InitTls ++ init_memory_type input) (stub_types input) ty
+          (in_left (made_type input CallCtors ++ made_type input InitTls) (init_memory_type input) ty
+          (in_left (made_type input CallCtors) (made_type input InitTls) ty (made_there input CallCtors ty so refl))));
+    }
+
+tls_typed : AreOne → (input : Input) → is_made input InitTls ≡ true → HasOutputType input (FunctionOf (Made InitTls))
+tls_typed one input so =
+    let typed : (ty : FunctionType) × (type_of_made InitTls ≡ Some ty) = (_, refl) in
+    record {
+      ty = typed.0;
+      has = typed.1;
+      one = made_in_output one input typed.0
+          (in_left (made_type input CallCtors ++ made_type input InitTls ++ init_memory_type input) (stub_types input) typed.0
+          (in_left (made_type input CallCtors ++ made_type input InitTls) (init_memory_type input) typed.0
+          (in_right (made_type input CallCtors) (made_type input InitTls) typed.0
+          (made_there input InitTls typed.0 so typed.1))));
+    }
+
+memory_typed : AreOne → (input : Input) → has_init_memory input ≡ true → HasOutputType input InitMemory
+memory_typed one input so =
+    let ty : FunctionType = record { params = []; results = [] } in
+    let there : IsIn (init_memory_type input) ty = subst (λ (b : Bool). IsIn (if b then ty ∷ [] else []) ty) (sym so) (inl refl) in
+    record {
+      ty = ty;
+      has = refl;
+      one = made_in_output one input ty
+          (in_left (made_type input CallCtors ++ made_type input InitTls ++ init_memory_type input) (stub_types input) ty
+          (in_right (made_type input CallCtors ++ made_type input InitTls) (init_memory_type input) ty there));
+    }
+
+-- ---- what objects define
+
+defined_typed : AreOne → AreFitting → (input : Input) → IsSettled input → (i : ℕ) (o : Object) (k : ℕ)
+    → slice_get input.link.objects i ≡ Some o → IsIn (kept_functions input i o) k → HasOutputType input (FunctionOf (Defined i k))
+defined_typed one fitting input settled i o k here h =
+    let fit : IsFitting o = fitting o (whole_at IsWhole input.link.objects i o settled.whole here) in
+    let among : IsIn (range_with_len 0 (length o.functions)) k =
+    in_filter (λ n. keeps input i (DefinedFunction n)) (range_with_len 0 (length o.functions)) k h in
+    let below = range_below 0 (length o.functions) k among in
+    let number = there_is o.functions k (omega (arith, below)) in
+    let n : ℕ = number.0 in
+    let there : nat_lt n (length o.types) ≡ true = test_at (type_exists (spaces_of o)) o.functions k n fit.names.functions number.1 in
+    let typed = there_is o.types n (ltb-true n (length o.types) there) in
+    let index : slice_index o.functions k ≡ n = get_or_from_slice_get o.functions k n 0 number.1 in
+    let any : is_type_of_function input i o n ≡ true =
+    any_in (λ j. slice_index o.functions j == n) (kept_functions input i o) k h (ap (λ (x : ℕ). x == n) index ∙ eqb_self n) in
+    let live : is_live_type input i o n ≡ true =
+    or_left (is_type_of_function input i o n || list_any (is_type_of_host input n) (object_slots i Func o))
+    (list_any (names_type n) (object_relocations input.live i o))
+    (or_left (is_type_of_function input i o n) (list_any (is_type_of_host input n) (object_slots i Func o)) any) in
+    record {
+      ty = typed.0;
+      has = ap (λ (x : Option Object). option_and_then (λ (p : Object). option_and_then (slice_get p.types) (slice_get p.functions k)) x) here
+          ∙ (ap (λ (x : Option ℕ). option_and_then (slice_get o.types) x) number.1 ∙ typed.1);
+      one = live_in_output one input i o n typed.0 here typed.1 live;
+    }
+
+own_typed : AreOne → AreFitting → (input : Input) → IsSettled input → (entry : FunctionEntry) → IsIn (object_functions input) entry
+    → HasOutputType input entry
+own_typed one fitting input settled entry h =
+    let g : Given (functions_of input) 0 input.link.objects entry = given_by (functions_of input) 0 input.link.objects entry h in
+    let same : 0 + g.place ≡ g.place = omega arith in
+    let there : IsIn (functions_of input g.place g.object) entry =
+    subst (λ (n : ℕ). IsIn (functions_of input n g.object) entry) same g.there in
+    let c : Came (λ k. FunctionOf (Defined g.place k)) (kept_functions input g.place g.object) entry =
+    in_map (λ k. FunctionOf (Defined g.place k)) (kept_functions input g.place g.object) entry there in
+    subst (λ (e : FunctionEntry). HasOutputType input e) c.to
+    (defined_typed one fitting input settled g.place g.object c.from g.at c.there)
+
+-- ---- all functions
+
+front_typed : AreOne → AreFitting → (input : Input) → IsSettled input → (entry : FunctionEntry)
+    → IsIn (joined (function_parts input)) entry → HasOutputType input entry
+front_typed one fitting input settled entry h =
+    let P : FunctionEntry → Type 0 = λ (e : FunctionEntry). HasOutputType input e in
+    let behind_memory : List FunctionEntry = stub_part input ++ [] in
+    let behind_tls : List FunctionEntry = init_memory_part input ++ behind_memory in
+    let behind_ctors : List FunctionEntry = made_function_part input InitTls ++ behind_tls in
+    let behind_hosts : List FunctionEntry = made_function_part input CallCtors ++ behind_ctors in
+    elim (in_split (host_function_part input) behind_hosts entry h) [
+      | inl host ↦
+          (let c : Came (λ (t : ImportSlot). FunctionOf (Host t.object t.number)) (first_imports (host_functions input)) entry =
+          in_map (λ (t : ImportSlot). FunctionOf (Host t.object t.number)) (first_imports (host_functions input)) entry host in
+          subst P c.to (host_typed one fitting input settled c.from c.there))
+      | inr rest ↦ elim (in_split (made_function_part input CallCtors) behind_ctors entry rest) [
+        | inl ctors ↦ (let s = single_in (is_made input CallCtors) (FunctionOf (Made CallCtors)) entry ctors in
+            subst P s.1 (ctors_typed one input s.0))
+        | inr rest ↦ elim (in_split (made_function_part input InitTls) behind_tls entry rest) [
+          | inl tls ↦ (let s = single_in (is_made input InitTls) (FunctionOf (Made InitTls)) entry tls in
+              subst P s.1 (tls_typed one input s.0))
+          | inr rest ↦ elim (in_split (init_memory_part input) behind_memory entry rest) [
+            | inl memory ↦ (let s = single_in (has_init_memory input) InitMemory entry memory in
+                subst P s.1 (memory_typed one input s.0))
+            | inr rest ↦ elim (in_split (stub_part input) [] entry rest) [
+              | inl stub ↦
+                  (let c : Came (λ (t : ImportSlot). FunctionOf (Stub t.object t.number)) (link_stubs input) entry =
+                  in_map (λ (t : ImportSlot). FunctionOf (Stub t.object t.number)) (link_stubs input) entry stub in
+                  subst P c.to (stub_typed one fitting input settled c.from c.there))
+              | inr none ↦ absurd none
+            ]
+          ]
+        ]
+      ]
+    ]
+
+pub entry_typed : AreOne → AreFitting → (input : Input) (entry : FunctionEntry) → IsSettled input
+    → Contains (function_space input) entry → HasOutputType input entry
+entry_typed one fitting input entry settled listed =
+    elim (in_split (joined (function_parts input)) (object_functions input) entry (as_in (function_space input) entry listed)) [
+      | inl front ↦ front_typed one fitting input settled entry front
+      | inr own ↦ own_typed one fitting input settled entry own
+    ]

@@ -1,0 +1,159 @@
+-- What stands in lists, and what is found in them.
+use Rattle.std.proofs.Common.{◌≡◌, ◌∙◌, ◌||◌, ◌&&◌, not, ℕ, zero, suc, Bool, true, false, List, [], ◌∷◌, ◌++◌, filter_map, find, position, refl, sym, ap, subst, arith, inl, inr, Option, Some, None, slice_get, Contains}
+use Rattle.std.specs.List.{cons_option, list_any}
+use Rattle.std.specs.Option.{is_none}
+use Rattle.std.proofs.lemmas.Bool.{cases_Bool}
+use Rattle.indexmap.specs.IndexSet.{insert_key, insert_all}
+use Rattle.wl_bind.proofs.LeftLaws.{cases_option, no_place, any_at, none_found, itself}
+use Rattle.wl_bind.proofs.OnceParts.{IsIn, in_split, passes}
+
+-- ---- tests
+
+pub or_left : (a b : Bool) → a ≡ true → (a || b) ≡ true
+or_left true b e = refl
+or_left false b e = absurd cc
+
+pub or_right : (a b : Bool) → b ≡ true → (a || b) ≡ true
+or_right true b e = refl
+or_right false b e = e
+
+pub and_both : (a b : Bool) → a ≡ true → b ≡ true → (a && b) ≡ true
+and_both true b x y = y
+and_both false b x y = absurd cc
+
+pub is_not : (a : Bool) → not a ≡ true → a ≡ false
+is_not true e = absurd cc
+is_not false e = refl
+
+pub is_nothing : {X : Type 0} (o : Option X) → is_none o ≡ true → o ≡ None
+is_nothing None e = refl
+is_nothing (Some x) e = absurd cc
+
+-- ---- lists
+
+pub as_in : {X : Type 0} (xs : List X) (x : X) → Contains xs x → IsIn xs x
+as_in [] x h = absurd (omega (arith, h.1))
+as_in (y ∷ xs) x (zero, lt, is) = inl is
+as_in (y ∷ xs) x (suc k, lt, is) = inr (as_in xs x (k, omega (arith, lt), is))
+
+pub as_listed : {X : Type 0} (xs : List X) (x : X) → IsIn xs x → Contains xs x
+as_listed [] x h = absurd h
+as_listed (y ∷ xs) x (inl e) = (zero, omega arith, e)
+as_listed (y ∷ xs) x (inr r) = let rest = as_listed xs x r in (suc rest.0, omega (arith, rest.1), rest.2)
+
+pub found_at : {X : Type 0} (xs : List X) (x : X) → IsIn xs x → (k : ℕ) × (slice_get xs k ≡ Some x)
+found_at [] x h = absurd h
+found_at (y ∷ xs) x (inl e) = (zero, ap Some e)
+found_at (y ∷ xs) x (inr r) = let rest = found_at xs x r in (suc rest.0, rest.1)
+
+-- one that passes is found
+pub any_in : {X : Type 0} (test : X → Bool) (xs : List X) (x : X) → IsIn xs x → test x ≡ true → list_any test xs ≡ true
+any_in test [] x h so = absurd h
+any_in test (y ∷ xs) x (inl e) so = or_left (test y) (list_any test xs) (ap test e ∙ so)
+any_in test (y ∷ xs) x (inr r) so = or_right (test y) (list_any test xs) (any_in test xs x r so)
+
+pub record Any {X : Type 0} (test : X → Bool) (xs : List X) : Type 0 where
+  pub x : X
+  pub there : IsIn xs x
+  pub passed : test x ≡ true
+
+any_of : {X : Type 0} (test : X → Bool) (xs : List X) → list_any test xs ≡ true → Any test xs
+any_of test [] any = absurd cc
+any_of test (y ∷ xs) any = elim (cases_Bool (test y)) [
+  | inl so ↦ record { x = y; there = inl refl; passed = so }
+  | inr fails ↦ (let rest = any_of test xs (rw fails at any) in
+      record { x = rest.x; there = inr rest.there; passed = rest.passed })
+]
+
+-- what is made of one is among what is made of all
+pub made_of_one : {X Y : Type 0} (f : X → Option Y) (xs : List X) (x : X) (y : Y) → IsIn xs x → f x ≡ Some y → IsIn (filter_map f xs) y
+made_of_one f [] x y h is = absurd h
+made_of_one {X} {Y} f (z ∷ xs) x y (inl e) is =
+    let here : f z ≡ Some y = ap f e ∙ is in
+    subst (λ (o : Option Y). IsIn (cons_option o (filter_map f xs)) y) (sym here) (inl refl)
+made_of_one {X} {Y} f (z ∷ xs) x y (inr r) is = behind_it (f z) (made_of_one f xs x y r is)
+  where
+    behind_it : (o : Option Y) → IsIn (filter_map f xs) y → IsIn (cons_option o (filter_map f xs)) y
+    behind_it None h = h
+    behind_it (Some w) h = inr h
+
+pub record MadeOf {X Y : Type 0} (f : X → Option Y) (xs : List X) (y : Y) : Type 0 where
+  pub x : X
+  pub there : IsIn xs x
+  pub is : f x ≡ Some y
+
+pub made_of_some : {X Y : Type 0} (f : X → Option Y) (xs : List X) (y : Y) → IsIn (filter_map f xs) y → MadeOf f xs y
+made_of_some f [] y h = absurd h
+made_of_some {X} {Y} f (x ∷ xs) y h = by (f x) refl (λ r. made_of_some f xs y r) h
+  where
+    later : MadeOf f xs y → MadeOf f (x ∷ xs) y
+    later m = record { x = m.x; there = inr m.there; is = m.is }
+
+    by : (o : Option Y) → f x ≡ o → (IsIn (filter_map f xs) y → MadeOf f xs y) → IsIn (cons_option o (filter_map f xs)) y
+        → MadeOf f (x ∷ xs) y
+    by None is rest r = later (rest r)
+    by (Some z) is rest (inl e) = record { x = x; there = inl refl; is = is ∙ ap Some e }
+    by (Some z) is rest (inr r) = later (rest r)
+
+-- the first of those that are the same as one of a list
+pub same_listed : {X : Type 0} (same : X → X → Bool) (xs : List X) (x : X) → same x x ≡ true → IsIn xs x
+    → list_any (same x) (insert_all same [] xs) ≡ true
+same_listed same xs x self h =
+    let listed = as_listed xs x h in any_at same [] xs x listed.0 listed.1 listed.2 self
+
+-- it is that one, where what is the same is one
+pub still_in : {X : Type 0} (same : X → X → Bool) → ((a b : X) → same a b ≡ true → a ≡ b) → (xs : List X) (x : X)
+    → same x x ≡ true → IsIn xs x → IsIn (insert_all same [] xs) x
+still_in {X} same one xs x self h =
+    let a = any_of (same x) (insert_all same [] xs) (same_listed same xs x self h) in
+    subst (λ (y : X). IsIn (insert_all same [] xs) y) (sym (one x a.x a.passed)) a.there
+
+-- it has a place
+pub some_place_of : {X : Type 0} (test : X → Bool) (xs : List X) → list_any test xs ≡ true → (k : ℕ) × (position test xs ≡ Some k)
+some_place_of test xs any = elim (cases_option (position test xs)) [
+  | inr k ↦ k
+  | inl none ↦ absurd (let both : true ≡ false = sym any ∙ none_found test xs (no_place test xs none) in cc)
+]
+
+-- ---- the first of a list without repeats is found by itself
+
+find_more : {X : Type 0} (test : X → Bool) (xs ys : List X) (x : X) → find test xs ≡ Some x → find test (xs ++ ys) ≡ Some x
+find_more test [] ys x is = absurd cc
+find_more test (y ∷ xs) ys x is = elim (cases_Bool (test y)) [
+  | inl so ↦ rw so (rw so at is)
+  | inr fails ↦ rw fails (find_more test xs ys x (rw fails at is))
+]
+
+find_last : {X : Type 0} (test : X → Bool) (xs : List X) (x : X) → list_any test xs ≡ false → test x ≡ true
+    → find test (xs ++ x ∷ []) ≡ Some x
+find_last test [] x none so = rw so refl
+find_last test (y ∷ xs) x none so = elim (cases_Bool (test y)) [
+  | inl passed ↦ absurd (let both : true ≡ false = rw passed at none in cc)
+  | inr fails ↦ rw fails (find_last test xs x (rw fails at none) so)
+]
+
+abbrev FindThemselves : {X : Type 0} → (X → X → Bool) → List X → Type 0
+FindThemselves {X} same xs = (x : X) → IsIn xs x → find (same x) xs ≡ Some x
+
+one_finds_itself : {X : Type 0} (same : X → X → Bool) → ((x : X) → same x x ≡ true) → (keys : List X) (y : X)
+    → FindThemselves same keys → FindThemselves same (insert_key same keys y)
+one_finds_itself {X} same self keys y all = elim (cases_Bool (list_any (same y) keys)) [
+  | inl so ↦ rw so all
+  | inr new ↦ rw new (λ x h. elim (in_split keys (y ∷ []) x h) [
+    | inl before ↦ find_more (same x) keys (y ∷ []) x (all x before)
+    | inr last ↦ elim last [
+      | inl e ↦ subst (λ (z : X). find (same z) (keys ++ y ∷ []) ≡ Some z) e (find_last (same y) keys y new (self y))
+      | inr none ↦ absurd none
+    ]
+  ])
+]
+
+all_find_themselves : {X : Type 0} (same : X → X → Bool) → ((x : X) → same x x ≡ true) → (keys xs : List X)
+    → FindThemselves same keys → FindThemselves same (insert_all same keys xs)
+all_find_themselves same self keys [] all = all
+all_find_themselves same self keys (y ∷ xs) all =
+    all_find_themselves same self (insert_key same keys y) xs (one_finds_itself same self keys y all)
+
+pub finds_itself : {X : Type 0} (same : X → X → Bool) → ((x : X) → same x x ≡ true) → (xs : List X) (x : X)
+    → IsIn (insert_all same [] xs) x → find (same x) (insert_all same [] xs) ≡ Some x
+finds_itself same self xs x h = all_find_themselves same self [] xs (λ y none. absurd none) x h

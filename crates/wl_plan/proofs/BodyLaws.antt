@@ -1,0 +1,227 @@
+-- What becomes of the bodies of kept functions.
+use Rattle.std.proofs.Common.{◌≡◌, ◌∙◌, ◌≤◌, ◌<◌, ℕ, zero, suc, ◌+◌, Bool, true, false, not, ◌||◌, ◌==◌, List, [], ◌∷◌, ◌++◌, length, refl, sym, ap, subst, arith, inl, inr, Option, Some, None, slice_get, if◌then◌else◌, eqb-true, lt-ltb, length-append}
+use Rattle.std.specs.List.{AllByRecursion}
+use Rattle.std.specs.Option.{option_and_then}
+use Rattle.std.proofs.lemmas.Bool.{cases_lt}
+use Rattle.wl_bytes.specs.declared.reader.TheConstants.{MAX_LEN}
+use Rattle.wl_module.specs.Bodies.{Body}
+use Rattle.wl_module.specs.Outcome.{HasCause}
+use Rattle.wl_module.specs.Places.{IsPart}
+use Rattle.wl_module.specs.declared.error.ReadError.{ReadError}
+use Rattle.wl_module.specs.declared.error.ReadError.TheVariants as read
+use Rattle.wl_module.specs.declared.error.Why.TheVariants.{BadIndex}
+use Rattle.wl_linking.specs.Fitting.{IsWhole, IsObject}
+use Rattle.wl_linking.specs.Object.{Object}
+use Rattle.wl_linking.specs.Stretches.{PartsStandIn, BodyIsPart}
+use Rattle.wl_linking.specs.declared.error.LinkError.TheVariants.{OutOfMemory}
+use Rattle.wl_symbols.specs.Link.{Link}
+use Rattle.wl_live.specs.Faults.{HasBodyFault, object_refusal}
+use Rattle.wl_live.specs.Live.{Live, is_live, IsLiveOf}
+use Rattle.wl_live.specs.References.{RefersByNumber}
+use Rattle.wl_live.specs.Units.{units_of, exists}
+use Rattle.wl_live.specs.declared.units.LinkUnit.{LinkUnit}
+use Rattle.wl_live.specs.declared.units.WasmGcUnit.TheVariants.{DefinedFunction, DataSegment}
+use Rattle.wl_ops.specs.Numbers.{AreTold}
+use Rattle.wl_ops.specs.Rewriting.{new_index, Rewrites, LacksIndex, RemapFault, IsRemapped}
+use Rattle.wl_ops.specs.declared.op.DataIndexImm.{DataIndexImm}
+use Rattle.wl_bind.specs.Input.{Input, keeps}
+use Rattle.wl_plan.specs.Bodies.{body_in, new_number}
+use Rattle.wl_plan.specs.BodySteps.{AreNewNumbers, AreSoundBodies, HasSoundBody, IsBodyFrom}
+use Rattle.wl_plan.specs.Parsing.{link_error_of}
+use Rattle.wl_plan.specs.declared.placing.Placing.{Placing}
+use Rattle.wl_plan.proofs.NumberLaws.{counts_at}
+
+-- ---- what lower crates say
+
+-- names, expressions, bodies and bytes of segments stand in the bytes of objects
+abbrev pub PartsStand : Type 0
+PartsStand = (bytes : List ℕ) (o : Object) → IsObject o bytes → PartsStandIn bytes o
+
+-- a segment that a live body numbers is live
+abbrev pub SegmentsAreClosed : Type 0
+SegmentsAreClosed = (link : Link) (live : Live) (u v : LinkUnit) → IsLiveOf link live
+    → is_live live u ≡ true → RefersByNumber link u v → exists (units_of link.objects) v ≡ true
+    → is_live live v ≡ true
+
+-- ---- where a body is from
+
+pub all_at : {X : Type 0} (P : X → Type 0) (xs : List X) (i : ℕ) (x : X) → AllByRecursion P xs
+    → slice_get xs i ≡ Some x → P x
+all_at P [] i x all here = absurd cc
+all_at P (y ∷ xs) zero x all here = let same : y ≡ x = cc in subst P same all.0
+all_at P (y ∷ xs) (suc i) x all here = all_at P xs i x all.1 here
+
+-- the object has the body
+pub record IsFound (input : Input) (object function : ℕ) (b : Body) : Type 0 where
+  pub o : Object
+  pub here : slice_get input.link.objects object ≡ Some o
+  pub there : slice_get o.bodies function ≡ Some b
+
+found_in : (input : Input) (object function : ℕ) (b : Body) (found : Option Object)
+    → slice_get input.link.objects object ≡ found
+    → option_and_then (λ (o : Object). slice_get o.bodies function) found ≡ Some b
+    → IsFound input object function b
+found_in input object function b None at is = absurd cc
+found_in input object function b (Some o) at is = record { o = o; here = at; there = is }
+
+pub found : (input : Input) (object function : ℕ) (b : Body)
+    → body_in input object function ≡ Some b → IsFound input object function b
+found input object function b is =
+    found_in input object function b (slice_get input.link.objects object) refl is
+
+pub body_at : (input : Input) (object function : ℕ) (o : Object) (b : Body)
+    → slice_get input.link.objects object ≡ Some o → slice_get o.bodies function ≡ Some b
+    → body_in input object function ≡ Some b
+body_at input object function o b here there = rw here there
+
+part-le : (bytes text : List ℕ) → IsPart bytes text → length text ≤ length bytes
+part-le bytes text p =
+    let s = p.1 in
+    omega (arith, ap (λ (l : List ℕ). length l) s.whole, length-append s.front (text ++ s.back), length-append text s.back)
+
+-- it has few bytes
+pub body_le : PartsStand → (input : Input) (object function : ℕ) (b : Body)
+    → AreSoundBodies input → body_in input object function ≡ Some b → length b.bytes ≤ MAX_LEN
+body_le law input object function b sound is =
+    let f : IsFound input object function b = found input object function b is in
+    let whole : IsWhole f.o = all_at IsWhole input.link.objects object f.o sound.whole f.here in
+    let parts : PartsStandIn (f.o).bytes f.o = law (f.o).bytes f.o whole.object in
+    let part : IsPart (f.o).bytes b.bytes =
+    all_at (BodyIsPart (f.o).bytes) (f.o).bodies function b parts.bodies f.there in
+    let less = part-le (f.o).bytes b.bytes part in
+    let within : length (f.o).bytes ≤ MAX_LEN = whole.within in
+    omega (arith, less, within)
+
+-- ---- no refusal but want of memory
+
+segment_exists : (objects : List Object) (object number : ℕ) (o : Object)
+    → slice_get objects object ≡ Some o → number < length o.segments
+    → exists (units_of objects) (record { object = object; unit = DataSegment number }) ≡ true
+segment_exists objects object number o here lt =
+    rw (counts_at objects object o here) (lt-ltb number (length o.segments) lt)
+
+-- a sound body has no fault
+sound_body : (input : Input) (object : ℕ) (b : Body) (h : HasSoundBody input object b)
+    (o : Object) → slice_get input.link.objects object ≡ Some o
+    → slice_get o.bodies h.function ≡ Some b → (e : ReadError) → HasBodyFault o b e → ⊥
+sound_body input object b h o here there e fault =
+    let u : LinkUnit = record { object = object; unit = DefinedFunction h.function } in
+    (h.sound).clear.none (object_refusal object e) (record {
+      unit = u;
+      kept = (h.sound).kept.only u h.is_kept;
+      object = o;
+      here = here;
+      cause = e;
+      fault = (b, there, fault);
+      told = refl;
+    })
+
+-- each number of a sound body has a new one
+none_lacks : SegmentsAreClosed → (input : Input) (g : Placing) (object : ℕ) (b : Body)
+    (numbers : List (Option ℕ)) (h : HasSoundBody input object b)
+    → AreNewNumbers input g object numbers → (ns : List DataIndexImm) → AreTold ns b.bytes
+    → LacksIndex (new_index numbers) ns → ⊥
+none_lacks law input g object b numbers h new ns told lacks =
+    let f : IsFound input object h.function b = found input object h.function b h.here in
+    let n : DataIndexImm = lacks.0 in
+    let u : LinkUnit = record { object = object; unit = DefinedFunction h.function } in
+    let v : LinkUnit = record { object = object; unit = DataSegment n.index } in
+    elim (cases_lt n.index (length (f.o).segments)) [
+      | inl lt ↦
+          let refers : RefersByNumber input.link u v = record {
+            object = f.o;
+            here = f.here;
+            function = h.function;
+            from = refl;
+            body = b;
+            has = f.there;
+            numbers = ns;
+            are = told.0;
+            number = n;
+            one = lacks.1;
+            to = refl;
+          } in
+          let kept : keeps input object (DataSegment n.index) ≡ true =
+          law input.link input.live u v (h.sound).kept h.is_kept refers
+          (segment_exists input.link.objects object n.index f.o f.here lt) in
+          new.kept n.index kept lacks.2
+      | inr le ↦
+          sound_body input object b h f.o f.here f.there (read.Malformed BadIndex)
+          (inr (ns, told.0, (n, lacks.1, le)))
+    ]
+
+pub no_remap_fault : SegmentsAreClosed → (input : Input) (g : Placing) (object : ℕ) (b : Body)
+    (numbers : List (Option ℕ)) → HasSoundBody input object b
+    → AreNewNumbers input g object numbers → (e : ReadError)
+    → RemapFault (new_index numbers) e b.bytes → ⊥
+no_remap_fault law input g object b numbers h new e (inl fault) =
+    let f : IsFound input object h.function b = found input object h.function b h.here in
+    sound_body input object b h f.o f.here f.there e (inl fault)
+no_remap_fault law input g object b numbers h new e (inr lacks) =
+    none_lacks law input g object b numbers h new lacks.0 lacks.1 lacks.2
+
+pub told_memory : (cause : ReadError → Type 0) (object : ℕ) (e : ReadError) → HasCause cause e
+    → ((d : ReadError) → cause d → ⊥) → link_error_of object e ≡ OutOfMemory
+told_memory cause object read.OutOfMemory h none = refl
+told_memory cause object (read.Malformed why) h none = absurd (none (read.Malformed why) h)
+told_memory cause object (read.Unsupported form) h none = absurd (none (read.Unsupported form) h)
+
+-- ---- the bytes
+
+rewrites_same : (f h : ℕ → Option ℕ) → ((k : ℕ) → f k ≡ h k) → (place : ℕ)
+    (ns : List DataIndexImm) (x y : List ℕ) → Rewrites f place ns x y → Rewrites h place ns x y
+rewrites_same f h same place [] x y r = r
+rewrites_same f h same place (n ∷ ns) x y r = (
+  r.0,
+  r.1,
+  r.2,
+  r.3,
+  r.4,
+  r.5,
+  r.6,
+  r.7,
+  r.8,
+  sym (same n.index) ∙ r.9,
+  r.10,
+  r.11,
+  rewrites_same f h same (n.offset + n.len) ns r.2 r.5 r.12,
+)
+
+not_not : (b : Bool) → false ≡ not b → b ≡ true
+not_not true e = refl
+not_not false e = absurd cc
+
+bytes_are : (f : ℕ → Option ℕ) (changed : Bool) (ns : List DataIndexImm) (own copy : List ℕ)
+    → changed ≡ not (length ns == 0) → Rewrites f 0 ns own copy
+    → (if changed then copy else own) ≡ copy
+bytes_are f true ns own copy e r = refl
+bytes_are f false [] own copy e r = sym r
+bytes_are f false (n ∷ ns) own copy e r =
+    absurd (let none = eqb-true (length (n ∷ ns)) 0 (not_not (length (n ∷ ns) == 0) e) in omega (arith, none))
+
+-- what becomes of a body
+pub renumbered_is : (input : Input) (g : Placing) (object : ℕ) (own b : Body)
+    (numbers : List (Option ℕ)) (fields after copy old : List ℕ) (changed : Bool)
+    → AreNewNumbers input g object numbers → old ≡ own.bytes
+    → IsRemapped (new_index numbers) fields (changed, (copy, after)) old
+    → b.bytes ≡ (if changed then copy else own.bytes) → b.owned ≡ (own.owned || changed)
+    → b.code_offset ≡ own.code_offset → b.object_index ≡ object
+    → IsBodyFrom input g object own b
+renumbered_is input g object own b numbers fields after copy old changed new same m bytes owned offset index =
+    let ns : List DataIndexImm = m.numbers in
+    let some : changed ≡ not (length ns == 0) = m.some in
+    let r : Rewrites (new_index numbers) 0 ns own.bytes copy =
+    subst (λ (t : List ℕ). Rewrites (new_index numbers) 0 ns t copy) same m.bytes in
+    let here : b.bytes ≡ copy = bytes ∙ bytes_are (new_index numbers) changed ns own.bytes copy some r in
+    record {
+      bytes = record {
+        numbers = ns;
+        theirs = subst (λ (t : List ℕ). AreTold ns t) same m.theirs;
+        rewritten =
+            subst (λ (t : List ℕ). Rewrites (new_number input g object) 0 ns own.bytes t) (sym here)
+            (rewrites_same (new_index numbers) (new_number input g object) new.each 0 ns own.bytes copy r);
+      };
+      owned = owned ∙ ap (λ c. own.owned || c) some;
+      code_offset = offset;
+      object_index = index;
+    }

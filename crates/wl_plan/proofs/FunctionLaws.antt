@@ -1,0 +1,783 @@
+-- Entries of the function space, their types, and the functions of the output that they are.
+use Rattle.std.proofs.Common.{◌≡◌, ◌⊎◌, ◌∙◌, ℕ, zero, suc, ◌+◌, ◌<◌, ◌≤◌, Bool, true, false, not, List, [], ◌∷◌, ◌++◌, length, refl, sym, ap, subst, arith, inl, inr, Option, Some, None, slice_get, filter, filter_map, map, take, drop, get_or, is_some, if◌then◌else◌, Contains, Result, Ok, Err, OnOk}
+use Rattle.std.specs.List.{AllByRecursion, AllZip, list_any, range_with_len}
+use Rattle.std.specs.Option.{option_map, option_map_or, option_and_then, is_none}
+use Rattle.std.proofs.lemmas.Bool.{cases_Bool, cases_eq}
+use Rattle.std.proofs.lemmas.List.{append-nil, append_assoc, take_all}
+use Rattle.std.proofs.lemmas.Option.{same_Some, get_or_from_slice_get, slice_get-get_or}
+use Rattle.indexmap.specs.IndexSet.{insert_all}
+use Rattle.wl_module.specs.Imports.{Imported}
+use Rattle.wl_module.specs.Types.{FunctionType}
+use Rattle.wl_module.specs.declared.types.ValType.{ValType}
+use Rattle.wl_linking.specs.Fitting.{IsWhole}
+use Rattle.wl_linking.specs.Object.{Object}
+use Rattle.wl_linking.specs.Symbols.{Symbol}
+use Rattle.wl_linking.specs.declared.symbols.WasmSymbolKind.{WasmSymbolKind}
+use Rattle.wl_linking.specs.declared.symbols.WasmSymbolKind.TheVariants.{Func}
+use Rattle.wl_live.specs.declared.units.WasmGcUnit.TheVariants.{DefinedFunction}
+use Rattle.wl_symbols.specs.declared.linker_symbol.WasmLinkerSymbol.{WasmLinkerSymbol}
+use Rattle.wl_symbols.specs.declared.linker_symbol.WasmLinkerSymbol.TheVariants.{CallCtors, InitTls}
+use Rattle.wl_slots.specs.ImportSlots.{ImportSlot, numbered_slots, slot_imports, object_slots, import_slots}
+use Rattle.wl_slots.specs.Left.{HostImport, same_field, same_import, is_stub, stub_slots, first_imports, first_slot}
+use Rattle.wl_slots.specs.SlotTargets.{slot_target}
+use Rattle.wl_bind.specs.EntryTypes.{type_of_slot, type_of_entry, HasOutputType}
+use Rattle.wl_bind.specs.FunctionBinding.{left_functions, link_stubs, host_functions}
+use Rattle.wl_bind.specs.FunctionSpace.{FunctionEntry, FunctionOf, InitMemory, host_function_part, made_function_part, init_memory_part, stub_part, kept_functions, functions_of, object_functions, function_parts, function_space}
+use Rattle.wl_bind.specs.FunctionTypes.{slot_type, stub_types}
+use Rattle.wl_bind.specs.Input.{Input, keeps}
+use Rattle.wl_bind.specs.KeptSlots.{slots_from, is_kept_slot, kept_slots, left_slots}
+use Rattle.wl_bind.specs.Made.{is_made, has_init_memory}
+use Rattle.wl_bind.specs.MadeIndices.{IsMadeIndex}
+use Rattle.wl_bind.specs.OutputTypes.{output_types}
+use Rattle.wl_bind.specs.Parts.{joined, by_object}
+use Rattle.wl_bind.specs.declared.binding.FunctionTarget.TheVariants.{Defined, Made, Host, Stub}
+use Rattle.wl_plan.specs.FunctionSteps.{AddsFunction, AddsFunctions, own_function_part}
+use Rattle.wl_plan.specs.Functions.{own_functions, origin_of, IsOutputFunction}
+use Rattle.wl_plan.specs.Origins.{Origin, OfStub, PlannedFunction}
+
+-- ---- what stands in a list
+
+abbrev pub IsIn : {X : Type 0} → List X → X → Type 0
+IsIn [] z = ⊥
+IsIn (x ∷ xs) z = (x ≡ z) ⊎ IsIn xs z
+
+pub in_at : {X : Type 0} (xs : List X) (k : ℕ) (z : X) → slice_get xs k ≡ Some z → IsIn xs z
+in_at [] k z e = absurd (cc)
+in_at (x ∷ xs) zero z e = let h : x ≡ z = cc in inl h
+in_at (x ∷ xs) (suc k) z e = inr (in_at xs k z e)
+
+pub in_list : {X : Type 0} (xs : List X) (z : X) → IsIn xs z → Contains xs z
+in_list [] z h = absurd h
+in_list (x ∷ xs) z h = elim h [
+  | inl e ↦ (0, omega arith, e)
+  | inr r ↦ (let m = in_list xs z r in (suc m.0, omega (arith, m.1), m.2))
+]
+
+pub list_in : {X : Type 0} (xs : List X) (z : X) → Contains xs z → IsIn xs z
+list_in [] z (k, lt, e) = absurd (omega (arith, lt))
+list_in (x ∷ xs) z (zero, lt, e) = inl e
+list_in (x ∷ xs) z (suc k, lt, e) = inr (list_in xs z (k, omega (arith, lt), e))
+
+pub in_split : {X : Type 0} (xs ys : List X) (z : X) → IsIn (xs ++ ys) z → IsIn xs z ⊎ IsIn ys z
+in_split [] ys z h = inr h
+in_split (x ∷ xs) ys z h = elim h [
+  | inl e ↦ inl (inl e)
+  | inr r ↦ elim (in_split xs ys z r) [ inl a ↦ inl (inr a) | inr b ↦ inr b ]
+]
+
+pub in_front : {X : Type 0} (xs ys : List X) (z : X) → IsIn xs z → IsIn (xs ++ ys) z
+in_front [] ys z h = absurd h
+in_front (x ∷ xs) ys z h = elim h [ inl e ↦ inl e | inr r ↦ inr (in_front xs ys z r) ]
+
+pub in_back : {X : Type 0} (xs ys : List X) (z : X) → IsIn ys z → IsIn (xs ++ ys) z
+in_back [] ys z h = h
+in_back (x ∷ xs) ys z h = inr (in_back xs ys z h)
+
+pub in_filter : {X : Type 0} (p : X → Bool) (xs : List X) (z : X) → IsIn (filter p xs) z → IsIn xs z
+in_filter p [] z h = h
+in_filter p (x ∷ xs) z h = elim (cases_Bool (p x)) [
+  | inl t ↦ elim (rw t at h) [ inl e ↦ inl e | inr r ↦ inr (in_filter p xs z r) ]
+  | inr f ↦ inr (in_filter p xs z (rw f at h))
+]
+
+pub record Came {X Y : Type 0} (f : X → Y) (xs : List X) (z : Y) : Type 0 where
+  pub from : X
+  pub there : IsIn xs from
+  pub to : f from ≡ z
+
+pub in_map : {X Y : Type 0} (f : X → Y) (xs : List X) (z : Y) → IsIn (map f xs) z → Came f xs z
+in_map f [] z h = absurd h
+in_map f (x ∷ xs) z h = elim h [
+  | inl e ↦ record { from = x; there = inl refl; to = e }
+  | inr r ↦ (let c = in_map f xs z r in record { from = c.from; there = inr c.there; to = c.to })
+]
+
+pub map_in : {X Y : Type 0} (f : X → Y) (xs : List X) (x : X) → IsIn xs x → IsIn (map f xs) (f x)
+map_in f [] x h = absurd h
+map_in f (y ∷ xs) x h = elim h [ inl e ↦ inl (ap f e) | inr r ↦ inr (map_in f xs x r) ]
+
+in_firsts_onto : {X : Type 0} (same : X → X → Bool) (seen xs : List X) (z : X)
+    → IsIn (insert_all same seen xs) z → IsIn seen z ⊎ IsIn xs z
+in_firsts_onto same seen [] z h = inl h
+in_firsts_onto same seen (x ∷ xs) z h = elim (cases_Bool (list_any (same x) seen)) [
+  | inl t ↦ elim (in_firsts_onto same seen xs z (rw t at h)) [ inl a ↦ inl a | inr b ↦ inr (inr b) ]
+  | inr f ↦ elim (in_firsts_onto same (seen ++ x ∷ []) xs z (rw f at h)) [
+    | inl a ↦ elim (in_split seen (x ∷ []) z a) [
+      | inl c ↦ inl c
+      | inr c ↦ elim c [ inl e ↦ inr (inl e) | inr n ↦ absurd n ]
+    ]
+    | inr b ↦ inr (inr b)
+  ]
+]
+
+pub in_firsts : {X : Type 0} (same : X → X → Bool) (xs : List X) (z : X)
+    → IsIn (insert_all same [] xs) z → IsIn xs z
+in_firsts same xs z h = elim (in_firsts_onto same [] xs z h) [ inl a ↦ absurd a | inr b ↦ b ]
+
+-- ---- what stands at a place
+
+pub there_is : {X : Type 0} (xs : List X) (k : ℕ) → k < length xs → (x : X) × (slice_get xs k ≡ Some x)
+there_is [] k lt = absurd (omega (arith, lt))
+there_is (x ∷ xs) zero lt = (x, refl)
+there_is (x ∷ xs) (suc k) lt = there_is xs k (omega (arith, lt))
+
+pub mapped_at : {X Y : Type 0} (f : X → Y) (xs : List X) (k : ℕ) (x : X) → slice_get xs k ≡ Some x
+    → slice_get (map f xs) k ≡ Some (f x)
+mapped_at f [] k x e = absurd cc
+mapped_at f (y ∷ xs) zero x e = let same : y ≡ x = cc in ap (λ (z : _). Some (f z)) same
+mapped_at f (y ∷ xs) (suc k) x e = mapped_at f xs k x e
+
+-- what is made of what stands at a place
+pub came_at : {X Y : Type 0} (f : X → Y) (xs : List X) (k : ℕ) (y : Y) → slice_get (map f xs) k ≡ Some y
+    → (x : X) × (slice_get xs k ≡ Some x) × (f x ≡ y)
+came_at f [] k y e = absurd cc
+came_at f (x ∷ xs) zero y e = (x, refl, same_Some (f x) y e)
+came_at f (x ∷ xs) (suc k) y e = came_at f xs k y e
+
+pub length_mapped : {X Y : Type 0} (f : X → Y) (xs : List X) → length (map f xs) ≡ length xs
+length_mapped f [] = refl
+length_mapped f (x ∷ xs) = ap suc (length_mapped f xs)
+
+-- one more of what is at the front
+pub take_next : {X : Type 0} (xs : List X) (k : ℕ) (x : X) → slice_get xs k ≡ Some x
+    → take (suc k) xs ≡ take k xs ++ x ∷ []
+take_next [] k x e = absurd cc
+take_next {X} (y ∷ xs) zero x e = let same : y ≡ x = cc in ap (λ (z : X). z ∷ []) same
+take_next {X} (y ∷ xs) (suc k) x e = ap (λ (zs : List X). y ∷ zs) (take_next xs k x e)
+
+-- where each has something, what is left has as many, in order
+pub all_mapped : {X Y : Type 0} (f : X → Option Y) (xs : List X)
+    → ((x : X) → IsIn xs x → (y : Y) × (f x ≡ Some y)) → length (filter_map f xs) ≡ length xs
+all_mapped f [] all = refl
+all_mapped f (x ∷ xs) all =
+    let here = all x (inl refl) in
+    rw here.1 (ap suc (all_mapped f xs (λ z h. all z (inr h))))
+
+pub filter_at : {X Y : Type 0} (f : X → Option Y) (xs : List X) (k : ℕ) (x : X)
+    → ((x : X) → IsIn xs x → (y : Y) × (f x ≡ Some y)) → slice_get xs k ≡ Some x
+    → slice_get (filter_map f xs) k ≡ f x
+filter_at f [] k x all e = absurd cc
+filter_at f (y ∷ xs) zero x all e =
+    let here = all y (inl refl) in
+    let same : y ≡ x = cc in
+    rw here.1 (sym here.1 ∙ ap f same)
+filter_at f (y ∷ xs) (suc k) x all e =
+    let here = all y (inl refl) in
+    rw here.1 (filter_at f xs k x (λ z h. all z (inr h)) e)
+
+-- ---- object by object
+
+pub object_in : {X : Type 0} (f : ℕ → Object → List X) (n i m : ℕ) (objects : List Object) (o : Object)
+    (z : X) → n + i ≡ m → slice_get objects i ≡ Some o → IsIn (f m o) z → IsIn (by_object f n objects) z
+object_in f n i m [] o z same at h = absurd cc
+object_in {X} f n zero m (p ∷ objects) o z same at h =
+    let is : p ≡ o = cc in
+    let number : m ≡ n = omega (arith, same) in
+    let P : Object → Type 0 = λ q. IsIn (f m q) z in
+    let Q : ℕ → Type 0 = λ k. IsIn (f k p) z in
+    in_front (f n p) (by_object f (n + 1) objects) z (subst Q number (subst P (sym is) h))
+object_in f n (suc i) m (p ∷ objects) o z same at h =
+    in_back (f n p) (by_object f (n + 1) objects) z
+    (object_in f (n + 1) i m objects o z (omega (arith, same)) at h)
+
+pub record Given {X : Type 0} (f : ℕ → Object → List X) (z : X) : Type 0 where
+  pub number : ℕ
+  pub object : Object
+  pub there : IsIn (f number object) z
+
+pub in_object : {X : Type 0} (f : ℕ → Object → List X) (n : ℕ) (objects : List Object) (z : X)
+    → IsIn (by_object f n objects) z → Given f z
+in_object f n [] z h = absurd h
+in_object f n (o ∷ objects) z h = elim (in_split (f n o) (by_object f (n + 1) objects) z h) [
+  | inl l ↦ record { number = n; object = o; there = l }
+  | inr r ↦ in_object f (n + 1) objects z r
+]
+
+-- what one more object gives
+pub object_more : {X : Type 0} (f : ℕ → Object → List X) (n k m : ℕ) (objects : List Object) (o : Object)
+    → n + k ≡ m → slice_get objects k ≡ Some o
+    → by_object f n (take (suc k) objects) ≡ by_object f n (take k objects) ++ f m o
+object_more f n k m [] o same at = absurd cc
+object_more {X} f n zero m (p ∷ objects) o same at =
+    let is : p ≡ o = cc in
+    let number : n ≡ m = omega (arith, same) in
+    append-nil (f n p) ∙ (ap (λ (q : Object). f n q) is ∙ ap (λ (i : ℕ). f i o) number)
+object_more {X} f n (suc k) m (p ∷ objects) o same at =
+    ap (λ (xs : List X). f n p ++ xs) (object_more f (n + 1) k m objects o (omega (arith, same)) at)
+    ∙ sym (append_assoc (f n p) (by_object f (n + 1) (take k objects)) (f m o))
+
+-- ---- the space and its parts
+
+abbrev behind_hosts : Input → List FunctionEntry
+behind_hosts input =
+    made_function_part input CallCtors ++ (made_function_part input InitTls
+    ++ (init_memory_part input ++ (stub_part input ++ [])))
+
+pub host_stands : (input : Input) (z : FunctionEntry) → IsIn (host_function_part input) z
+    → IsIn (function_space input) z
+host_stands input z h =
+    in_front (joined (function_parts input)) (object_functions input) z
+    (in_front (host_function_part input) (behind_hosts input) z h)
+
+behind_stands : (input : Input) (z : FunctionEntry) → IsIn (behind_hosts input) z
+    → IsIn (function_space input) z
+behind_stands input z h =
+    in_front (joined (function_parts input)) (object_functions input) z
+    (in_back (host_function_part input) (behind_hosts input) z h)
+
+pub ctors_stand : (input : Input) (z : FunctionEntry) → IsIn (made_function_part input CallCtors) z
+    → IsIn (function_space input) z
+ctors_stand input z h =
+    behind_stands input z (in_front (made_function_part input CallCtors)
+    (made_function_part input InitTls ++ (init_memory_part input ++ (stub_part input ++ []))) z h)
+
+pub tls_stands : (input : Input) (z : FunctionEntry) → IsIn (made_function_part input InitTls) z
+    → IsIn (function_space input) z
+tls_stands input z h =
+    behind_stands input z (in_back (made_function_part input CallCtors)
+    (made_function_part input InitTls ++ (init_memory_part input ++ (stub_part input ++ []))) z
+    (in_front (made_function_part input InitTls) (init_memory_part input ++ (stub_part input ++ [])) z h))
+
+pub stub_stands : (input : Input) (z : FunctionEntry) → IsIn (stub_part input) z
+    → IsIn (function_space input) z
+stub_stands input z h =
+    behind_stands input z (in_back (made_function_part input CallCtors)
+    (made_function_part input InitTls ++ (init_memory_part input ++ (stub_part input ++ []))) z
+    (in_back (made_function_part input InitTls) (init_memory_part input ++ (stub_part input ++ [])) z
+    (in_back (init_memory_part input) (stub_part input ++ []) z (in_front (stub_part input) [] z h))))
+
+pub own_stands : (input : Input) (object : ℕ) (o : Object) (z : FunctionEntry)
+    → slice_get input.link.objects object ≡ Some o → IsIn (functions_of input object o) z
+    → IsIn (function_space input) z
+own_stands input object o z at h =
+    in_back (joined (function_parts input)) (object_functions input) z
+    (object_in (functions_of input) 0 object object input.link.objects o z (omega arith) at h)
+
+-- a function that is kept stands in the space
+range_in : (a n k : ℕ) → a ≤ k → k < a + n → IsIn (range_with_len a n) k
+range_in a zero k le lt = absurd (omega (arith, le, lt))
+range_in a (suc n) k le lt = elim (cases_eq a k) [
+  | inl e ↦ inl e
+  | inr ne ↦ inr (range_in (a + 1) n k (grind (arith, le, ne)) (omega (arith, lt)))
+]
+
+pub kept_in : {X : Type 0} (p : X → Bool) (xs : List X) (z : X) → p z ≡ true → IsIn xs z → IsIn (filter p xs) z
+kept_in p [] z so h = absurd h
+kept_in {X} p (x ∷ xs) z so h = elim (cases_Bool (p x)) [
+  | inl t ↦ rw t (elim h [ inl e ↦ inl e | inr r ↦ inr (kept_in p xs z so r) ])
+  | inr f ↦ rw f (elim h [
+    | inl e ↦ absurd (let P : X → Type 0 = λ y. p y ≡ false in let no : p z ≡ false = subst P e f in cc)
+    | inr r ↦ kept_in p xs z so r
+  ])
+]
+
+pub kept_stands : (input : Input) (object : ℕ) (o : Object) (function : ℕ)
+    → slice_get input.link.objects object ≡ Some o → function < length o.functions
+    → keeps input object (DefinedFunction function) ≡ true
+    → IsIn (function_space input) (FunctionOf (Defined object function))
+kept_stands input object o function at lt keep =
+    own_stands input object o (FunctionOf (Defined object function)) at
+    (map_in (λ (k : ℕ). FunctionOf (Defined object k)) (kept_functions input object o) function
+    (kept_in (λ (k : ℕ). keeps input object (DefinedFunction k)) (range_with_len 0 (length o.functions)) function keep
+    (range_in 0 (length o.functions) function (omega arith) (omega (arith, lt)))))
+
+-- ---- what the linker makes
+
+host_no_made : (input : Input) (m : WasmLinkerSymbol) → IsIn (host_function_part input) (FunctionOf (Made m)) → ⊥
+host_no_made input m h =
+    let c = in_map (λ (t : ImportSlot). FunctionOf (Host t.object t.number)) (first_imports (host_functions input)) (FunctionOf (Made m)) h in
+    let e = c.to in absurd cc
+
+stub_no_made : (input : Input) (m : WasmLinkerSymbol) → IsIn (stub_part input) (FunctionOf (Made m)) → ⊥
+stub_no_made input m h =
+    let c = in_map (λ (t : ImportSlot). FunctionOf (Stub t.object t.number)) (link_stubs input) (FunctionOf (Made m)) h in
+    let e = c.to in absurd cc
+
+own_no_made : (input : Input) (m : WasmLinkerSymbol) → IsIn (object_functions input) (FunctionOf (Made m)) → ⊥
+own_no_made input m h =
+    let g = in_object (functions_of input) 0 input.link.objects (FunctionOf (Made m)) h in
+    let c = in_map (λ (k : ℕ). FunctionOf (Defined g.number k)) (kept_functions input g.number g.object) (FunctionOf (Made m)) g.there in
+    let e = c.to in absurd cc
+
+pub in_if : {X : Type 0} (b : Bool) (x z : X) → IsIn (if b then x ∷ [] else []) z → (b ≡ true) × (x ≡ z)
+in_if true x z h = elim h [ inl e ↦ (refl, e) | inr r ↦ absurd r ]
+in_if false x z h = absurd h
+
+pub if_in : {X : Type 0} (b : Bool) (x : X) → b ≡ true → IsIn (if b then x ∷ [] else []) x
+if_in true x is = inl refl
+if_in false x is = absurd cc
+
+in_made : (input : Input) (n m : WasmLinkerSymbol) → IsIn (made_function_part input n) (FunctionOf (Made m))
+    → is_made input m ≡ true
+in_made input n m h =
+    let c = in_if (is_made input n) (FunctionOf (Made n)) (FunctionOf (Made m)) h in
+    let e = c.1 in
+    let same : n ≡ m = cc in
+    let P : WasmLinkerSymbol → Type 0 = λ x. is_made input x ≡ true in
+    subst P same c.0
+
+-- what the linker makes stands in the space only where it is made
+pub made_is : (input : Input) (m : WasmLinkerSymbol) → IsIn (function_space input) (FunctionOf (Made m))
+    → is_made input m ≡ true
+made_is input m h =
+    let z : FunctionEntry = FunctionOf (Made m) in
+    elim (in_split (joined (function_parts input)) (object_functions input) z h) [
+      | inr own ↦ absurd (own_no_made input m own)
+      | inl parts ↦ elim (in_split (host_function_part input) (behind_hosts input) z parts) [
+        | inl host ↦ absurd (host_no_made input m host)
+        | inr behind ↦ elim (in_split (made_function_part input CallCtors)
+            (made_function_part input InitTls ++ (init_memory_part input ++ (stub_part input ++ []))) z behind) [
+              | inl ctors ↦ in_made input CallCtors m ctors
+              | inr others ↦ elim (in_split (made_function_part input InitTls)
+                  (init_memory_part input ++ (stub_part input ++ [])) z others) [
+                    | inl tls ↦ in_made input InitTls m tls
+                    | inr rest ↦ elim (in_split (init_memory_part input) (stub_part input ++ []) z rest) [
+                      | inl init ↦ absurd (let c = in_if (has_init_memory input) InitMemory z init in let e = c.1 in cc)
+                      | inr stubs ↦ elim (in_split (stub_part input) [] z stubs) [
+                        | inl stub ↦ absurd (stub_no_made input m stub)
+                        | inr none ↦ absurd none
+                      ]
+                    ]
+                  ]
+            ]
+      ]
+    ]
+
+-- the part of what calls the constructors, by its index
+pub no_ctors : (input : Input) → is_made input CallCtors ≡ false → made_function_part input CallCtors ≡ []
+no_ctors input none = ap (λ (b : Bool). if b then FunctionOf (Made CallCtors) ∷ [] else []) none
+
+pub no_index : (input : Input) (index : Option ℕ) → IsMadeIndex input CallCtors index → is_some index ≡ false
+    → made_function_part input CallCtors ≡ []
+no_index input None is none = no_ctors input is
+no_index input (Some i) is none = absurd cc
+
+pub one_ctors : (input : Input) (index : ℕ) → slice_get (function_space input) index ≡ Some (FunctionOf (Made CallCtors))
+    → made_function_part input CallCtors ≡ FunctionOf (Made CallCtors) ∷ []
+one_ctors input index at =
+    ap (λ (b : Bool). if b then FunctionOf (Made CallCtors) ∷ [] else [])
+    (made_is input CallCtors (in_at (function_space input) index (FunctionOf (Made CallCtors)) at))
+
+-- ---- types
+
+pub contains_in : (types more : List FunctionType) (ty : FunctionType) → types ≡ more → Contains more ty
+    → Contains types ty
+contains_in types more ty same has = subst (λ (ts : List FunctionType). Contains ts ty) (sym same) has
+
+pub ok_then : {T E : Type 0} (r : Result T E) (A B : Type 0) → (A → B) → OnOk r A → OnOk r B
+ok_then (Ok x) A B f h = f h
+ok_then (Err e) A B f h = tt
+
+-- a type that an entry has is one of the output's
+pub has_type : (input : Input) (entry : FunctionEntry) (ty : FunctionType) → HasOutputType input entry
+    → type_of_entry input entry ≡ Some ty → Contains (output_types input) ty
+has_type input entry ty has is =
+    let same : has.ty ≡ ty = same_Some has.ty ty (sym has.has ∙ is) in
+    subst (λ (t : FunctionType). Contains (output_types input) t) same has.one
+
+-- what calls the constructors, where there is an index of it
+pub record CtorsAre (input : Input) (ty : FunctionType) : Type 0 where
+  pub part : made_function_part input CallCtors ≡ FunctionOf (Made CallCtors) ∷ []
+  pub typed : type_of_entry input (FunctionOf (Made CallCtors)) ≡ Some ty
+  pub one : Contains (output_types input) ty
+
+pub ctors_are : (input : Input) (index : Option ℕ) (ty : FunctionType) (ps rs : List ValType)
+    → ((entry : FunctionEntry) → Contains (function_space input) entry → HasOutputType input entry)
+    → IsMadeIndex input CallCtors index → is_some index ≡ true
+    → ty ≡ record { params = ps; results = rs } → ps ≡ [] → rs ≡ [] → CtorsAre input ty
+ctors_are input None ty ps rs types is some made p r = absurd cc
+ctors_are input (Some i) ty ps rs types is some made p r =
+    let z : FunctionEntry = FunctionOf (Made CallCtors) in
+    let none : List ValType = [] in
+    let plain : ty ≡ record { params = []; results = [] } =
+    made ∙ (ap (λ (vs : List ValType). record { params = vs; results = rs }) p
+    ∙ ap (λ (vs : List ValType). record { params = none; results = vs }) r) in
+    let typed : type_of_entry input z ≡ Some ty = ap (λ (t : FunctionType). Some t) (sym plain) in
+    record {
+      part = one_ctors input i is;
+      typed = typed;
+      one = has_type input z ty (types z (in_list (function_space input) z (in_at (function_space input) i z is))) typed;
+    }
+
+-- ---- functions that are added
+
+pub zip_joined : {A B : Type 0} (R : A → B → Type 0) (xs more_xs : List A) (ys more_ys : List B)
+    → AllZip R xs ys → AllZip R more_xs more_ys → AllZip R (xs ++ more_xs) (ys ++ more_ys)
+zip_joined R [] mx [] my zip more = more
+zip_joined R [] mx (y ∷ ys) my zip more = absurd zip
+zip_joined R (x ∷ xs) mx [] my zip more = absurd zip
+zip_joined R (x ∷ xs) mx (y ∷ ys) my zip more = (zip.0, zip_joined R xs mx ys my zip.1 more)
+
+pub adds_none : (input : Input) (old : List PlannedFunction) → AddsFunctions input [] old old
+adds_none input old = record { more = []; are = tt; grown = sym (append-nil old) }
+
+pub adds_one : (input : Input) (entry : FunctionEntry) (ty : FunctionType) (origin : Origin)
+    (old new : List PlannedFunction) → AddsFunction (output_types input) ty origin old new
+    → type_of_entry input entry ≡ Some ty → origin_of input entry ≡ Some origin
+    → AddsFunctions input (entry ∷ []) old new
+adds_one input entry ty origin old new adds typed from = record {
+  more = record { type_index = adds.number; origin = origin } ∷ [];
+  are = (record { origin = from; typed = (ty, typed, adds.typed) }, tt);
+  grown = adds.grown;
+}
+
+pub pushed : (input : Input) (types : List FunctionType) (entry : FunctionEntry) (ty : FunctionType)
+    (origin : Origin) (old new : List PlannedFunction) → types ≡ output_types input
+    → type_of_entry input entry ≡ Some ty → origin_of input entry ≡ Some origin
+    → AddsFunction types ty origin old new → AddsFunctions input (entry ∷ []) old new
+pushed input types entry ty origin old new same typed from adds =
+    adds_one input entry ty origin old new
+    (subst (λ (ts : List FunctionType). AddsFunction ts ty origin old new) same adds) typed from
+
+pub adds_more : (input : Input) (first second : List FunctionEntry) (old middle new : List PlannedFunction)
+    → AddsFunctions input first old middle → AddsFunctions input second middle new
+    → AddsFunctions input (first ++ second) old new
+adds_more input first second old middle new a b = record {
+  more = a.more ++ b.more;
+  are = zip_joined (IsOutputFunction input (output_types input)) first second a.more b.more a.are b.are;
+  grown = b.grown ∙ (ap (λ (fs : List PlannedFunction). fs ++ b.more) a.grown ∙ append_assoc old a.more b.more);
+}
+
+pub adds_same : (input : Input) (first second : List FunctionEntry) (old new : List PlannedFunction)
+    → first ≡ second → AddsFunctions input first old new → AddsFunctions input second old new
+adds_same input first second old new same adds =
+    subst (λ (es : List FunctionEntry). AddsFunctions input es old new) same adds
+
+-- ---- the kept functions of an object
+
+-- those with numbers below that one
+abbrev pub functions_below : Input → ℕ → ℕ → List FunctionEntry
+functions_below input object n =
+    map (λ (k : ℕ). FunctionOf (Defined object k))
+    (filter (λ (k : ℕ). keeps input object (DefinedFunction k)) (range_with_len 0 n))
+
+kept_more : {Y : Type 0} (p : ℕ → Bool) (g : ℕ → Y) (a n m : ℕ) → a + n ≡ m
+    → map g (filter p (range_with_len a (suc n)))
+    ≡ map g (filter p (range_with_len a n)) ++ (if p m then g m ∷ [] else [])
+kept_more p g a zero m e =
+    let same : a ≡ m = omega (arith, e) in
+    elim (cases_Bool (p m)) [ inl t ↦ rw (same, t) refl | inr f ↦ rw (same, f) refl ]
+kept_more {Y} p g a (suc n) m e =
+    let rest = kept_more p g (a + 1) n m (omega (arith, e)) in
+    elim (cases_Bool (p a)) [
+      | inl t ↦ rw t (ap (λ (ys : List Y). g a ∷ ys) rest)
+      | inr f ↦ rw f rest
+    ]
+
+pub below_more : (input : Input) (object n : ℕ)
+    → functions_below input object n ++ own_function_part input object n ≡ functions_below input object (n + 1)
+below_more input object n =
+    let next : n + 1 ≡ suc n = omega arith in
+    rw next (sym (kept_more (λ (k : ℕ). keeps input object (DefinedFunction k)) (λ (k : ℕ). FunctionOf (Defined object k))
+    0 n n (omega arith)))
+
+-- those below the last are all
+pub below_is : (input : Input) (object : ℕ) (o : Object) (n : ℕ) → n ≡ length o.functions
+    → functions_below input object n ≡ functions_of input object o
+below_is input object o n end = ap (λ (k : ℕ). functions_below input object k) end
+
+-- the part of a function that isn't kept, and of one that is
+pub no_own : (input : Input) (object n : ℕ) → keeps input object (DefinedFunction n) ≡ false
+    → own_function_part input object n ≡ []
+no_own input object n none = ap (λ (b : Bool). if b then FunctionOf (Defined object n) ∷ [] else []) none
+
+pub one_own : (input : Input) (object n : ℕ) → keeps input object (DefinedFunction n) ≡ true
+    → own_function_part input object n ≡ FunctionOf (Defined object n) ∷ []
+one_own input object n is = ap (λ (b : Bool). if b then FunctionOf (Defined object n) ∷ [] else []) is
+
+-- ---- what isn't imported
+
+drop_front : {X : Type 0} (xs ys : List X) → drop (length xs) (xs ++ ys) ≡ ys
+drop_front [] ys = refl
+drop_front (x ∷ xs) ys = drop_front xs ys
+
+no_tls : (input : Input) → input.link.args.shared_memory ≡ false → made_function_part input InitTls ≡ []
+no_tls input alone = rw alone refl
+
+no_init : (input : Input) → input.link.args.shared_memory ≡ false → init_memory_part input ≡ []
+no_init input alone = rw alone refl
+
+-- where memory isn't shared: what calls the constructors, the stubs, and what objects define
+pub own_is : (input : Input) → input.link.args.shared_memory ≡ false
+    → (made_function_part input CallCtors ++ stub_part input) ++ object_functions input ≡ own_functions input
+own_is input alone =
+    let hosts : List FunctionEntry = host_function_part input in
+    let ctors : List FunctionEntry = made_function_part input CallCtors in
+    let stubs : List FunctionEntry = stub_part input in
+    let own : List FunctionEntry = object_functions input in
+    let tls : List FunctionEntry = made_function_part input InitTls in
+    let init : List FunctionEntry = init_memory_part input in
+    let whole : drop (length hosts) ((hosts ++ behind_hosts input) ++ own) ≡ behind_hosts input ++ own =
+    ap (λ (es : List FunctionEntry). drop (length hosts) es) (append_assoc hosts (behind_hosts input) own)
+    ∙ drop_front hosts (behind_hosts input ++ own) in
+    let short : behind_hosts input ≡ ctors ++ stubs =
+    ap (λ (es : List FunctionEntry). ctors ++ (es ++ (init ++ (stubs ++ [])))) (no_tls input alone)
+    ∙ (ap (λ (es : List FunctionEntry). ctors ++ (es ++ (stubs ++ []))) (no_init input alone)
+    ∙ ap (λ (es : List FunctionEntry). ctors ++ es) (append-nil stubs)) in
+    sym (whole ∙ ap (λ (es : List FunctionEntry). es ++ own) short)
+
+-- ---- where a slot stands
+
+pub record IsLocated (kind : WasmSymbolKind) (objects : List Object) (n : ℕ) (t : ImportSlot) : Type 0 where
+  pub place : ℕ
+  pub object : Object
+  pub at : slice_get objects place ≡ Some object
+  pub number : t.object ≡ n + place
+  pub here : slice_get (object_slots t.object kind object) t.number ≡ Some t
+
+record IsNumbered (object : ℕ) (kind : WasmSymbolKind) (symbols : List Symbol) (n : ℕ) (imports : List Imported) (t : ImportSlot) : Type 0 where
+  pub place : ℕ
+  pub object_is : t.object ≡ object
+  pub number_is : t.number ≡ n + place
+  pub here : slice_get (numbered_slots object kind symbols n imports) place ≡ Some t
+
+numbered : (object : ℕ) (kind : WasmSymbolKind) (symbols : List Symbol) (n : ℕ) (imports : List Imported) (t : ImportSlot)
+    → IsIn (numbered_slots object kind symbols n imports) t → IsNumbered object kind symbols n imports t
+numbered object kind symbols n [] t h = absurd h
+numbered object kind symbols n (i ∷ imports) t h = elim h [
+  | inl e ↦ record {
+    place = 0;
+    object_is = ap (λ (s : ImportSlot). s.object) (sym e);
+    number_is = (let same : n ≡ t.number = ap (λ (s : ImportSlot). s.number) e in omega (arith, same));
+    here = ap (λ (s : ImportSlot). Some s) e;
+  }
+  | inr r ↦ (let rest = numbered object kind symbols (n + 1) imports t r in record {
+    place = suc rest.place;
+    object_is = rest.object_is;
+    number_is = (let same = rest.number_is in omega (arith, same));
+    here = rest.here;
+  })
+]
+
+pub located : (kind : WasmSymbolKind) (n : ℕ) (objects : List Object) (t : ImportSlot) → IsIn (slots_from kind n objects) t
+    → IsLocated kind objects n t
+located kind n [] t h = absurd h
+located kind n (o ∷ objects) t h = elim (in_split (object_slots n kind o) (slots_from kind (n + 1) objects) t h) [
+  | inl l ↦ (let is = numbered n kind o.symbols 0 (slot_imports kind o.imports) t l in
+      let number : is.place ≡ t.number = let e = is.number_is in omega (arith, e) in
+      let first : t.object ≡ n = is.object_is in
+      let there : slice_get (object_slots n kind o) t.number ≡ Some t =
+      subst (λ (k : ℕ). slice_get (object_slots n kind o) k ≡ Some t) number is.here in record {
+        place = 0;
+        object = o;
+        at = refl;
+        number = omega (arith, first);
+        here = subst (λ (k : ℕ). slice_get (object_slots k kind o) t.number ≡ Some t) (sym first) there;
+      })
+  | inr r ↦ (let is = located kind (n + 1) objects t r in record {
+    place = suc is.place;
+    object = is.object;
+    at = is.at;
+    number = (let e = is.number in omega (arith, e));
+    here = is.here;
+  })
+]
+
+-- the object of a slot of a link
+pub slot_object : (kind : WasmSymbolKind) (objects : List Object) (t : ImportSlot) (is : IsLocated kind objects 0 t)
+    → slice_get objects t.object ≡ Some is.object
+slot_object kind objects t is =
+    let number : is.place ≡ t.object = let e = is.number in omega (arith, e) in
+    subst (λ (k : ℕ). slice_get objects k ≡ Some is.object) number is.at
+
+pub slot_here : (kind : WasmSymbolKind) (objects : List Object) (t : ImportSlot) → IsLocated kind objects 0 t
+    → slice_get (import_slots objects t.object kind) t.number ≡ Some t
+slot_here kind objects t is =
+    ap (λ (o : Option Object). slice_get (option_map_or (object_slots t.object kind) o []) t.number)
+    (slot_object kind objects t is) ∙ is.here
+
+pub left_located : (input : Input) (kind : WasmSymbolKind) (t : ImportSlot) → IsIn (left_slots input kind) t
+    → IsLocated kind input.link.objects 0 t
+left_located input kind t h =
+    located kind 0 input.link.objects t
+    (in_filter (is_kept_slot input) (slots_from kind 0 input.link.objects) t
+    (in_filter (λ (s : ImportSlot). is_none (slot_target input.link s)) (kept_slots input kind) t h))
+
+pub stub_located : (input : Input) (t : ImportSlot) → IsIn (link_stubs input) t → IsLocated Func input.link.objects 0 t
+stub_located input t h =
+    left_located input Func t
+    (in_filter (is_stub input.link.objects (left_functions input)) (left_functions input) t
+    (in_firsts same_field (stub_slots input.link.objects (left_functions input)) t h))
+
+pub host_located : (input : Input) (t : ImportSlot) → IsIn (first_imports (host_functions input)) t
+    → IsLocated Func input.link.objects 0 t
+host_located input t h =
+    left_located input Func t
+    (in_filter (λ (s : ImportSlot). not (is_stub input.link.objects (left_functions input) s)) (left_functions input) t
+    (in_firsts same_import (host_functions input) t h))
+
+-- ---- stubs
+
+-- the type of a stub is that of its slot
+slot_typed : (input : Input) (t : ImportSlot) → IsLocated Func input.link.objects 0 t
+    → type_of_slot input t.object t.number ≡ slot_type input.link.objects t
+slot_typed input t is =
+    ap (option_and_then (slot_type input.link.objects)) (slot_here Func input.link.objects t is)
+
+abbrev pub TypesStubs : Input → Type 0
+TypesStubs input = (t : ImportSlot) → IsIn (link_stubs input) t
+    → (ty : FunctionType) × (slot_type input.link.objects t ≡ Some ty)
+
+pub stubs_typed : (input : Input)
+    → ((entry : FunctionEntry) → Contains (function_space input) entry → HasOutputType input entry)
+    → TypesStubs input
+stubs_typed input typed t h =
+    let z : FunctionEntry = FunctionOf (Stub t.object t.number) in
+    let has = typed z (in_list (function_space input) z (stub_stands input z
+    (map_in (λ (s : ImportSlot). FunctionOf (Stub s.object s.number)) (link_stubs input) t h))) in
+    (has.ty, sym (slot_typed input t (stub_located input t h)) ∙ has.has)
+
+-- the stub of a place, with its type and its name
+pub record StubIs (input : Input) (place : ℕ) (ty : FunctionType) (name : List ℕ) : Type 0 where
+  pub slot : ImportSlot
+  pub here : slice_get (stub_part input) place ≡ Some (FunctionOf (Stub slot.object slot.number))
+  pub typed : type_of_entry input (FunctionOf (Stub slot.object slot.number)) ≡ Some ty
+  pub one : Contains (output_types input) ty
+  pub origin : origin_of input (FunctionOf (Stub slot.object slot.number)) ≡ Some (OfStub name)
+
+-- what the laws of entries say
+abbrev pub HaveTypes : Input → Type 0
+HaveTypes input = (entry : FunctionEntry) → Contains (function_space input) entry → HasOutputType input entry
+
+pub stubs_length : (input : Input) → HaveTypes input → length (stub_types input) ≡ length (link_stubs input)
+stubs_length input typed =
+    all_mapped (slot_type input.link.objects) (link_stubs input) (stubs_typed input typed)
+
+pub stub_place : (input : Input) (k : ℕ) → HaveTypes input → k < length (map first_slot (link_stubs input))
+    → k < length (stub_types input)
+stub_place input k typed lt =
+    let a = stubs_length input typed in
+    let b = length_mapped first_slot (link_stubs input) in
+    omega (arith, a, b, lt)
+
+pub stub_is : (input : Input) (k : ℕ) (h : HostImport) (ty : FunctionType) → HaveTypes input
+    → k < length (map first_slot (link_stubs input)) → h ≡ get_or (map first_slot (link_stubs input)) k h
+    → ty ≡ get_or (stub_types input) k ty → StubIs input k ty h.name
+stub_is input k h ty typed lt host-at type-at =
+    let stubs : List ImportSlot = link_stubs input in
+    let len = length_mapped first_slot stubs in
+    let there = there_is stubs k (omega (arith, len, lt)) in
+    let t : ImportSlot = there.0 in
+    let inside = in_at stubs k t there.1 in
+    let host : h ≡ first_slot t =
+    host-at ∙ get_or_from_slice_get (map first_slot stubs) k (first_slot t) h (mapped_at first_slot stubs k t there.1) in
+    let has = stubs_typed input typed t inside in
+    let here : slice_get (stub_types input) k ≡ Some has.0 =
+    filter_at (slot_type input.link.objects) stubs k t (stubs_typed input typed) there.1 ∙ has.1 in
+    let same : ty ≡ has.0 = type-at ∙ get_or_from_slice_get (stub_types input) k has.0 ty here in
+    let z : FunctionEntry = FunctionOf (Stub t.object t.number) in
+    let is = stub_located input t inside in
+    let is-typed : type_of_entry input z ≡ Some ty =
+    slot_typed input t is ∙ (has.1 ∙ ap (λ (u : FunctionType). Some u) (sym same)) in
+    record {
+      slot = t;
+      here = mapped_at (λ (s : ImportSlot). FunctionOf (Stub s.object s.number)) stubs k t there.1;
+      typed = is-typed;
+      one = has_type input z ty (typed z (in_list (function_space input) z (stub_stands input z
+          (map_in (λ (s : ImportSlot). FunctionOf (Stub s.object s.number)) stubs t inside)))) is-typed;
+      origin = ap (λ (s : Option ImportSlot). option_map (λ (u : ImportSlot). OfStub u.item.name) s)
+          (slot_here Func input.link.objects t is)
+          ∙ ap (λ (g : HostImport). Some (OfStub g.name)) (sym host);
+    }
+
+-- one more stub
+pub stub_more : (input : Input) (k : ℕ) (ty : FunctionType) (types : List FunctionType) (name seen : List ℕ)
+    (first old new : List PlannedFunction) → types ≡ output_types input → seen ≡ name
+    → StubIs input k ty name → AddsFunction types ty (OfStub seen) old new
+    → AddsFunctions input (take k (stub_part input)) first old
+    → AddsFunctions input (take (k + 1) (stub_part input)) first new
+stub_more input k ty types name seen first old new types-are same is adds so_far =
+    let z : FunctionEntry = FunctionOf (Stub is.slot.object is.slot.number) in
+    let next : k + 1 ≡ suc k = omega arith in
+    rw next (adds_same input (take k (stub_part input) ++ z ∷ []) (take (suc k) (stub_part input)) first new
+    (sym (take_next (stub_part input) k z is.here))
+    (adds_more input (take k (stub_part input)) (z ∷ []) first old new so_far
+    (pushed input types z ty (OfStub seen) old new types-are is.typed
+    (is.origin ∙ ap (λ (n : List ℕ). Some (OfStub n)) (sym same)) adds)))
+
+pub stubs_done : (input : Input) (k : ℕ) (first new : List PlannedFunction)
+    → length (map first_slot (link_stubs input)) ≤ k
+    → AddsFunctions input (take k (stub_part input)) first new → AddsFunctions input (stub_part input) first new
+stubs_done input k first new le so_far =
+    let a = length_mapped first_slot (link_stubs input) in
+    let b = length_mapped (λ (t : ImportSlot). FunctionOf (Stub t.object t.number)) (link_stubs input) in
+    let all : length (stub_part input) ≤ k = omega (arith, a, b, le) in
+    adds_same input (take k (stub_part input)) (stub_part input) first new (take_all k (stub_part input) all) so_far
+
+-- ---- a function that an object defines
+
+pub whole_at : {X : Type 0} (P : X → Type 0) (xs : List X) (k : ℕ) (x : X) → AllByRecursion P xs
+    → slice_get xs k ≡ Some x → P x
+whole_at P [] k x all e = absurd cc
+whole_at {X} P (y ∷ xs) zero x all e = let same : y ≡ x = cc in subst P same all.0
+whole_at P (y ∷ xs) (suc k) x all e = whole_at P xs k x all.1 e
+
+-- it has a type, which is one of the output's
+pub record OwnIs (input : Input) (object function : ℕ) (ty : FunctionType) : Type 0 where
+  pub typed : type_of_entry input (FunctionOf (Defined object function)) ≡ Some ty
+  pub one : Contains (output_types input) ty
+
+pub own_type : (input : Input) (object : ℕ) (o : Object) (function d : ℕ) (ty : FunctionType)
+    (numbers : List ℕ) (types : List FunctionType) → HaveTypes input
+    → ((o : Object) (i t : ℕ) → IsWhole o → slice_get o.functions i ≡ Some t → t < length o.types)
+    → AllByRecursion IsWhole input.link.objects → slice_get input.link.objects object ≡ Some o
+    → function < length o.functions → keeps input object (DefinedFunction function) ≡ true
+    → numbers ≡ o.functions → types ≡ o.types → ty ≡ get_or types (get_or numbers function d) ty
+    → OwnIs input object function ty
+own_type input object o function d ty numbers types typed fits whole at lt keep numbers-are types-are type-at =
+    let z : FunctionEntry = FunctionOf (Defined object function) in
+    let number : ℕ = get_or o.functions function d in
+    let n : slice_get o.functions function ≡ Some number = slice_get-get_or o.functions function d lt in
+    let within : number < length o.types = fits o function number (whole_at IsWhole input.link.objects object o whole at) n in
+    let there : ty ≡ get_or o.types number ty =
+    type-at ∙ (ap (λ (ts : List FunctionType). get_or ts (get_or numbers function d) ty) types-are
+    ∙ ap (λ (ns : List ℕ). get_or o.types (get_or ns function d) ty) numbers-are) in
+    let t : slice_get o.types number ≡ Some ty =
+    slice_get-get_or o.types number ty within ∙ ap (λ (u : FunctionType). Some u) (sym there) in
+    let is : type_of_entry input z ≡ Some ty =
+    ap (λ (found : Option Object). option_and_then
+    (λ (p : Object). option_and_then (slice_get p.types) (slice_get p.functions function)) found) at
+    ∙ (ap (λ (m : Option ℕ). option_and_then (slice_get o.types) m) n ∙ t) in
+    record {
+      typed = is;
+      one = has_type input z ty (typed z (in_list (function_space input) z (kept_stands input object o function at lt keep))) is;
+    }
+
+-- what one more object adds
+pub objects_more : (input : Input) (k : ℕ) (o : Object) (front : List FunctionEntry)
+    (first old new : List PlannedFunction) → slice_get input.link.objects k ≡ Some o
+    → AddsFunctions input (functions_of input k o) old new
+    → AddsFunctions input (front ++ by_object (functions_of input) 0 (take k input.link.objects)) first old
+    → AddsFunctions input (front ++ by_object (functions_of input) 0 (take (k + 1) input.link.objects)) first new
+objects_more input k o front first old new at adds so_far =
+    let next : k + 1 ≡ suc k = omega arith in
+    let done : List FunctionEntry = by_object (functions_of input) 0 (take k input.link.objects) in
+    let all : (front ++ done) ++ functions_of input k o
+    ≡ front ++ by_object (functions_of input) 0 (take (suc k) input.link.objects) =
+    append_assoc front done (functions_of input k o)
+    ∙ ap (λ (es : List FunctionEntry). front ++ es)
+    (sym (object_more (functions_of input) 0 k k input.link.objects o (omega arith) at)) in
+    rw next (adds_same input ((front ++ done) ++ functions_of input k o)
+    (front ++ by_object (functions_of input) 0 (take (suc k) input.link.objects)) first new all
+    (adds_more input (front ++ done) (functions_of input k o) first old new so_far adds))
+
+-- what was added to nothing is all of the list
+pub adds_all : (input : Input) (entries : List FunctionEntry) (new : List PlannedFunction)
+    → AddsFunctions input entries [] new
+    → AllZip (IsOutputFunction input (output_types input)) entries new
+adds_all input entries new adds =
+    subst (λ (fs : List PlannedFunction). AllZip (IsOutputFunction input (output_types input)) entries fs)
+    (sym adds.grown) adds.are
+
+pub objects_done : (input : Input) (k : ℕ) (new : List PlannedFunction)
+    → input.link.args.shared_memory ≡ false → length input.link.objects ≤ k
+    → AddsFunctions input ((made_function_part input CallCtors ++ stub_part input)
+    ++ by_object (functions_of input) 0 (take k input.link.objects)) [] new
+    → AllZip (IsOutputFunction input (output_types input)) (own_functions input) new
+objects_done input k new alone le so_far =
+    let front : List FunctionEntry = made_function_part input CallCtors ++ stub_part input in
+    let all : front ++ by_object (functions_of input) 0 (take k input.link.objects) ≡ own_functions input =
+    ap (λ (os : List Object). front ++ by_object (functions_of input) 0 os) (take_all k input.link.objects le)
+    ∙ own_is input alone in
+    adds_all input (own_functions input) new
+    (adds_same input (front ++ by_object (functions_of input) 0 (take k input.link.objects)) (own_functions input) [] new all so_far)

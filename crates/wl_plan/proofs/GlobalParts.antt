@@ -1,0 +1,585 @@
+-- How the list of globals grows, part by part.
+use Rattle.std.proofs.Common.{◌≡◌, ◌∙◌, ℕ, zero, suc, ◌+◌, ◌<◌, ◌≤◌, ◌++◌, Bool, true, false, List, [], ◌∷◌, length, map, take, drop, get_or, refl, sym, ap, subst, inl, inr, arith, Some, Ok, Err, Contains, append_assoc, append-nil, slice_get, if◌then◌else◌}
+use Rattle.std.specs.List.{AllZip, AllByRecursion, range_with_len, filter}
+use Rattle.std.proofs.lemmas.Bool.{cases_Bool}
+use Rattle.std.proofs.lemmas.List.{map_more, take_all}
+use Rattle.std.proofs.lemmas.List.Elements.{Contains-append_left, Contains-append_right, filter-append}
+use Rattle.std.proofs.lemmas.Option.{same_Some}
+use Rattle.std.proofs.lemmas.List.FromFn.{map-range_with_len_more, length-map-range_with_len, get_or-map-range_with_len}
+use Rattle.wl_module.specs.Globals.{DefinedGlobal}
+use Rattle.wl_linking.specs.Object.{Object}
+use Rattle.wl_linking.specs.Steps.{Clear, Refuses}
+use Rattle.wl_linking.specs.declared.error.LinkError.{LinkError}
+use Rattle.wl_linking.specs.declared.error.LinkError.TheVariants.{OutOfMemory}
+use Rattle.wl_symbols.specs.LinkerNames.{row_of}
+use Rattle.wl_symbols.specs.declared.linker_symbol.WasmLinkerSymbol.{WasmLinkerSymbol}
+use Rattle.wl_symbols.specs.declared.linker_symbol.WasmLinkerSymbol.TheVariants as linker
+use Rattle.wl_live.specs.declared.units.WasmGcUnit.TheVariants.{DefinedGlobal as OwnGlobal}
+use Rattle.wl_slots.specs.ImportSlots.{ImportSlot}
+use Rattle.wl_slots.specs.Left.{first_imports}
+use Rattle.wl_bind.specs.ExportedAddresses.{exported_addresses}
+use Rattle.wl_bind.specs.ExportedData.{dynamic_data, forced_data}
+use Rattle.wl_bind.specs.GlobalBinding.{host_globals}
+use Rattle.wl_bind.specs.Made.{is_made}
+use Rattle.wl_bind.specs.MadeIndices.{StandsAt}
+use Rattle.wl_bind.specs.Parts.{by_object}
+use Rattle.wl_bind.specs.Scan.{got_mem, got_func}
+use Rattle.wl_bind.specs.declared.exported.DataSymbol.{DataSymbol}
+use Rattle.wl_bind.specs.GlobalSpace.{GlobalEntry, GlobalOf, AddressOf, DataOf, globals_of, kept_globals, made_global_part, address_part, got_mem_part, got_func_part, dynamic_part, forced_part, host_global_part, object_globals, global_space}
+use Rattle.wl_bind.specs.Input.{Input, keeps}
+use Rattle.wl_bind.specs.declared.binding.GlobalTarget.TheVariants.{Defined, Made, GotMem, GotFunc, Host}
+use Rattle.wl_plan.specs.GlobalSteps.{AnswersStart, AddsMade, AddsPart, IsPartFault, is_linker_global, made_parts, own_global_part}
+use Rattle.wl_plan.specs.Globals.{start_of_global, i32_global, origin_of_global, IsMadeGlobal, IsGlobalOf, IsPlannedGlobal, own_globals, ArePlannedGlobals, IsGlobalFault}
+use Rattle.wl_plan.specs.declared.global_starts.GlobalSources.{GlobalSources}
+use Rattle.wl_plan.specs.declared.global_starts.Start.{Start}
+use Rattle.wl_plan.specs.declared.layout.GlobalOrigin.TheVariants as origin
+use Rattle.wl_plan.specs.declared.layout.MadeGlobal.{MadeGlobal}
+use Rattle.wl_plan.specs.declared.layout.PlannedGlobal.{PlannedGlobal}
+use Rattle.wl_plan.specs.declared.placing.Placing.{Placing}
+
+-- ---- lists
+
+zip_join : {X Y : Type 0} (R : X → Y → Type 0) (ps qs : List X) (xs ys : List Y)
+    → AllZip R ps xs → AllZip R qs ys → AllZip R (ps ++ qs) (xs ++ ys)
+zip_join R [] qs [] ys h k = k
+zip_join R [] qs (x ∷ xs) ys h k = absurd h
+zip_join R (p ∷ ps) qs [] ys h k = absurd h
+zip_join R (p ∷ ps) qs (x ∷ xs) ys h k = (h.0, zip_join R ps qs xs ys h.1 k)
+
+module _ {X : Type 0} where
+  alone : (y x : X) → Contains (y ∷ []) x → y ≡ x
+  alone y x (zero, lt, e) = e
+  alone y x (suc k, lt, e) = absurd (omega (arith, lt))
+
+  at_front : (x : X) (xs : List X) → Contains (x ∷ xs) x
+  at_front x xs = (zero, omega arith, refl)
+
+  -- the only element of a list stands where it stands
+  pub only : (y : X) (ys : List X) → Contains ys y → (x : X) → Contains (y ∷ []) x → Contains ys x
+  only y ys there x h = subst (λ (z : X). Contains ys z) (alone y x h) there
+
+  -- what stands at a place is there
+  pub is_at : (xs : List X) (i : ℕ) (d : X) → i < length xs → Contains xs (get_or xs i d)
+  is_at [] i d lt = absurd (omega (arith, lt))
+  is_at (x ∷ xs) zero d lt = at_front x xs
+  is_at (x ∷ xs) (suc i) d lt =
+      let rest = is_at xs i d (omega (arith, lt)) in
+      (suc rest.0, omega (arith, rest.1), rest.2)
+
+in_map : {X Y : Type 0} (f : X → Y) (xs : List X) (x : X) → Contains xs x
+    → Contains (map f xs) (f x)
+in_map f [] x (k, lt, e) = absurd (omega (arith, lt))
+in_map f (y ∷ xs) x (zero, lt, e) = (zero, omega arith, ap f e)
+in_map f (y ∷ xs) x (suc k, lt, e) =
+    let rest = in_map f xs x (k, omega (arith, lt), e) in
+    (suc rest.0, omega (arith, rest.1), rest.2)
+
+in_range : {Y : Type 0} (f : ℕ → Y) (n k : ℕ) → k < n → Contains (map f (range_with_len 0 n)) (f k)
+in_range f n k lt = (
+  k,
+  omega (arith, lt, length-map-range_with_len f 0 n),
+  get_or-map-range_with_len f 0 n k k (f k) lt (omega arith),
+)
+
+-- ---- objects
+
+-- the number behind a range
+range_more : (a k j : ℕ) → a + k ≡ j → range_with_len a (k + 1) ≡ range_with_len a k ++ j ∷ []
+range_more a zero j e = let is : a ≡ j = omega (arith, e) in rw is refl
+range_more a (suc k) j e =
+    let on : suc k + 1 ≡ suc (k + 1) = omega arith in
+    rw on (ap (λ (ns : List ℕ). a ∷ ns) (range_more (a + 1) k j (omega (arith, e))))
+
+map_join : {X Y : Type 0} (f : X → Y) (xs ys : List X) → map f (xs ++ ys) ≡ map f xs ++ map f ys
+map_join f [] ys = refl
+map_join {X} {Y} f (x ∷ xs) ys = ap (λ (l : List Y). f x ∷ l) (map_join f xs ys)
+
+own_part : (input : Input) (object k : ℕ)
+    → map (λ (n : ℕ). GlobalOf (Defined object n))
+    (filter (λ (n : ℕ). keeps input object (OwnGlobal n)) (k ∷ []))
+    ≡ own_global_part input object k
+own_part input object k = elim (cases_Bool (keeps input object (OwnGlobal k))) [
+  | inl kept ↦ rw kept refl
+  | inr dropped ↦ rw dropped refl
+]
+
+-- those of one more global
+pub kept_more : (input : Input) (object k : ℕ)
+    → map (λ (n : ℕ). GlobalOf (Defined object n))
+    (filter (λ (n : ℕ). keeps input object (OwnGlobal n)) (range_with_len 0 (k + 1)))
+    ≡ map (λ (n : ℕ). GlobalOf (Defined object n))
+    (filter (λ (n : ℕ). keeps input object (OwnGlobal n)) (range_with_len 0 k))
+    ++ own_global_part input object k
+kept_more input object k =
+    let f : ℕ → GlobalEntry = λ (n : ℕ). GlobalOf (Defined object n) in
+    let p : ℕ → Bool = λ (n : ℕ). keeps input object (OwnGlobal n) in
+    ap (λ (ns : List ℕ). map f (filter p ns)) (range_more 0 k k (omega arith))
+    ∙ (ap (map f) (filter-append p (range_with_len 0 k) (k ∷ []))
+    ∙ (map_join f (filter p (range_with_len 0 k)) (filter p (k ∷ []))
+    ∙ ap (λ (l : List GlobalEntry). map f (filter p (range_with_len 0 k)) ++ l)
+    (own_part input object k)))
+
+-- what one more object gives
+objects_more : {Y : Type 0} (f : ℕ → Object → List Y) (n : ℕ) (os : List Object) (i j : ℕ)
+    (o : Object)
+    → n + i ≡ j → slice_get os i ≡ Some o
+    → by_object f n (take (i + 1) os) ≡ by_object f n (take i os) ++ f j o
+objects_more f n [] i j o e here = absurd cc
+objects_more f n (x ∷ os) zero j o e here =
+    let same : x ≡ o = same_Some x o here in
+    let at : n ≡ j = omega (arith, e) in
+    rw (same, at) (append-nil (f j o))
+objects_more {Y} f n (x ∷ os) (suc i) j o e here =
+    let on : suc i + 1 ≡ suc (i + 1) = omega arith in
+    rw on (ap (λ (l : List Y). f n x ++ l)
+    (objects_more f (n + 1) os i j o (omega (arith, e)) here)
+    ∙ sym (append_assoc (f n x) (by_object f (n + 1) (take i os)) (f j o)))
+
+-- ---- refusals
+
+pub refuses_memory : (P : LinkError → Type 0) (e : LinkError) → e ≡ OutOfMemory → Refuses P e
+refuses_memory P e is = record { cause_is = λ other. absurd (other is) }
+
+module _ (s : GlobalSources) where
+  -- a fault of a part is one of a list that has the part
+  pub refuses_of : {e : LinkError} (p q : List GlobalEntry)
+      → ((x : GlobalEntry) → Contains p x → Contains q x)
+      → Refuses (IsPartFault s p) e → Refuses (IsPartFault s q) e
+  refuses_of {e} p q within h = record {
+    cause_is = λ other.
+        let fault = h.cause_is other in
+        record {
+          entry = fault.entry;
+          one = within fault.entry fault.one;
+          fault = fault.fault;
+        };
+  }
+
+  pub refuses_left : {e : LinkError} (p q : List GlobalEntry) → Refuses (IsPartFault s p) e
+      → Refuses (IsPartFault s (p ++ q)) e
+  refuses_left p q h = refuses_of p (p ++ q) (λ x. Contains-append_left p q x) h
+
+  pub refuses_right : {e : LinkError} (p q : List GlobalEntry) → Refuses (IsPartFault s q) e
+      → Refuses (IsPartFault s (p ++ q)) e
+  refuses_right p q h = refuses_of q (p ++ q) (λ x. Contains-append_right p q x) h
+
+  -- an entry that can't start
+  pub refuses_start : (entry : GlobalEntry) (e : LinkError) → AnswersStart s entry (Err e)
+      → Refuses (IsPartFault s (entry ∷ [])) e
+  refuses_start entry e h = record {
+    cause_is = λ other. record { entry = entry; one = at_front entry []; fault = h };
+  }
+
+  pub refuses_one : {X : Type 0} {e : LinkError} (f : X → GlobalEntry) (xs : List X) (i : ℕ) (d : X)
+      → i < length xs → Refuses (IsPartFault s (f (get_or xs i d) ∷ [])) e
+      → Refuses (IsPartFault s (map f xs)) e
+  refuses_one f xs i d lt h =
+      refuses_of (f (get_or xs i d) ∷ []) (map f xs)
+      (only (f (get_or xs i d)) (map f xs) (in_map f xs (get_or xs i d) (is_at xs i d lt))) h
+
+  pub refuses_upto : {e : LinkError} (f : ℕ → GlobalEntry) (n k : ℕ) → k < n
+      → Refuses (IsPartFault s (f k ∷ [])) e
+      → Refuses (IsPartFault s (map f (range_with_len 0 n))) e
+  refuses_upto f n k lt h =
+      refuses_of (f k ∷ []) (map f (range_with_len 0 n))
+      (only (f k) (map f (range_with_len 0 n)) (in_range f n k lt)) h
+
+  -- ---- parts
+
+  pub adds_none : (old : List PlannedGlobal) → AddsPart s [] old old
+  adds_none old = record { more = []; are = tt; grown = sym (append-nil old) }
+
+  pub adds_join : {p q : List GlobalEntry} {a b c : List PlannedGlobal}
+      → AddsPart s p a b → AddsPart s q b c → AddsPart s (p ++ q) a c
+  adds_join {p} {q} {a} {b} {c} h k = record {
+    more = h.more ++ k.more;
+    are = zip_join (IsPlannedGlobal s.book.now.input.now s.book.now.placing.now) p q h.more k.more
+        h.are k.are;
+    grown = k.grown ∙ (ap (λ (l : List PlannedGlobal). l ++ k.more) h.grown
+        ∙ append_assoc a h.more k.more);
+  }
+
+  -- a global that the linker makes is that of the entry that it starts as
+  pub adds_made : (entry : GlobalEntry) (made : MadeGlobal) (start : Start)
+      (old new : List PlannedGlobal)
+      → origin_of_global entry ≡ origin.Made made
+      → ((m : DefinedGlobal) → IsMadeGlobal s.book.now.input.now s.book.now.placing.now entry m
+      → IsGlobalOf s.book.now.input.now s.book.now.placing.now entry m)
+      → AnswersStart s entry (Ok start) → AddsMade made start old new
+      → AddsPart s (entry ∷ []) old new
+  adds_made entry made start old new word is answers h = record {
+    more = record { global = h.global; origin = origin.Made made } ∷ [];
+    are = (
+      record {
+        origin_is = sym word;
+        global_is = is h.global (record {
+          number = start.number;
+          starts = answers.0;
+          ty = h.started.ty ∙ ap i32_global (sym answers.1);
+          body = h.started.body;
+          owned = h.started.owned;
+        });
+      },
+      tt,
+    );
+    grown = h.grown;
+  }
+
+  -- one more element of a list
+  pub adds_more : {X : Type 0} {a b c : List PlannedGlobal} (f : X → GlobalEntry) (xs : List X)
+      (i : ℕ) (d : X) → i < length xs → AddsPart s (map f (take i xs)) a b
+      → AddsPart s (f (get_or xs i d) ∷ []) b c → AddsPart s (map f (take (i + 1) xs)) a c
+  adds_more {X} {a} {b} {c} f xs i d lt h k =
+      subst (λ (part : List GlobalEntry). AddsPart s part a c) (sym (map_more f xs i d lt))
+      (adds_join h k)
+
+  pub adds_all : {X : Type 0} {a b : List PlannedGlobal} (f : X → GlobalEntry) (xs : List X) (i : ℕ)
+      → length xs ≤ i → AddsPart s (map f (take i xs)) a b → AddsPart s (map f xs) a b
+  adds_all {X} {a} {b} f xs i le h =
+      subst (λ (l : List X). AddsPart s (map f l) a b) (take_all i xs le) h
+
+  -- one more number
+  pub adds_upto : {a b c : List PlannedGlobal} (f : ℕ → GlobalEntry) (k : ℕ)
+      → AddsPart s (map f (range_with_len 0 k)) a b → AddsPart s (f k ∷ []) b c
+      → AddsPart s (map f (range_with_len 0 (k + 1))) a c
+  adds_upto {a} {b} {c} f k h one =
+      subst (λ (part : List GlobalEntry). AddsPart s part a c)
+      (sym (map-range_with_len_more f 0 k k (omega arith))) (adds_join h one)
+
+  -- the same of lists that are the same
+  pub mapped_added : {X : Type 0} {a b : List PlannedGlobal} (f : X → GlobalEntry) (xs ys : List X)
+      → xs ≡ ys → AddsPart s (map f xs) a b → AddsPart s (map f ys) a b
+  mapped_added {X} {a} {b} f xs ys is h =
+      subst (λ (l : List X). AddsPart s (map f l) a b) is h
+
+  pub mapped_refused : {X : Type 0} {e : LinkError} (f : X → GlobalEntry) (xs ys : List X) → xs ≡ ys
+      → Refuses (IsPartFault s (map f xs)) e → Refuses (IsPartFault s (map f ys)) e
+  mapped_refused {X} {e} f xs ys is h =
+      subst (λ (l : List X). Refuses (IsPartFault s (map f l)) e) is h
+
+  -- ---- six parts
+
+  pub six_added : {a b c d e f : List GlobalEntry} {g h i j k l m : List PlannedGlobal}
+      → AddsPart s a g h → AddsPart s b h i → AddsPart s c i j → AddsPart s d j k
+      → AddsPart s e k l → AddsPart s f l m
+      → AddsPart s (a ++ (b ++ (c ++ (d ++ (e ++ f))))) g m
+  six_added u v w x y z =
+      adds_join u (adds_join v (adds_join w (adds_join x (adds_join y z))))
+
+  pub first_refused : {r : LinkError} (a b c d e f : List GlobalEntry)
+      → Refuses (IsPartFault s a) r
+      → Refuses (IsPartFault s (a ++ (b ++ (c ++ (d ++ (e ++ f)))))) r
+  first_refused a b c d e f h = refuses_left a (b ++ (c ++ (d ++ (e ++ f)))) h
+
+  pub second_refused : {r : LinkError} (a b c d e f : List GlobalEntry)
+      → Refuses (IsPartFault s b) r
+      → Refuses (IsPartFault s (a ++ (b ++ (c ++ (d ++ (e ++ f)))))) r
+  second_refused a b c d e f h =
+      refuses_right a (b ++ (c ++ (d ++ (e ++ f)))) (refuses_left b (c ++ (d ++ (e ++ f))) h)
+
+  pub third_refused : {r : LinkError} (a b c d e f : List GlobalEntry)
+      → Refuses (IsPartFault s c) r
+      → Refuses (IsPartFault s (a ++ (b ++ (c ++ (d ++ (e ++ f)))))) r
+  third_refused a b c d e f h =
+      refuses_right a (b ++ (c ++ (d ++ (e ++ f))))
+      (refuses_right b (c ++ (d ++ (e ++ f))) (refuses_left c (d ++ (e ++ f)) h))
+
+  pub fourth_refused : {r : LinkError} (a b c d e f : List GlobalEntry)
+      → Refuses (IsPartFault s d) r
+      → Refuses (IsPartFault s (a ++ (b ++ (c ++ (d ++ (e ++ f)))))) r
+  fourth_refused a b c d e f h =
+      refuses_right a (b ++ (c ++ (d ++ (e ++ f))))
+      (refuses_right b (c ++ (d ++ (e ++ f)))
+      (refuses_right c (d ++ (e ++ f)) (refuses_left d (e ++ f) h)))
+
+  pub fifth_refused : {r : LinkError} (a b c d e f : List GlobalEntry)
+      → Refuses (IsPartFault s e) r
+      → Refuses (IsPartFault s (a ++ (b ++ (c ++ (d ++ (e ++ f)))))) r
+  fifth_refused a b c d e f h =
+      refuses_right a (b ++ (c ++ (d ++ (e ++ f))))
+      (refuses_right b (c ++ (d ++ (e ++ f)))
+      (refuses_right c (d ++ (e ++ f)) (refuses_right d (e ++ f) (refuses_left e f h))))
+
+  pub sixth_refused : {r : LinkError} (a b c d e f : List GlobalEntry)
+      → Refuses (IsPartFault s f) r
+      → Refuses (IsPartFault s (a ++ (b ++ (c ++ (d ++ (e ++ f)))))) r
+  sixth_refused a b c d e f h =
+      refuses_right a (b ++ (c ++ (d ++ (e ++ f))))
+      (refuses_right b (c ++ (d ++ (e ++ f)))
+      (refuses_right c (d ++ (e ++ f)) (refuses_right d (e ++ f) (refuses_right e f h))))
+
+  -- ---- what objects define
+
+  -- the kept ones of the first globals of an object
+  abbrev pub KeptUpTo : ℕ → ℕ → List PlannedGlobal → List PlannedGlobal → Type 0
+  KeptUpTo object k a b =
+      AddsPart s (map (λ (n : ℕ). GlobalOf (Defined object n))
+      (filter (λ (n : ℕ). keeps s.book.now.input.now object (OwnGlobal n)) (range_with_len 0 k)))
+      a b
+
+  pub adds_kept : (object k : ℕ) (a b c : List PlannedGlobal) → KeptUpTo object k a b
+      → AddsPart s (own_global_part s.book.now.input.now object k) b c
+      → KeptUpTo object (k + 1) a c
+  adds_kept object k a b c h one =
+      subst (λ (part : List GlobalEntry). AddsPart s part a c)
+      (sym (kept_more s.book.now.input.now object k)) (adds_join h one)
+
+  pub kept_all : (object k : ℕ) (o : Object) (a b : List PlannedGlobal) → k ≡ length o.globals
+      → KeptUpTo object k a b → AddsPart s (globals_of s.book.now.input.now object o) a b
+  kept_all object k o a b is h = subst (λ (n : ℕ). KeptUpTo object n a b) is h
+
+  pub adds_object : (i : ℕ) (o : Object) (a b c : List PlannedGlobal)
+      → slice_get s.book.now.input.now.link.objects i ≡ Some o
+      → AddsPart s (by_object (globals_of s.book.now.input.now) 0
+      (take i s.book.now.input.now.link.objects)) a b
+      → AddsPart s (globals_of s.book.now.input.now i o) b c
+      → AddsPart s (by_object (globals_of s.book.now.input.now) 0
+      (take (i + 1) s.book.now.input.now.link.objects)) a c
+  adds_object i o a b c here h one =
+      subst (λ (part : List GlobalEntry). AddsPart s part a c)
+      (sym (objects_more (globals_of s.book.now.input.now) 0 s.book.now.input.now.link.objects i i o
+      (omega arith) here)) (adds_join h one)
+
+  pub all_objects : (i : ℕ) (a b : List PlannedGlobal)
+      → length s.book.now.input.now.link.objects ≤ i
+      → AddsPart s (by_object (globals_of s.book.now.input.now) 0
+      (take i s.book.now.input.now.link.objects)) a b
+      → AddsPart s (object_globals s.book.now.input.now) a b
+  all_objects i a b le h =
+      subst
+      (λ (os : List Object). AddsPart s (by_object (globals_of s.book.now.input.now) 0 os) a b)
+      (take_all i s.book.now.input.now.link.objects le) h
+
+  pub adds_same : {a b : List PlannedGlobal} (f : ℕ → GlobalEntry) (n m : ℕ) → n ≡ m
+      → AddsPart s (map f (range_with_len 0 n)) a b → AddsPart s (map f (range_with_len 0 m)) a b
+  adds_same {a} {b} f n m is h =
+      subst (λ (k : ℕ). AddsPart s (map f (range_with_len 0 k)) a b) is h
+
+-- ---- all of them
+
+drop_front : {X : Type 0} (host tail objects : List X)
+    → drop (length host) ((host ++ tail) ++ objects) ≡ tail ++ objects
+drop_front [] tail objects = refl
+drop_front (x ∷ host) tail objects = drop_front host tail objects
+
+regroup : {X : Type 0} (a b c d e f g h i j k : List X)
+    → a ++ (b ++ (c ++ (d ++ (e ++ (f ++ (g ++ (h ++ (i ++ (j ++ (k ++ []))))))))))
+    ≡ (a ++ (b ++ (c ++ (d ++ (e ++ f))))) ++ (g ++ (h ++ (i ++ (j ++ k))))
+regroup a b c d e f g h i j k = simp (append_assoc, append-nil)
+
+-- the global space behind the imports
+pub own_globals_are : (input : Input) → own_globals input ≡ made_parts input ++ object_globals input
+own_globals_are input =
+    let a = made_global_part input linker.MemoryBase in
+    let b = made_global_part input linker.TableBase in
+    let c = made_global_part input linker.StackPointer in
+    let d = made_global_part input linker.TlsBase in
+    let e = made_global_part input linker.TlsSize in
+    let f = made_global_part input linker.TlsAlign in
+    let g = address_part input in
+    let h = got_mem_part input in
+    let i = got_func_part input in
+    let j = dynamic_part input in
+    let k = forced_part input in
+    drop_front (host_global_part input)
+    (a ++ (b ++ (c ++ (d ++ (e ++ (f ++ (g ++ (h ++ (i ++ (j ++ (k ++ [])))))))))))
+    (object_globals input)
+    ∙ ap (λ (l : List GlobalEntry). l ++ object_globals input) (regroup a b c d e f g h i j k)
+
+pub planned : (s : GlobalSources) (old new : List PlannedGlobal) → old ≡ []
+    → AddsPart s (made_parts s.book.now.input.now ++ object_globals s.book.now.input.now) old new
+    → ArePlannedGlobals s.book.now.input.now s.book.now.placing.now new
+planned s old new none h =
+    let input = s.book.now.input.now in
+    let R = IsPlannedGlobal input s.book.now.placing.now in
+    subst (λ (l : List PlannedGlobal). AllZip R (own_globals input) l)
+    (sym (h.grown ∙ ap (λ (l : List PlannedGlobal). l ++ h.more) none))
+    (subst (λ (l : List GlobalEntry). AllZip R l h.more) (sym (own_globals_are input)) h.are)
+
+pub part_refused : (s : GlobalSources) (e : LinkError)
+    → Refuses (IsPartFault s (made_parts s.book.now.input.now)) e
+    → Refuses (IsGlobalFault s.book.now.input.now s.book.now.placing.now) e
+part_refused s e h = record {
+  cause_is = λ other.
+      let fault = h.cause_is other in
+      let input = s.book.now.input.now in
+      record {
+        entry = fault.entry;
+        one = subst (λ (l : List GlobalEntry). Contains l fault.entry) (sym (own_globals_are input))
+            (Contains-append_left (made_parts input) (object_globals input) fault.entry fault.one);
+        fault = fault.fault;
+      };
+}
+
+-- a global that stands there starts
+one_starts : (input : Input) (g : Placing) (entry : GlobalEntry) (p : PlannedGlobal) (e : LinkError)
+    → IsPlannedGlobal input g entry p → start_of_global input g entry ≡ Err e → ⊥
+one_starts input g (GlobalOf (Defined object number)) p e h fails = absurd cc
+one_starts input g (GlobalOf (Made m)) p e h fails = let starts = h.global_is.starts in absurd cc
+one_starts input g (GlobalOf (GotMem place)) p e h fails =
+    let starts = h.global_is.starts in absurd cc
+one_starts input g (GlobalOf (GotFunc place)) p e h fails =
+    let starts = h.global_is.starts in absurd cc
+one_starts input g (GlobalOf (Host object slot)) p e h fails = absurd cc
+one_starts input g (AddressOf m) p e h fails = absurd cc
+one_starts input g (DataOf d) p e h fails = let starts = h.global_is.starts in absurd cc
+
+all_start : (input : Input) (g : Placing) (entries : List GlobalEntry)
+    (globals : List PlannedGlobal) (entry : GlobalEntry) (e : LinkError) → AllZip (IsPlannedGlobal input g) entries globals
+    → Contains entries entry → start_of_global input g entry ≡ Err e → ⊥
+all_start input g [] globals entry e h (k, lt, is) fails = absurd (omega (arith, lt))
+all_start input g (x ∷ entries) [] entry e h one fails = absurd h
+all_start input g (x ∷ entries) (p ∷ globals) entry e h (zero, lt, is) fails =
+    one_starts input g x p e h.0
+    (subst (λ (y : GlobalEntry). start_of_global input g y ≡ Err e) (sym is) fails)
+all_start input g (x ∷ entries) (p ∷ globals) entry e h (suc k, lt, is) fails =
+    all_start input g entries globals entry e h.1 (k, omega (arith, lt), is) fails
+
+pub planned_clear : (input : Input) (g : Placing) (globals : List PlannedGlobal)
+    → ArePlannedGlobals input g globals → Clear (IsGlobalFault input g)
+planned_clear input g globals h = record {
+  none = λ e fault.
+      all_start input g (own_globals input) globals fault.entry e h fault.one fault.fault;
+}
+
+-- ---- what the output has under a name
+
+-- where the entry is the thing of that name, the output has it
+abbrev IsMadeIf : Input → WasmLinkerSymbol → GlobalEntry → Type 0
+IsMadeIf input m entry = entry ≡ GlobalOf (Made m) → is_made input m ≡ true
+
+-- so it is of all of these
+record AreMadeIf (input : Input) (m : WasmLinkerSymbol) (xs : List GlobalEntry) : Type 0 where
+  each : AllByRecursion (IsMadeIf input m) xs
+
+holds_at : (input : Input) (m : WasmLinkerSymbol) (xs : List GlobalEntry) (k : ℕ) (x : GlobalEntry)
+    → AllByRecursion (IsMadeIf input m) xs → slice_get xs k ≡ Some x → IsMadeIf input m x
+holds_at input m [] k x h at = absurd cc
+holds_at input m (y ∷ xs) zero x h at =
+    subst (λ (z : GlobalEntry). IsMadeIf input m z) (same_Some y x at) h.0
+holds_at input m (y ∷ xs) (suc k) x h at = holds_at input m xs k x h.1 at
+
+both_hold : (input : Input) (m : WasmLinkerSymbol) (xs ys : List GlobalEntry)
+    → AllByRecursion (IsMadeIf input m) xs → AllByRecursion (IsMadeIf input m) ys
+    → AllByRecursion (IsMadeIf input m) (xs ++ ys)
+both_hold input m [] ys h k = k
+both_hold input m (x ∷ xs) ys h k = (h.0, both_hold input m xs ys h.1 k)
+
+join_made : {input : Input} {m : WasmLinkerSymbol} {xs ys : List GlobalEntry}
+    → AreMadeIf input m xs → AreMadeIf input m ys → AreMadeIf input m (xs ++ ys)
+join_made {input} {m} {xs} {ys} h k = record { each = both_hold input m xs ys h.each k.each }
+
+none_made : (input : Input) (m : WasmLinkerSymbol) → AreMadeIf input m []
+none_made input m = record { each = tt }
+
+map_holds : {X : Type 0} (input : Input) (m : WasmLinkerSymbol) (f : X → GlobalEntry) (xs : List X)
+    → ((x : X) → f x ≡ GlobalOf (Made m) → ⊥) → AllByRecursion (IsMadeIf input m) (map f xs)
+map_holds input m f [] other = tt
+map_holds input m f (x ∷ xs) other =
+    ((λ is. absurd (other x is)), map_holds input m f xs other)
+
+map_made : {X : Type 0} (input : Input) (m : WasmLinkerSymbol) (f : X → GlobalEntry) (xs : List X)
+    → ((x : X) → f x ≡ GlobalOf (Made m) → ⊥) → AreMadeIf input m (map f xs)
+map_made input m f xs other = record { each = map_holds input m f xs other }
+
+same_made_name : (input : Input) (n m : WasmLinkerSymbol) → GlobalOf (Made n) ≡ GlobalOf (Made m)
+    → is_made input n ≡ true → is_made input m ≡ true
+same_made_name input n m is made =
+    let same : n ≡ m = cc in subst (λ (x : WasmLinkerSymbol). is_made input x ≡ true) same made
+
+one_made : (input : Input) (n m : WasmLinkerSymbol) (there : Bool) → is_made input n ≡ there
+    → AllByRecursion (IsMadeIf input m) (if there then GlobalOf (Made n) ∷ [] else [])
+one_made input n m true made = ((λ is. same_made_name input n m is made), tt)
+one_made input n m false made = tt
+
+part_made : (input : Input) (m n : WasmLinkerSymbol) → AreMadeIf input m (made_global_part input n)
+part_made input m n = record { each = one_made input n m (is_made input n) refl }
+
+not_host : (m : WasmLinkerSymbol) (object slot : ℕ)
+    → GlobalOf (Host object slot) ≡ GlobalOf (Made m) → ⊥
+not_host m object slot is = cc
+
+not_mem : (m : WasmLinkerSymbol) (k : ℕ) → GlobalOf (GotMem k) ≡ GlobalOf (Made m) → ⊥
+not_mem m k is = cc
+
+not_func : (m : WasmLinkerSymbol) (k : ℕ) → GlobalOf (GotFunc k) ≡ GlobalOf (Made m) → ⊥
+not_func m k is = cc
+
+not_own : (m : WasmLinkerSymbol) (object k : ℕ)
+    → GlobalOf (Defined object k) ≡ GlobalOf (Made m) → ⊥
+not_own m object k is = cc
+
+not_address : (m n : WasmLinkerSymbol) → AddressOf n ≡ GlobalOf (Made m) → ⊥
+not_address m n is = cc
+
+not_data : (m : WasmLinkerSymbol) (d : DataSymbol) → DataOf d ≡ GlobalOf (Made m) → ⊥
+not_data m d is = cc
+
+objects_made : (input : Input) (m : WasmLinkerSymbol) (n : ℕ) (os : List Object)
+    → AreMadeIf input m (by_object (globals_of input) n os)
+objects_made input m n [] = none_made input m
+objects_made input m n (o ∷ os) =
+    join_made (map_made input m (λ (k : ℕ). GlobalOf (Defined n k)) (kept_globals input n o)
+    (not_own m n)) (objects_made input m (n + 1) os)
+
+space_made : (input : Input) (m : WasmLinkerSymbol) → AreMadeIf input m (global_space input)
+space_made input m =
+    join_made
+    (join_made (map_made input m (λ (t : ImportSlot). GlobalOf (Host t.object t.number))
+    (first_imports (host_globals input)) (λ t. not_host m t.object t.number))
+    (join_made (part_made input m linker.MemoryBase)
+    (join_made (part_made input m linker.TableBase)
+    (join_made (part_made input m linker.StackPointer)
+    (join_made (part_made input m linker.TlsBase)
+    (join_made (part_made input m linker.TlsSize)
+    (join_made (part_made input m linker.TlsAlign)
+    (join_made (map_made input m AddressOf (exported_addresses input.link.args) (not_address m))
+    (join_made (map_made input m (λ (k : ℕ). GlobalOf (GotMem k))
+    (range_with_len 0 (length (got_mem input))) (not_mem m))
+    (join_made (map_made input m (λ (k : ℕ). GlobalOf (GotFunc k))
+    (range_with_len 0 (length (got_func input))) (not_func m))
+    (join_made (map_made input m DataOf (dynamic_data input) (not_data m))
+    (join_made (map_made input m DataOf (forced_data input) (not_data m))
+    (none_made input m)))))))))))))
+    (objects_made input m 0 input.link.objects)
+
+pub stands_made : (input : Input) (m : WasmLinkerSymbol) (i : ℕ)
+    → slice_get (global_space input) i ≡ Some (GlobalOf (Made m)) → is_made input m ≡ true
+stands_made input m i at =
+    holds_at input m (global_space input) i (GlobalOf (Made m)) (space_made input m).each at refl
+
+-- what stands at its index is made
+pub made_there : (input : Input) (m : WasmLinkerSymbol) (i : ℕ) → is_linker_global m ≡ true
+    → StandsAt input m (row_of m).kind i → is_made input m ≡ true
+made_there input linker.MemoryBase i so at = stands_made input linker.MemoryBase i at
+made_there input linker.TableBase i so at = stands_made input linker.TableBase i at
+made_there input linker.StackPointer i so at = stands_made input linker.StackPointer i at
+made_there input linker.TlsBase i so at = stands_made input linker.TlsBase i at
+made_there input linker.TlsSize i so at = stands_made input linker.TlsSize i at
+made_there input linker.TlsAlign i so at = stands_made input linker.TlsAlign i at
+made_there input linker.DataEnd i so at = absurd cc
+made_there input linker.GlobalBase i so at = absurd cc
+made_there input linker.HeapBase i so at = absurd cc
+made_there input linker.HeapEnd i so at = absurd cc
+made_there input linker.WasmFirstPageEnd i so at = absurd cc
+made_there input linker.DsoHandle i so at = absurd cc
+made_there input linker.CallCtors i so at = absurd cc
+made_there input linker.InitTls i so at = absurd cc
+
+part_if : (there : Bool) (entry : GlobalEntry) → there ≡ true
+    → (if there then entry ∷ [] else []) ≡ entry ∷ []
+part_if true entry is = refl
+part_if false entry is = absurd cc
+
+part_unless : (there : Bool) (entry : GlobalEntry) → there ≡ false
+    → (if there then entry ∷ [] else []) ≡ []
+part_unless true entry is = absurd cc
+part_unless false entry is = refl
+
+pub made_part : (input : Input) (m : WasmLinkerSymbol) → is_made input m ≡ true
+    → made_global_part input m ≡ GlobalOf (Made m) ∷ []
+made_part input m is = part_if (is_made input m) (GlobalOf (Made m)) is
+
+pub no_part : (input : Input) (m : WasmLinkerSymbol) → is_made input m ≡ false
+    → made_global_part input m ≡ []
+no_part input m is = part_unless (is_made input m) (GlobalOf (Made m)) is

@@ -1,0 +1,106 @@
+-- The kept segments of objects, one by one.
+use Rattle.std.proofs.Common.{◌≡◌, ◌∙◌, ℕ, zero, suc, ◌+◌, ◌<◌, ◌≤◌, Bool, true, false, List, [], ◌∷◌, ◌++◌, length, get_or, drop, drop-cons, add-one, append_assoc, slice_get, Some, if◌then◌else◌, sym, ap, subst, arith}
+use Rattle.std.proofs.lemmas.List.{append-nil, drop_all}
+use Rattle.std.specs.List.{AllByRecursion}
+use Rattle.std.specs.Option.{option_map_or}
+use Rattle.wl_module.specs.Segments.{Segment}
+use Rattle.wl_linking.specs.Fitting.{IsWhole}
+use Rattle.wl_linking.specs.Infos.{SegmentInfo}
+use Rattle.wl_linking.specs.Object.{Object}
+use Rattle.wl_linking.specs.Placing.{IsSpanned}
+use Rattle.wl_data.specs.DataPlaces.{AllCanBePlaced}
+use Rattle.wl_data.specs.Layouts.{CanBePlaced}
+use Rattle.wl_data.specs.Segments.{KeptData}
+use Rattle.wl_live.specs.declared.units.WasmGcUnit.TheVariants.{DataSegment}
+use Rattle.wl_bind.specs.Input.{Input, keeps}
+use Rattle.wl_plan.specs.KeptData.{kept_data, kept_from, kept_segments, segments_from}
+use Rattle.wl_plan.proofs.SectionLaws.{all_append}
+use Rattle.wl_plan.proofs.WholeLaws.{HasAlignment, segments_are_aligned, segments_are_spanned}
+
+-- ---- items of lists
+
+-- what stands there
+pub here_at : {X : Type 0} (xs : List X) (k : ℕ) (x : X) → k < length xs → x ≡ get_or xs k x → slice_get xs k ≡ Some x
+here_at [] k x lt at = absurd (omega (arith, lt))
+here_at (y ∷ xs) zero x lt at = ap (λ z. Some z) (sym at)
+here_at (y ∷ xs) (suc k) x lt at = here_at xs k x (omega (arith, lt)) at
+
+-- what all have, the one that stands there has
+all_at : {X : Type 0} (P : X → Type 0) (xs : List X) (k : ℕ) (x : X) → AllByRecursion P xs → slice_get xs k ≡ Some x → P x
+all_at P [] k x h at = absurd cc
+all_at P (y ∷ xs) zero x h at = let same : y ≡ x = cc in subst P same h.0
+all_at P (y ∷ xs) (suc k) x h at = all_at P xs k x h.1 at
+
+-- the row begins with the item that stands there
+pub split_at : {X : Type 0} (xs : List X) (k : ℕ) (x : X) → k < length xs → x ≡ get_or xs k x → drop k xs ≡ x ∷ drop (k + 1) xs
+split_at xs k x within is = rw (add-one) (drop-cons xs k x within ∙ ap (λ y. y ∷ drop (suc k) xs) (sym is))
+
+-- ---- one segment
+
+-- where a segment of a whole object ends
+pub segment_spanned : (o : Object) (k : ℕ) (s : Segment) → IsWhole o → slice_get o.segments k ≡ Some s → IsSpanned s
+segment_spanned o k s whole here = all_at IsSpanned o.segments k s (segments_are_spanned o whole) here
+
+-- ---- the segments of an object
+
+-- one segment more
+pub kept_more : (input : Input) (object : ℕ) (o : Object) (k : ℕ) (s : Segment) (before after all : List KeptData) → k < length o.segments → s ≡ get_or o.segments k s
+    → after ≡ before ++ (if keeps input object (DataSegment k) then kept_data o k s ∷ [] else [])
+    → before ++ kept_from input object o k (drop k o.segments) ≡ all
+    → after ++ kept_from input object o (k + 1) (drop (k + 1) o.segments) ≡ all
+kept_more input object o k s before after all within is more so_far =
+    let here : List KeptData = if keeps input object (DataSegment k) then kept_data o k s ∷ [] else [] in
+    let rest : List KeptData = kept_from input object o (k + 1) (drop (k + 1) o.segments) in
+    ap (λ (xs : List KeptData). xs ++ rest) more
+    ∙ (append_assoc before here rest
+    ∙ (ap (λ (ss : List Segment). before ++ kept_from input object o k ss) (sym (split_at o.segments k s within is))
+    ∙ so_far))
+
+-- the last one
+pub kept_end : (input : Input) (object : ℕ) (o : Object) (k : ℕ) (so_far all : List KeptData) → length o.segments ≤ k
+    → so_far ++ kept_from input object o k (drop k o.segments) ≡ all → so_far ≡ all
+kept_end input object o k so_far all past is =
+    sym (append-nil so_far) ∙ (ap (λ (ss : List Segment). so_far ++ kept_from input object o k ss) (sym (drop_all k o.segments past)) ∙ is)
+
+-- ---- those of all objects
+
+-- one object more
+pub segments_more : (input : Input) (objects : List Object) (k : ℕ) (o : Object) (before after all : List (List KeptData)) → k < length objects → o ≡ get_or objects k o
+    → after ≡ before ++ kept_segments input k o ∷ []
+    → before ++ segments_from input k (drop k objects) ≡ all
+    → after ++ segments_from input (k + 1) (drop (k + 1) objects) ≡ all
+segments_more input objects k o before after all within is more so_far =
+    let rest : List (List KeptData) = segments_from input (k + 1) (drop (k + 1) objects) in
+    ap (λ (xs : List (List KeptData)). xs ++ rest) more
+    ∙ (append_assoc before (kept_segments input k o ∷ []) rest
+    ∙ (ap (λ (os : List Object). before ++ segments_from input k os) (sym (split_at objects k o within is))
+    ∙ so_far))
+
+-- the last one
+pub segments_end : (input : Input) (objects : List Object) (k : ℕ) (so_far all : List (List KeptData)) → length objects ≤ k
+    → so_far ++ segments_from input k (drop k objects) ≡ all → so_far ≡ all
+segments_end input objects k so_far all past is =
+    sym (append-nil so_far) ∙ (ap (λ (os : List Object). so_far ++ segments_from input k os) (sym (drop_all k objects past)) ∙ is)
+
+-- ---- they can be placed
+
+some_alignment : (infos : List SegmentInfo) (n : ℕ) → AllByRecursion HasAlignment infos → 0 < option_map_or (λ (info : SegmentInfo). info.alignment) (slice_get infos n) 1
+some_alignment [] n h = omega arith
+some_alignment (i ∷ infos) zero h = omega (arith, h.0)
+some_alignment (i ∷ infos) (suc n) h = some_alignment infos n h.1
+
+one_can : (b : Bool) (s : KeptData) → CanBePlaced s → AllByRecursion CanBePlaced (if b then s ∷ [] else [])
+one_can true s h = (h, tt)
+one_can false s h = tt
+
+kept_can : (input : Input) (object : ℕ) (o : Object) (k : ℕ) (ss : List Segment) → AllByRecursion HasAlignment o.segment_infos → AllByRecursion IsSpanned ss → AllByRecursion CanBePlaced (kept_from input object o k ss)
+kept_can input object o k [] aligned spanned = tt
+kept_can input object o k (s ∷ ss) aligned spanned =
+    all_append CanBePlaced (if keeps input object (DataSegment k) then kept_data o k s ∷ [] else []) (kept_from input object o (k + 1) ss)
+    (one_can (keeps input object (DataSegment k)) (kept_data o k s) (record { aligned = some_alignment o.segment_infos k aligned; small = omega (arith, spanned.0.payload, spanned.0.end) }))
+    (kept_can input object o (k + 1) ss aligned spanned.1)
+
+-- those of whole objects can
+pub all_can : (input : Input) (k : ℕ) (objects : List Object) → AllByRecursion IsWhole objects → AllByRecursion AllCanBePlaced (segments_from input k objects)
+all_can input k [] h = tt
+all_can input k (o ∷ objects) h = (kept_can input k o 0 o.segments (segments_are_aligned o h.0) (segments_are_spanned o h.0), all_can input (k + 1) objects h.1)

@@ -1,0 +1,539 @@
+-- Where the fields of kept relocations stand.
+use Rattle.std.proofs.Common.{◌≡◌, ◌∙◌, ◌≤◌, ◌<◌, ℕ, zero, suc, ◌+◌, Bool, true, false, ◌&&◌, ◌==◌, List, [], ◌∷◌, ◌++◌, length, map, take, drop, refl, sym, ap, subst, arith, inl, inr, Option, Some, slice_get, get_or, Result, Ok, Err, IfOk, if◌then◌else◌, eqb-true, Contains}
+use Rattle.std.specs.List.{AllByRecursion, AllZip}
+use Rattle.std.proofs.lemmas.Bool.{cases_lt}
+use Rattle.std.proofs.lemmas.Option.{slice_get_within, slice_get-get_or}
+use Rattle.std.proofs.lemmas.List.Elements.{Contains-append_left, Contains-append_right}
+use Rattle.wl_module.specs.Bodies.{Body}
+use Rattle.wl_linking.specs.Fitting.{IsWhole, IsFitting, code_pieces}
+use Rattle.wl_linking.specs.Object.{Object}
+use Rattle.wl_linking.specs.RelocationTypes.{field_form}
+use Rattle.wl_linking.specs.Sites.{IsSite, AreSites, PieceOf, body_piece, field_len, has_form}
+use Rattle.wl_linking.specs.declared.relocation_type.FieldForm.{FieldForm}
+use Rattle.wl_linking.specs.declared.relocation_type.FieldForm.TheVariants.{PaddedUnsigned, PaddedSigned, Word}
+use Rattle.wl_linking.specs.declared.relocations.WasmRelocation.{WasmRelocation}
+use Rattle.wl_linking.specs.declared.sites.Site.{Site}
+use Rattle.wl_live.specs.Live.{Live}
+use Rattle.wl_live.specs.declared.units.WasmGcUnit.TheVariants.{DefinedFunction}
+use Rattle.wl_ops.specs.Numbers.{AreTold}
+use Rattle.wl_ops.specs.Rewriting.{new_index, before, NewBytes, Moves, AllMove}
+use Rattle.wl_ops.specs.declared.op.DataIndexImm.{DataIndexImm}
+use Rattle.wl_bind.specs.Input.{Input, keeps}
+use Rattle.wl_bind.specs.Relocations.{keeps_unit, relocated_at, relocated_if, relocated_in, object_relocations, relocations_from}
+use Rattle.wl_bind.specs.Scan.{relocations}
+use Rattle.wl_bind.specs.declared.relocated.FixupPlace.{FixupPlace}
+use Rattle.wl_bind.specs.declared.relocated.FixupPlace.TheVariants.{Code, Segment}
+use Rattle.wl_bind.specs.declared.relocated.Relocated.{Relocated}
+use Rattle.wl_plan.specs.Bodies.{body_in, new_number, IsMovedBy, IsMovedAt, IsMovedIn}
+use Rattle.wl_plan.specs.BodySteps.{AreNewNumbers, AreSoundBodies, HasSoundBody}
+use Rattle.wl_plan.specs.PositionSteps.{is_code, share_body, AreOfOneBody, AreKept, IsThere}
+use Rattle.wl_plan.specs.declared.placing.Placing.{Placing}
+use Rattle.wl_plan.proofs.SegmentLaws.{append_split, from_map}
+use Rattle.wl_plan.proofs.BodyLaws.{all_at, body_at}
+
+-- ---- where a kept relocation is from
+
+-- the relocation stands there with its site
+record IsListed (rs : List WasmRelocation) (ss : List Site) (r : Relocated) : Type 0 where
+  pub place : ℕ
+  pub relocation : slice_get rs place ≡ Some r.relocation
+  pub site : slice_get ss place ≡ Some r.site
+
+-- a relocation of code is listed in its object, whose body is kept
+record IsCodeOf (live : Live) (o : Object) (r : Relocated) : Type 0 where
+  pub listed : IsListed o.code_relocations o.code_sites r
+  pub kept : keeps_unit live Code r.object r.site.unit ≡ true
+
+if_code : (live : Live) (p r : Relocated) (b : Bool) (k : ℕ)
+    → keeps_unit live p.place p.object p.site.unit ≡ b
+    → slice_get (if b then p ∷ [] else []) k ≡ Some r
+    → (p ≡ r) × (keeps_unit live p.place p.object p.site.unit ≡ true)
+if_code live p r true zero is here = let same : p ≡ r = cc in (same, is)
+if_code live p r true (suc k) is here = absurd cc
+if_code live p r false k is here = absurd cc
+
+-- those of a section that are kept
+record IsInSection (live : Live) (place : FixupPlace) (i : ℕ) (rs : List WasmRelocation)
+    (ss : List Site) (r : Relocated) : Type 0 where
+  pub listed : IsListed rs ss r
+  pub object_is : r.object ≡ i
+  pub place_is : r.place ≡ place
+  pub kept : keeps_unit live r.place r.object r.site.unit ≡ true
+
+in_section : (live : Live) (place : FixupPlace) (i : ℕ) (rs : List WasmRelocation)
+    (ss : List Site) (k : ℕ) (r : Relocated)
+    → slice_get (relocated_in live place i rs ss) k ≡ Some r
+    → IsInSection live place i rs ss r
+in_section live place i [] [] k r here = absurd cc
+in_section live place i [] (s ∷ ss) k r here = absurd cc
+in_section live place i (q ∷ rs) [] k r here = absurd cc
+in_section live place i (q ∷ rs) (s ∷ ss) k r here =
+    let p : Relocated = relocated_at place i q s in
+    elim (append_split (relocated_if live p) (relocated_in live place i rs ss) k r here) [
+      | inl front ↦
+          let h = if_code live p r (keeps_unit live p.place p.object p.site.unit) k refl front in
+          let same : p ≡ r = h.0 in
+          record {
+            listed = record {
+              place = 0;
+              relocation = ap (λ (x : Relocated). Some x.relocation) same;
+              site = ap (λ (x : Relocated). Some x.site) same;
+            };
+            object_is = ap (λ (x : Relocated). x.object) (sym same);
+            place_is = ap (λ (x : Relocated). x.place) (sym same);
+            kept = subst (λ (x : Relocated). keeps_unit live x.place x.object x.site.unit ≡ true) same h.1;
+          }
+      | inr behind ↦
+          let rest = in_section live place i rs ss behind.0 r behind.2 in
+          record {
+            listed = record {
+              place = suc (rest.listed).place;
+              relocation = (rest.listed).relocation;
+              site = (rest.listed).site;
+            };
+            object_is = rest.object_is;
+            place_is = rest.place_is;
+            kept = rest.kept;
+          }
+    ]
+
+-- a kept relocation of code is one of its object
+record IsOfObject (live : Live) (n : ℕ) (objects : List Object) (r : Relocated) : Type 0 where
+  pub row : ℕ
+  pub object_is : r.object ≡ n + row
+  pub o : Object
+  pub here : slice_get objects row ≡ Some o
+  pub code : r.place ≡ Code → IsCodeOf live o r
+
+never_code : (p : FixupPlace) → p ≡ Segment → p ≡ Code → ⊥
+never_code p a b = let e : Segment ≡ Code = sym a ∙ b in absurd (cc e)
+
+of_object : (live : Live) (n : ℕ) (objects : List Object) (k : ℕ) (r : Relocated)
+    → slice_get (relocations_from live n objects) k ≡ Some r → IsOfObject live n objects r
+of_object live n [] k r here = absurd cc
+of_object live n (o ∷ objects) k r here =
+    elim (append_split (object_relocations live n o) (relocations_from live (n + 1) objects) k r here) [
+      | inl front ↦ elim (append_split (relocated_in live Code n o.code_relocations o.code_sites)
+          (relocated_in live Segment n o.data_relocations o.data_sites) k r front) [
+            | inl code ↦
+                let h = in_section live Code n o.code_relocations o.code_sites k r code in
+                record {
+                  row = 0;
+                  object_is = let e = h.object_is in omega (arith, e);
+                  o = o;
+                  here = refl;
+                  code = λ is. record {
+                    listed = h.listed;
+                    kept = subst (λ (p : FixupPlace). keeps_unit live p r.object r.site.unit ≡ true) is h.kept;
+                  };
+                }
+            | inr segment ↦
+                let h = in_section live Segment n o.data_relocations o.data_sites segment.0 r segment.2 in
+                record {
+                  row = 0;
+                  object_is = let e = h.object_is in omega (arith, e);
+                  o = o;
+                  here = refl;
+                  code = λ is. absurd (never_code r.place h.place_is is);
+                }
+          ]
+      | inr behind ↦
+          let rest = of_object live (n + 1) objects behind.0 r behind.2 in
+          let e : r.object ≡ (n + 1) + rest.row = rest.object_is in
+          record {
+            row = suc rest.row;
+            object_is = omega (arith, e);
+            o = rest.o;
+            here = rest.here;
+            code = rest.code;
+          }
+    ]
+
+-- what is in a list stands at a place
+stands : {X : Type 0} (xs : List X) (x : X) → Contains xs x → (k : ℕ) × (slice_get xs k ≡ Some x)
+stands [] x c = absurd (omega (arith, c.1))
+stands (y ∷ xs) x (zero, lt, is) = let same : y ≡ x = is in (zero, ap (λ z. Some z) same)
+stands (y ∷ xs) x (suc k, lt, is) = let rest = stands xs x (k, omega (arith, lt), is) in (suc rest.0, rest.1)
+
+-- ---- its field lies in its body
+
+-- the field of a kept relocation of code lies in a kept body
+pub record IsInBody (input : Input) (r : Relocated) : Type 0 where
+  pub o : Object
+  pub here : slice_get input.link.objects r.object ≡ Some o
+  pub body : Body
+  pub there : slice_get o.bodies r.site.unit ≡ Some body
+  pub is_kept : keeps input r.object (DefinedFunction r.site.unit) ≡ true
+  pub within : r.site.position ≤ length body.bytes
+
+site_at : (pieces : List PieceOf) (rs : List WasmRelocation) (ss : List Site) (k : ℕ)
+    (r : WasmRelocation) (s : Site) → AreSites pieces rs ss → slice_get rs k ≡ Some r
+    → slice_get ss k ≡ Some s → IsSite pieces r s
+site_at pieces [] ss k r s are at_r at_s = absurd cc
+site_at pieces (q ∷ rs) [] k r s are at_r at_s = absurd cc
+site_at pieces (q ∷ rs) (t ∷ ss) zero r s are at_r at_s =
+    let same_r : q ≡ r = cc (at_r) in
+    let same_s : t ≡ s = cc (at_s) in
+    subst (λ x. IsSite pieces r x) same_s (subst (λ x. IsSite pieces x t) same_r are.0)
+site_at pieces (q ∷ rs) (t ∷ ss) (suc k) r s are at_r at_s = site_at pieces rs ss k r s are.1 at_r at_s
+
+drop_past : (n : ℕ) (xs : List ℕ) → length xs ≤ n → drop n xs ≡ []
+drop_past zero [] le = refl
+drop_past (suc n) [] le = refl
+drop_past zero (x ∷ xs) le = absurd (omega (arith, le))
+drop_past (suc n) (x ∷ xs) le = drop_past n xs (omega (arith, le))
+
+never_empty : (form : FieldForm) → has_form form (take (field_len form) []) ≡ true → ⊥
+never_empty PaddedUnsigned e = absurd cc
+never_empty PaddedSigned e = absurd cc
+never_empty Word e = absurd cc
+
+position_within : (form : FieldForm) (n : ℕ) (bytes : List ℕ)
+    → has_form form (take (field_len form) (drop n bytes)) ≡ true → n ≤ length bytes
+position_within form n bytes e = elim (cases_lt (length bytes) n) [
+  | inl past ↦
+      let none : drop n bytes ≡ [] = drop_past n bytes (omega (arith, past)) in
+      absurd (never_empty form
+      (subst (λ (text : List ℕ). has_form form (take (field_len form) text) ≡ true) none e))
+  | inr le ↦ le
+]
+
+-- whole objects fit together
+abbrev pub WholeFit : Type 0
+WholeFit = (o : Object) → IsWhole o → IsFitting o
+
+pub in_body : WholeFit → (input : Input) (r : Relocated) → AreSoundBodies input
+    → Contains (relocations input) r → r.place ≡ Code → IsInBody input r
+in_body law input r sound listed is =
+    let at = stands (relocations input) r listed in
+    let f : IsOfObject input.live 0 input.link.objects r =
+    of_object input.live 0 input.link.objects at.0 r at.1 in
+    let e : r.object ≡ 0 + f.row = f.object_is in
+    let row : f.row ≡ r.object = omega (arith, e) in
+    let here : slice_get input.link.objects r.object ≡ Some f.o =
+    subst (λ n. slice_get input.link.objects n ≡ Some f.o) row f.here in
+    let code : IsCodeOf input.live f.o r = f.code is in
+    let whole : IsWhole f.o = all_at IsWhole input.link.objects r.object f.o sound.whole here in
+    let l : IsListed (f.o).code_relocations (f.o).code_sites r = code.listed in
+    let site : IsSite (code_pieces f.o) r.relocation r.site =
+    site_at (code_pieces f.o) (f.o).code_relocations (f.o).code_sites l.place r.relocation r.site
+    (law f.o whole).code.sited l.relocation l.site in
+    let b = from_map body_piece (f.o).bodies r.site.unit site.piece site.here in
+    let bytes : (b.0).bytes ≡ (site.piece).bytes = ap (λ (p : PieceOf). p.bytes) b.2 in
+    let within : r.site.position ≤ length (site.piece).bytes =
+    position_within (field_form r.relocation.ty) r.site.position (site.piece).bytes site.field in
+    record {
+      o = f.o;
+      here = here;
+      body = b.0;
+      there = b.1;
+      is_kept = code.kept;
+      within = rw bytes within;
+    }
+
+-- ---- fields of one body
+
+codes : (p : FixupPlace) → is_code p ≡ true → p ≡ Code
+codes Code e = refl
+codes Segment e = absurd cc
+
+and_left : (a b : Bool) → (a && b) ≡ true → a ≡ true
+and_left true b e = refl
+and_left false b e = absurd cc
+
+and_right : (a b : Bool) → (a && b) ≡ true → b ≡ true
+and_right true b e = e
+and_right false b e = absurd cc
+
+first_code : (first other : Relocated) → share_body first other ≡ true → is_code first.place ≡ true
+first_code first other e =
+    let same_unit : Bool = first.site.unit == other.site.unit in
+    let same_object : Bool = first.object == other.object in
+    let both : Bool = is_code first.place && is_code other.place in
+    and_left (is_code first.place) (is_code other.place)
+    (and_left both same_object (and_left (both && same_object) same_unit e))
+
+-- what two fields of one body have in common
+pub record AreShared (first other : Relocated) : Type 0 where
+  pub place : other.place ≡ Code
+  pub object : other.object ≡ first.object
+  pub unit : other.site.unit ≡ first.site.unit
+
+pub shared : (first other : Relocated) → share_body first other ≡ true → AreShared first other
+shared first other e =
+    let same_unit : Bool = first.site.unit == other.site.unit in
+    let same_object : Bool = first.object == other.object in
+    let both : Bool = is_code first.place && is_code other.place in
+    let a = and_left (both && same_object) same_unit e in
+    let b = and_left both same_object a in
+    record {
+      place = codes other.place (and_right (is_code first.place) (is_code other.place) b);
+      object = sym (eqb-true first.object other.object (and_right both same_object a));
+      unit = sym (eqb-true first.site.unit other.site.unit (and_right (both && same_object) same_unit e));
+    }
+
+-- ---- how they move
+
+new_bytes_same : (f h : ℕ → Option ℕ) → ((k : ℕ) → f k ≡ h k) → (ns : List DataIndexImm)
+    (bytes : ℕ) → NewBytes f ns bytes → NewBytes h ns bytes
+new_bytes_same f h same [] bytes r = r
+new_bytes_same f h same (n ∷ ns) bytes r =
+    (r.0, r.1, r.2, sym (same n.index) ∙ r.3, r.4, new_bytes_same f h same ns r.2 r.5, r.6)
+
+moves_same : (f h : ℕ → Option ℕ) → ((k : ℕ) → f k ≡ h k) → (ns : List DataIndexImm) (p q : ℕ)
+    → Moves f ns p q → Moves h ns p q
+moves_same f h same ns p q m = (m.0, new_bytes_same f h same (before p ns) m.0 m.1, m.2)
+
+-- where one stands then
+moved_at : (input : Input) (g : Placing) (object : ℕ) (body : Body) (numbers : List (Option ℕ))
+    (ns : List DataIndexImm) (r : Relocated) (new : ℕ) → AreNewNumbers input g object numbers
+    → AreTold ns body.bytes → r.place ≡ Code → r.object ≡ object
+    → body_in input r.object r.site.unit ≡ Some body
+    → Moves (new_index numbers) ns r.site.position new → IsMovedIn input g r new
+moved_at input g object body numbers ns r new are told code same here m =
+    let by : IsMovedBy input g object body.bytes r.site.position new = record {
+      numbers = ns;
+      theirs = told;
+      moved = moves_same (new_index numbers) (new_number input g object) are.each ns
+          r.site.position new m;
+    } in
+    let moved : IsMovedAt input g Code r new =
+    (body, here, subst (λ i. IsMovedBy input g i body.bytes r.site.position new) (sym same) by) in
+    subst (λ (p : FixupPlace). IsMovedAt input g p r new) (sym code) moved
+
+abbrev pub position_of : Relocated → ℕ
+position_of r = r.site.position
+
+pub all_moved : (input : Input) (g : Placing) (object : ℕ) (body : Body)
+    (numbers : List (Option ℕ)) (ns : List DataIndexImm) (rs : List Relocated) (new : List ℕ)
+    → AreNewNumbers input g object numbers → AreTold ns body.bytes
+    → AllByRecursion (IsThere input object body) rs
+    → AllMove (new_index numbers) ns (map position_of rs) new
+    → AllZip (IsMovedIn input g) rs new
+all_moved input g object body numbers ns [] [] are told there m = tt
+all_moved input g object body numbers ns [] (q ∷ new) are told there m = absurd m
+all_moved input g object body numbers ns (r ∷ rs) [] are told there m = absurd m
+all_moved input g object body numbers ns (r ∷ rs) (q ∷ new) are told there m = (
+  moved_at input g object body numbers ns r q are told (there.0).code (there.0).object_is
+      (there.0).here m.0,
+  all_moved input g object body numbers ns rs new are told there.1 m.1,
+)
+
+-- ---- where they lie
+
+same_body : (input : Input) (object function : ℕ) (o : Object) (body other : Body)
+    → slice_get input.link.objects object ≡ Some o → slice_get o.bodies function ≡ Some body
+    → body_in input object function ≡ Some other → body ≡ other
+same_body input object function o body other here there is =
+    let e : Some body ≡ Some other = sym (body_at input object function o body here there) ∙ is in
+    cc (e)
+
+one_there : WholeFit → (input : Input) (object : ℕ) (body : Body) (r : Relocated)
+    → AreSoundBodies input → Contains (relocations input) r → r.place ≡ Code → r.object ≡ object
+    → body_in input r.object r.site.unit ≡ Some body → IsThere input object body r
+one_there law input object body r sound listed code object_is here =
+    let b : IsInBody input r = in_body law input r sound listed code in
+    let same : b.body ≡ body =
+    same_body input r.object r.site.unit b.o b.body body b.here b.there here in
+    record {
+      code = code;
+      object_is = object_is;
+      here = here;
+      within = subst (λ (x : Body). r.site.position ≤ length x.bytes) same b.within;
+    }
+
+-- the fields of one body lie there
+others_there : WholeFit → (input : Input) (first : Relocated) (body : Body)
+    (others : List Relocated) → AreSoundBodies input
+    → ((r : Relocated) → Contains others r → Contains (relocations input) r)
+    → body_in input first.object first.site.unit ≡ Some body
+    → AllByRecursion (λ (other : Relocated). share_body first other ≡ true) others
+    → AllByRecursion (IsThere input first.object body) others
+others_there law input first body [] sound kept here all = tt
+others_there law input first body (r ∷ others) sound kept here all =
+    let s : AreShared first r = shared first r all.0 in
+    let in_object : body_in input r.object first.site.unit ≡ Some body =
+    subst (λ n. body_in input n first.site.unit ≡ Some body) (sym s.object) here in
+    let in_unit : body_in input r.object r.site.unit ≡ Some body =
+    subst (λ n. body_in input r.object n ≡ Some body) (sym s.unit) in_object in (
+      one_there law input first.object body r sound (kept r (zero, omega arith, refl)) s.place
+          s.object in_unit,
+      others_there law input first body others sound
+          (λ q c. kept q (suc c.0, omega (arith, c.1), c.2)) here all.1,
+    )
+
+pub all_there : WholeFit → (input : Input) (first : Relocated) (body : Body) (rs : List Relocated)
+    → AreSoundBodies input → AreKept input rs → slice_get rs 0 ≡ Some first
+    → first.place ≡ Code → body_in input first.object first.site.unit ≡ Some body
+    → AreOfOneBody rs → AllByRecursion (IsThere input first.object body) rs
+all_there law input first body [] sound kept at code here one = tt
+all_there law input first body (r ∷ others) sound kept at code here one =
+    let same : first ≡ r = cc (at) in
+    let object : r.object ≡ first.object = ap (λ (x : Relocated). x.object) (sym same) in
+    let here_r : body_in input r.object r.site.unit ≡ Some body =
+    subst (λ (x : Relocated). body_in input x.object x.site.unit ≡ Some body) same here in
+    let code_r : r.place ≡ Code = subst (λ (x : Relocated). x.place ≡ Code) same code in
+    let rest : AllByRecursion (IsThere input r.object body) others =
+    others_there law input r body others sound
+    (λ q c. kept q (suc c.0, omega (arith, c.1), c.2)) here_r one in (
+      one_there law input first.object body r sound (kept r (zero, omega arith, refl)) code_r
+          object here_r,
+      subst (λ n. AllByRecursion (IsThere input n body) others) object rest,
+    )
+
+-- where they stand is within the body
+pub positions_within : (input : Input) (object : ℕ) (body : Body) (rs : List Relocated)
+    → AllByRecursion (IsThere input object body) rs
+    → AllByRecursion (λ p. p ≤ length body.bytes) (map position_of rs)
+positions_within input object body [] all = tt
+positions_within input object body (r ∷ rs) all =
+    ((all.0).within, positions_within input object body rs all.1)
+
+-- in data nothing moves
+stays : (input : Input) (g : Placing) (r : Relocated) → r.place ≡ Segment
+    → AllZip (IsMovedIn input g) (r ∷ []) (position_of r ∷ [])
+stays input g r is =
+    (subst (λ (p : FixupPlace). IsMovedAt input g p r r.site.position) (sym is) refl, tt)
+
+-- and fields of data stand alone
+pub data_stays : (input : Input) (g : Placing) (first : Relocated) (rs : List Relocated)
+    → slice_get rs 0 ≡ Some first → first.place ≡ Segment → AreOfOneBody rs
+    → AllZip (IsMovedIn input g) rs (map position_of rs)
+data_stays input g first [] at is one = tt
+data_stays input g first (r ∷ []) at is one =
+    let same : first ≡ r = cc (at) in
+    stays input g r (subst (λ (x : Relocated). x.place ≡ Segment) same is)
+data_stays input g first (r ∷ (q ∷ others)) at is one =
+    let same : first ≡ r = cc (at) in
+    let code : is_code r.place ≡ true = first_code r q one.0 in
+    absurd (never_code r.place (subst (λ (x : Relocated). x.place ≡ Segment) same is)
+    (codes r.place code))
+
+-- ---- runs
+
+-- one more field of the body
+pub run_more : (rs : List Relocated) (first other : Relocated) (n : ℕ) → 0 < n
+    → slice_get rs 0 ≡ Some first → slice_get rs n ≡ Some other
+    → share_body first other ≡ true → AreOfOneBody (take n rs) → AreOfOneBody (take (n + 1) rs)
+run_more [] first other n pos at here is one = absurd cc
+run_more (r ∷ rs) first other zero pos at here is one = absurd (omega (arith, pos))
+run_more (r ∷ rs) first other (suc n) pos at here is one =
+    let same : first ≡ r = cc (at) in
+    let on : suc n + 1 ≡ suc (suc n) = omega arith in
+    rw on (all_more (λ (x : Relocated). share_body r x ≡ true) rs other n here
+    (subst (λ (x : Relocated). share_body x other ≡ true) same is) one)
+  where
+    all_more : (P : Relocated → Type 0) (xs : List Relocated) (x : Relocated) (n : ℕ)
+        → slice_get xs n ≡ Some x → P x → AllByRecursion P (take n xs)
+        → AllByRecursion P (take (suc n) xs)
+    all_more P [] x n here p all = absurd cc
+    all_more P (y ∷ xs) x zero here p all =
+        let same : x ≡ y = cc (here) in (subst P same p, tt)
+    all_more P (y ∷ xs) x (suc n) here p all = (all.0, all_more P xs x n here p all.1)
+
+pub run_one : (rs : List Relocated) → AreOfOneBody (take 1 rs)
+run_one [] = tt
+run_one (r ∷ rs) = tt
+
+-- a part of the list is kept
+pub part_is_kept : (input : Input) (done run behind : List Relocated)
+    → done ++ (run ++ behind) ≡ relocations input → AreKept input run
+part_is_kept input done run behind whole r c =
+    subst (λ (rs : List Relocated). Contains rs r) whole
+    (Contains-append_right done (run ++ behind) r (Contains-append_left run behind r c))
+
+-- more have moved
+pub moved_more : (input : Input) (g : Placing) (done run : List Relocated) (old new : List ℕ)
+    → AllZip (IsMovedIn input g) done old → AllZip (IsMovedIn input g) run new
+    → AllZip (IsMovedIn input g) (done ++ run) (old ++ new)
+moved_more input g [] run [] new zip more = more
+moved_more input g [] run (p ∷ old) new zip more = absurd zip
+moved_more input g (r ∷ done) run [] new zip more = absurd zip
+moved_more input g (r ∷ done) run (p ∷ old) new zip more =
+    (zip.0, moved_more input g done run old new zip.1 more)
+
+pub take_drop : {X : Type 0} (n : ℕ) (xs : List X) → take n xs ++ drop n xs ≡ xs
+take_drop zero [] = refl
+take_drop (suc n) [] = refl
+take_drop zero (x ∷ xs) = refl
+take_drop {X} (suc n) (x ∷ xs) = ap (λ (ys : List X). x ∷ ys) (take_drop n xs)
+
+-- what is done, and what is left of the list
+pub done_more : (all done rest : List Relocated) (n : ℕ) → done ++ rest ≡ all
+    → done ++ (take n rest ++ drop n rest) ≡ all
+done_more all done rest n is =
+    ap (λ (rs : List Relocated). done ++ rs) (take_drop n rest) ∙ is
+
+pub none_left : (rest : List Relocated) → length rest ≡ 0 → rest ≡ []
+none_left [] e = refl
+none_left (r ∷ rest) e = absurd (omega (arith, e))
+
+-- ---- the first field of a run
+
+at_is_in : {X : Type 0} (xs : List X) (k : ℕ) (x : X) → slice_get xs k ≡ Some x → Contains xs x
+at_is_in [] k x here = absurd cc
+at_is_in (y ∷ xs) zero x here = let is : y ≡ x = cc (here) in (zero, omega arith, is)
+at_is_in (y ∷ xs) (suc k) x here =
+    let rest = at_is_in xs k x here in (suc rest.0, omega (arith, rest.1), rest.2)
+
+-- it lies in its body
+pub first_there : WholeFit → (input : Input) (first : Relocated) (run : List Relocated)
+    → AreSoundBodies input → AreKept input run → slice_get run 0 ≡ Some first
+    → first.place ≡ Code → IsInBody input first
+first_there law input first run sound kept at code =
+    in_body law input first sound (kept first (at_is_in run 0 first at)) code
+
+pub object_within : WholeFit → (input : Input) (first : Relocated) (run : List Relocated)
+    → AreSoundBodies input → AreKept input run → slice_get run 0 ≡ Some first
+    → first.place ≡ Code → first.object < length input.link.objects
+object_within law input first run sound kept at code =
+    let b : IsInBody input first = first_there law input first run sound kept at code in
+    slice_get_within input.link.objects first.object b.o b.here
+
+pub unit_within : WholeFit → (input : Input) (first : Relocated) (run : List Relocated)
+    (o : Object) → AreSoundBodies input → AreKept input run → slice_get run 0 ≡ Some first
+    → first.place ≡ Code → slice_get input.link.objects first.object ≡ Some o
+    → first.site.unit < length o.bodies
+unit_within law input first run o sound kept at code here =
+    let b : IsInBody input first = first_there law input first run sound kept at code in
+    let e : Some b.o ≡ Some o = sym b.here ∙ here in
+    let same : b.o ≡ o = cc (e) in
+    subst (λ (p : Object). first.site.unit < length p.bodies) same
+    (slice_get_within (b.o).bodies first.site.unit b.body b.there)
+
+-- the body is sound
+pub first_sound : WholeFit → (input : Input) (first : Relocated) (run : List Relocated)
+    (o : Object) (body : Body) → AreSoundBodies input → AreKept input run
+    → slice_get run 0 ≡ Some first → first.place ≡ Code
+    → slice_get input.link.objects first.object ≡ Some o
+    → slice_get o.bodies first.site.unit ≡ Some body → HasSoundBody input first.object body
+first_sound law input first run o body sound kept at code here there =
+    let b : IsInBody input first = first_there law input first run sound kept at code in
+    record {
+      sound = sound;
+      function = first.site.unit;
+      here = body_at input first.object first.site.unit o body here there;
+      is_kept = b.is_kept;
+    }
+
+-- what stands at a place below the length
+pub item_at : {X : Type 0} (xs : List X) (i : ℕ) (x : X) → i < length xs → x ≡ get_or xs i x
+    → slice_get xs i ≡ Some x
+item_at xs i x lt is = slice_get-get_or xs i x lt ∙ ap (λ y. Some y) (sym is)
+
+-- the positions of one run, moved on in a vector
+pub vector_is : {X : Type 0} (new old : List X) (n : ℕ) → length new ≡ length old
+    → n ≡ length old → take n (new ++ drop (length new) old) ≡ new
+vector_is [] [] zero e is = refl
+vector_is [] [] (suc n) e is = refl
+vector_is [] (y ∷ old) n e is = absurd (omega (arith, e))
+vector_is (x ∷ new) [] n e is = absurd (omega (arith, e))
+vector_is {X} (x ∷ new) (y ∷ old) zero e is = absurd (omega (arith, is))
+vector_is {X} (x ∷ new) (y ∷ old) (suc n) e is =
+    ap (λ (zs : List X). x ∷ zs) (vector_is new old n (omega (arith, e)) (omega (arith, is)))
+
+-- what follows from what a call ensures
+pub if_ok_then : {X E : Type 0} (r : Result X E) (P Q : X → Type 0) → ((x : X) → P x → Q x)
+    → IfOk r P → IfOk r Q
+if_ok_then (Ok x) P Q f h = f x h
+if_ok_then (Err e) P Q f h = tt

@@ -1,0 +1,257 @@
+-- Bodies, where fields stand in them, what fields take, and how many bytes sections take, are fixed
+-- by the link and by where things lie.
+use Rattle.std.proofs.Common.{◌≡◌, ◌∙◌, ℕ, ℤ, zero, suc, ◌+◌, Bool, not, ◌||◌, ◌==◌, List, [], ◌∷◌, ◌++◌, length, refl, sym, ap, subst, arith, Option, Some, None, Result, Ok}
+use Rattle.wl_bytes.specs.Leb.{IsShortest, IsShortestSleb}
+use Rattle.wl_module.specs.Bodies.{Body}
+use Rattle.wl_linking.specs.declared.relocation_type.RelocationType.{RelocationType}
+use Rattle.wl_ops.specs.Numbers.{HasNumbers}
+use Rattle.wl_ops.specs.Rewriting.{IsShort, Rewrites, before, NewBytes, Moves}
+use Rattle.wl_ops.specs.declared.op.DataIndexImm.{DataIndexImm}
+use Rattle.wl_data.specs.Sizes.{HasSectionSize, AreBodiesText}
+use Rattle.wl_reloc.specs.Addresses.{word_of}
+use Rattle.wl_reloc.specs.Takings.{taking_of}
+use Rattle.wl_reloc.specs.declared.takings.Taking.{Taking}
+use Rattle.wl_reloc.specs.declared.takings.Taking.TheVariants.{FunctionIndex, Slot, SlotBehindBase, GlobalIndex, TableNumber, Address}
+use Rattle.wl_synth.specs.declared.calls.TheConstants.{UNREACHABLE_FUNCTION_BODY, EMPTY_FUNCTION_BODY}
+use Rattle.wl_symbols.specs.declared.linker_symbol.WasmLinkerSymbol.{WasmLinkerSymbol}
+use Rattle.wl_symbols.specs.declared.linker_symbol.WasmLinkerSymbol.TheVariants.{CallCtors}
+use Rattle.wl_bind.specs.FunctionSpace.{FunctionOf, InitMemory, function_space}
+use Rattle.wl_bind.specs.GlobalSpace.{global_space}
+use Rattle.wl_bind.specs.IndexMaps.{symbol_function}
+use Rattle.wl_bind.specs.Input.{Input}
+use Rattle.wl_bind.specs.OutputTypes.{output_types}
+use Rattle.wl_bind.specs.Parts.{StandOnce}
+use Rattle.wl_bind.specs.Scan.{relocations}
+use Rattle.wl_bind.specs.declared.binding.FunctionTarget.TheVariants.{Defined, Made, Host, Stub}
+use Rattle.wl_bind.specs.declared.relocated.FixupPlace.{FixupPlace}
+use Rattle.wl_bind.specs.declared.relocated.FixupPlace.TheVariants.{Code, Segment}
+use Rattle.wl_bind.specs.declared.relocated.Relocated.{Relocated}
+use Rattle.wl_plan.specs.Bodies.{new_number, IsMovedBy, IsRenumbered, body_in, IsBodyIn, IsMadeBody, IsLinkerBody, IsBodyOf, AreBodies, IsMovedAt}
+use Rattle.wl_plan.specs.Fixups.{StandsAt, type_named, global_named, address_taken, IsTaken, IsFieldOf, IsFixup, AreFixups}
+use Rattle.wl_plan.specs.Functions.{own_functions}
+use Rattle.wl_plan.specs.declared.layout.Fixup.{Fixup}
+use Rattle.wl_plan.specs.declared.layout.FixupTo.{FixupTo}
+use Rattle.wl_plan.specs.declared.layout.FixupTo.TheVariants.{Value, Deferred}
+use Rattle.wl_plan.specs.declared.placing.Placing.{Placing}
+use Rattle.wl_plan.proofs.UniqueParts.{some_one, cut_one, GivesOne, zip_one, AreOnce}
+
+-- ---- what laws of lower crates say
+
+-- a number has one shortest form of each sign, and a body one list of numbers of segments
+pub record FormsAreOne : Type 0 where
+  pub unsigned : (n : ℕ) (x y : List ℕ) → IsShortest n x → IsShortest n y → x ≡ y
+  pub signed : (z : ℤ) (x y : List ℕ) → IsShortestSleb z x → IsShortestSleb z y → x ≡ y
+  pub numbers : (body : List ℕ) (ns ks : List DataIndexImm) → HasNumbers ns body
+      → HasNumbers ks body → ns ≡ ks
+
+-- ---- bodies with other numbers
+
+short_one : FormsAreOne → (o : Option ℕ) (k j : ℕ) (s t : List ℕ) → o ≡ Some k → IsShort k s
+    → o ≡ Some j → IsShort j t → s ≡ t
+short_one forms o k j s t e a f b =
+    forms.unsigned k s t a.1 (subst (λ (n : ℕ). IsShortest n t) (some_one o j k f e) b.1)
+
+rewritten_one : FormsAreOne → (new : ℕ → Option ℕ) (ns : List DataIndexImm) (place : ℕ)
+    (x y z : List ℕ) → Rewrites new place ns x y → Rewrites new place ns x z → y ≡ z
+rewritten_one forms new [] place x y z r t = r ∙ sym t
+rewritten_one forms new (n ∷ ns) place x y z r t =
+    let one = cut_one r.0 (r.1 ++ r.2) t.0 (t.1 ++ t.2) (sym r.6 ∙ t.6) (omega (arith, r.7, t.7)) in
+    let two = cut_one r.1 r.2 t.1 t.2 one.1 (omega (arith, r.8, t.8)) in
+    let short = short_one forms (new n.index) r.3 t.3 r.4 t.4 r.9 r.10 t.9 t.10 in
+    let behind = subst (λ (w : List ℕ). Rewrites new (n.offset + n.len) ns w r.5) two.1 r.12 in
+    let more = rewritten_one forms new ns (n.offset + n.len) t.2 r.5 t.5 behind t.12 in
+    r.11 ∙ ap (λ (w : List ℕ). w ++ (r.4 ++ r.5)) one.0
+    ∙ ap (λ (w : List ℕ). t.0 ++ (w ++ r.5)) short
+    ∙ ap (λ (w : List ℕ). t.0 ++ (t.4 ++ w)) more ∙ sym t.11
+
+new_one : FormsAreOne → (new : ℕ → Option ℕ) (ns : List DataIndexImm) (a b : ℕ)
+    → NewBytes new ns a → NewBytes new ns b → a ≡ b
+new_one forms new [] a b g h = omega (arith, g, h)
+new_one forms new (n ∷ ns) a b g h =
+    let here = short_one forms (new n.index) g.0 h.0 g.1 h.1 g.3 g.4 h.3 h.4 in
+    let others = new_one forms new ns g.2 h.2 g.5 h.5 in
+    omega (arith, g.6, h.6, others, ap length here)
+
+move_one : FormsAreOne → (new : ℕ → Option ℕ) (ns : List DataIndexImm) (p q k : ℕ)
+    → Moves new ns p q → Moves new ns p k → q ≡ k
+move_one forms new ns p q k m n =
+    let same = new_one forms new (before p ns) m.0 n.0 m.1 n.1 in omega (arith, same, m.2, n.2)
+
+renumbered_one : FormsAreOne → (input : Input) (g : Placing) (object : ℕ) (body x y : List ℕ)
+    → IsRenumbered input g object body x → IsRenumbered input g object body y → x ≡ y
+renumbered_one forms input g object body x y p q =
+    let new = new_number input g object in
+    let same = forms.numbers body p.numbers q.numbers p.theirs.0 q.theirs.0 in
+    rewritten_one forms new q.numbers 0 body x y
+    (subst (λ (ns : List DataIndexImm). Rewrites new 0 ns body x) same p.rewritten) q.rewritten
+
+moved_one : FormsAreOne → (input : Input) (g : Placing) (object : ℕ) (body : List ℕ)
+    (place x y : ℕ) → IsMovedBy input g object body place x → IsMovedBy input g object body place y
+    → x ≡ y
+moved_one forms input g object body place x y p q =
+    let new = new_number input g object in
+    let same = forms.numbers body p.numbers q.numbers p.theirs.0 q.theirs.0 in
+    move_one forms new q.numbers place x y
+    (subst (λ (ns : List DataIndexImm). Moves new ns place x) same p.moved) q.moved
+
+-- ---- bodies
+
+make_body : List ℕ → Bool → ℕ → ℕ → Body
+make_body bytes owned code_offset object_index = record {
+  bytes = bytes;
+  owned = owned;
+  code_offset = code_offset;
+  object_index = object_index;
+}
+
+body_is : (x y : Body) → x.bytes ≡ y.bytes → x.owned ≡ y.owned → x.code_offset ≡ y.code_offset
+    → x.object_index ≡ y.object_index → x ≡ y
+unfolding make_body
+body_is x y bytes owned code_offset object_index =
+    let h : make_body x.bytes x.owned x.code_offset x.object_index
+    ≡ make_body y.bytes y.owned y.code_offset y.object_index =
+    rw (bytes, owned, code_offset, object_index) refl in
+    h
+
+made_one : (bytes : List ℕ) (x y : Body) → IsMadeBody bytes x → IsMadeBody bytes y → x ≡ y
+made_one bytes x y p q =
+    body_is x y (p.bytes_are ∙ sym q.bytes_are) (p.owned ∙ sym q.owned)
+    (p.code_offset ∙ sym q.code_offset) (p.object_index ∙ sym q.object_index)
+
+defined_one : FormsAreOne → (input : Input) (g : Placing) (object function : ℕ) (x y : Body)
+    → IsBodyIn input g object function x → IsBodyIn input g object function y → x ≡ y
+defined_one forms input g object function x y p q =
+    let own : p.own ≡ q.own = some_one (body_in input object function) p.own q.own p.here q.here in
+    let text : p.own.bytes ≡ q.own.bytes = ap (λ (b : Body). b.bytes) own in
+    let bytes : x.bytes ≡ y.bytes =
+    renumbered_one forms input g object q.own.bytes x.bytes y.bytes
+    (subst (λ (b : Body). IsRenumbered input g object b.bytes x.bytes) own p.bytes) q.bytes in
+    let theirs : HasNumbers p.bytes.numbers q.own.bytes =
+    subst (λ (t : List ℕ). HasNumbers p.bytes.numbers t) text p.bytes.theirs.0 in
+    let numbers = forms.numbers q.own.bytes p.bytes.numbers q.bytes.numbers theirs q.bytes.theirs.0 in
+    let owned : x.owned ≡ y.owned =
+    p.owned ∙ ap (λ (b : Body). b.owned || not (length p.bytes.numbers == 0)) own
+    ∙ ap (λ (ns : List DataIndexImm). q.own.owned || not (length ns == 0)) numbers ∙ sym q.owned in
+    let code_offset : x.code_offset ≡ y.code_offset =
+    p.code_offset ∙ ap (λ (b : Body). b.code_offset) own ∙ sym q.code_offset in
+    body_is x y bytes owned code_offset (p.object_index ∙ sym q.object_index)
+
+linker_one : (m : WasmLinkerSymbol) (x y : Body) → IsLinkerBody m x → IsLinkerBody m y → x ≡ y
+linker_one CallCtors x y p q = made_one EMPTY_FUNCTION_BODY x y p q
+linker_one _ x y p q = absurd p
+
+body_one : FormsAreOne → (input : Input) (g : Placing) → GivesOne (IsBodyOf input g)
+body_one forms input g (FunctionOf (Defined object function)) x y p q =
+    defined_one forms input g object function x y p q
+body_one forms input g (FunctionOf (Made m)) x y p q = linker_one m x y p q
+body_one forms input g (FunctionOf (Host object slot)) x y p q = absurd p
+body_one forms input g (FunctionOf (Stub object slot)) x y p q =
+    made_one UNREACHABLE_FUNCTION_BODY x y p q
+body_one forms input g InitMemory x y p q = absurd p
+
+pub bodies_one : FormsAreOne → (input : Input) (g : Placing) (xs ys : List Body)
+    → AreBodies input g xs → AreBodies input g ys → xs ≡ ys
+bodies_one forms input g xs ys p q =
+    zip_one (IsBodyOf input g) (body_one forms input g) (own_functions input) xs ys p q
+
+-- ---- sizes
+
+pub section_one : FormsAreOne → (count bytes a b : ℕ) → HasSectionSize count bytes a
+    → HasSectionSize count bytes b → a ≡ b
+section_one forms zero bytes a b p q = p ∙ sym q
+section_one forms (suc n) bytes a b p q =
+    let count = forms.unsigned (suc n) p.0 q.0 p.2 q.2 in
+    let len = forms.unsigned (length q.0 + bytes) p.1 q.1
+    (subst (λ (c : List ℕ). IsShortest (length c + bytes) p.1) count p.3) q.3 in
+    omega (arith, p.4, q.4, ap length count, ap length len)
+
+pub text_one : FormsAreOne → (bodies : List Body) (x y : List ℕ) → AreBodiesText bodies x
+    → AreBodiesText bodies y → x ≡ y
+text_one forms [] x y p q = p ∙ sym q
+text_one forms (b ∷ bodies) x y p q =
+    let head = forms.unsigned (length b.bytes) p.0 q.0 p.2 q.2 in
+    let rest = text_one forms bodies p.1 q.1 p.3 q.3 in
+    p.4 ∙ ap (λ (t : List ℕ). t ++ (b.bytes ++ p.1)) head
+    ∙ ap (λ (t : List ℕ). q.0 ++ (b.bytes ++ t)) rest ∙ sym q.4
+
+-- ---- where fields stand
+
+moved_at_one : FormsAreOne → (input : Input) (g : Placing) (place : FixupPlace) (r : Relocated)
+    (x y : ℕ) → IsMovedAt input g place r x → IsMovedAt input g place r y → x ≡ y
+moved_at_one forms input g Segment r x y p q = p ∙ sym q
+moved_at_one forms input g Code r x y p q =
+    let own : p.0 ≡ q.0 = some_one (body_in input r.object r.site.unit) p.0 q.0 p.1 q.1 in
+    moved_one forms input g r.object q.0.bytes r.site.position x y
+    (subst (λ (b : Body). IsMovedBy input g r.object b.bytes r.site.position x) own p.2) q.2
+
+-- ---- what fields take
+
+stands_one : {X : Type 0} (space : List X) (entry : Option X) (i k : ℕ) → StandOnce space
+    → StandsAt space entry i → StandsAt space entry k → i ≡ k
+stands_one space entry i k once p q =
+    let same = some_one entry p.0 q.0 p.1 q.1 in
+    once i k q.0 (p.2 ∙ ap (λ x. Some x) same) q.2
+
+pub ok_one : {X E : Type 0} (r : Result X E) (x y : X) → r ≡ Ok x → r ≡ Ok y → x ≡ y
+ok_one r x y p q = cc
+
+value_is : (v w : ℕ) (x y : ℤ) → v ≡ w → x ≡ y → Value v x ≡ Value w y
+value_is v w x y e f = ap (λ (n : ℕ). Value n x) e ∙ ap (λ (z : ℤ). Value w z) f
+
+taken_one : (input : Input) (g : Placing) (r : Relocated) → AreOnce input g → (taking : Option Taking)
+    (v w : ℕ) (x y : ℤ) → IsTaken input g r taking v x → IsTaken input g r taking w y
+    → (v ≡ w) × (x ≡ y)
+taken_one input g r once None v w x y p q =
+    (stands_one (output_types input) (type_named input r) v w once.types p.1 q.1, p.0 ∙ sym q.0)
+taken_one input g r once (Some FunctionIndex) v w x y p q = (
+  stands_one (function_space input) (symbol_function input r.object r.relocation.index) v w
+      once.functions p.1 q.1,
+  p.0 ∙ sym q.0,
+)
+taken_one input g r once (Some Slot) v w x y p q = (some_one _ v w p.1 q.1, p.0 ∙ sym q.0)
+taken_one input g r once (Some SlotBehindBase) v w x y p q = (some_one _ v w p.1 q.1, p.0 ∙ sym q.0)
+taken_one input g r once (Some GlobalIndex) v w x y p q =
+    (stands_one (global_space input) (global_named input r) v w once.globals p.1 q.1, p.0 ∙ sym q.0)
+taken_one input g r once (Some TableNumber) v w x y p q = (p.1 ∙ sym q.1, p.0 ∙ sym q.0)
+taken_one input g r once (Some (Address base)) v w x y p q =
+    let same = ok_one (address_taken input g r base) p.1.0 q.1.0 p.1.1 q.1.1 in
+    (p.1.2 ∙ ap word_of same ∙ sym q.1.2, p.0 ∙ sym q.0)
+
+field_one : (input : Input) (g : Placing) (r : Relocated) → AreOnce input g → (a b : FixupTo)
+    → IsFieldOf input g r a → IsFieldOf input g r b → a ≡ b
+field_one input g r once (Value v x) (Value w y) p q =
+    let same = taken_one input g r once (taking_of r.relocation.ty) v w x y p q in
+    value_is v w x y same.0 same.1
+field_one input g r once (Value v x) (Deferred offset) p q = absurd q
+field_one input g r once (Deferred offset) b p q = absurd p
+
+-- ---- fixups
+
+make_fixup : ℕ → FixupPlace → ℕ → ℕ → RelocationType → FixupTo → Fixup
+make_fixup object place unit position ty to = record {
+  object = object;
+  place = place;
+  unit = unit;
+  position = position;
+  ty = ty;
+  to = to;
+}
+
+fixup_one : FormsAreOne → (input : Input) (g : Placing) → AreOnce input g → GivesOne (IsFixup input g)
+unfolding make_fixup
+fixup_one forms input g once r x y p q =
+    let object : x.object ≡ y.object = p.object ∙ sym q.object in
+    let place : x.place ≡ y.place = p.place ∙ sym q.place in
+    let unit : x.unit ≡ y.unit = p.unit ∙ sym q.unit in
+    let position = moved_at_one forms input g r.place r x.position y.position p.position q.position in
+    let ty : x.ty ≡ y.ty = p.ty ∙ sym q.ty in
+    let to = field_one input g r once x.to y.to p.to q.to in
+    let h : make_fixup x.object x.place x.unit x.position x.ty x.to
+    ≡ make_fixup y.object y.place y.unit y.position y.ty y.to =
+    rw (object, place, unit, position, ty, to) refl in
+    h
+
+pub fixups_one : FormsAreOne → (input : Input) (g : Placing) → AreOnce input g
+    → (xs ys : List Fixup) → AreFixups input g xs → AreFixups input g ys → xs ≡ ys
+fixups_one forms input g once xs ys p q =
+    zip_one (IsFixup input g) (fixup_one forms input g once) (relocations input) xs ys p q

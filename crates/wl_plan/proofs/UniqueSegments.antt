@@ -1,0 +1,207 @@
+-- No segment stands twice among those of the output.
+use Rattle.std.proofs.Common.{◌≡◌, ◌⊎◌, ◌∙◌, ℕ, zero, suc, ◌+◌, ◌≤◌, Bool, not, List, [], ◌∷◌, ◌++◌, refl, sym, ap, subst, arith, inl, inr, Some, slice_get, filter, map}
+use Rattle.std.specs.List.{AllZip}
+use Rattle.std.proofs.lemmas.Bool.{cases_Bool}
+use Rattle.std.proofs.lemmas.List.{map-append}
+use Rattle.wl_module.specs.Segments.{Segment}
+use Rattle.wl_linking.specs.Object.{Object}
+use Rattle.wl_data.specs.DataPlaces.{HasLayout, HaveLayouts, in_output_order, is_thread_local, IsDataPlaces, DataInput}
+use Rattle.wl_data.specs.Segments.{KeptData, SegmentLayout}
+use Rattle.wl_data.specs.declared.options.DataOptions.{DataOptions}
+use Rattle.wl_data.specs.declared.places.DataPlaces.{DataPlaces}
+use Rattle.wl_live.specs.declared.units.WasmGcUnit.TheVariants.{DataSegment}
+use Rattle.wl_bind.specs.Input.{Input, keeps}
+use Rattle.wl_bind.specs.Parts.{StandOnce}
+use Rattle.wl_plan.specs.Addresses.{numbers_from, segment_space}
+use Rattle.wl_plan.specs.KeptData.{kept_from, kept_segments, segments_from}
+use Rattle.wl_plan.specs.Placing.{data_input, data_options, IsPlacing}
+use Rattle.wl_plan.specs.declared.placing.Placing.{Placing}
+
+-- ---- what stands in a list
+
+abbrev pub IsIn : {X : Type 0} → List X → X → Type 0
+IsIn [] z = ⊥
+IsIn (x ∷ xs) z = (x ≡ z) ⊎ IsIn xs z
+
+pub in_at : {X : Type 0} (xs : List X) (k : ℕ) (z : X) → slice_get xs k ≡ Some z → IsIn xs z
+in_at [] k z e = absurd (cc)
+in_at (x ∷ xs) zero z e = let h : x ≡ z = cc in inl h
+in_at (x ∷ xs) (suc k) z e = inr (in_at xs k z e)
+
+pub in_split : {X : Type 0} (xs ys : List X) (z : X) → IsIn (xs ++ ys) z → IsIn xs z ⊎ IsIn ys z
+in_split [] ys z h = inr h
+in_split (x ∷ xs) ys z h = elim h [
+  | inl e ↦ inl (inl e)
+  | inr r ↦ elim (in_split xs ys z r) [ inl a ↦ inl (inr a) | inr b ↦ inr b ]
+]
+
+in_map_filter : {X Y : Type 0} (f : X → Y) (p : X → Bool) (xs : List X) (z : Y)
+    → IsIn (map f (filter p xs)) z → IsIn (map f xs) z
+in_map_filter f p [] z h = h
+in_map_filter f p (x ∷ xs) z h = elim (cases_Bool (p x)) [
+  | inl t ↦ elim (rw t at h) [ inl e ↦ inl e | inr r ↦ inr (in_map_filter f p xs z r) ]
+  | inr g ↦ inr (in_map_filter f p xs z (rw g at h))
+]
+
+-- ---- lists in which nothing stands twice
+
+abbrev pub Distinct : {X : Type 0} → List X → Type 0
+Distinct [] = Unit {0}
+Distinct (x ∷ xs) = (IsIn xs x → ⊥) × Distinct xs
+
+pub once_from : {X : Type 0} (xs : List X) → Distinct xs → StandOnce xs
+once_from [] d i k z a b = absurd (cc)
+once_from (x ∷ xs) d zero zero z a b = refl
+once_from (x ∷ xs) d zero (suc k) z a b = absurd (d.0 (let e : x ≡ z = cc in rw e (in_at xs k z b)))
+once_from (x ∷ xs) d (suc i) zero z a b = absurd (d.0 (let e : x ≡ z = cc in rw e (in_at xs i z a)))
+once_from (x ∷ xs) d (suc i) (suc k) z a b = ap suc (once_from xs d.1 i k z a b)
+
+distinct-append : {X : Type 0} (xs ys : List X) → Distinct xs → Distinct ys
+    → ((z : X) → IsIn xs z → IsIn ys z → ⊥) → Distinct (xs ++ ys)
+distinct-append [] ys a b apart = b
+distinct-append (x ∷ xs) ys a b apart = (
+  λ h. elim (in_split xs ys x h) [ inl l ↦ a.0 l | inr r ↦ apart x (inl refl) r ],
+  distinct-append xs ys a.1 b (λ z l r. apart z (inr l) r),
+)
+
+distinct-map_filter : {X Y : Type 0} (f : X → Y) (p : X → Bool) (xs : List X) → Distinct (map f xs)
+    → Distinct (map f (filter p xs))
+distinct-map_filter f p [] d = d
+distinct-map_filter f p (x ∷ xs) d = elim (cases_Bool (p x)) [
+  | inl t ↦ rw t (λ h. d.0 (in_map_filter f p xs (f x) h), distinct-map_filter f p xs d.1)
+  | inr g ↦ rw g (distinct-map_filter f p xs d.1)
+]
+
+-- what passes, and what doesn't, have nothing in common
+split_apart : {X Y : Type 0} (f : X → Y) (p : X → Bool) (xs : List X) (z : Y) → Distinct (map f xs)
+    → IsIn (map f (filter (λ (x : X). not (p x)) xs)) z → IsIn (map f (filter p xs)) z → ⊥
+split_apart f p [] z d a b = a
+split_apart {X} {Y} f p (x ∷ xs) z d a b =
+    let P : Y → Type 0 = λ w. IsIn (map f xs) w in
+    elim (cases_Bool (p x)) [
+      | inl t ↦
+          let a' : IsIn (map f (filter (λ (x : X). not (p x)) xs)) z = rw t at a in
+          let b' : (f x ≡ z) ⊎ IsIn (map f (filter p xs)) z = rw t at b in
+          elim b' [
+            | inl e ↦ d.0 (subst P (sym e) (in_map_filter f (λ (x : X). not (p x)) xs z a'))
+            | inr r ↦ split_apart f p xs z d.1 a' r
+          ]
+      | inr g ↦
+          let a' : (f x ≡ z) ⊎ IsIn (map f (filter (λ (x : X). not (p x)) xs)) z = rw g at a in
+          let b' : IsIn (map f (filter p xs)) z = rw g at b in
+          elim a' [
+            | inl e ↦ d.0 (subst P (sym e) (in_map_filter f p xs z b'))
+            | inr r ↦ split_apart f p xs z d.1 r b'
+          ]
+    ]
+
+-- ---- the segments of an object that are kept
+
+abbrev number_of : KeptData → ℕ
+number_of s = s.original
+
+abbrev index_of : SegmentLayout → ℕ
+index_of l = l.segment_index
+
+kept_least : (input : Input) (i : ℕ) (o : Object) (n : ℕ) (segments : List Segment) (z : ℕ)
+    → IsIn (map number_of (kept_from input i o n segments)) z → n ≤ z
+kept_least input i o n [] z h = absurd h
+kept_least input i o n (s ∷ segments) z h = elim (cases_Bool (keeps input i (DataSegment n))) [
+  | inl t ↦
+      let h' : (n ≡ z) ⊎ IsIn (map number_of (kept_from input i o (n + 1) segments)) z = rw t at h in
+      elim h' [
+        | inl e ↦ omega (arith, e)
+        | inr r ↦ let m : n + 1 ≤ z = kept_least input i o (n + 1) segments z r in omega (arith, m)
+      ]
+  | inr f ↦
+      let h' : IsIn (map number_of (kept_from input i o (n + 1) segments)) z = rw f at h in
+      let m : n + 1 ≤ z = kept_least input i o (n + 1) segments z h' in omega (arith, m)
+]
+
+distinct-kept : (input : Input) (i : ℕ) (o : Object) (n : ℕ) (segments : List Segment)
+    → Distinct (map number_of (kept_from input i o n segments))
+distinct-kept input i o n [] = tt
+distinct-kept input i o n (s ∷ segments) = elim (cases_Bool (keeps input i (DataSegment n))) [
+  | inl t ↦ rw t (
+    λ h. let m : n + 1 ≤ n = kept_least input i o (n + 1) segments n h in absurd (omega (arith, m)),
+    distinct-kept input i o (n + 1) segments,
+  )
+  | inr f ↦ rw f (distinct-kept input i o (n + 1) segments)
+]
+
+distinct-ordered : (segments : List KeptData) → Distinct (map number_of segments)
+    → Distinct (map number_of (in_output_order segments))
+distinct-ordered segments d =
+    subst (λ (ns : List ℕ). Distinct ns)
+    (sym (map-append number_of (filter (λ (s : KeptData). not s.tls) segments) (filter is_thread_local segments)))
+    (distinct-append (map number_of (filter (λ (s : KeptData). not s.tls) segments))
+    (map number_of (filter is_thread_local segments))
+    (distinct-map_filter number_of (λ (s : KeptData). not s.tls) segments d)
+    (distinct-map_filter number_of is_thread_local segments d)
+    (λ z a b. split_apart number_of is_thread_local segments z d a b))
+
+-- ---- their layouts
+
+same_numbers : (o : DataOptions) (segments : List KeptData) (layouts : List SegmentLayout)
+    → AllZip (HasLayout o) segments layouts → map number_of segments ≡ map index_of layouts
+same_numbers o [] [] p = refl
+same_numbers o [] (l ∷ layouts) p = absurd p
+same_numbers o (s ∷ segments) [] p = absurd p
+same_numbers o (s ∷ segments) (l ∷ layouts) p =
+    ap (λ (n : ℕ). n ∷ map number_of segments) (sym p.0.segment_index)
+    ∙ ap (λ (ns : List ℕ). l.segment_index ∷ ns) (same_numbers o segments layouts p.1)
+
+in_object : (i : ℕ) (layouts : List SegmentLayout) (z : ℕ × ℕ)
+    → IsIn {X = ℕ × ℕ} (map (λ (l : SegmentLayout). (i, l.segment_index)) layouts) z
+    → (z.0 ≡ i) × IsIn (map index_of layouts) z.1
+in_object i [] z h = absurd h
+in_object i (l ∷ layouts) z h = elim h [
+  | inl e ↦ (ap (λ (p : ℕ × ℕ). p.0) (sym e), inl (ap (λ (p : ℕ × ℕ). p.1) e))
+  | inr r ↦ let more = in_object i layouts z r in (more.0, inr more.1)
+]
+
+distinct-object : (i : ℕ) (layouts : List SegmentLayout) → Distinct (map index_of layouts)
+    → Distinct {X = ℕ × ℕ} (map (λ (l : SegmentLayout). (i, l.segment_index)) layouts)
+distinct-object i [] d = tt
+distinct-object i (l ∷ layouts) d = (
+  λ h. d.0 (in_object i layouts (i, l.segment_index) h).1,
+  distinct-object i layouts d.1,
+)
+
+numbers_least : (i : ℕ) (layouts : List (List SegmentLayout)) (z : ℕ × ℕ)
+    → IsIn {X = ℕ × ℕ} (numbers_from i layouts) z → i ≤ z.0
+numbers_least i [] z h = absurd h
+numbers_least i (ls ∷ layouts) z h =
+    elim (in_split {X = ℕ × ℕ} (map (λ (l : SegmentLayout). (i, l.segment_index)) ls) (numbers_from (i + 1) layouts) z h) [
+      | inl a ↦ (let e : z.0 ≡ i = (in_object i ls z a).0 in omega (arith, e))
+      | inr b ↦ (let m : i + 1 ≤ z.0 = numbers_least (i + 1) layouts z b in omega (arith, m))
+    ]
+
+distinct-numbers : (input : Input) (o : DataOptions) (i : ℕ) (objects : List Object)
+    (layouts : List (List SegmentLayout))
+    → AllZip (HaveLayouts o) (segments_from input i objects) layouts
+    → Distinct {X = ℕ × ℕ} (numbers_from i layouts)
+distinct-numbers input o i [] [] p = tt
+distinct-numbers input o i [] (ls ∷ layouts) p = absurd p
+distinct-numbers input o i (x ∷ objects) [] p = absurd p
+distinct-numbers input o i (x ∷ objects) (ls ∷ layouts) p =
+    let segments = kept_segments input i x in
+    let here : Distinct (map index_of ls) =
+    subst (λ (ns : List ℕ). Distinct ns) (same_numbers o (in_output_order segments) ls p.0)
+    (distinct-ordered segments (distinct-kept input i x 0 x.segments)) in
+    distinct-append {X = ℕ × ℕ} (map (λ (l : SegmentLayout). (i, l.segment_index)) ls)
+    (numbers_from (i + 1) layouts) (distinct-object i ls here)
+    (distinct-numbers input o (i + 1) objects layouts p.1)
+    (λ z a b. let e : z.0 ≡ i = (in_object i ls z a).0 in
+    let m : i + 1 ≤ z.0 = numbers_least (i + 1) layouts z b in absurd (omega (arith, e, m)))
+
+-- each segment of each object has its layout
+abbrev pub SegmentsHaveLayouts : Type 0
+SegmentsHaveLayouts = (d : DataInput) (places : DataPlaces) → IsDataPlaces d places
+    → AllZip (HaveLayouts d.options) d.objects places.layouts
+
+pub segments_once : SegmentsHaveLayouts → (input : Input) (g : Placing) → IsPlacing input g
+    → StandOnce (segment_space g)
+segments_once laid input g p =
+    once_from (segment_space g) (distinct-numbers input (data_options input) 0 input.link.objects
+    g.places.layouts (laid (data_input input) g.places p.laid))

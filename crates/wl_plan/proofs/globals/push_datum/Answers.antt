@@ -1,0 +1,11 @@
+use Rattle.std.proofs.lemmas.Result.{err_from_is_err_and}
+use Rattle.wl_bind.specs.GlobalSpace.{DataOf}
+use Rattle.wl_plan.proofs.GlobalParts.{refuses_start}
+use Rattle.wl_plan.proofs.globals.push_datum.Goals as goal
+
+pub returns-in_err-start-clause-err : goal.returns-in_err-start-clause-err
+returns-in_err-start-clause-err c =
+    let p = err_from_is_err_and c.from_residual.result c.from_residual.ensures.1 in
+    rw (p.1, p.2)
+    (refuses_start c.args.sources.now (DataOf c.args.datum)
+    c.in_err-start.field-0.0 c.in_err-start.ensures)

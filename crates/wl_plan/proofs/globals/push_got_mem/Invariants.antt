@@ -1,0 +1,11 @@
+use Rattle.std.proofs.Common.{ℕ, map}
+use Rattle.std.specs.List.{range_with_len}
+use Rattle.wl_bind.specs.GlobalSpace.{GlobalOf}
+use Rattle.wl_bind.specs.declared.binding.GlobalTarget.TheVariants.{GotMem}
+use Rattle.wl_plan.specs.GlobalSteps.{AddsPart}
+use Rattle.wl_plan.proofs.globals.push_got_mem.Given as goal
+
+abbrev pub invariant-loop-place : goal.invariant-loop-place
+invariant-loop-place l =
+    AddsPart l.sources (map (λ (k : ℕ). GlobalOf (GotMem k)) (range_with_len 0 l.place))
+    l.fn.globals.items l.globals.items

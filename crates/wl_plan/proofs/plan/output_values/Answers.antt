@@ -1,0 +1,42 @@
+use Rattle.std.proofs.Common.{◌≡◌, ◌≤◌, arith, length, rules}
+use Rattle.wl_linking.specs.Steps.{Clear}
+use Rattle.wl_bind.specs.FunctionSpace.{function_space}
+use Rattle.wl_bind.specs.Scan.{table_functions}
+use Rattle.wl_types.specs.Types.{max_entries}
+use Rattle.wl_plan.specs.Fixups.{IsFixupFault}
+use Rattle.wl_plan.specs.Globals.{IsGlobalFault}
+use Rattle.wl_plan.specs.Table.{function_slots}
+use Rattle.wl_plan.proofs.SlotLaws.{TableLaws, few_in_table}
+use Rattle.wl_plan.proofs.StepLaws.{clear_both}
+use Rattle.wl_plan.proofs.plan.output_values.Goals as goal
+
+pub all_fixups-requires-clause-sources : goal.all_fixups-requires-clause-sources
+all_fixups-requires-clause-sources c =
+    let input = c.args.things.now.input.now in
+    let things = c.requires.things in
+    let laws : TableLaws = record {
+      once = c.table_functions_stand_once.ensures.table;
+      itself = c.same_targets_are_one.ensures.itself;
+    } in
+    let within : length (table_functions input) ≤ length (function_space input) =
+    few_in_table laws input c.in_ok-elements.elements c.in_ok-elements.ensures in
+    let room : length (function_space input) ≤ max_entries = things.few.functions in
+    let slots : c.as_slice-2.result.now ≡ function_slots input = search rules in
+    record {
+      settled = things.bindings.settled;
+      room = record {
+        types = things.few.types;
+        globals = things.few.globals;
+        table = omega (arith, within, room);
+      };
+      maps = things.maps;
+      slots = slots;
+    }
+
+pub returns-clause-clear : goal.returns-clause-clear
+returns-clause-clear c =
+    let input = c.args.things.now.input.now in
+    let g = c.args.things.now.placing.now in
+    let first : Clear (IsGlobalFault input g) =
+    rw (c.requires.book.input, c.requires.book.placing) at c.in_ok-globals.ensures.clear in
+    clear_both (IsGlobalFault input g) (IsFixupFault input g) first c.in_ok-fixups.ensures.clear

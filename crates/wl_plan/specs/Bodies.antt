@@ -1,0 +1,112 @@
+-- The bodies of the functions, and where fields stand in them.
+use Rattle.std.specs.Prelude.{◌≡◌, ℕ, ◌+◌, ◌==◌, ◌&&◌, ◌||◌, Bool, true, not, length, List, [], ◌∷◌, ◌++◌, map, Option, Some, None, position, if◌then◌else◌, slice_get}
+use Rattle.std.specs.List.{AllZip}
+use Rattle.std.specs.Option.{option_and_then}
+use Rattle.wl_module.specs.Bodies.{Body}
+use Rattle.wl_linking.specs.Debug.{DebugInput}
+use Rattle.wl_linking.specs.Object.{Object}
+use Rattle.wl_symbols.specs.declared.linker_symbol.WasmLinkerSymbol.{WasmLinkerSymbol}
+use Rattle.wl_symbols.specs.declared.linker_symbol.WasmLinkerSymbol.TheVariants.{CallCtors}
+use Rattle.wl_ops.specs.Numbers.{AreTold}
+use Rattle.wl_ops.specs.Rewriting.{Rewrites, Moves}
+use Rattle.wl_ops.specs.declared.op.DataIndexImm.{DataIndexImm}
+use Rattle.wl_synth.specs.declared.calls.TheConstants.{UNREACHABLE_FUNCTION_BODY, EMPTY_FUNCTION_BODY}
+use Rattle.wl_live.specs.declared.units.WasmGcUnit.TheVariants.{DataSegment}
+use Rattle.wl_bind.specs.FunctionSpace.{FunctionEntry, FunctionOf, InitMemory}
+use Rattle.wl_bind.specs.Input.{Input, keeps}
+use Rattle.wl_bind.specs.declared.binding.FunctionTarget.TheVariants.{Defined, Made, Host, Stub}
+use Rattle.wl_bind.specs.declared.relocated.FixupPlace.{FixupPlace}
+use Rattle.wl_bind.specs.declared.relocated.FixupPlace.TheVariants.{Code, Segment}
+use Rattle.wl_bind.specs.declared.relocated.Relocated.{Relocated}
+use Rattle.wl_plan.specs.Addresses.{segment_space}
+use Rattle.wl_plan.specs.Functions.{own_functions}
+use Rattle.wl_plan.specs.declared.placing.Placing.{Placing}
+
+-- ---- numbers of segments in bodies
+
+-- the two are the same segment of the same object
+abbrev pub same_segment : ℕ × ℕ → ℕ × ℕ → Bool
+same_segment a b = (a.0 == b.0) && (a.1 == b.1)
+
+-- the number in the output of a segment of an object, where it is kept
+abbrev pub new_number : Input → Placing → ℕ → ℕ → Option ℕ
+new_number input g object number =
+    if keeps input object (DataSegment number)
+    then position (same_segment (object, number)) (segment_space g) else None
+
+-- the bytes of a body, with those numbers in the place of its own
+pub record IsRenumbered (input : Input) (g : Placing) (object : ℕ) (body bytes : List ℕ)
+    : Type 0 where
+  pub numbers : List DataIndexImm
+  pub theirs : AreTold numbers body
+  pub rewritten : Rewrites (new_number input g object) 0 numbers body bytes
+
+-- where what stands at a place of a body stands then
+pub record IsMovedBy (input : Input) (g : Placing) (object : ℕ) (body : List ℕ) (place new : ℕ)
+    : Type 0 where
+  pub numbers : List DataIndexImm
+  pub theirs : AreTold numbers body
+  pub moved : Moves (new_number input g object) numbers place new
+
+-- ---- bodies
+
+-- the body of the function of that number that an object defines
+abbrev pub body_in : Input → ℕ → ℕ → Option Body
+body_in input object function =
+    option_and_then (λ (o : Object). slice_get o.bodies function)
+    (slice_get input.link.objects object)
+
+-- that body, with the numbers that segments have in the output: a copy where it has any
+pub record IsBodyIn (input : Input) (g : Placing) (object function : ℕ) (b : Body) : Type 0 where
+  pub own : Body
+  pub here : body_in input object function ≡ Some own
+  pub bytes : IsRenumbered input g object own.bytes b.bytes
+  pub owned : b.owned ≡ (own.owned || not (length bytes.numbers == 0))
+  pub code_offset : b.code_offset ≡ own.code_offset
+  pub object_index : b.object_index ≡ object
+
+-- a body that the linker makes
+pub record IsMadeBody (bytes : List ℕ) (b : Body) : Type 0 where
+  pub bytes_are : b.bytes ≡ bytes
+  pub owned : b.owned ≡ true
+  pub code_offset : b.code_offset ≡ 0
+  pub object_index : b.object_index ≡ 0
+
+-- what the linker makes under a name: without functions that run at the start there is nothing to
+-- call
+abbrev pub IsLinkerBody : WasmLinkerSymbol → Body → Type 0
+IsLinkerBody CallCtors b = IsMadeBody EMPTY_FUNCTION_BODY b
+IsLinkerBody m b = ⊥
+
+-- the body of a function of the output: a stub stops the program
+abbrev pub IsBodyOf : Input → Placing → FunctionEntry → Body → Type 0
+IsBodyOf input g (FunctionOf (Defined object function)) b = IsBodyIn input g object function b
+IsBodyOf input g (FunctionOf (Made m)) b = IsLinkerBody m b
+IsBodyOf input g (FunctionOf (Host object slot)) b = ⊥
+IsBodyOf input g (FunctionOf (Stub object slot)) b = IsMadeBody UNREACHABLE_FUNCTION_BODY b
+IsBodyOf input g InitMemory b = ⊥
+
+-- one for each function that isn't imported, in order
+abbrev pub AreBodies : Input → Placing → List Body → Type 0
+AreBodies input g bodies = AllZip (IsBodyOf input g) (own_functions input) bodies
+
+-- ---- fields
+
+-- the place of the field in what the output has: in data nothing moves
+abbrev pub IsMovedAt : Input → Placing → FixupPlace → Relocated → ℕ → Type 0
+IsMovedAt input g Segment r new = new ≡ r.site.position
+IsMovedAt input g Code r new =
+    (body : Body) × (body_in input r.object r.site.unit ≡ Some body)
+    × IsMovedBy input g r.object body.bytes r.site.position new
+
+abbrev pub IsMovedIn : Input → Placing → Relocated → ℕ → Type 0
+IsMovedIn input g r new = IsMovedAt input g r.place r new
+
+-- ---- debug sections
+
+-- the debug sections of the objects, the first of which has that number
+abbrev pub object_debug_sections : ℕ → List Object → List DebugInput
+object_debug_sections i [] = []
+object_debug_sections i (o ∷ objects) =
+    map (λ (section : DebugInput). record section { object_index = i }) o.debug_sections
+    ++ object_debug_sections (i + 1) objects

@@ -1,0 +1,80 @@
+-- How bodies of the output come to be.
+use Rattle.std.specs.Prelude.{◌≡◌, ℕ, ◌==◌, [], ◌∷◌, ◌++◌, ◌||◌, true, not, List, length, if◌then◌else◌, Option, Some, None, slice_get}
+use Rattle.std.specs.List.{AllByRecursion, AllZip}
+use Rattle.wl_module.specs.Bodies.{Body}
+use Rattle.wl_linking.specs.Debug.{DebugInput}
+use Rattle.wl_linking.specs.Fitting.{IsWhole}
+use Rattle.wl_linking.specs.Steps.{Clear}
+use Rattle.wl_ops.specs.Rewriting.{new_index}
+use Rattle.wl_types.specs.declared.types.TheConstants.{WASM_DEAD_INDEX}
+use Rattle.wl_live.specs.Faults.{IsKeptFault}
+use Rattle.wl_live.specs.Live.{IsLiveOf}
+use Rattle.wl_live.specs.declared.units.WasmGcUnit.TheVariants.{DefinedFunction, DataSegment}
+use Rattle.wl_bind.specs.FunctionSpace.{FunctionEntry}
+use Rattle.wl_bind.specs.Input.{Input, keeps}
+use Rattle.wl_plan.specs.Bodies.{IsRenumbered, IsMadeBody, IsBodyOf, body_in, new_number}
+use Rattle.wl_plan.specs.declared.placing.Placing.{Placing}
+
+-- ---- numbers of segments
+
+-- the number, unless it says that there is none
+abbrev pub kept_number : ℕ → Option ℕ
+kept_number index = if index == WASM_DEAD_INDEX then None else Some index
+
+-- the list has the number in the output of each segment of the object, which each kept one has, and
+-- nothing for others
+pub record AreNewNumbers (input : Input) (g : Placing) (object : ℕ) (numbers : List (Option ℕ))
+    : Type 0 where
+  pub each : (number : ℕ) → new_index numbers number ≡ new_number input g object number
+  pub kept : (number : ℕ) → keeps input object (DataSegment number) ≡ true
+      → new_index numbers number ≡ None → ⊥
+
+-- the rows have those of each object
+pub record AreAllNumbers (input : Input) (g : Placing) (rows : List (List (Option ℕ)))
+    : Type 0 where
+  pub len : length rows ≡ length input.link.objects
+  pub each : (object : ℕ) (row : List (Option ℕ)) → slice_get rows object ≡ Some row
+      → AreNewNumbers input g object row
+
+-- ---- bodies
+
+-- a link of whole objects, whose kept bodies are decoded, and number segments that there are
+pub record AreSoundBodies (input : Input) : Type 0 where
+  pub whole : AllByRecursion IsWhole input.link.objects
+  pub kept : IsLiveOf input.link input.live
+  pub clear : Clear (IsKeptFault input.link)
+
+-- the body is that of a kept function of the object, in such a link
+pub record HasSoundBody (input : Input) (object : ℕ) (b : Body) : Type 0 where
+  pub sound : AreSoundBodies input
+  pub function : ℕ
+  pub here : body_in input object function ≡ Some b
+  pub is_kept : keeps input object (DefinedFunction function) ≡ true
+
+-- what becomes of a body of an object
+pub record IsBodyFrom (input : Input) (g : Placing) (object : ℕ) (own b : Body) : Type 0 where
+  pub bytes : IsRenumbered input g object own.bytes b.bytes
+  pub owned : b.owned ≡ (own.owned || not (length bytes.numbers == 0))
+  pub code_offset : b.code_offset ≡ own.code_offset
+  pub object_index : b.object_index ≡ object
+
+-- ---- lists that grow
+
+-- the list grows by a body that the linker makes
+pub record AddsMadeBody (bytes : List ℕ) (old new : List Body) : Type 0 where
+  pub body : Body
+  pub is : IsMadeBody bytes body
+  pub grown : new ≡ old ++ body ∷ []
+
+-- the list grows by the bodies of these functions
+pub record AddsBodies (input : Input) (g : Placing) (entries : List FunctionEntry)
+    (old new : List Body) : Type 0 where
+  pub more : List Body
+  pub are : AllZip (IsBodyOf input g) entries more
+  pub grown : new ≡ old ++ more
+
+-- ---- debug sections
+
+-- a debug section of object i
+abbrev pub debug_in : ℕ → DebugInput → DebugInput
+debug_in i section = record section { object_index = i }

@@ -1,0 +1,84 @@
+-- What fixups are made from.
+use Rattle.std.specs.Prelude.{◌≡◌, ◌≤◌, length, ℕ, ℤ, pos, ◌+ℤ◌, ◌-ℤ◌, Bool, true, false, if◌then◌else◌, List, Some, Err}
+use Rattle.std.specs.List.{AllByRecursion}
+use Rattle.wl_linking.specs.Steps.{Clear}
+use Rattle.wl_linking.specs.declared.error.LinkError.{LinkError}
+use Rattle.wl_linking.specs.declared.relocation_type.RelocationType.{RelocationType}
+use Rattle.wl_linking.specs.declared.relocation_type.RelocationType.TheVariants.{MemoryAddrLeb, MemoryAddrSleb, MemoryAddrI32, MemoryAddrRelSleb, MemoryAddrTlsSleb}
+use Rattle.wl_linking.specs.declared.relocations.WasmRelocation.{WasmRelocation}
+use Rattle.wl_data.specs.declared.segments.WasmDataAddress.{WasmDataAddress}
+use Rattle.wl_data.specs.declared.segments.WasmDataAddress.TheVariants.{Missing, Placed, Passive, TlsOffset}
+use Rattle.wl_types.specs.Types.{max_entries}
+use Rattle.wl_reloc.specs.Takings.{taking_of}
+use Rattle.wl_reloc.specs.declared.addresses.AddressBases.{AddressBases}
+use Rattle.wl_reloc.specs.declared.error.RelocError.{RelocError}
+use Rattle.wl_reloc.specs.declared.takings.AddressBase.{AddressBase}
+use Rattle.wl_reloc.specs.declared.takings.Taking.TheVariants.{Address}
+use Rattle.wl_bind.specs.GlobalSpace.{global_space}
+use Rattle.wl_bind.specs.Input.{Input}
+use Rattle.wl_bind.specs.OutputTypes.{output_types}
+use Rattle.wl_bind.specs.References.{IsSettled}
+use Rattle.wl_bind.specs.Scan.{table_functions}
+use Rattle.wl_bind.specs.declared.relocated.Relocated.{Relocated}
+use Rattle.wl_plan.specs.Fixups.{address_named, address_taken, address_refusal}
+use Rattle.wl_plan.specs.IndexedMaps.{AreWholeMaps}
+use Rattle.wl_plan.specs.Table.{function_slots}
+use Rattle.wl_plan.specs.declared.fixups.FixupSources.{FixupSources}
+
+-- there is room in the spaces of the output, and for the slots of the functions of the table
+pub record HasRoom (input : Input) : Type 0 where
+  pub types : length (output_types input) ≤ max_entries
+  pub globals : length (global_space input) ≤ max_entries
+  pub table : length (table_functions input) ≤ max_entries
+
+-- they are those of one link
+pub record AreFixupSources (s : FixupSources) : Type 0 where
+  pub settled : IsSettled s.input.now
+  pub room : HasRoom s.input.now
+  pub maps : AreWholeMaps s.input.now s.placing.now s.maps.now
+  pub slots : s.slots.now ≡ function_slots s.input.now
+
+-- an address that counts from the start of the memory
+abbrev pub is_absolute : RelocationType → Bool
+is_absolute MemoryAddrLeb = true
+is_absolute MemoryAddrSleb = true
+is_absolute MemoryAddrI32 = true
+is_absolute _ = false
+
+-- what is left to be added where a field takes that address, which counts from the start of the
+-- memory or not
+abbrev pub left_at : WasmDataAddress → Bool → ℤ → ℤ
+left_at Missing absolute addend = pos 0
+left_at (Placed place) absolute addend = if absolute then addend else pos 0
+left_at Passive absolute addend = pos 0
+left_at (TlsOffset place) absolute addend = pos 0
+
+-- the same of a relocation
+abbrev pub left_of : WasmDataAddress → WasmRelocation → ℤ
+left_of address r = left_at address (is_absolute r.ty) r.addend
+
+-- the address from which that in a field of that type is counted
+abbrev pub counted_base : RelocationType → AddressBases → ℕ
+counted_base MemoryAddrRelSleb bases = bases.memory_base
+counted_base MemoryAddrTlsSleb bases = bases.tls_base
+counted_base _ bases = 0
+
+-- the number that would stand in the field that takes the address, counted from that base
+abbrev pub number_by : ℕ → WasmDataAddress → ℤ → ℤ
+number_by base Missing addend = (pos 0 -ℤ pos base) +ℤ addend
+number_by base (Placed place) addend = (pos place -ℤ pos base) +ℤ addend
+number_by base Passive addend = pos 0
+number_by base (TlsOffset place) addend = (pos place -ℤ pos 0) +ℤ addend
+
+-- the kept relocation can't take its address
+pub record IsRefusedAt (s : FixupSources) (r : Relocated) (e : LinkError) : Type 0 where
+  pub base : AddressBase
+  pub takes : taking_of r.relocation.ty ≡ Some (Address base)
+  pub why : RelocError
+  pub fault : address_taken s.input.now s.placing.now r base ≡ Err why
+  pub told : e
+      ≡ address_refusal s.placing.now r base (address_named s.input.now s.placing.now r) why
+
+-- each of these relocations can take its address, if it takes one
+abbrev pub NoneRefused : FixupSources → List Relocated → Type 0
+NoneRefused s rs = AllByRecursion (λ (r : Relocated). Clear (IsRefusedAt s r)) rs

@@ -1,0 +1,31 @@
+-- How functions of the output come to be.
+use Rattle.std.specs.Prelude.{◌≡◌, ℕ, List, [], ◌∷◌, ◌++◌, Some, if◌then◌else◌, slice_get}
+use Rattle.std.specs.List.{AllZip}
+use Rattle.wl_module.specs.Types.{FunctionType}
+use Rattle.wl_live.specs.declared.units.WasmGcUnit.TheVariants.{DefinedFunction}
+use Rattle.wl_bind.specs.FunctionSpace.{FunctionEntry, FunctionOf}
+use Rattle.wl_bind.specs.Input.{Input, keeps}
+use Rattle.wl_bind.specs.OutputTypes.{output_types}
+use Rattle.wl_bind.specs.declared.binding.FunctionTarget.TheVariants.{Defined}
+use Rattle.wl_plan.specs.Functions.{IsOutputFunction}
+use Rattle.wl_plan.specs.Origins.{Origin, PlannedFunction}
+
+-- the list grows by a function of that origin, with the number of its type among these
+pub record AddsFunction (types : List FunctionType) (ty : FunctionType) (origin : Origin)
+    (old new : List PlannedFunction) : Type 0 where
+  pub number : ℕ
+  pub typed : slice_get types number ≡ Some ty
+  pub grown : new ≡ old ++ record { type_index = number; origin = origin } ∷ []
+
+-- the list grows by functions that are these entries
+pub record AddsFunctions (input : Input) (entries : List FunctionEntry)
+    (old new : List PlannedFunction) : Type 0 where
+  pub more : List PlannedFunction
+  pub are : AllZip (IsOutputFunction input (output_types input)) entries more
+  pub grown : new ≡ old ++ more
+
+-- a function of an object, where it is kept
+abbrev pub own_function_part : Input → ℕ → ℕ → List FunctionEntry
+own_function_part input object function =
+    if keeps input object (DefinedFunction function) then FunctionOf (Defined object function) ∷ []
+    else []

@@ -1,0 +1,44 @@
+-- The functions of the output that aren't imported: where each is from, and its type.
+use Rattle.std.specs.Prelude.{◌≡◌, ℕ, List, length, drop, Option, Some, None, slice_get}
+use Rattle.std.specs.List.{AllZip}
+use Rattle.std.specs.Option.{option_map}
+use Rattle.wl_module.specs.Types.{FunctionType}
+use Rattle.wl_slots.specs.ImportSlots.{ImportSlot}
+use Rattle.wl_bind.specs.EntryTypes.{function_slot, type_of_entry}
+use Rattle.wl_bind.specs.Input.{Input}
+use Rattle.wl_bind.specs.FunctionSpace.{FunctionEntry, FunctionOf, InitMemory, function_space, host_function_part}
+use Rattle.wl_bind.specs.declared.binding.FunctionTarget.TheVariants.{Defined, Made, Host, Stub}
+use Rattle.wl_plan.specs.Origins.{Origin, OfObject, OfLinker, OfInitMemory, OfStub, PlannedFunction}
+
+-- the function space behind the imports
+abbrev pub own_functions : Input → List FunctionEntry
+own_functions input = drop (length (host_function_part input)) (function_space input)
+
+-- a stub, by the field name of the slot of that number
+abbrev pub stub_at : Input → ℕ → ℕ → Option Origin
+stub_at input object slot =
+    option_map (λ (t : ImportSlot). OfStub t.item.name) (function_slot input object slot)
+
+-- where a function is from; one that is imported is from no object
+abbrev pub origin_of : Input → FunctionEntry → Option Origin
+origin_of input (FunctionOf (Defined object function)) = Some (OfObject object function)
+origin_of input (FunctionOf (Made m)) = Some (OfLinker m)
+origin_of input (FunctionOf (Host object slot)) = None
+origin_of input (FunctionOf (Stub object slot)) = stub_at input object slot
+origin_of input InitMemory = Some OfInitMemory
+
+-- the number is that of the type among these
+abbrev pub IsTypeNumber : List FunctionType → Option FunctionType → ℕ → Type 0
+IsTypeNumber types ty number =
+    (t : FunctionType) × (ty ≡ Some t) × (slice_get types number ≡ Some t)
+
+-- the function is that entry, with its type among these
+pub record IsOutputFunction (input : Input) (types : List FunctionType) (entry : FunctionEntry)
+    (f : PlannedFunction) : Type 0 where
+  pub origin : origin_of input entry ≡ Some f.origin
+  pub typed : IsTypeNumber types (type_of_entry input entry) f.type_index
+
+-- the functions are those of the space, in order
+abbrev pub AreOutputFunctions : Input → List FunctionType → List PlannedFunction → Type 0
+AreOutputFunctions input types functions =
+    AllZip (IsOutputFunction input types) (own_functions input) functions

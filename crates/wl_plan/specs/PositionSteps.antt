@@ -1,0 +1,38 @@
+-- Fields of one body.
+use Rattle.std.specs.Prelude.{◌≡◌, ◌≤◌, ℕ, ◌==◌, ◌&&◌, Bool, true, false, List, [], ◌∷◌, length, Some, Contains, ⊤}
+use Rattle.std.specs.List.{AllByRecursion}
+use Rattle.wl_module.specs.Bodies.{Body}
+use Rattle.wl_bind.specs.Input.{Input}
+use Rattle.wl_bind.specs.Scan.{relocations}
+use Rattle.wl_bind.specs.declared.relocated.FixupPlace.{FixupPlace}
+use Rattle.wl_bind.specs.declared.relocated.FixupPlace.TheVariants.{Code, Segment}
+use Rattle.wl_bind.specs.declared.relocated.Relocated.{Relocated}
+use Rattle.wl_plan.specs.Bodies.{body_in}
+
+-- the field lies in code
+abbrev pub is_code : FixupPlace → Bool
+is_code Code = true
+is_code Segment = false
+
+-- the two fields lie in one body
+abbrev pub share_body : Relocated → Relocated → Bool
+share_body first other =
+    is_code first.place && is_code other.place && (first.object == other.object)
+    && (first.site.unit == other.site.unit)
+
+-- the fields lie in the body of the first; or there is one, which lies in data
+abbrev pub AreOfOneBody : List Relocated → Type 0
+AreOfOneBody [] = ⊤
+AreOfOneBody (first ∷ others) =
+    AllByRecursion (λ (other : Relocated). share_body first other ≡ true) others
+
+-- the relocations are kept
+abbrev pub AreKept : Input → List Relocated → Type 0
+AreKept input rs = (r : Relocated) → Contains rs r → Contains (relocations input) r
+
+-- the field lies in this body of the object
+pub record IsThere (input : Input) (object : ℕ) (body : Body) (r : Relocated) : Type 0 where
+  pub code : r.place ≡ Code
+  pub object_is : r.object ≡ object
+  pub here : body_in input r.object r.site.unit ≡ Some body
+  pub within : r.site.position ≤ length body.bytes

@@ -1,0 +1,176 @@
+//! The functions of the output that aren't imported, each with its type.
+
+ghost use Rattle.std.specs.Prelude.{◌≡◌, ◌<◌, false, length, Some, Contains, IfOk, OnOk, slice_get};
+ghost use Rattle.wl_symbols.specs.declared.linker_symbol.WasmLinkerSymbol.TheVariants.{CallCtors};
+ghost use Rattle.wl_bind.specs.FunctionSpace.{made_function_part, stub_part, functions_of};
+ghost use Rattle.wl_bind.specs.OutputTypes.{output_types};
+ghost use Rattle.wl_bind.specs.References.{IsSettled};
+ghost use Rattle.wl_plan.specs.Functions.{AreOutputFunctions};
+ghost use Rattle.wl_plan.specs.Bound.{AreBindings};
+ghost use Rattle.wl_plan.specs.FunctionSteps.{AddsFunction, AddsFunctions, own_function_part};
+ghost use Rattle.wl_plan.specs.OriginsSeen.{origin_seen};
+
+use crate::bindings::Bindings;
+use crate::layout::{FunctionOrigin, OutputFunction};
+use std::alloc::{AllocError, Global};
+use wl_bind::{LinkInput, TypeMerger, WASM_DEAD_INDEX, entries_have_types, stub_imports};
+use wl_linking::{File, whole_objects};
+use wl_live::WasmGcUnit;
+use wl_module::FuncType;
+use wl_symbols::WasmLinkerSymbol;
+use wl_types::same_types_are_one;
+
+/// The number of a type among these, of which it is one.
+pub(crate) fn type_number(types: &TypeMerger, ty: &FuncType) -> u32
+    requires { Contains types.now ty.now }
+    ensures { slice_get types.now result ≡ Some ty.now }
+{
+    same_types_are_one();
+    types.types();
+    match types.place(ty) {
+        Some(place) => place as u32,
+        None => WASM_DEAD_INDEX,
+    }
+}
+
+/// Adds a function of that type.
+fn push_function<'a>(
+    functions: &mut Vec<OutputFunction<'a>>,
+    types: &TypeMerger,
+    ty: &FuncType,
+    origin: FunctionOrigin<'a>,
+) -> Result<(), AllocError>
+    requires { Contains types.now ty.now }
+    ensures { OnOk result (AddsFunction types.now ty.now (origin_seen origin.entry)
+        functions.old.items functions.new.items) }
+{
+    functions.push(OutputFunction {
+        type_index: type_number(types, ty),
+        origin,
+    })?;
+    Ok(())
+}
+
+/// Adds what calls the constructors, where the output has it.
+fn push_call_ctors<'a>(
+    alloc: Global,
+    functions: &mut Vec<OutputFunction<'a>>,
+    input: &LinkInput<'_, 'a>,
+    bindings: &Bindings<'a>,
+) -> Result<(), AllocError>
+    requires bindings { AreBindings input.now bindings.now }
+    ensures { OnOk result (AddsFunctions input.now (made_function_part input.now CallCtors)
+        functions.old.items functions.new.items) }
+{
+    entries_have_types();
+    if bindings
+        .indices
+        .index(WasmLinkerSymbol::CallCtors)
+        .is_none()
+    {
+        return Ok(());
+    }
+    let ty = FuncType::new(Vec::new(alloc), Vec::new(alloc));
+    let origin = FunctionOrigin::Made(WasmLinkerSymbol::CallCtors);
+    push_function(functions, &bindings.types, &ty, origin)
+}
+
+/// Adds the stubs.
+fn push_stubs<'a>(
+    alloc: Global,
+    functions: &mut Vec<OutputFunction<'a>>,
+    input: &LinkInput<'_, 'a>,
+    bindings: &Bindings<'a>,
+) -> Result<(), AllocError>
+    requires bindings { AreBindings input.now bindings.now }
+    ensures { OnOk result (AddsFunctions input.now (stub_part input.now)
+        functions.old.items functions.new.items) }
+{
+    entries_have_types();
+    whole_objects();
+    let stubs = stub_imports(alloc, input)?;
+    let types = bindings.stubs.as_slice();
+    for (place, stub) in stubs.as_slice().iter().enumerate() {
+        let origin = FunctionOrigin::Stub { name: stub.name };
+        push_function(functions, &bindings.types, &types[place], origin)?;
+    }
+    Ok(())
+}
+
+/// Adds a function of an object, where it is kept.
+fn push_kept<'a>(
+    functions: &mut Vec<OutputFunction<'a>>,
+    input: &LinkInput<'_, 'a>,
+    types: &TypeMerger,
+    object: usize,
+    file: &File<'a>,
+    function: usize,
+) -> Result<(), AllocError>
+    requires settled { IsSettled input.now }
+    requires types { types.now ≡ output_types input.now }
+    requires here { slice_get input.now.link.objects object ≡ Some file.now }
+    requires within { function < length file.now.functions }
+    ensures { OnOk result (AddsFunctions input.now (own_function_part input.now object function)
+        functions.old.items functions.new.items) }
+{
+    entries_have_types();
+    whole_objects();
+    let unit = function as u32;
+    if !input
+        .live()
+        .is_live(object, WasmGcUnit::DefinedFunction(unit))
+    {
+        return Ok(());
+    }
+    let ty = &file.types()[file.functions()[function] as usize];
+    push_function(
+        functions,
+        types,
+        ty,
+        FunctionOrigin::Object { object, unit },
+    )
+}
+
+/// Adds the kept functions of an object.
+fn push_functions<'a>(
+    functions: &mut Vec<OutputFunction<'a>>,
+    input: &LinkInput<'_, 'a>,
+    types: &TypeMerger,
+    object: usize,
+    file: &File<'a>,
+) -> Result<(), AllocError>
+    requires settled { IsSettled input.now }
+    requires types { types.now ≡ output_types input.now }
+    requires here { slice_get input.now.link.objects object ≡ Some file.now }
+    ensures { OnOk result (AddsFunctions input.now (functions_of input.now object file.now)
+        functions.old.items functions.new.items) }
+{
+    for function in 0..file.num_defined_functions() {
+        push_kept(functions, input, types, object, file, function)?;
+    }
+    Ok(())
+}
+
+/// The functions of the output that aren't imported: what the linker makes, and then what objects
+/// define.
+///
+/// # Errors
+/// `AllocError` where memory runs out.
+pub(crate) fn output_functions<'a>(
+    alloc: Global,
+    input: &LinkInput<'_, 'a>,
+    bindings: &Bindings<'a>,
+) -> Result<Vec<OutputFunction<'a>>, AllocError>
+    requires bindings { AreBindings input.now bindings.now }
+    requires alone { input.now.link.args.shared_memory ≡ false }
+    ensures { IfOk result
+        (λ functions. AreOutputFunctions input.now (output_types input.now) functions.items) }
+{
+    let mut functions = Vec::new(alloc);
+    push_call_ctors(alloc, &mut functions, input, bindings)?;
+    push_stubs(alloc, &mut functions, input, bindings)?;
+    for (object, file) in input.files().as_slice().iter().enumerate() {
+        push_functions(&mut functions, input, &bindings.types, object, file)?;
+    }
+    Ok(functions)
+}

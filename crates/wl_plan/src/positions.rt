@@ -1,0 +1,219 @@
+//! Where the fields of kept relocations stand in what the output has.
+
+ghost use Rattle.std.specs.Prelude.{◌≡◌, ◌≤◌, ◌<◌, map, take, length, Some, IfOk, IfErr, slice_get};
+ghost use Rattle.std.specs.List.{AllByRecursion, AllZip};
+ghost use Rattle.std.specs.Cow.{cow_slice_items};
+ghost use Rattle.wl_linking.specs.declared.error.LinkError.TheVariants.{OutOfMemory};
+ghost use Rattle.wl_bind.specs.Scan.{relocations};
+ghost use Rattle.wl_bind.specs.declared.relocated.FixupPlace.TheVariants.{Code, Segment};
+ghost use Rattle.wl_bind.specs.declared.relocated.Relocated.{Relocated as KeptRelocation};
+ghost use Rattle.wl_plan.specs.Bodies.{IsMovedIn};
+ghost use Rattle.wl_plan.specs.BodySteps.{AreAllNumbers, AreNewNumbers, AreSoundBodies, HasSoundBody};
+ghost use Rattle.wl_plan.specs.PositionSteps.{share_body, AreOfOneBody, AreKept, IsThere};
+
+use crate::parsing::link_error;
+use crate::placing::Placing;
+use std::alloc::{AllocError, Global};
+use std::borrow::CowSlice;
+use wl_bind::{FixupPlace, LinkInput, Relocated};
+use wl_linking::{File, ItemList, LinkError, parts_of_objects_stand, whole_objects};
+use wl_live::live_units_are_closed;
+use wl_module::WasmFunctionBody;
+use wl_ops::remap_body_data_indices;
+
+/// The two fields lie in one body.
+fn share_body(first: &Relocated, other: &Relocated) -> bool
+    ensures { result ≡ share_body first.now other.now }
+{
+    first.place == FixupPlace::Code
+        && other.place == FixupPlace::Code
+        && first.object == other.object
+        && first.site.unit == other.site.unit
+}
+
+/// How many fields, from the first on, lie in its body; 1 for a field in data.
+fn run_length(relocations: &[Relocated]) -> usize
+    requires { 0 < length relocations.now }
+    ensures some { 0 < result }
+    ensures within { result ≤ length relocations.now }
+    ensures one { AreOfOneBody (take result relocations.now) }
+{
+    let mut count = 1;
+    while count < relocations.len() && share_body(&relocations[0], &relocations[count]) {
+        count += 1;
+    }
+    count
+}
+
+/// Where these fields stand as the object has them.
+fn own_positions(alloc: Global, relocations: &[Relocated]) -> Result<Vec<u32>, AllocError>
+    ensures { IfOk result (λ positions.
+        positions.items ≡ map (λ (r : KeptRelocation). r.site.position) relocations.now) }
+{
+    let mut positions = Vec::new(alloc);
+    for relocated in relocations {
+        positions.push(relocated.site.position)?;
+    }
+    Ok(positions)
+}
+
+/// The same body, whose bytes can be rewritten.
+fn lent_bytes<'b>(body: &'b WasmFunctionBody<'_>) -> CowSlice<'b, u8>
+    ensures { cow_slice_items result ≡ body.now.bytes }
+{
+    CowSlice::Borrowed(body.bytes.as_slice())
+}
+
+/// Where these fields of a body stand in what the output has.
+fn moved_in(
+    alloc: Global,
+    input: &LinkInput<'_, '_>,
+    placing: &Placing<'_>,
+    object: usize,
+    body: &WasmFunctionBody<'_>,
+    numbers: &[Option<u32>],
+    run: &[Relocated],
+) -> Result<Vec<u32>, LinkError>
+    requires sound { HasSoundBody input.now object body.now }
+    requires numbers { AreNewNumbers input.now placing.now object numbers.now }
+    requires there { AllByRecursion (IsThere input.now object body.now) run.now }
+    ensures ok { IfOk result
+        (λ positions. AllZip (IsMovedIn input.now placing.now) run.now positions.items) }
+    ensures err { IfErr result (λ e. e ≡ OutOfMemory) }
+{
+    live_units_are_closed();
+    parts_of_objects_stand();
+    let mut positions = own_positions(alloc, run)?;
+    let mut bytes = lent_bytes(body);
+    match remap_body_data_indices(alloc, &mut bytes, numbers, &mut positions) {
+        Ok(_) => Ok(positions),
+        Err(error) => Err(link_error(object, error)),
+    }
+}
+
+/// Where this field of data stands: nothing moves there.
+fn moved_data(
+    alloc: Global,
+    input: &LinkInput<'_, '_>,
+    placing: &Placing<'_>,
+    first: Relocated,
+    run: &[Relocated],
+) -> Result<Vec<u32>, AllocError>
+    requires at { slice_get run.now 0 ≡ Some first }
+    requires place { first.place ≡ Segment }
+    requires one { AreOfOneBody run.now }
+    ensures { IfOk result
+        (λ positions. AllZip (IsMovedIn input.now placing.now) run.now positions.items) }
+{
+    own_positions(alloc, run)
+}
+
+/// Where these fields of a body of the object stand in what the output has.
+fn moved_file(
+    alloc: Global,
+    input: &LinkInput<'_, '_>,
+    placing: &Placing<'_>,
+    file: &File<'_>,
+    row: &[Option<u32>],
+    first: Relocated,
+    run: &[Relocated],
+) -> Result<Vec<u32>, LinkError>
+    requires sound { AreSoundBodies input.now }
+    requires numbers { AreNewNumbers input.now placing.now first.object row.now }
+    requires kept { AreKept input.now run.now }
+    requires at { slice_get run.now 0 ≡ Some first }
+    requires place { first.place ≡ Code }
+    requires one { AreOfOneBody run.now }
+    requires here { slice_get input.now.link.objects first.object ≡ Some file.now }
+    requires unit { first.site.unit < length file.now.bodies }
+    ensures ok { IfOk result
+        (λ positions. AllZip (IsMovedIn input.now placing.now) run.now positions.items) }
+    ensures err { IfErr result (λ e. e ≡ OutOfMemory) }
+{
+    whole_objects();
+    let unit = first.site.unit;
+    let body = &file.bodies()[unit];
+    moved_in(alloc, input, placing, first.object, body, row, run)
+}
+
+/// Where these fields of one body stand in what the output has.
+fn moved_code(
+    alloc: Global,
+    input: &LinkInput<'_, '_>,
+    placing: &Placing<'_>,
+    numbers: &[ItemList<Option<u32>>],
+    first: Relocated,
+    run: &[Relocated],
+) -> Result<Vec<u32>, LinkError>
+    requires sound { AreSoundBodies input.now }
+    requires numbers { AreAllNumbers input.now placing.now numbers.now }
+    requires kept { AreKept input.now run.now }
+    requires at { slice_get run.now 0 ≡ Some first }
+    requires place { first.place ≡ Code }
+    requires one { AreOfOneBody run.now }
+    requires within { first.object < length input.now.link.objects }
+    ensures ok { IfOk result
+        (λ positions. AllZip (IsMovedIn input.now placing.now) run.now positions.items) }
+    ensures err { IfErr result (λ e. e ≡ OutOfMemory) }
+{
+    whole_objects();
+    let object = first.object;
+    let files = input.files().as_slice();
+    let file = &files[object];
+    let row = numbers[object].as_slice();
+    moved_file(alloc, input, placing, file, row, first, run)
+}
+
+/// Where these fields of one body, or this one of data, stand in what the output has.
+fn moved_run(
+    alloc: Global,
+    input: &LinkInput<'_, '_>,
+    placing: &Placing<'_>,
+    numbers: &[ItemList<Option<u32>>],
+    run: &[Relocated],
+) -> Result<Vec<u32>, LinkError>
+    requires sound { AreSoundBodies input.now }
+    requires numbers { AreAllNumbers input.now placing.now numbers.now }
+    requires kept { AreKept input.now run.now }
+    requires some { 0 < length run.now }
+    requires one { AreOfOneBody run.now }
+    ensures ok { IfOk result
+        (λ positions. AllZip (IsMovedIn input.now placing.now) run.now positions.items) }
+    ensures err { IfErr result (λ e. e ≡ OutOfMemory) }
+{
+    whole_objects();
+    let first = run[0];
+    match first.place {
+        FixupPlace::Segment => Ok(moved_data(alloc, input, placing, first, run)?),
+        FixupPlace::Code => moved_code(alloc, input, placing, numbers, first, run),
+    }
+}
+
+/// Where the fields of kept relocations stand in what the output has, in order.
+///
+/// # Errors
+/// Want of memory alone: kept bodies are decoded, and what they number is kept.
+pub(crate) fn moved_positions(
+    alloc: Global,
+    input: &LinkInput<'_, '_>,
+    placing: &Placing<'_>,
+    numbers: &[ItemList<Option<u32>>],
+    kept: &[Relocated],
+) -> Result<Vec<u32>, LinkError>
+    requires sound { AreSoundBodies input.now }
+    requires numbers { AreAllNumbers input.now placing.now numbers.now }
+    requires kept { kept.now ≡ relocations input.now }
+    ensures ok { IfOk result (λ positions.
+        AllZip (IsMovedIn input.now placing.now) (relocations input.now) positions.items) }
+    ensures err { IfErr result (λ e. e ≡ OutOfMemory) }
+{
+    let mut positions = Vec::new(alloc);
+    let mut rest = kept;
+    while !rest.is_empty() {
+        let (run, more) = rest.split_at(run_length(rest));
+        let mut moved = moved_run(alloc, input, placing, numbers, run)?;
+        positions.append(&mut moved)?;
+        rest = more;
+    }
+    Ok(positions)
+}
