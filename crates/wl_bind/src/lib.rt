@@ -74,6 +74,3 @@ pub use types::{SlotTypes, type_of_slot};
 pub use wl_reloc::WasmObjectIndexMap;
 pub use wl_slots::{HostImport, Stubs};
 pub use wl_types::{TypeMerger, WASM_DEAD_INDEX};
-
-#[cfg(test)]
-mod tests;

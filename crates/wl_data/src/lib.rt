@@ -42,6 +42,3 @@ pub use stack::{
     ensure_stack_size_aligned, heap_base_address, heap_base_after_data,
     heap_end_from_initial_pages, stack_high_after_data, stack_pointer_init,
 };
-
-#[cfg(test)]
-mod tests;

@@ -70,8 +70,3 @@ pub use relocations::{RelocationList, WasmRelocSection, WasmRelocation};
 pub use sites::Site;
 pub use symbols::{WasmSymbol, WasmSymbolKind};
 pub use text::Text;
-
-#[cfg(test)]
-mod list_tests;
-#[cfg(test)]
-mod tests;

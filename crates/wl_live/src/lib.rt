@@ -18,8 +18,6 @@ mod object_facts;
 mod references;
 mod refusals;
 mod roots;
-#[cfg(test)]
-mod tests;
 mod units;
 
 pub use collecting::{collect_live, collect_live_counted, collect_live_from};

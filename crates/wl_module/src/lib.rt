@@ -48,6 +48,3 @@ pub use segments::{
     segments_or_fault, targeted_segments_or_fault,
 };
 pub use types::{FuncType, ValType, read_types, types_or_fault};
-
-#[cfg(test)]
-mod tests;

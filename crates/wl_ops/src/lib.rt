@@ -25,6 +25,3 @@ pub use laws::{
 pub use numbers::data_index_immediates;
 pub use op::{DataIndexImm, Op, OpArgs};
 pub use rewriting::remap_body_data_indices;
-
-#[cfg(test)]
-mod tests;

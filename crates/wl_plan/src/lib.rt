@@ -33,6 +33,3 @@ pub use link::{plan_files, plan_link};
 pub use objects::{MAX_OBJECT, ObjectList, PushError};
 pub use wl_bind::{FixupPlace, TypeMerger, WASM_DEAD_INDEX, WasmObjectIndexMap};
 pub use wl_reloc::{RelocError, deferred_tls_template_pointer, resolve_reloc};
-
-#[cfg(test)]
-mod tests;

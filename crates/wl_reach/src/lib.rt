@@ -4,8 +4,6 @@
 mod graph;
 mod marks;
 mod search;
-#[cfg(test)]
-mod tests;
 
 pub use graph::{Edge, Graph};
 pub use marks::{Marks, RankedMarks};

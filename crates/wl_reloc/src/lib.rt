@@ -16,6 +16,3 @@ pub use error::RelocError;
 pub use index_map::WasmObjectIndexMap;
 pub use resolving::resolve_reloc;
 pub use takings::{AddressBase, Taking};
-
-#[cfg(test)]
-mod tests;

@@ -21,6 +21,3 @@ pub use slots::{ImportSlot, import_slots, is_slot_of};
 pub use targets::{
     SlotTarget, object_target, own_number, slot_target, slot_targets, symbol_target,
 };
-
-#[cfg(test)]
-mod tests;

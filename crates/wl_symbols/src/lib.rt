@@ -30,8 +30,3 @@ pub use options::{Flag, MemoryOption, OptionKind, Setting};
 pub use table::SymbolTable;
 pub use texts::Texts;
 pub use values::MemoryName;
-
-#[cfg(test)]
-mod name_tests;
-#[cfg(test)]
-mod tests;

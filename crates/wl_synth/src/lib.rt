@@ -13,8 +13,6 @@ mod memory;
 mod operator;
 mod parts;
 mod spelling;
-#[cfg(test)]
-mod tests;
 mod thread_local;
 
 pub use calls::{

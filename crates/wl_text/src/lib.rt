@@ -12,6 +12,3 @@ pub use names::{
     bound_name, form_name, kind_name, push_need, quantity_name, value_type_name, why_name,
 };
 pub use pieces::{push_decimal, push_hex, push_numbers, push_quoted, push_signed};
-
-#[cfg(test)]
-mod tests;

@@ -9,6 +9,3 @@ mod types;
 
 pub use laws::{same_types_are_one, types_stand_once};
 pub use types::{MAX_ENTRIES, TypeMerger, WASM_DEAD_INDEX, copy_type};
-
-#[cfg(test)]
-mod tests;
