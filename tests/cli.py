@@ -122,9 +122,15 @@ def options():
     ]
     for others, line in refused:
         check(f"words {others}", run([*FLAGS, *others, made]), 1, err=b"error: " + line + b"\n")
-    unplanned = """--export=a --export-if-defined=a --export-dynamic --no-check-features
-        --extra-features=a --strip-all -s --strip-debug -S"""
-    for option in unplanned.split():
+    for option in ["--no-check-features", "--strip-all", "-s", "--strip-debug", "-S"]:
+        check(f"word {option}", run([*FLAGS, option, made]), 0, listing)
+    featured = listing.replace(b"end\n", b'feature "a"\nfeature "b"\nend\n')
+    features = "--extra-features=b,,a,b"
+    check("features", run([*FLAGS, features, made]), 0, featured)
+    check("features left out", run([*FLAGS, features, "-s", made]), 0, listing)
+    check("features left in", run([*FLAGS, features, "-s", "--keep-section=target_features", made]), 0, featured)
+    check("features without debug sections", run([*FLAGS, features, "-S", made]), 0, featured)
+    for option in ["--export=a", "--export-if-defined=a", "--export-dynamic"]:
         check(f"word {option}", run([*FLAGS, option, made]), 1, err=b"error: Unsupported 0 NotYet\n")
 
 
@@ -344,7 +350,7 @@ def documented_relocations(folder):
 
 
 def compiled(folder):
-    """Objects that clang made are read whole, and planned, alone or together, where they have a listing."""
+    """Objects that clang made are read whole, and planned, alone or together."""
     bare = EXAMPLES / "bare_module.o"
     planned = sorted(OBJECTS.glob("planned_*.o"))
     for words, listing in [(FLAGS, "planned_whole.plan"), ([], "planned_kept.plan")]:
@@ -356,12 +362,8 @@ def compiled(folder):
         line = b"error: UndefinedSymbols 0 " + symbol + b"\n"
         check(f"{name}, which nothing completes", run([*FLAGS, OBJECTS / name]), 1, err=line)
     for made in sorted(set(OBJECTS.glob("*.o")) - set(planned)):
-        listing = made.with_suffix(".plan")
-        if listing.exists():
-            check(made.name, run([*FLAGS, "--allow-undefined", made]), 0, listing.read_bytes())
-        else:
-            check(made.name, run([*FLAGS, made]), 1, err=b"error: Unsupported 0 NotYet\n")
-            check(f"{made.name}, second", run([*FLAGS, bare, made]), 1, err=b"error: Unsupported 1 NotYet\n")
+        listing = made.with_suffix(".plan").read_bytes()
+        check(made.name, run([*FLAGS, "--allow-undefined", made]), 0, listing)
         cut = folder / "cut.o"
         cut.write_bytes(made.read_bytes()[:-1])
         check(f"{made.name}, cut off", run([*FLAGS, bare, cut]), 1, err=b"error: Malformed 1 Truncated\n")

@@ -12,14 +12,18 @@ use Rattle.wl_module.specs.Bodies.{Body}
 use Rattle.wl_slots.specs.ImportSlots.{ImportSlot}
 use Rattle.wl_slots.specs.Left.{first_imports}
 use Rattle.wl_symbols.specs.declared.linker_symbol.WasmLinkerSymbol.TheVariants.{CallCtors, InitTls}
-use Rattle.wl_synth.specs.declared.calls.TheConstants.{UNREACHABLE_FUNCTION_BODY, EMPTY_FUNCTION_BODY}
+use Rattle.wl_ctors.specs.InitCalls.{AreInitCalls}
+use Rattle.wl_ctors.specs.declared.calls.InitCall.{InitCall}
+use Rattle.wl_synth.specs.Bodies.{call_sequence_ops}
+use Rattle.wl_synth.specs.Encoding.{IsEncoded}
+use Rattle.wl_synth.specs.declared.calls.TheConstants.{UNREACHABLE_FUNCTION_BODY}
 use Rattle.wl_bind.specs.FunctionBinding.{link_stubs, host_functions}
 use Rattle.wl_bind.specs.FunctionSpace.{FunctionEntry, FunctionOf, InitMemory, host_function_part, made_function_part, init_memory_part, stub_part, kept_functions, functions_of, object_functions, function_space}
 use Rattle.wl_bind.specs.Input.{Input, keeps}
 use Rattle.wl_bind.specs.Made.{is_made, has_init_memory}
 use Rattle.wl_bind.specs.Parts.{by_object}
 use Rattle.wl_bind.specs.declared.binding.FunctionTarget.TheVariants.{Defined, Made, Host, Stub}
-use Rattle.wl_plan.specs.Bodies.{IsBodyOf, IsBodyIn, AreBodies, body_in}
+use Rattle.wl_plan.specs.Bodies.{IsBodyOf, IsBodyIn, AreBodies, body_in, called}
 use Rattle.wl_plan.specs.BodySteps.{IsBodyFrom, AddsMadeBody, AddsBodies}
 use Rattle.wl_plan.specs.FunctionSteps.{own_function_part}
 use Rattle.wl_plan.specs.Functions.{own_functions}
@@ -281,13 +285,28 @@ ctors_are : (input : Input) → is_made input CallCtors ≡ true
     → FunctionOf (Made CallCtors) ∷ [] ≡ made_function_part input CallCtors
 ctors_are input made = rw made refl
 
-pub adds_ctors : (input : Input) (g : Placing) (old new : List Body)
-    → is_made input CallCtors ≡ true → AddsMadeBody EMPTY_FUNCTION_BODY old new
+pub adds_ctors : (input : Input) (g : Placing) (calls : List InitCall) (bytes : List ℕ)
+    (old new : List Body) → is_made input CallCtors ≡ true → AreInitCalls input calls
+    → IsEncoded (call_sequence_ops (map called calls)) bytes → AddsMadeBody bytes old new
     → AddsBodies input g (made_function_part input CallCtors) old new
-adds_ctors input g old new made a =
+adds_ctors input g calls bytes old new made are encoded a =
     adds_same input g (FunctionOf (Made CallCtors) ∷ []) (made_function_part input CallCtors) old new
     (ctors_are input made)
-    (adds_one input g (FunctionOf (Made CallCtors)) old new a.body a.is a.grown)
+    (adds_one input g (FunctionOf (Made CallCtors)) old new a.body
+    (record {
+      calls = calls;
+      are_calls = are;
+      bytes = bytes;
+      encoded = encoded;
+      made = a.is;
+    }) a.grown)
+
+-- the same calls have the same body
+pub ctors_encoded : (shown calls : List InitCall) (bytes : List ℕ) → shown ≡ calls
+    → IsEncoded (call_sequence_ops (map called shown)) bytes
+    → IsEncoded (call_sequence_ops (map called calls)) bytes
+ctors_encoded shown calls bytes same encoded =
+    subst (λ (cs : List InitCall). IsEncoded (call_sequence_ops (map called cs)) bytes) same encoded
 
 pub adds_no_ctors : (input : Input) (g : Placing) (old : List Body)
     → is_made input CallCtors ≡ false

@@ -3,6 +3,8 @@ use Rattle.std.proofs.Common.{◌≡◌, ◌&&◌, ℕ, zero, suc, Bool, true, f
 use Rattle.std.specs.List.{list_all}
 use Rattle.wl_linking.specs.Object.{Object}
 use Rattle.wl_linking.specs.Steps.{Clear}
+use Rattle.wl_symbols.specs.Link.{Link}
+use Rattle.wl_symbols.specs.declared.args.WasmArgs.{WasmArgs}
 use Rattle.wl_plan.specs.Planned.{is_planned, AllPlanned, IsNotYet}
 
 both : (a b : Bool) → (a && b) ≡ true → (a ≡ true) × (b ≡ true)
@@ -17,10 +19,13 @@ all_at test (y ∷ xs) zero x all at =
     let same : y ≡ x = cc in rw (← same) (both (test y) (list_all test xs) all).0
 all_at test (y ∷ xs) (suc i) x all at = all_at test xs i x (both (test y) (list_all test xs) all).1 at
 
-planned_not : (objects : List Object) (i : ℕ) (o : Object) → AllPlanned objects
-    → slice_get objects i ≡ Some o → is_planned o ≡ false → ⊥
-planned_not objects i o all here not = let yes = all_at is_planned objects i o all here in absurd cc
+planned_not : (args : WasmArgs) (objects : List Object) (i : ℕ) (o : Object)
+    → AllPlanned args objects → slice_get objects i ≡ Some o → is_planned args o ≡ false → ⊥
+planned_not args objects i o all here not =
+    let yes = all_at (is_planned args) objects i o all here in absurd cc
 
 -- where all are planned, none is refused
-pub planned_clear : (objects : List Object) → AllPlanned objects → Clear (IsNotYet objects)
-planned_clear objects all = record { none = λ e h. planned_not objects h.0 h.1 all h.3 h.4 }
+pub planned_clear : (link : Link) → AllPlanned link.args link.objects → Clear (IsNotYet link)
+planned_clear link all = record {
+  none = λ e h. planned_not link.args link.objects h.0 h.1 all h.3 h.4;
+}

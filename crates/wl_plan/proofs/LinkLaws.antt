@@ -12,6 +12,8 @@ use Rattle.wl_linking.specs.declared.error.LinkError.TheVariants.{Unsupported}
 use Rattle.wl_symbols.specs.Link.{Link, link_of}
 use Rattle.wl_symbols.specs.Repeats.{IsDuplicate}
 use Rattle.wl_symbols.specs.declared.args.WasmArgs.{WasmArgs}
+use Rattle.wl_features.specs.Taken.{AreTaken}
+use Rattle.wl_features.specs.Faults.{IsBadFeature, IsConflict, IsSharedFault, feature_fault, feature_steps}
 use Rattle.wl_live.specs.Entry.{IsEntryFault}
 use Rattle.wl_live.specs.Faults.{IsKeptFault}
 use Rattle.wl_live.specs.Live.{Live, IsLiveOf}
@@ -25,7 +27,7 @@ use Rattle.wl_plan.specs.Plan.{IsPlan}
 use Rattle.wl_plan.specs.Planned.{IsNotYet, IsUnplannedOption, are_some, asks_for_unplanned}
 use Rattle.wl_plan.specs.declared.layout.LinkPlan.{LinkPlan}
 use Rattle.wl_plan.specs.declared.objects.TheConstants.{MAX_OBJECT}
-use Rattle.wl_plan.proofs.StepLaws.{clear_end, clear_step, refuses_behind, refuses_here}
+use Rattle.wl_plan.proofs.StepLaws.{IsRow, clear_end, clear_step, refuses_behind, refuses_here, row_behind, row_clear, row_end, row_more}
 
 -- ---- bytes by their number
 
@@ -90,11 +92,21 @@ later_refuses link live e kept h = record {
 
 -- ---- the steps of a link
 
+-- those by which features don't fit together
+abbrev pub feature_row : Link → (LinkError → Type 0) → LinkError → Type 0
+feature_row link rest = feature_steps link rest
+
+pub feature_is_row : (link : Link) → IsRow (feature_row link)
+feature_is_row link =
+    row_more (IsBadFeature link.objects) _ (row_more (IsSharedFault link) _
+    (row_more (IsConflict link) _ row_end))
+
 -- the steps before the last have no cause
 pub record AreClear (link : Link) : Type 0 where
   pub names : Clear (IsDuplicate link.objects)
-  pub planned : Clear (IsNotYet link.objects)
+  pub planned : Clear (IsNotYet link)
   pub options : Clear (IsUnplannedOption link.args)
+  pub features : Clear (feature_fault link)
   pub entry : Clear (IsEntryFault link)
   pub kept : Clear (IsKeptFault link)
 
@@ -103,20 +115,22 @@ last_refuses : (link : Link) (e : LinkError) → AreClear link → Refuses (IsLa
     → Refuses (link_fault link) e
 last_refuses link e clear h =
     refuses_behind (IsDuplicate link.objects) _ e clear.names
-    (refuses_behind (IsNotYet link.objects) _ e clear.planned
+    (refuses_behind (IsNotYet link) _ e clear.planned
     (refuses_behind (IsUnplannedOption link.args) _ e clear.options
+    (row_behind (feature_row link) (feature_is_row link) _ e clear.features
     (refuses_behind (IsEntryFault link) _ e clear.entry
     (refuses_behind (IsKeptFault link) _ e clear.kept
-    (refuses_here (IsLaterFault link) NoStep e h)))))
+    (refuses_here (IsLaterFault link) NoStep e h))))))
 
 all_clear : (link : Link) → AreClear link → Clear (IsLaterFault link) → Clear (link_fault link)
 all_clear link clear last =
     clear_step (IsDuplicate link.objects) _ clear.names
-    (clear_step (IsNotYet link.objects) _ clear.planned
+    (clear_step (IsNotYet link) _ clear.planned
     (clear_step (IsUnplannedOption link.args) _ clear.options
+    (row_clear (feature_row link) (feature_is_row link) _ clear.features
     (clear_step (IsEntryFault link) _ clear.entry
     (clear_step (IsKeptFault link) _ clear.kept
-    (clear_step (IsLaterFault link) NoStep last clear_end)))))
+    (clear_step (IsLaterFault link) NoStep last clear_end))))))
 
 -- ---- answers
 
@@ -151,6 +165,19 @@ pub entry_by : (link : Link) (live : Live) (input : Input) → input ≡ input_o
     → Clear (IsEntryFault link) → Clear (IsEntryFault input.link)
 entry_by link live input same clear =
     subst (λ (x : Input). Clear (IsEntryFault x.link)) (sym same) clear
+
+pub features_by : (link : Link) (live : Live) (input : Input) (names : List (List ℕ))
+    → input ≡ input_of link live → AreTaken link names → AreTaken input.link names
+features_by link live input names same taken =
+    subst (λ (x : Input). AreTaken x.link names) (sym same) taken
+
+-- the features go by the objects and the words
+pub taken_by : (link : Link) (objects : List Object) (args : WasmArgs) (names : List (List ℕ))
+    → objects ≡ link.objects → args ≡ link.args → AreTaken (link_of objects args) names
+    → AreTaken link names
+taken_by link objects args names same words taken =
+    let h = rw (same, words) at taken in
+    record { all = h.all; no_other = h.no_other; ascending = h.ascending }
 
 pub input_alone : (link : Link) (live : Live) (input : Input) → input ≡ input_of link live
     → Clear (IsUnplannedOption link.args) → input.link.args.shared_memory ≡ false

@@ -75,6 +75,10 @@ settled_by input sound clear = record {
   kinds = first_clear (IsWrongKind input) _ clear;
 }
 
+pub signatures_by : (input : Input) → Clear (index_fault input) → Clear (IsMismatch input)
+signatures_by input clear =
+    first_clear (IsMismatch input) _ (rest_clear (IsWrongKind input) _ clear)
+
 space_clear : (input : Input) → Clear (index_fault input) → Clear (IsSpaceTooLarge input)
 space_clear input clear =
     first_clear (IsSpaceTooLarge input) _ (rest_clear (IsHostConflict input) _

@@ -1,6 +1,6 @@
 -- Bodies, where fields stand in them, what fields take, and how many bytes sections take, are fixed
 -- by the link and by where things lie.
-use Rattle.std.proofs.Common.{◌≡◌, ◌∙◌, ℕ, ℤ, zero, suc, ◌+◌, Bool, not, ◌||◌, ◌==◌, List, [], ◌∷◌, ◌++◌, length, refl, sym, ap, subst, arith, Option, Some, None, Result, Ok}
+use Rattle.std.proofs.Common.{◌≡◌, ◌∙◌, ℕ, ℤ, zero, suc, ◌+◌, map, Bool, not, ◌||◌, ◌==◌, List, [], ◌∷◌, ◌++◌, length, refl, sym, ap, subst, arith, Option, Some, None, Result, Ok}
 use Rattle.wl_bytes.specs.Leb.{IsShortest, IsShortestSleb}
 use Rattle.wl_module.specs.Bodies.{Body}
 use Rattle.wl_linking.specs.declared.relocation_type.RelocationType.{RelocationType}
@@ -12,7 +12,12 @@ use Rattle.wl_reloc.specs.Addresses.{word_of}
 use Rattle.wl_reloc.specs.Takings.{taking_of}
 use Rattle.wl_reloc.specs.declared.takings.Taking.{Taking}
 use Rattle.wl_reloc.specs.declared.takings.Taking.TheVariants.{FunctionIndex, Slot, SlotBehindBase, GlobalIndex, TableNumber, Address}
-use Rattle.wl_synth.specs.declared.calls.TheConstants.{UNREACHABLE_FUNCTION_BODY, EMPTY_FUNCTION_BODY}
+use Rattle.wl_ctors.specs.InitCalls.{AreInitCalls}
+use Rattle.wl_ctors.specs.declared.calls.InitCall.{InitCall}
+use Rattle.wl_ops.specs.declared.op.Op.{Op}
+use Rattle.wl_synth.specs.Bodies.{call_sequence_ops}
+use Rattle.wl_synth.specs.Encoding.{IsEncoded}
+use Rattle.wl_synth.specs.declared.calls.TheConstants.{UNREACHABLE_FUNCTION_BODY}
 use Rattle.wl_symbols.specs.declared.linker_symbol.WasmLinkerSymbol.{WasmLinkerSymbol}
 use Rattle.wl_symbols.specs.declared.linker_symbol.WasmLinkerSymbol.TheVariants.{CallCtors}
 use Rattle.wl_bind.specs.FunctionSpace.{FunctionOf, InitMemory, function_space}
@@ -26,7 +31,7 @@ use Rattle.wl_bind.specs.declared.binding.FunctionTarget.TheVariants.{Defined, M
 use Rattle.wl_bind.specs.declared.relocated.FixupPlace.{FixupPlace}
 use Rattle.wl_bind.specs.declared.relocated.FixupPlace.TheVariants.{Code, Segment}
 use Rattle.wl_bind.specs.declared.relocated.Relocated.{Relocated}
-use Rattle.wl_plan.specs.Bodies.{new_number, IsMovedBy, IsRenumbered, body_in, IsBodyIn, IsMadeBody, IsLinkerBody, IsBodyOf, AreBodies, IsMovedAt}
+use Rattle.wl_plan.specs.Bodies.{new_number, IsMovedBy, IsRenumbered, body_in, IsBodyIn, IsMadeBody, IsCtorsBody, IsLinkerBody, called, IsBodyOf, AreBodies, IsMovedAt}
 use Rattle.wl_plan.specs.Fixups.{StandsAt, type_named, global_named, address_taken, IsTaken, IsFieldOf, IsFixup, AreFixups}
 use Rattle.wl_plan.specs.Functions.{own_functions}
 use Rattle.wl_plan.specs.declared.layout.Fixup.{Fixup}
@@ -37,12 +42,16 @@ use Rattle.wl_plan.proofs.UniqueParts.{some_one, cut_one, GivesOne, zip_one, Are
 
 -- ---- what laws of lower crates say
 
--- a number has one shortest form of each sign, and a body one list of numbers of segments
+-- a number has one shortest form of each sign, a body one list of numbers of segments, operators
+-- one body; the calls at the start are one list
 pub record FormsAreOne : Type 0 where
   pub unsigned : (n : ℕ) (x y : List ℕ) → IsShortest n x → IsShortest n y → x ≡ y
   pub signed : (z : ℤ) (x y : List ℕ) → IsShortestSleb z x → IsShortestSleb z y → x ≡ y
   pub numbers : (body : List ℕ) (ns ks : List DataIndexImm) → HasNumbers ns body
       → HasNumbers ks body → ns ≡ ks
+  pub calls : (input : Input) (cs ds : List InitCall) → AreInitCalls input cs
+      → AreInitCalls input ds → cs ≡ ds
+  pub encoded : (ops : List Op) (x y : List ℕ) → IsEncoded ops x → IsEncoded ops y → x ≡ y
 
 -- ---- bodies with other numbers
 
@@ -136,14 +145,25 @@ defined_one forms input g object function x y p q =
     p.code_offset ∙ ap (λ (b : Body). b.code_offset) own ∙ sym q.code_offset in
     body_is x y bytes owned code_offset (p.object_index ∙ sym q.object_index)
 
-linker_one : (m : WasmLinkerSymbol) (x y : Body) → IsLinkerBody m x → IsLinkerBody m y → x ≡ y
-linker_one CallCtors x y p q = made_one EMPTY_FUNCTION_BODY x y p q
-linker_one _ x y p q = absurd p
+ctors_one : FormsAreOne → (input : Input) (x y : Body) → IsCtorsBody input x → IsCtorsBody input y
+    → x ≡ y
+ctors_one forms input x y p q =
+    let calls = forms.calls input p.calls q.calls p.are_calls q.are_calls in
+    let encoded = subst (λ (cs : List InitCall). IsEncoded (call_sequence_ops (map called cs)) p.bytes)
+    calls p.encoded in
+    let bytes = forms.encoded (call_sequence_ops (map called q.calls)) p.bytes q.bytes encoded
+    q.encoded in
+    made_one q.bytes x y (subst (λ (t : List ℕ). IsMadeBody t x) bytes p.made) q.made
+
+linker_one : FormsAreOne → (input : Input) (m : WasmLinkerSymbol) (x y : Body)
+    → IsLinkerBody input m x → IsLinkerBody input m y → x ≡ y
+linker_one forms input CallCtors x y p q = ctors_one forms input x y p q
+linker_one forms input _ x y p q = absurd p
 
 body_one : FormsAreOne → (input : Input) (g : Placing) → GivesOne (IsBodyOf input g)
 body_one forms input g (FunctionOf (Defined object function)) x y p q =
     defined_one forms input g object function x y p q
-body_one forms input g (FunctionOf (Made m)) x y p q = linker_one m x y p q
+body_one forms input g (FunctionOf (Made m)) x y p q = linker_one forms input m x y p q
 body_one forms input g (FunctionOf (Host object slot)) x y p q = absurd p
 body_one forms input g (FunctionOf (Stub object slot)) x y p q =
     made_one UNREACHABLE_FUNCTION_BODY x y p q

@@ -1,5 +1,5 @@
 -- A link has one plan at most: each part is fixed by the link and the parts before it.
-use Rattle.std.proofs.Common.{◌≡◌, ◌∙◌, ℕ, Bool, List, length, refl, sym, ap, subst, Option}
+use Rattle.std.proofs.Common.{◌≡◌, ◌∙◌, ℕ, Bool, true, false, codes, List, length, refl, sym, ap, subst, Option}
 use Rattle.wl_module.specs.Bodies.{Body}
 use Rattle.wl_module.specs.Exports.{Exported}
 use Rattle.wl_module.specs.Types.{FunctionType}
@@ -11,11 +11,15 @@ use Rattle.wl_data.specs.Segments.{SegmentLayout}
 use Rattle.wl_data.specs.Sizes.{segment_count, all_encoded_bytes}
 use Rattle.wl_data.specs.declared.places.DataPlaces.{DataPlaces}
 use Rattle.wl_reloc.specs.declared.index_map.WasmObjectIndexMap.{WasmObjectIndexMap}
+use Rattle.wl_symbols.specs.Args.{emits_stripped_section}
+use Rattle.wl_symbols.specs.Link.{Link}
+use Rattle.wl_features.specs.Taken.{AreTaken}
 use Rattle.wl_bind.specs.FunctionSpace.{function_space}
 use Rattle.wl_bind.specs.GlobalSpace.{global_space}
 use Rattle.wl_bind.specs.Input.{Input}
 use Rattle.wl_bind.specs.OutputTypes.{output_types}
 use Rattle.wl_bind.specs.Parts.{StandOnce}
+use Rattle.wl_plan.specs.Extras.{AreTakenIf, AreOutputFeatures}
 use Rattle.wl_plan.specs.Fixups.{AreFixups}
 use Rattle.wl_plan.specs.Origins.{PlannedFunction}
 use Rattle.wl_plan.specs.Placing.{data_input, placing_of, IsPlacing}
@@ -33,6 +37,10 @@ use Rattle.wl_plan.proofs.UniqueSegments.{SegmentsHaveLayouts, segments_once}
 
 -- ---- what laws of lower crates say
 
+-- the features that the output has are one list
+abbrev pub FeaturesAreOne : Type 0
+FeaturesAreOne = (link : Link) (a b : List (List ℕ)) → AreTaken link a → AreTaken link b → a ≡ b
+
 -- data lies in one way, where each segment has its layout; spaces have nothing twice
 pub record LawsBelow : Type 0 where
   pub forms : FormsAreOne
@@ -41,6 +49,7 @@ pub record LawsBelow : Type 0 where
   pub functions : (input : Input) → StandOnce (function_space input)
   pub globals : (input : Input) → StandOnce (global_space input)
   pub types : (input : Input) → StandOnce (output_types input)
+  pub features : FeaturesAreOne
 
 placing_one : LawsBelow → (input : Input) (g h : Placing) → IsPlacing input g → IsPlacing input h → g ≡ h
 placing_one laws input g h p q =
@@ -61,9 +70,10 @@ all_once laws input g p = record {
 make_layout : List FunctionType → List PlannedImport → List PlannedFunction → List Body
     → List PlannedGlobal → Option MemoryType → Option TableType → List ℕ → List ℕ
     → List (List SegmentLayout) → List Exported → Option ℕ → ℕ → ℕ → Bool → ℕ → ℕ → ℕ → ℕ → ℕ
-    → List DebugInput → List WasmObjectIndexMap → WasmLayout
+    → List (List ℕ) → List DebugInput → List WasmObjectIndexMap → WasmLayout
 make_layout types imports functions bodies globals memory table elements slots layouts exports start
-    memory_base tls_base shared tls_size tls_align data_end code_size data_size debug maps = record {
+    memory_base tls_base shared tls_size tls_align data_end code_size data_size features debug maps =
+    record {
       output_types = types;
       imports = imports;
       function_type_indices = functions;
@@ -84,6 +94,7 @@ make_layout types imports functions bodies globals memory table elements slots l
       data_end = data_end;
       code_section_size = code_size;
       data_section_size = data_size;
+      features = features;
       debug_sections = debug;
       object_index_maps = maps;
     }
@@ -95,6 +106,16 @@ code_size_one forms a b bodies p q =
     section_one forms (length b.function_bodies) (length q.0) a.code_section_size b.code_section_size
     (rw (bodies, text) at p.2) q.2
 
+listed_one : FeaturesAreOne → (shown : Bool) (link : Link) (a b : List (List ℕ))
+    → AreTakenIf shown link a → AreTakenIf shown link b → a ≡ b
+listed_one one true link a b p q = one link a b p q
+listed_one one false link a b p q = p ∙ sym q
+
+features_one : FeaturesAreOne → (link : Link) (a b : List (List ℕ)) → AreOutputFeatures link a
+    → AreOutputFeatures link b → a ≡ b
+features_one one link a b p q =
+    listed_one one (emits_stripped_section link.args (codes "target_features")) link a b p q
+
 -- the parts of a layout
 record HasLayoutParts (input : Input) (g : Placing) (layout : WasmLayout) : Type 0 where
   pub entities : HasEntities input g layout
@@ -102,10 +123,10 @@ record HasLayoutParts (input : Input) (g : Placing) (layout : WasmLayout) : Type
   pub spaces : HasSpaces input g layout
   pub bodies : HasBodies input g layout
 
-layout_one : FormsAreOne → (input : Input) (g : Placing) → AreOnce input g → (a b : WasmLayout)
+layout_one : FormsAreOne → FeaturesAreOne → (input : Input) (g : Placing) → AreOnce input g → (a b : WasmLayout)
     → HasLayoutParts input g a → HasLayoutParts input g b → a ≡ b
 unfolding make_layout
-layout_one forms input g once a b p q =
+layout_one forms named input g once a b p q =
     let types : a.output_types ≡ b.output_types = p.spaces.types ∙ sym q.spaces.types in
     let imports = imports_one input (output_types input) g once.types a.imports b.imports
     p.entities.imports q.entities.imports in
@@ -132,16 +153,18 @@ layout_one forms input g once a b p q =
     let code_size = code_size_one forms a b bodies p.bodies.size q.bodies.size in
     let data_size = section_one forms (segment_count g.places.layouts) (all_encoded_bytes g.places.layouts)
     a.data_section_size b.data_section_size p.places.data_size q.places.data_size in
+    let features = features_one named input.link a.features b.features p.bodies.features
+    q.bodies.features in
     let debug : a.debug_sections ≡ b.debug_sections = p.bodies.debug_sections ∙ sym q.bodies.debug_sections in
     let maps = maps_one input g once a.object_index_maps b.object_index_maps p.spaces.maps q.spaces.maps in
     let h : make_layout a.output_types a.imports a.function_type_indices a.function_bodies a.globals
     a.memory a.table a.element_functions a.function_table_slots a.object_data_layouts a.exports
     a.start_function a.memory_base a.tls_base a.shared_memory_tls a.tls_size a.tls_align a.data_end
-    a.code_section_size a.data_section_size a.debug_sections a.object_index_maps
+    a.code_section_size a.data_section_size a.features a.debug_sections a.object_index_maps
     ≡ make_layout b.output_types b.imports b.function_type_indices b.function_bodies b.globals
     b.memory b.table b.element_functions b.function_table_slots b.object_data_layouts b.exports
     b.start_function b.memory_base b.tls_base b.shared_memory_tls b.tls_size b.tls_align b.data_end
-    b.code_section_size b.data_section_size b.debug_sections b.object_index_maps =
+    b.code_section_size b.data_section_size b.features b.debug_sections b.object_index_maps =
     rw (
       types,
       imports,
@@ -163,6 +186,7 @@ layout_one forms input g once a b p q =
       data_end,
       code_size,
       data_size,
+      features,
       debug,
       maps,
     ) refl in
@@ -184,11 +208,11 @@ plan_at input plan p = record {
   fixups = p.fixups;
 }
 
-plan_there_one : FormsAreOne → (input : Input) (g : Placing) → AreOnce input g → (a b : LinkPlan)
+plan_there_one : FormsAreOne → FeaturesAreOne → (input : Input) (g : Placing) → AreOnce input g → (a b : LinkPlan)
     → IsPlanAt input g a → IsPlanAt input g b → a ≡ b
 unfolding make_plan
-plan_there_one forms input g once a b p q =
-    let layout = layout_one forms input g once a.layout b.layout p.layout q.layout in
+plan_there_one forms named input g once a b p q =
+    let layout = layout_one forms named input g once a.layout b.layout p.layout q.layout in
     let fixups = fixups_one forms input g once a.fixups b.fixups p.fixups q.fixups in
     let h : make_plan a.layout a.fixups ≡ make_plan b.layout b.fixups = rw (layout, fixups) refl in
     h
@@ -197,5 +221,5 @@ plan_there_one forms input g once a b p q =
 pub plans_one : LawsBelow → (input : Input) (a b : LinkPlan) → IsPlan input a → IsPlan input b → a ≡ b
 plans_one laws input a b p q =
     let same = placing_one laws input p.placing q.placing p.placed q.placed in
-    plan_there_one laws.forms input q.placing (all_once laws input q.placing q.placed) a b
+    plan_there_one laws.forms laws.features input q.placing (all_once laws input q.placing q.placed) a b
     (subst (λ (g : Placing). IsPlanAt input g a) same (plan_at input a p)) (plan_at input b q)

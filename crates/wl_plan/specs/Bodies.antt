@@ -10,8 +10,12 @@ use Rattle.wl_symbols.specs.declared.linker_symbol.WasmLinkerSymbol.TheVariants.
 use Rattle.wl_ops.specs.Numbers.{AreTold}
 use Rattle.wl_ops.specs.Rewriting.{Rewrites, Moves}
 use Rattle.wl_ops.specs.declared.op.DataIndexImm.{DataIndexImm}
-use Rattle.wl_synth.specs.declared.calls.TheConstants.{UNREACHABLE_FUNCTION_BODY, EMPTY_FUNCTION_BODY}
+use Rattle.wl_synth.specs.Bodies.{call_sequence_ops}
+use Rattle.wl_synth.specs.Encoding.{IsEncoded}
+use Rattle.wl_synth.specs.declared.calls.TheConstants.{UNREACHABLE_FUNCTION_BODY}
 use Rattle.wl_live.specs.declared.units.WasmGcUnit.TheVariants.{DataSegment}
+use Rattle.wl_ctors.specs.InitCalls.{AreInitCalls}
+use Rattle.wl_ctors.specs.declared.calls.InitCall.{InitCall}
 use Rattle.wl_bind.specs.FunctionSpace.{FunctionEntry, FunctionOf, InitMemory}
 use Rattle.wl_bind.specs.Input.{Input, keeps}
 use Rattle.wl_bind.specs.declared.binding.FunctionTarget.TheVariants.{Defined, Made, Host, Stub}
@@ -72,16 +76,27 @@ pub record IsMadeBody (bytes : List ℕ) (b : Body) : Type 0 where
   pub code_offset : b.code_offset ≡ 0
   pub object_index : b.object_index ≡ 0
 
--- what the linker makes under a name: without functions that run at the start there is nothing to
--- call
-abbrev pub IsLinkerBody : WasmLinkerSymbol → Body → Type 0
-IsLinkerBody CallCtors b = IsMadeBody EMPTY_FUNCTION_BODY b
-IsLinkerBody m b = ⊥
+-- the function that is called, and how many results it has
+abbrev pub called : InitCall → ℕ × ℕ
+called call = (call.index, call.results)
+
+-- a body that calls the functions that run at the start, in order, and drops what they give
+pub record IsCtorsBody (input : Input) (b : Body) : Type 0 where
+  pub calls : List InitCall
+  pub are_calls : AreInitCalls input calls
+  pub bytes : List ℕ
+  pub encoded : IsEncoded (call_sequence_ops (map called calls)) bytes
+  pub made : IsMadeBody bytes b
+
+-- what the linker makes under a name
+abbrev pub IsLinkerBody : Input → WasmLinkerSymbol → Body → Type 0
+IsLinkerBody input CallCtors b = IsCtorsBody input b
+IsLinkerBody input m b = ⊥
 
 -- the body of a function of the output: a stub stops the program
 abbrev pub IsBodyOf : Input → Placing → FunctionEntry → Body → Type 0
 IsBodyOf input g (FunctionOf (Defined object function)) b = IsBodyIn input g object function b
-IsBodyOf input g (FunctionOf (Made m)) b = IsLinkerBody m b
+IsBodyOf input g (FunctionOf (Made m)) b = IsLinkerBody input m b
 IsBodyOf input g (FunctionOf (Host object slot)) b = ⊥
 IsBodyOf input g (FunctionOf (Stub object slot)) b = IsMadeBody UNREACHABLE_FUNCTION_BODY b
 IsBodyOf input g InitMemory b = ⊥

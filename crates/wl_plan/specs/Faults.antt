@@ -8,6 +8,7 @@ use Rattle.wl_linking.specs.declared.error.Quantity.TheVariants.{Size}
 use Rattle.wl_symbols.specs.Link.{Link}
 use Rattle.wl_symbols.specs.Repeats.{IsDuplicate}
 use Rattle.wl_data.specs.Sizes.{all_encoded_bytes, body_bytes}
+use Rattle.wl_features.specs.Faults.{feature_steps}
 use Rattle.wl_live.specs.Entry.{IsEntryFault}
 use Rattle.wl_live.specs.Faults.{IsKeptFault}
 use Rattle.wl_live.specs.Live.{Live, IsLiveOf}
@@ -78,9 +79,10 @@ pub record IsLaterFault (link : Link) (e : LinkError) : Type 0 where
 abbrev pub link_fault : Link → LinkError → Type 0
 link_fault link =
     Step (IsDuplicate link.objects)
-    (Step (IsNotYet link.objects)
+    (Step (IsNotYet link)
     (Step (IsUnplannedOption link.args)
+    (feature_steps link
     (Step (IsEntryFault link)
     (Step (IsKeptFault link)
     (Step (IsLaterFault link)
-    NoStep)))))
+    NoStep))))))

@@ -25,6 +25,7 @@ pub mod FixupSteps
 pub mod Entry
 pub mod EntrySteps
 pub mod SizeSteps
+pub mod Extras
 pub mod Planned
 pub mod Plan
 pub mod PlanSteps

@@ -6,8 +6,9 @@ use Rattle.wl_bind.specs.FunctionSpace.{InitMemory, function_space}
 use Rattle.wl_bind.specs.Input.{Input}
 use Rattle.wl_bind.specs.Made.{has_init_memory, has_shared_tls}
 use Rattle.wl_bind.specs.OutputTypes.{output_types}
-use Rattle.wl_plan.specs.Bodies.{AreBodies, object_debug_sections}
+use Rattle.wl_plan.specs.Bodies.{AreBodies}
 use Rattle.wl_plan.specs.Entry.{AreExports}
+use Rattle.wl_plan.specs.Extras.{AreOutputFeatures, output_debug_sections}
 use Rattle.wl_plan.specs.Fixups.{AreFixups}
 use Rattle.wl_plan.specs.Functions.{AreOutputFunctions}
 use Rattle.wl_plan.specs.Globals.{ArePlannedGlobals}
@@ -15,6 +16,7 @@ use Rattle.wl_plan.specs.Imports.{AreImports, own_memory}
 use Rattle.wl_plan.specs.IndexedMaps.{AreWholeMaps}
 use Rattle.wl_plan.specs.Placing.{IsPlacing}
 use Rattle.wl_plan.specs.Table.{output_table, AreElements, function_slots}
+use Rattle.wl_plan.specs.declared.layout.Fixup.{Fixup}
 use Rattle.wl_plan.specs.declared.layout.LinkPlan.{LinkPlan}
 use Rattle.wl_plan.specs.declared.layout.WasmLayout.{WasmLayout}
 use Rattle.wl_plan.specs.declared.placing.Placing.{Placing}
@@ -67,11 +69,12 @@ HasCodeSize layout =
     (text : List ℕ) × AreBodiesText layout.function_bodies text
     × HasSectionSize (length layout.function_bodies) (length text) layout.code_section_size
 
--- a body for each function, and the debug sections beside them
+-- a body for each function, and the features and the debug sections beside them
 pub record HasBodies (input : Input) (g : Placing) (layout : WasmLayout) : Type 0 where
   pub bodies : AreBodies input g layout.function_bodies
   pub size : HasCodeSize layout
-  pub debug_sections : layout.debug_sections ≡ object_debug_sections 0 input.link.objects
+  pub features : AreOutputFeatures input.link layout.features
+  pub debug_sections : layout.debug_sections ≡ output_debug_sections input.link
 
 -- ---- the plan
 
@@ -84,3 +87,8 @@ pub record IsPlan (input : Input) (plan : LinkPlan) : Type 0 where
   pub spaces : HasSpaces input placing plan.layout
   pub fixups : AreFixups input placing plan.fixups
   pub bodies : HasBodies input placing plan.layout
+
+-- the layout of that plan
+abbrev pub IsLayout : Input → WasmLayout → Type 0
+IsLayout input layout =
+    (fixups : List Fixup) × IsPlan input (record { layout = layout; fixups = fixups })

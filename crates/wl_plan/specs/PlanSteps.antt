@@ -8,9 +8,10 @@ use Rattle.wl_bind.specs.Input.{Input}
 use Rattle.wl_bind.specs.OutputTypes.{output_types}
 use Rattle.wl_plan.specs.AddressSteps.{IsBook}
 use Rattle.wl_plan.specs.Addresses.{segment_space}
-use Rattle.wl_plan.specs.Bodies.{AreBodies, object_debug_sections}
+use Rattle.wl_plan.specs.Bodies.{AreBodies}
 use Rattle.wl_plan.specs.Bound.{AreBindings}
 use Rattle.wl_plan.specs.Entry.{AreExports}
+use Rattle.wl_plan.specs.Extras.{output_debug_sections}
 use Rattle.wl_plan.specs.Fixups.{AreFixups}
 use Rattle.wl_plan.specs.Functions.{AreOutputFunctions}
 use Rattle.wl_plan.specs.Globals.{ArePlannedGlobals}
@@ -64,7 +65,7 @@ pub record HasValues (input : Input) (g : Placing) (values : OutputValues) : Typ
 pub record HasNames (input : Input) (g : Placing) (names : OutputNames) : Type 0 where
   pub imports : AreImports input (output_types input) g names.imports
   pub exports : AreExports input names.exports
-  pub debug_sections : names.debug_sections ≡ object_debug_sections 0 input.link.objects
+  pub debug_sections : names.debug_sections ≡ output_debug_sections input.link
 
 -- all of them
 pub record HasPartsOf (input : Input) (g : Placing) (parts : OutputParts) : Type 0 where

@@ -1,10 +1,13 @@
-//! What the references of a link are bound to, and what the linker makes for them.
+//! What the references of a link are bound to, what the linker makes for them, and what is called
+//! at the start.
 
 use wl_bind::{LinkerDefinedIndices, RelocScan, SharedUnresolvedImports, TypeMerger};
+use wl_ctors::InitCall;
 use wl_linking::ItemList;
 use wl_module::FuncType;
 
-/// What the references of a link are bound to, and what the linker makes for them.
+/// What the references of a link are bound to, what the linker makes for them, and what is called
+/// at the start.
 #[derive(Drop)]
 pub(crate) struct Bindings<'a> {
     /// What kept relocations ask for.
@@ -17,4 +20,6 @@ pub(crate) struct Bindings<'a> {
     pub(crate) indices: LinkerDefinedIndices,
     /// The types of the output.
     pub(crate) types: TypeMerger,
+    /// What is called at the start, in order.
+    pub(crate) calls: ItemList<InitCall>,
 }

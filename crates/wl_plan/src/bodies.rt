@@ -7,8 +7,10 @@ ghost use Rattle.wl_linking.specs.declared.error.LinkError.TheVariants.{OutOfMem
 ghost use Rattle.wl_types.specs.Types.{max_entries};
 ghost use Rattle.wl_symbols.specs.declared.linker_symbol.WasmLinkerSymbol.TheVariants.{CallCtors};
 ghost use Rattle.wl_bind.specs.FunctionSpace.{made_function_part, stub_part, functions_of};
+ghost use Rattle.wl_synth.specs.Bodies.{call_sequence_ops};
+ghost use Rattle.wl_synth.specs.Encoding.{IsEncoded};
 ghost use Rattle.wl_plan.specs.Addresses.{segment_space};
-ghost use Rattle.wl_plan.specs.Bodies.{body_in, AreBodies, object_debug_sections};
+ghost use Rattle.wl_plan.specs.Bodies.{body_in, called, AreBodies, object_debug_sections};
 ghost use Rattle.wl_plan.specs.BodySteps.{kept_number, AreNewNumbers, AreAllNumbers, AreSoundBodies, HasSoundBody, IsBodyFrom, AddsMadeBody, AddsBodies, debug_in};
 ghost use Rattle.wl_plan.specs.Bound.{AreBindings};
 ghost use Rattle.wl_plan.specs.FunctionSteps.{own_function_part};
@@ -21,6 +23,7 @@ use crate::placing::Placing;
 use std::alloc::{AllocError, Global};
 use std::borrow::CowSlice;
 use wl_bind::{LinkInput, WASM_DEAD_INDEX, WasmObjectIndexMap, stub_imports};
+use wl_ctors::InitCall;
 use wl_data::segments_have_layouts;
 use wl_linking::{
     DebugSectionInput, File, ItemList, LinkError, parts_of_objects_stand, whole_objects,
@@ -29,7 +32,7 @@ use wl_live::{WasmGcUnit, live_units_are_closed};
 use wl_module::WasmFunctionBody;
 use wl_ops::remap_body_data_indices;
 use wl_symbols::WasmLinkerSymbol;
-use wl_synth::{EMPTY_FUNCTION_BODY, UNREACHABLE_FUNCTION_BODY};
+use wl_synth::{UNREACHABLE_FUNCTION_BODY, encode_call_sequence_body};
 
 // ---- numbers of segments
 
@@ -142,19 +145,38 @@ fn renumbered<'a>(
 // ---- bodies
 
 /// Adds a body that the linker makes.
-fn push_made<'a>(
-    alloc: Global,
-    bodies: &mut Vec<WasmFunctionBody<'a>>,
-    bytes: &[u8],
-) -> Result<(), AllocError>
-    ensures { OnOk result (AddsMadeBody bytes.now bodies.old.items bodies.new.items) }
+fn push_made<'a>(bodies: &mut Vec<WasmFunctionBody<'a>>, bytes: Vec<u8>) -> Result<(), AllocError>
+    ensures { OnOk result (AddsMadeBody bytes.items bodies.old.items bodies.new.items) }
 {
     bodies.push(WasmFunctionBody {
-        bytes: CowSlice::Owned(Vec::from_slice(alloc, bytes)?),
+        bytes: CowSlice::Owned(bytes),
         code_offset: 0,
         object_index: 0,
     })?;
     Ok(())
+}
+
+/// The functions that are called at the start, each with the number of its results.
+fn called(alloc: Global, calls: &[InitCall]) -> Result<Vec<(u32, u32)>, AllocError>
+    ensures { IfOk result (λ pairs. pairs.items ≡ map called calls.now) }
+{
+    let mut pairs = Vec::new(alloc);
+    for call in calls {
+        pairs.push((call.index, call.results))?;
+    }
+    Ok(pairs)
+}
+
+/// The body of what calls the constructors.
+fn call_ctors_body(alloc: Global, calls: &[InitCall]) -> Result<Vec<u8>, AllocError>
+    ensures { IfOk result
+        (λ body. IsEncoded (call_sequence_ops (map called calls.now)) body.items) }
+{
+    let pairs = called(alloc, calls)?;
+    match encode_call_sequence_body(alloc, &pairs) {
+        Ok(body) => Ok(body),
+        Err(_) => Err(AllocError),
+    }
 }
 
 /// Adds the body of what calls the constructors, where the output has it.
@@ -170,7 +192,10 @@ fn push_call_ctors<'a>(
         (made_function_part input.now CallCtors) bodies.old.items bodies.new.items) }
 {
     match bindings.indices.index(WasmLinkerSymbol::CallCtors) {
-        Some(_) => push_made(alloc, bodies, EMPTY_FUNCTION_BODY.as_slice()),
+        Some(_) => {
+            let body = call_ctors_body(alloc, bindings.calls.as_slice())?;
+            push_made(bodies, body)
+        }
         None => Ok(()),
     }
 }
@@ -189,7 +214,7 @@ fn push_stubs<'a>(
     let list = stubs.as_slice();
     let mut made = 0;
     while made < list.len() {
-        push_made(alloc, bodies, UNREACHABLE_FUNCTION_BODY.as_slice())?;
+        push_made(bodies, Vec::from_slice(alloc, &UNREACHABLE_FUNCTION_BODY)?)?;
         made += 1;
     }
     Ok(())

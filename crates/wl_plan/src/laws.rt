@@ -10,10 +10,13 @@ ghost use Rattle.wl_plan.specs.declared.layout.LinkPlan.{LinkPlan as SpecPlan};
 
 use wl_bind::entries_stand_once;
 use wl_bytes::shortest_form_is_one;
+use wl_ctors::init_calls_are_one;
 use wl_data::{places_are_one, segments_have_layouts};
+use wl_features::features_are_one;
 use wl_linking::object_or_fault;
 use wl_live::live_sets_are_one;
 use wl_ops::numbers_are_one;
+use wl_synth::body_or_fault;
 
 /// A link has one plan at most, and none where a step has a cause.
 pub fn plan_or_fault()
@@ -27,6 +30,9 @@ pub fn plan_or_fault()
     places_are_one();
     segments_have_layouts();
     entries_stand_once();
+    init_calls_are_one();
+    body_or_fault();
+    features_are_one();
 }
 
 /// The bytes of objects have one plan at most, and never both a plan and a cause of a refusal.

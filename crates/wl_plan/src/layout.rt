@@ -8,6 +8,7 @@ use std::alloc::Global;
 use std::marker::Model;
 use wl_bind::{FixupPlace, WasmObjectIndexMap};
 use wl_data::SegmentLayouts;
+use wl_features::FeatureList;
 use wl_linking::{DebugSectionInput, ItemList, RelocationType};
 use wl_module::{
     FuncType, GlobalType, MemoryType, OutputExport, OutputGlobal, TableType, WasmFunctionBody,
@@ -192,7 +193,9 @@ pub struct WasmLayout<'a> {
     pub code_section_size: u64,
     /// How many bytes the data section takes.
     pub data_section_size: u64,
-    /// The debug sections of all objects, by object and place.
+    /// The features that the module is made for, unless the words leave them out.
+    pub features: FeatureList<'a>,
+    /// The debug sections of all objects, by object and place, unless the words leave them out.
     pub debug_sections: ItemList<DebugSectionInput<'a>>,
     /// Where the things of each object stand, by the object's number.
     pub object_index_maps: ItemList<WasmObjectIndexMap>,

@@ -5,6 +5,7 @@ mod addresses;
 mod bindings;
 mod bodies;
 mod entry;
+mod extras;
 mod fixups;
 mod functions;
 mod global_starts;
@@ -15,6 +16,7 @@ mod kept_data;
 mod laws;
 mod layout;
 mod link;
+mod module_layout;
 mod objects;
 mod parsing;
 mod placing;
@@ -30,6 +32,7 @@ pub use layout::{
     OutputImport, OutputImportEntity, PlannedGlobal, WasmLayout, count_output_imports,
 };
 pub use link::{plan_files, plan_link};
+pub use module_layout::build_output_module_layout;
 pub use objects::{MAX_OBJECT, ObjectList, PushError};
 pub use wl_bind::{FixupPlace, TypeMerger, WASM_DEAD_INDEX, WasmObjectIndexMap};
 pub use wl_reloc::{RelocError, deferred_tls_template_pointer, resolve_reloc};

@@ -15,6 +15,7 @@ use crate::plan::plan_kept;
 use crate::planned::{check_options, check_planned};
 use std::alloc::Global;
 use wl_bind::LinkInput;
+use wl_features::check_features;
 use wl_linking::{FileList, LinkError};
 use wl_live::{check_entry, collect_live, live_sets_are_one};
 use wl_symbols::{SymbolTable, WasmArgs};
@@ -30,8 +31,8 @@ fn objects_are_whole(files: &FileList<'_>)
 ///
 /// # Errors
 /// `DuplicateSymbol` where two symbols that other objects can name have one name; then
-/// `Unsupported` with `NotYet` for the first object, or for options, that can't be planned; then
-/// `EntryNotDefined` where an entry is asked for that no object defines; then what
+/// `Unsupported` with `NotYet` for the first object, or for options, that can't be planned; then what
+/// [`check_features`] refuses; then `EntryNotDefined` where an entry is asked for that no object defines; then what
 /// [`collect_live`] refuses; then why references can't be bound, things numbered or data placed,
 /// or why a global or a field can't take its value.
 pub fn plan_files<'a>(
@@ -45,12 +46,13 @@ pub fn plan_files<'a>(
     live_sets_are_one();
     objects_are_whole(files);
     let symbols = SymbolTable::build(alloc, files, args)?;
-    check_planned(files)?;
+    check_planned(files, args)?;
     check_options(args)?;
+    let features = check_features(alloc, files, args)?;
     check_entry(alloc, &symbols)?;
     let live = collect_live(alloc, files, &symbols, args)?;
     let input = LinkInput::new(files, &symbols, &live, args);
-    plan_kept(alloc, &input, args)
+    plan_kept(alloc, &input, args, features)
 }
 
 /// The plan of one module of the objects that some bytes are.

@@ -10,9 +10,12 @@ ghost use Rattle.wl_bind.specs.FunctionSpace.{function_space};
 ghost use Rattle.wl_bind.specs.IndexMaps.{AreIndexMaps};
 ghost use Rattle.wl_bind.specs.OutputTypes.{output_types};
 ghost use Rattle.wl_bind.specs.References.{IsSettled};
+ghost use Rattle.wl_bind.specs.Signatures.{IsMismatch};
+ghost use Rattle.wl_features.specs.Taken.{AreTaken};
 ghost use Rattle.wl_plan.specs.Addresses.{segment_space, IsAddressTooHigh};
 ghost use Rattle.wl_plan.specs.BodySteps.{AreAllNumbers, AreSoundBodies};
 ghost use Rattle.wl_plan.specs.Bound.{AreBindings};
+ghost use Rattle.wl_plan.specs.Extras.{AreOutputFeatures};
 ghost use Rattle.wl_plan.specs.Faults.{IsValueFault, value_steps, placed_fault, kept_fault};
 ghost use Rattle.wl_plan.specs.IndexedMaps.{AreWholeMaps};
 ghost use Rattle.wl_plan.specs.Placing.{IsPlacing};
@@ -21,8 +24,9 @@ ghost use Rattle.wl_plan.specs.PlanSteps.{AreFew, ArePlacedThings, IsBookOf, Has
 
 use crate::addresses::{AddressBook, all_starts, check_exported};
 use crate::bindings::Bindings;
-use crate::bodies::{all_debug_sections, all_numbers, output_bodies};
+use crate::bodies::{all_numbers, output_bodies};
 use crate::entry::output_exports;
+use crate::extras::{output_debug_sections, output_features};
 use crate::fixups::{FixupSources, all_fixups};
 use crate::functions::output_functions;
 use crate::global_starts::GlobalSources;
@@ -34,16 +38,19 @@ use crate::placing::{Placing, place_data, placings_are_one};
 use crate::positions::moved_positions;
 use crate::sizes::{SectionSizes, section_sizes};
 use crate::table::{element_functions, function_slots, output_table};
-use std::alloc::Global;
+use std::alloc::{AllocError, Global};
 use wl_bind::{
     BoundIndices, LinkInput, WasmObjectIndexMap, build_index_maps, same_targets_are_one,
     table_functions_stand_once,
 };
 use wl_bytes::shortest_form_is_one;
+use wl_ctors::{init_calls, init_calls_are_one};
+use wl_features::FeatureList;
 use wl_linking::{DebugSectionInput, ItemList, LinkError};
 use wl_module::{FuncType, MemoryType, OutputExport, TableType, WasmFunctionBody};
 use wl_ops::numbers_are_one;
 use wl_symbols::WasmArgs;
+use wl_synth::body_or_fault;
 
 /// What a plan is made from, where it is known where things lie.
 #[derive(Drop)]
@@ -151,7 +158,7 @@ fn output_values<'a>(
     })
 }
 
-/// What stands in a layout beside these: what is imported and exported.
+/// What stands in a layout beside these: what is imported and exported, and debug sections.
 #[derive(Drop)]
 struct OutputNames<'a> {
     imports: ItemList<OutputImport<'a>>,
@@ -180,7 +187,7 @@ fn output_names<'a>(
     Ok(OutputNames {
         imports: output_imports(alloc, input, args, bindings, placing)?,
         exports: output_exports(alloc, input, args, placing, bindings, maps)?,
-        debug_sections: all_debug_sections(alloc, input.files().as_slice())?,
+        debug_sections: output_debug_sections(alloc, input.files(), args)?,
     })
 }
 
@@ -214,6 +221,8 @@ fn output_parts<'a>(
 {
     numbers_are_one();
     shortest_form_is_one();
+    init_calls_are_one();
+    body_or_fault();
     let numbers = all_numbers(alloc, things.input, things.placing, things.maps)?;
     let numbers = numbers.as_slice();
     let code = output_code(alloc, things, numbers)?;
@@ -247,12 +256,14 @@ fn plan_of<'a>(
     parts: OutputParts<'a>,
     whole: OutputModule,
     placing: Placing<'a>,
+    features: FeatureList<'a>,
 ) -> LinkPlan<'a>
     requires placed { IsPlacing input.now placing }
     requires types { types ≡ output_types input.now }
     requires maps { AreWholeMaps input.now placing maps }
     requires parts { HasPartsOf input.now placing parts }
     requires whole { IsOutputModule input.now placing whole }
+    requires features { AreOutputFeatures input.now.link features }
     ensures { IsPlan input.now result }
 {
     let OutputParts {
@@ -290,6 +301,7 @@ fn plan_of<'a>(
             data_end: places.data_end,
             code_section_size: sizes.code,
             data_section_size: sizes.segments,
+            features,
             debug_sections: names.debug_sections,
             object_index_maps: maps,
         },
@@ -317,16 +329,19 @@ fn output_module(
     }
 }
 
-/// The parts of the bound link that a plan is made from, and the maps of its objects.
+/// The parts of the bound link that a plan is made from, with what is called at the start, and the
+/// maps of its objects.
 fn bindings_of<'a>(
+    alloc: Global,
     input: &LinkInput<'_, 'a>,
     bound: BoundIndices<'a>,
-) -> (Bindings<'a>, ItemList<WasmObjectIndexMap>)
+) -> Result<(Bindings<'a>, ItemList<WasmObjectIndexMap>), AllocError>
     requires settled { IsSettled input.now }
+    requires signatures { Clear (IsMismatch input.now) }
     requires bound { IsBoundIndices input.now bound }
     requires room { length (function_space input.now) ≤ max_entries }
-    ensures bindings { AreBindings input.now result.0 }
-    ensures maps { AreIndexMaps input.now result.1 }
+    ensures bindings { IfOk result (λ r. AreBindings input.now r.0) }
+    ensures maps { IfOk result (λ r. AreIndexMaps input.now r.1) }
 {
     let types = bound.types;
     let bindings = Bindings {
@@ -335,8 +350,9 @@ fn bindings_of<'a>(
         shared: bound.shared,
         indices: bound.indices,
         types: types.types,
+        calls: init_calls(alloc, input, bound.maps.as_slice())?,
     };
-    (bindings, bound.maps)
+    Ok((bindings, bound.maps))
 }
 
 /// The plan of a link, whose references are bound, and whose data lies there.
@@ -346,9 +362,12 @@ fn plan_placed<'a>(
     args: &'a WasmArgs,
     bound: BoundIndices<'a>,
     placing: Placing<'a>,
+    features: FeatureList<'a>,
 ) -> Result<LinkPlan<'a>, LinkError>
     requires sound { AreSoundBodies input.now }
     requires settled { IsSettled input.now }
+    requires signatures { Clear (IsMismatch input.now) }
+    requires features { AreTaken input.now.link features }
     requires bound { IsBoundIndices input.now bound }
     requires placed { IsPlacing input.now placing }
     requires few { AreFew input.now }
@@ -360,7 +379,7 @@ fn plan_placed<'a>(
     ensures clear { OnOk result (Clear (placed_fault input.now placing.entry)) }
     ensures err { IfErr result (Refuses (placed_fault input.now placing.entry)) }
 {
-    let (bindings, maps) = bindings_of(input, bound);
+    let (bindings, maps) = bindings_of(alloc, input, bound)?;
     let starts = all_starts(alloc, input, &placing)?;
     let book = AddressBook {
         input,
@@ -378,7 +397,8 @@ fn plan_placed<'a>(
     let parts = output_parts(alloc, &things, &book, args)?;
     let whole = output_module(input, &placing, &bindings);
     let types = bindings.types.into_types()?;
-    Ok(plan_of(input, types, maps, parts, whole, placing))
+    let features = output_features(alloc, args, features);
+    Ok(plan_of(input, types, maps, parts, whole, placing, features))
 }
 
 /// The plan of a link, of which it is known what is kept.
@@ -391,9 +411,11 @@ pub(crate) fn plan_kept<'a>(
     alloc: Global,
     input: &LinkInput<'_, 'a>,
     args: &'a WasmArgs,
+    features: FeatureList<'a>,
 ) -> Result<LinkPlan<'a>, LinkError>
     requires sound { AreSoundBodies input.now }
     requires args { args.now ≡ input.now.link.args }
+    requires features { AreTaken input.now.link features }
     requires entry { Clear (IsEntryFault input.now.link) }
     requires alone { input.now.link.args.shared_memory ≡ false }
     ensures ok { IfOk result (IsPlan input.now) }
@@ -403,5 +425,5 @@ pub(crate) fn plan_kept<'a>(
     placings_are_one();
     let bound = build_index_maps(alloc, input)?;
     let placing = place_data(alloc, input, bound.indices.needs())?;
-    plan_placed(alloc, input, args, bound, placing)
+    plan_placed(alloc, input, args, bound, placing, features)
 }

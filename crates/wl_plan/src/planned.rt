@@ -2,6 +2,7 @@
 
 ghost use Rattle.std.specs.Prelude.{◌≡◌, OnOk, IfErr};
 ghost use Rattle.wl_linking.specs.Steps.{Clear, Refuses};
+ghost use Rattle.wl_symbols.specs.Link.{link_of};
 ghost use Rattle.wl_plan.specs.Planned.{is_planned, IsNotYet, asks_for_unplanned, IsUnplannedOption};
 
 use wl_linking::{File, FileList, LinkError};
@@ -9,23 +10,23 @@ use wl_module::Form;
 use wl_symbols::WasmArgs;
 
 /// The object holds what can be planned alone.
-fn is_planned(file: &File<'_>) -> bool
-    ensures { result ≡ is_planned file.now }
+fn is_planned(args: &WasmArgs, file: &File<'_>) -> bool
+    ensures { result ≡ is_planned args.now file.now }
 {
-    file.exports().is_empty() && file.init_funcs().is_empty() && file.target_features().is_empty()
+    file.exports().is_empty() && (args.entry.is_none() || file.init_funcs().is_empty())
 }
 
-/// Sees that the objects hold what can be planned alone: no exports, no functions that run at the
-/// start, and no features.
+/// Sees that the objects hold what can be planned alone: no exports, and, where there is an entry,
+/// no functions that run before it.
 ///
 /// # Errors
 /// `Unsupported` with `NotYet` for the first object that holds something else.
-pub(crate) fn check_planned(files: &FileList<'_>) -> Result<(), LinkError>
-    ensures ok { OnOk result (Clear (IsNotYet files.now)) }
-    ensures err { IfErr result (Refuses (IsNotYet files.now)) }
+pub(crate) fn check_planned(files: &FileList<'_>, args: &WasmArgs) -> Result<(), LinkError>
+    ensures ok { OnOk result (Clear (IsNotYet (link_of files.now args.now))) }
+    ensures err { IfErr result (Refuses (IsNotYet (link_of files.now args.now))) }
 {
     for (object, file) in files.as_slice().iter().enumerate() {
-        if !is_planned(file) {
+        if !is_planned(args, file) {
             return Err(LinkError::Unsupported {
                 object,
                 form: Form::NotYet,
@@ -35,18 +36,11 @@ pub(crate) fn check_planned(files: &FileList<'_>) -> Result<(), LinkError>
     Ok(())
 }
 
-/// The words ask for what can't be planned yet: exports, shared memory, features, or to leave
-/// sections out.
+/// The words ask for what can't be planned yet: exports, or shared memory.
 fn asks_for_unplanned(args: &WasmArgs) -> bool
     ensures { result ≡ asks_for_unplanned args.now }
 {
-    !args.export_symbols.is_empty()
-        || args.export_dynamic
-        || args.shared_memory
-        || !args.check_features
-        || !args.extra_features.is_empty()
-        || args.strip_all
-        || args.strip_debug
+    !args.export_symbols.is_empty() || args.export_dynamic || args.shared_memory
 }
 
 /// Refuses words that ask for what can't be planned yet.

@@ -1,35 +1,21 @@
 //! What the calls of the crates below give on small inputs.
 //!
-//! A crate with tests is proved twice, once with them. Here stand the tests of all crates below, so
-//! that each of those is proved once.
+//! A crate with tests is proved twice, once with them. Here stand the tests of crates below, so that
+//! each of those is proved once.
 #![tactic(auto)]
 
-#[cfg(test)]
-mod bind;
 #[cfg(test)]
 mod bytes;
 #[cfg(test)]
 mod data;
 #[cfg(test)]
-mod linking;
-#[cfg(test)]
 mod lists;
 #[cfg(test)]
-mod live;
-#[cfg(test)]
 mod module;
-#[cfg(test)]
-mod names;
-#[cfg(test)]
-mod objects;
 #[cfg(test)]
 mod ops;
 #[cfg(test)]
 mod reach;
-#[cfg(test)]
-mod reloc;
-#[cfg(test)]
-mod slots;
 #[cfg(test)]
 mod steps;
 #[cfg(test)]

@@ -1,8 +1,17 @@
 //! Words and what they ask for.
 
-use crate::objects::words_of;
+use std::alloc::{AllocError, Global};
 use std::test::Fail;
 use wl_symbols::WasmArgs;
+
+/// These words.
+fn words_of(alloc: Global, texts: &[&str]) -> Result<Vec<String>, AllocError> {
+    let mut words = Vec::new(alloc);
+    for text in texts {
+        words.push(String::from_str(alloc, text)?)?;
+    }
+    Ok(words)
+}
 
 #[test]
 fn words_ask_for_their_fields(rt: HostRuntime) -> Result<(), Fail> {
@@ -47,31 +56,5 @@ fn words_ask_for_their_fields(rt: HostRuntime) -> Result<(), Fail> {
     assert_eq!(rt; args.z_stack_size, 64);
     assert_eq!(rt; args.entry.as_ref().map(|name| name.as_str()), Some("main"));
     assert!(rt; !args.gc_sections && args.require_inputs().is_ok());
-    Ok(())
-}
-
-#[test]
-fn a_value_may_be_empty_or_one_part(rt: HostRuntime) -> Result<(), Fail> {
-    let alloc = rt.alloc();
-    let words = words_of(
-        alloc,
-        &[
-            "--extra-features=a",
-            "--extra-features=b",
-            "--import-memory=foo",
-            "-keep-section=c",
-        ],
-    )?;
-    let args = WasmArgs::parse(alloc, &words)?;
-    assert!(rt; args.extra_features.contains("b") && !args.extra_features.contains("a"));
-    assert_eq!(rt; args.memory_import(), Some(("env", "foo")));
-    assert!(rt; args.keep_sections.contains("c"));
-    let words = words_of(
-        alloc,
-        &["--extra-features=b", "--extra-features=", "--import-memory"],
-    )?;
-    let args = WasmArgs::parse(alloc, &words)?;
-    assert!(rt; args.extra_features.is_empty());
-    assert_eq!(rt; args.memory_import(), Some(("env", "memory")));
     Ok(())
 }

@@ -1,20 +1,24 @@
-use Rattle.std.proofs.Common.{ℕ, List, subst}
 use Rattle.wl_symbols.specs.declared.linker_symbol.WasmLinkerSymbol.TheVariants.{CallCtors}
 use Rattle.wl_bind.specs.FunctionSpace.{made_function_part}
 use Rattle.wl_plan.specs.BodySteps.{AddsMadeBody, AddsBodies}
-use Rattle.wl_plan.proofs.GrowLaws.{adds_ctors, is_made_at, on_ok_then}
+use Rattle.wl_plan.proofs.GrowLaws.{adds_ctors, ctors_encoded, is_made_at, on_ok_then}
 use Rattle.wl_plan.proofs.bodies.push_call_ctors.Goals as goal
 
-pub returns-in-Some : goal.returns-in-Some
-returns-in-Some c =
+pub returns-in_ok-body-in-Some : goal.returns-in_ok-body-in-Some
+returns-in_ok-body-in-Some c =
     let input = c.args.input.now in
     let g = c.args.placing.now in
+    let calls = c.args.bindings.now.calls in
+    let bytes = c.in_ok-body-in-Some.body.items in
     let old = c.args.bodies.now.items in
     let new = c.push_made.new.bodies.items in
-    on_ok_then c.push_made.result (AddsMadeBody c.as_slice.result.now old new)
+    on_ok_then c.push_made.result (AddsMadeBody bytes old new)
     (AddsBodies input g (made_function_part input CallCtors) old new)
-    (λ (a : AddsMadeBody c.as_slice.result.now old new).
-    adds_ctors input g old new
+    (λ (a : AddsMadeBody bytes old new).
+    adds_ctors input g calls bytes old new
     (is_made_at input c.in-Some.field-0 (c.in-Some.ensures input c.requires.indices))
-    (subst (λ (t : List ℕ). AddsMadeBody t old new) c.as_slice.ensures a))
+    c.requires.calls
+    (ctors_encoded c.as_slice.result.now calls bytes c.as_slice.ensures
+    c.in_ok-body-in-Some.ensures)
+    a)
     c.push_made.ensures

@@ -24,7 +24,8 @@ loop-made-preserved c =
       omega (arith, c.loop-made-test.true),
       stubs_more input c.args.placing.now stubs made c.args.bodies.now.items old new lt
           c.loop-made.invariant.1
-          (subst (λ (t : List ℕ). AddsMadeBody t old new) c.as_slice.ensures c.in_ok-push_made.ensures),
+          (subst (λ (t : List ℕ). AddsMadeBody t old new) c.in_ok-from_slice.ensures.items
+          c.in_ok-push_made.ensures),
     )
 
 pub returns : goal.returns

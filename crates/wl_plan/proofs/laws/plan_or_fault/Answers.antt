@@ -13,6 +13,8 @@ returns-clause-one c = λ link a b p q.
       unsigned = c.shortest_form_is_one.ensures.unsigned;
       signed = c.shortest_form_is_one.ensures.signed;
       numbers = c.numbers_are_one.ensures.one;
+      calls = c.init_calls_are_one.ensures;
+      encoded = c.body_or_fault.ensures.one;
     } in
     let laws : LawsBelow = record {
       forms = forms;
@@ -21,6 +23,7 @@ returns-clause-one c = λ link a b p q.
       functions = c.entries_stand_once.ensures.functions;
       globals = c.entries_stand_once.ensures.globals;
       types = c.entries_stand_once.ensures.types;
+      features = c.features_are_one.ensures;
     } in
     plans_one laws (input_of link q.live) a b
     (subst (λ (live : Live). IsPlan (input_of link live) a) same p.is_plan) q.is_plan

@@ -9,8 +9,8 @@ use Rattle.wl_live.specs.Live.{IsLiveOf}
 use Rattle.wl_bind.specs.Input.{Input}
 use Rattle.wl_plan.specs.Faults.{input_of}
 use Rattle.wl_plan.specs.Planned.{IsNotYet, IsUnplannedOption}
-use Rattle.wl_plan.proofs.LinkLaws.{AreClear, entry_by, files_err, files_ok, input_alone, sound_by}
-use Rattle.wl_plan.proofs.StepLaws.{refuses_here, refuses_behind}
+use Rattle.wl_plan.proofs.LinkLaws.{AreClear, entry_by, feature_is_row, feature_row, features_by, files_err, files_ok, input_alone, sound_by}
+use Rattle.wl_plan.proofs.StepLaws.{refuses_here, refuses_behind, row_behind, row_refuses}
 use Rattle.wl_plan.proofs.link.plan_files.Goals as goal
 
 pub returns-in_err-check_entry-clause-err : goal.returns-in_err-check_entry-clause-err
@@ -22,9 +22,10 @@ returns-in_err-check_entry-clause-err c =
     let cause : Refuses (IsEntryFault link) e =
     rw c.in_ok-symbols.ensures.ok at c.in_err-check_entry.ensures.err in
     rw (p.1, p.2) (refuses_behind (IsDuplicate link.objects) _ e c.in_ok-symbols.ensures.clear
-    (refuses_behind (IsNotYet link.objects) _ e c.in_ok-check_planned.ensures.ok
+    (refuses_behind (IsNotYet link) _ e c.in_ok-check_planned.ensures.ok
     (refuses_behind (IsUnplannedOption link.args) _ e c.in_ok-check_options.ensures.ok
-    (refuses_here (IsEntryFault link) _ e cause))))
+    (row_behind (feature_row link) (feature_is_row link) _ e c.in_ok-features.ensures.clear
+    (refuses_here (IsEntryFault link) _ e cause)))))
 
 pub returns-in_err-live-clause-err : goal.returns-in_err-live-clause-err
 returns-in_err-live-clause-err c =
@@ -37,10 +38,31 @@ returns-in_err-live-clause-err c =
     let cause : Refuses (IsKeptFault link) e =
     rw c.in_ok-symbols.ensures.ok at c.in_err-live.ensures.err in
     rw (p.1, p.2) (refuses_behind (IsDuplicate link.objects) _ e c.in_ok-symbols.ensures.clear
-    (refuses_behind (IsNotYet link.objects) _ e c.in_ok-check_planned.ensures.ok
+    (refuses_behind (IsNotYet link) _ e c.in_ok-check_planned.ensures.ok
     (refuses_behind (IsUnplannedOption link.args) _ e c.in_ok-check_options.ensures.ok
+    (row_behind (feature_row link) (feature_is_row link) _ e c.in_ok-features.ensures.clear
     (refuses_behind (IsEntryFault link) _ e clear
-    (refuses_here (IsKeptFault link) _ e cause)))))
+    (refuses_here (IsKeptFault link) _ e cause))))))
+
+pub returns-in_err-features-clause-err : goal.returns-in_err-features-clause-err
+returns-in_err-features-clause-err c =
+    let residual = c.from_residual-in_err-features in
+    let p = err_from_is_err_and residual.result residual.ensures.1 in
+    let link : Link = link_of c.args.files.now c.args.args.now in
+    let e = c.in_err-features.field-0.0 in
+    rw (p.1, p.2) (refuses_behind (IsDuplicate link.objects) _ e c.in_ok-symbols.ensures.clear
+    (refuses_behind (IsNotYet link) _ e c.in_ok-check_planned.ensures.ok
+    (refuses_behind (IsUnplannedOption link.args) _ e c.in_ok-check_options.ensures.ok
+    (row_refuses (feature_row link) (feature_is_row link) _ e c.in_err-features.ensures.err))))
+
+pub plan_kept-requires-clause-features : goal.plan_kept-requires-clause-features
+plan_kept-requires-clause-features c =
+    let link : Link = link_of c.args.files.now c.args.args.now in
+    let live = c.in_ok-live.live in
+    let input : Input = c.new-input.result in
+    let same : input ≡ input_of link live =
+    c.new-input.ensures ∙ ap (λ (l : Link). input_of l live) c.in_ok-symbols.ensures.ok in
+    features_by link live input c.in_ok-features.features same c.in_ok-features.ensures.ok
 
 pub plan_kept-requires-clause-sound : goal.plan_kept-requires-clause-sound
 plan_kept-requires-clause-sound c =
@@ -92,6 +114,7 @@ returns-clause-ok c =
       names = c.in_ok-symbols.ensures.clear;
       planned = c.in_ok-check_planned.ensures.ok;
       options = c.in_ok-check_options.ensures.ok;
+      features = c.in_ok-features.ensures.clear;
       entry = entry;
       kept = faults;
     } in
@@ -115,6 +138,7 @@ returns-clause-err c =
       names = c.in_ok-symbols.ensures.clear;
       planned = c.in_ok-check_planned.ensures.ok;
       options = c.in_ok-check_options.ensures.ok;
+      features = c.in_ok-features.ensures.clear;
       entry = entry;
       kept = faults;
     } in

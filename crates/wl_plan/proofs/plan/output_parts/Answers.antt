@@ -64,6 +64,8 @@ returns-clause-clear c =
       unsigned = c.shortest_form_is_one.ensures.unsigned;
       signed = c.shortest_form_is_one.ensures.signed;
       numbers = c.numbers_are_one.ensures.one;
+      calls = c.init_calls_are_one.ensures;
+      encoded = c.body_or_fault.ensures.one;
     } in
     let bodies : c.as_slice-2.result.now ≡ c.in_ok-code.code.bodies = search rules in
     let layouts : c.as_slice-layouts.result.now ≡ g.places.layouts = search rules in

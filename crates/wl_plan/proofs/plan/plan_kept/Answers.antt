@@ -1,5 +1,5 @@
 use Rattle.std.proofs.lemmas.Result.{err_from_is_err_and}
-use Rattle.wl_plan.proofs.PlanLaws.{few_by, settled_by}
+use Rattle.wl_plan.proofs.PlanLaws.{few_by, settled_by, signatures_by}
 use Rattle.wl_plan.proofs.PlannedLaws.{index_refuses, kept_clear, kept_err, place_refuses}
 use Rattle.wl_plan.proofs.plan.plan_kept.Goals as goal
 
@@ -21,6 +21,10 @@ returns-in_err-placing-clause-err c =
 pub plan_placed-requires-clause-settled : goal.plan_placed-requires-clause-settled
 plan_placed-requires-clause-settled c =
     settled_by c.args.input.now c.requires.sound c.in_ok-bound.ensures.clear
+
+pub plan_placed-requires-clause-signatures : goal.plan_placed-requires-clause-signatures
+plan_placed-requires-clause-signatures c =
+    signatures_by c.args.input.now c.in_ok-bound.ensures.clear
 
 pub plan_placed-requires-clause-few : goal.plan_placed-requires-clause-few
 plan_placed-requires-clause-few c = few_by c.args.input.now c.in_ok-bound.ensures.clear

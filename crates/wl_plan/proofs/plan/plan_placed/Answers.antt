@@ -43,9 +43,19 @@ returns-clause-clear c =
     placed_ok c.args.input.now c.args.placing c.in_ok-maps.ensures.low
     c.in_ok-check_exported.ensures.clear c.in_ok-parts.ensures.clear
 
+pub returns-in_err-bindings-clause-err : goal.returns-in_err-bindings-clause-err
+returns-in_err-bindings-clause-err c =
+    let residual = c.from_residual in
+    let p = err_from_is_err_and residual.result residual.ensures.1 in
+    rw p.1 (refuses_memory (placed_fault c.args.input.now c.args.placing) p.0 p.2)
+
+pub plan_of-requires-clause-features : goal.plan_of-requires-clause-features
+plan_of-requires-clause-features c =
+    c.output_features-features.ensures c.args.input.now.link c.requires.args c.requires.features
+
 pub returns-in_err-starts-clause-err : goal.returns-in_err-starts-clause-err
 returns-in_err-starts-clause-err c =
-    let residual = c.from_residual in
+    let residual = c.from_residual-in_err-starts in
     let p = err_from_is_err_and residual.result residual.ensures.1 in
     rw p.1 (refuses_memory (placed_fault c.args.input.now c.args.placing) p.0 p.2)
 
@@ -54,7 +64,7 @@ output_parts-requires-clause-things c =
     let slice : c.as_slice-2.result.now ≡ c.in_ok-maps.maps = search rules in
     record {
       placed = c.requires.placed;
-      bindings = c.bindings_of-bindings.ensures.bindings;
+      bindings = c.in_ok-bindings.ensures.bindings;
       maps = rw slice c.in_ok-maps.ensures.ok;
       few = c.requires.few;
       room = c.requires.segments;

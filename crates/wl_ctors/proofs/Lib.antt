@@ -1,0 +1,5 @@
+mod ListLaws
+mod OrderLaws
+mod OneLaws
+mod CallLaws
+mod StepLaws

@@ -1,0 +1,126 @@
+-- Objects that disallow features, and names that they disallow.
+use Rattle.std.proofs.Common.{◌≡◌, ℕ, ◌+◌, ◌<◌, ◌≤◌, true, false, List, length, Less, Some, slice_get, sym, ◌∙◌, inl, inr, arith}
+use Rattle.std.specs.Cmp.Lexicographic.{nat_list_cmp_total}
+use Rattle.std.proofs.lemmas.Bool.{cases_lt}
+use Rattle.std.proofs.lemmas.Option.{slice_get_within}
+use Rattle.std.proofs.lemmas.List.{length-map}
+use Rattle.wl_linking.specs.Object.{Object}
+use Rattle.wl_linking.specs.Steps.{Clear, Refuses}
+use Rattle.wl_linking.specs.declared.error.LinkError.{LinkError}
+use Rattle.wl_symbols.specs.Link.{Link}
+use Rattle.wl_features.specs.Taken.{AreTaken, by_bytes}
+use Rattle.wl_features.specs.Faults.{disallows, DisallowedBy, Clashes, IsConflict}
+use Rattle.wl_features.specs.Disallowing.{NoneBelow, NoneDisallows, AreFree, IsFirstClash}
+use Rattle.wl_features.proofs.AscendingLaws.{contains_at, place_of, not_less}
+use Rattle.wl_features.proofs.TakenLaws.{Name, bytes_of, has_taken, is_taken}
+
+-- ---- objects
+
+not_here : (objects : List Object) (name : List ℕ) (k : ℕ) (o : Object)
+    → slice_get objects k ≡ Some o
+    → disallows name o ≡ false → DisallowedBy objects name k → ⊥
+not_here objects name k o at off (other, there, on) =
+    let both : Some other ≡ Some o = sym there ∙ at in
+    let same : other ≡ o = cc in
+    let told : disallows name o ≡ true = rw same at on in
+    cc
+
+pub none_below_none : (objects : List Object) (name : List ℕ) → NoneBelow objects name 0
+none_below_none objects name = record { none = λ object lt by. omega (arith, lt) }
+
+pub none_below_more : (objects : List Object) (name : List ℕ) (k : ℕ) (o : Object)
+    → NoneBelow objects name k
+    → slice_get objects k ≡ Some o → disallows name o ≡ false → NoneBelow objects name (k + 1)
+none_below_more objects name k o before at off = record {
+  none = λ object lt by. elim (cases_lt object k) [
+    | inl below ↦ before.none object below by
+    | inr above ↦ (let same : object ≡ k = omega (arith, lt, above) in
+        not_here objects name k o at off (rw same at by))
+  ];
+}
+
+pub none_below_all : (objects : List Object) (name : List ℕ) (k : ℕ) → NoneBelow objects name k
+    → length objects ≤ k
+    → NoneDisallows objects name
+none_below_all objects name k before le = record {
+  none = λ object lt by. before.none object (omega (arith, lt, le)) by;
+}
+
+pub none_at_all : (objects : List Object) (name : List ℕ) (k : ℕ) → NoneDisallows objects name
+    → DisallowedBy objects name k → ⊥
+none_at_all objects name k none by = none.none k (slice_get_within objects k by.0 by.1) by
+
+-- ---- names in order
+
+pub free_none : (objects : List Object) (names : List (List ℕ)) → AreFree objects names 0
+free_none objects names = record { free = λ place name lt at. absurd (omega (arith, lt)) }
+
+pub free_more : (objects : List Object) (names : List (List ℕ)) (k : ℕ) (name : List ℕ)
+    → AreFree objects names k
+    → slice_get names k ≡ Some name → NoneDisallows objects name → AreFree objects names (k + 1)
+free_more objects names k name before at none = record {
+  free = λ place other lt there. elim (cases_lt place k) [
+    | inl below ↦ before.free place other below there
+    | inr above ↦ (let same : place ≡ k = omega (arith, lt, above) in
+        let both : Some other ≡ Some name = sym (rw same at there) ∙ at in
+        let one : other ≡ name = cc in
+        rw one none)
+  ];
+}
+
+pub free_all : (objects : List Object) (names : List (List ℕ)) (k count : ℕ)
+    → AreFree objects names k → count ≤ k → AreFree objects names count
+free_all objects names k count before le = record {
+  free = λ place name lt at. before.free place name (omega (arith, lt, le)) at;
+}
+
+-- ---- conflicts
+
+-- no name is disallowed
+pub conflict_clear : (link : Link) (names : List Name) → AreTaken link (bytes_of names)
+    → AreFree link.objects (bytes_of names) (length names) → Clear (IsConflict link)
+conflict_clear link names taken free = record {
+  none = λ e h.
+      let seen = bytes_of names in
+      let p = place_of seen h.name (has_taken link seen taken h.name h.clash.taken) in
+      let within : p.0 < length names = rw length-map at (slice_get_within seen p.0 h.name p.1) in
+      let none = free.free p.0 h.name within p.1 in
+      none_at_all link.objects h.name h.object none h.clash.by;
+}
+
+not_least : (link : Link) (names : List (List ℕ)) → AreTaken link names
+    → (e : LinkError) (h : IsFirstClash link.objects names e)
+    → (other : List ℕ) (object : ℕ) → Clashes link other object → by_bytes other h.name ≡ Less → ⊥
+not_least link names taken e h other object clash less =
+    let p = place_of names other (has_taken link names taken other clash.taken) in
+    elim (cases_lt p.0 h.place) [
+      | inl below ↦
+          none_at_all link.objects other object (h.before.free p.0 other below p.1) clash.by
+      | inr above ↦
+          not_less nat_list_cmp_total names h.place p.0 h.name other taken.ascending above h.here
+          p.1 less
+    ]
+
+-- the first that is disallowed is the least
+conflict_from : (link : Link) (names : List (List ℕ)) → AreTaken link names
+    → link.args.check_features ≡ true
+    → (e : LinkError) → IsFirstClash link.objects names e → IsConflict link e
+conflict_from link names taken checked e h = record {
+  checked = checked;
+  name = h.name;
+  object = h.object;
+  clash = record {
+    taken = is_taken link names taken h.name (contains_at names h.place h.name h.here);
+    by = h.by.by;
+  };
+  least = not_least link names taken e h;
+  first = λ place clash lt. h.by.before.none place lt clash.by;
+  told = h.told;
+}
+
+pub conflict_refuses : (link : Link) (names : List (List ℕ)) → AreTaken link names
+    → link.args.check_features ≡ true
+    → (e : LinkError) → Refuses (IsFirstClash link.objects names) e → Refuses (IsConflict link) e
+conflict_refuses link names taken checked e h = record {
+  cause_is = λ other. conflict_from link names taken checked e (h.cause_is other);
+}

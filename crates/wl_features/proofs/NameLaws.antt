@@ -1,0 +1,122 @@
+-- Whether a name is among those of a list.
+use Rattle.std.proofs.Common.{◌≡◌, ◌+◌, ◌<◌, ℕ, Bool, true, false, List, [], ◌∷◌, ◌++◌, cond, append-nil, filter, length, get_or, take, Contains, Some, slice_get, bytes_eq, refl, sym, ap, ◌∙◌, subst, inl, inr, eq-eqb}
+use Rattle.std.specs.Cmp.Lexicographic.{nat_list_eq_equiv, same_text}
+use Rattle.std.specs.List.{list_any}
+use Rattle.std.specs.Option.{option_map}
+use Rattle.std.proofs.lemmas.Bool.{cases_Bool, or_from, ne_eqb}
+use Rattle.std.proofs.lemmas.List.{map_more, map-append}
+use Rattle.std.proofs.lemmas.List.Elements.{filter_more}
+use Rattle.std.proofs.lemmas.List.Folds.{list_any-append}
+use Rattle.std.proofs.lemmas.Map.Views.{Contains-from_any, list_any-from_Contains}
+use Rattle.std.proofs.lemmas.Option.{slice_get-map, slice_get-get_or, slice_get_read}
+use Rattle.wl_linking.specs.Features.{Feature}
+use Rattle.wl_linking.specs.declared.features.TheConstants.{TARGET_FEATURE_PREFIX_DISALLOWED}
+use Rattle.wl_features.specs.Taken.{names_of}
+use Rattle.wl_features.specs.Faults.{is_disallowed}
+use Rattle.wl_features.proofs.AscendingLaws.{contains_none, contains_head, contains_behind, contains_cases, contains_at}
+use Rattle.wl_features.proofs.TakenLaws.{Name, bytes_of}
+
+-- ---- by tests
+
+pub has_name : (names : List (List ℕ)) (name : List ℕ) → list_any (bytes_eq name) names ≡ true
+    → Contains names name
+has_name names name on = Contains-from_any (λ x y e. same_text x y (sym e)) name names on
+
+pub name_found : (names : List (List ℕ)) (name : List ℕ) → Contains names name
+    → list_any (bytes_eq name) names ≡ true
+name_found names name at = list_any-from_Contains nat_list_eq_equiv name names at
+
+pub lacks_name : (names : List (List ℕ)) (name : List ℕ) → list_any (bytes_eq name) names ≡ false
+    → Contains names name → ⊥
+lacks_name names name off at = let on = name_found names name at in cc
+
+-- one more name, which isn't this one
+none_more : (names : List (List ℕ)) (name own : List ℕ) → list_any (bytes_eq name) names ≡ false
+    → bytes_eq own name ≡ false
+    → list_any (bytes_eq name) (names ++ own ∷ []) ≡ false
+none_more names name own before other =
+    let back : bytes_eq name own ≡ false = nat_list_eq_equiv.symm name own ∙ other in
+    let test = bytes_eq name in
+    let one : list_any test (own ∷ []) ≡ false = rw back refl in
+    list_any-append test names (own ∷ [])
+    ∙ or_from (list_any test names) (list_any test (own ∷ [])) before one
+
+-- ---- in a list of names
+
+-- the bytes of the name at a place
+pub name_at : (names : List Name) (k : ℕ) (d : Name) → k < length names
+    → slice_get (bytes_of names) k ≡ Some (get_or names k d).now
+name_at names k d lt =
+    slice_get-map (λ (m : Name). m.now) names k
+    ∙ ap (option_map (λ (m : Name). m.now)) (slice_get-get_or names k d lt)
+
+pub found_at : (names : List Name) (name : List ℕ) (k : ℕ) (d : Name) → k < length names
+    → true ≡ bytes_eq (get_or names k d).now name
+    → true ≡ list_any (bytes_eq name) (bytes_of names)
+found_at names name k d lt same =
+    let own = contains_at (bytes_of names) k (get_or names k d).now (name_at names k d lt) in
+    sym (name_found (bytes_of names) name (rw (same_text (get_or names k d).now name same) at own))
+
+pub none_next : (names : List Name) (name : List ℕ) (k : ℕ) (d : Name) → k < length names
+    → false ≡ bytes_eq (get_or names k d).now name
+    → list_any (bytes_eq name) (bytes_of (take k names)) ≡ false
+    → list_any (bytes_eq name) (bytes_of (take (k + 1) names)) ≡ false
+none_next names name k d lt other before =
+    rw (map_more (λ (m : Name). m.now) names k d lt)
+    (none_more (bytes_of (take k names)) name (get_or names k d).now before (sym other))
+
+-- ---- among features
+
+contains_names : (test : Feature → Bool) (features : List Feature) (f : Feature) → test f ≡ true
+    → Contains features f
+    → Contains (names_of test features) f.name
+contains_names test [] f on at = absurd (contains_none f at)
+contains_names test (x ∷ xs) f on at = elim (contains_cases x xs f at) [
+  | inl same ↦ (let own : test x ≡ true = ap test same ∙ on in
+      rw (own, ← same) (contains_head x.name (names_of test xs)))
+  | inr behind ↦ elim (cases_Bool (test x)) [
+    | inl t ↦ (let there = contains_names test xs f on behind in
+        rw t (contains_behind x.name (names_of test xs) f.name there))
+    | inr t ↦ rw t (contains_names test xs f on behind)
+  ]
+]
+
+-- an object's feature as its fields
+abbrev pub feature_of : ℕ → List ℕ → Feature
+feature_of prefix name = record { prefix = prefix; name = name }
+
+module _ (features : List Feature) (k : ℕ) (f : Feature) (lt : k < length features)
+    (is : f ≡ get_or features k f)
+    (prefix : ℕ) (own : List ℕ) (seen : feature_of prefix own ≡ f) (name : List ℕ) where
+  here : slice_get features k ≡ Some (feature_of prefix own)
+  here =
+      slice_get_read features (length features) k f refl lt is
+      ∙ ap (λ (g : Feature). Some g) (sym seen)
+
+  pub feature_found : prefix ≡ TARGET_FEATURE_PREFIX_DISALLOWED → true ≡ bytes_eq own name
+      → true ≡ list_any (bytes_eq name) (names_of is_disallowed features)
+  feature_found off same =
+      let at = contains_names is_disallowed features (feature_of prefix own)
+      (eq-eqb prefix TARGET_FEATURE_PREFIX_DISALLOWED off)
+      (contains_at features k (feature_of prefix own) here) in
+      sym (name_found (names_of is_disallowed features) name (rw (same_text own name same) at at))
+
+  more : filter is_disallowed (take (k + 1) features)
+      ≡ filter is_disallowed (take k features)
+      ++ cond (is_disallowed (feature_of prefix own)) (feature_of prefix own ∷ []) []
+  more = subst (λ (g : Feature). filter is_disallowed (take (k + 1) features)
+      ≡ filter is_disallowed (take k features) ++ cond (is_disallowed g) (g ∷ []) [])
+      (sym (seen ∙ is)) (filter_more is_disallowed features k f lt)
+
+  pub name_differs : prefix ≡ TARGET_FEATURE_PREFIX_DISALLOWED → false ≡ bytes_eq own name
+      → list_any (bytes_eq name) (names_of is_disallowed (take k features)) ≡ false
+      → list_any (bytes_eq name) (names_of is_disallowed (take (k + 1) features)) ≡ false
+  name_differs off other before =
+      rw (more, eq-eqb prefix TARGET_FEATURE_PREFIX_DISALLOWED off, map-append)
+      (none_more (names_of is_disallowed (take k features)) name own before (sym other))
+
+  pub prefix_differs : (prefix ≡ TARGET_FEATURE_PREFIX_DISALLOWED → ⊥)
+      → list_any (bytes_eq name) (names_of is_disallowed (take k features)) ≡ false
+      → list_any (bytes_eq name) (names_of is_disallowed (take (k + 1) features)) ≡ false
+  prefix_differs off before =
+      rw (more, ne_eqb prefix TARGET_FEATURE_PREFIX_DISALLOWED off, append-nil) before

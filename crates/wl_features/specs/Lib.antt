@@ -1,0 +1,3 @@
+pub mod Taken
+pub mod Faults
+pub mod Disallowing
