@@ -1,0 +1,282 @@
+-- Exports by names and by symbols, one after the other.
+use Rattle.std.proofs.Common.{◌≡◌, ◌∙◌, ◌≤◌, ◌<◌, ℕ, zero, suc, ◌+◌, ◌&&◌, not, Bool, true, false, List, [], ◌∷◌, ◌++◌, length, map, filter_map, take, get_or, refl, sym, ap, subst, arith, inl, inr, Option, Some, None, slice_get, Contains, append_assoc, append-nil, add-one}
+use Rattle.std.specs.Option.{option_map, option_and_then, option_to_list}
+use Rattle.std.specs.Prelude.{string_bytes, String}
+use Rattle.std.specs.declared.alloc.Global.{Global}
+use Rattle.std.proofs.lemmas.Bool.{cases_Bool}
+use Rattle.std.proofs.lemmas.List.{take_all, take_more}
+use Rattle.wl_module.specs.Exports.{Exported}
+use Rattle.wl_linking.specs.Object.{Object}
+use Rattle.wl_linking.specs.Symbols.{Symbol as LinkedSymbol, is_data, has_name, is_undefined}
+use Rattle.wl_linking.specs.declared.symbols.WasmSymbolKind.{WasmSymbolKind}
+use Rattle.wl_linking.specs.declared.symbols.WasmSymbolKind.TheVariants.{Func, Data, Global as GlobalKind, Section, Event, Table}
+use Rattle.wl_symbols.specs.Names.{named}
+use Rattle.wl_symbols.specs.Texts.{texts}
+use Rattle.wl_symbols.specs.declared.entry.Definition.{Definition}
+use Rattle.wl_symbols.specs.declared.entry.Definition.TheVariants.{Symbol}
+use Rattle.wl_live.specs.Entry.{is_function_kind, is_defined_function}
+use Rattle.wl_live.specs.Roots.{is_candidate}
+use Rattle.wl_bind.specs.ExportedData.{is_made_name}
+use Rattle.wl_bind.specs.FunctionSpace.{FunctionEntry, FunctionOf}
+use Rattle.wl_bind.specs.GlobalSpace.{GlobalEntry, GlobalOf}
+use Rattle.wl_bind.specs.Input.{Input}
+use Rattle.wl_bind.specs.declared.binding.FunctionTarget.TheVariants as function
+use Rattle.wl_bind.specs.declared.binding.GlobalTarget.TheVariants as global
+use Rattle.wl_slots.specs.SlotTargets.{own_number}
+use Rattle.wl_symbols.specs.Entries.{symbol_in}
+use Rattle.wl_exports.specs.Exports.{ExportEntry, Entity, OfFunction, OfGlobal, export_of, by_names, object_entity, defined_entity, defined_of_kind, named_entity, only_function, named_function, unless_made, candidate, candidates_from, candidates, is_code, stack_pointer_export, dynamic_exports}
+use Rattle.wl_exports.specs.ExportSteps.{IsPlainIf, AddsExports, takes}
+use Rattle.wl_exports.specs.declared.dynamic.Wanted.{Wanted}
+use Rattle.wl_exports.proofs.GrowLaws.{adds_more, adds_same}
+use Rattle.wl_exports.proofs.ShownLaws.{Found, found, entity_found}
+use Rattle.wl_exports.proofs.ListLaws.{one_item, in_at, in_list, map_at, at_read}
+
+-- ---- by names
+
+map_append : {X Y : Type 0} (f : X → Y) (xs ys : List X) → map f (xs ++ ys) ≡ map f xs ++ map f ys
+map_append f [] ys = refl
+map_append {X} {Y} f (x ∷ xs) ys = ap (λ (zs : List Y). f x ∷ zs) (map_append f xs ys)
+
+front_more : {X Y : Type 0} (f : X → Option Y) (xs : List X) (w x : X) (o : Option Y) → f w ≡ o
+    → filter_map f (xs ++ x ∷ []) ≡ filter_map f xs ++ option_to_list (f x)
+    → filter_map f ((w ∷ xs) ++ x ∷ []) ≡ filter_map f (w ∷ xs) ++ option_to_list (f x)
+front_more f xs w x None e rest = rw e rest
+front_more {X} {Y} f xs w x (Some y) e rest = rw e (ap (λ (ys : List Y). y ∷ ys) rest)
+
+filter_map_append : {X Y : Type 0} (f : X → Option Y) (xs : List X) (x : X)
+    → filter_map f (xs ++ x ∷ []) ≡ filter_map f xs ++ option_to_list (f x)
+filter_map_append f [] x = one_item (f x)
+filter_map_append f (w ∷ xs) x = front_more f xs w x (f w) refl (filter_map_append f xs x)
+
+-- the texts of one more
+pub texts_more : (items : List (String Global)) (i : ℕ) (s : String Global) → i < length items → s ≡ get_or items i s
+    → texts (take (i + 1) items) ≡ texts (take i items) ++ string_bytes s ∷ []
+texts_more items i s lt is =
+    ap texts (take_more items i s lt)
+    ∙ (map_append string_bytes (take i items) (get_or items i s ∷ [])
+    ∙ ap (λ (z : String Global). texts (take i items) ++ string_bytes z ∷ []) (sym is))
+
+-- the export of what stands for a name
+abbrev pub name_entry : (List ℕ → Option Entity) → List ℕ → Option ExportEntry
+name_entry entity name = option_map (export_of name) (entity name)
+
+pub names_next : (input : Input) (entity : List ℕ → Option Entity) (items : List (String Global)) (i : ℕ) (s : String Global)
+    (name : List ℕ) (old middle new : List Exported) → i < length items → s ≡ get_or items i s → name ≡ string_bytes s
+    → AddsExports input (by_names entity (texts (take i items))) old middle
+    → AddsExports input (option_to_list (name_entry entity name)) middle new
+    → AddsExports input (by_names entity (texts (take (i + 1) items))) old new
+names_next input entity items i s name old middle new lt is named_so a b =
+    let front : List (List ℕ) = texts (take i items) in
+    let more : by_names entity front ++ option_to_list (name_entry entity name)
+    ≡ by_names entity (texts (take (i + 1) items)) =
+    ap (λ (n : List ℕ). by_names entity front ++ option_to_list (name_entry entity n)) named_so
+    ∙ (sym (filter_map_append (name_entry entity) front (string_bytes s))
+    ∙ ap (by_names entity) (sym (texts_more items i s lt is))) in
+    adds_same input (by_names entity front ++ option_to_list (name_entry entity name))
+    (by_names entity (texts (take (i + 1) items))) old new more
+    (adds_more input (by_names entity front) (option_to_list (name_entry entity name)) old middle new a b)
+
+pub names_all : (input : Input) (entity : List ℕ → Option Entity) (items : List (String Global)) (i : ℕ)
+    (names : List (List ℕ)) (old new : List Exported) → length items ≤ i → texts items ≡ names
+    → AddsExports input (by_names entity (texts (take i items))) old new
+    → AddsExports input (by_names entity names) old new
+names_all input entity items i names old new past are a =
+    adds_same input (by_names entity (texts (take i items))) (by_names entity names) old new
+    (ap (λ (zs : List (String Global)). by_names entity (texts zs)) (take_all i items past) ∙ ap (by_names entity) are) a
+
+-- the name is one of them
+pub name_in : (items : List (String Global)) (i : ℕ) (s : String Global) (name : List ℕ) (names : List (List ℕ))
+    → i < length items → s ≡ get_or items i s → name ≡ string_bytes s → texts items ≡ names → Contains names name
+name_in items i s name names lt is named_so are =
+    let at : slice_get (texts items) i ≡ Some (string_bytes s) = map_at string_bytes items i s (at_read items i s lt is) in
+    let here : slice_get names i ≡ Some name =
+    subst (λ (ns : List (List ℕ)). slice_get ns i ≡ Some name) are
+    (at ∙ ap (λ (n : List ℕ). Some n) (sym named_so)) in
+    in_list names name (in_at names i name here)
+
+-- ---- what a name stands for
+
+-- nothing
+pub plain_none : (input : Input) (name : List ℕ) (e : Option Entity) → e ≡ None
+    → IsPlainIf input (option_map (export_of name) e) None
+plain_none input name e none = rw none tt
+
+pub plain_same : (input : Input) (name : List ℕ) (e other : Option Entity) (x : Option Exported) → e ≡ other
+    → IsPlainIf input (option_map (export_of name) other) x → IsPlainIf input (option_map (export_of name) e) x
+plain_same input name e other x same is =
+    subst (λ (d : Option Entity). IsPlainIf input (option_map (export_of name) d) x) (sym same) is
+
+pub entity_named : (input : Input) (name : List ℕ) (d : Option Definition) → named input.link name ≡ d
+    → named_entity input name ≡ option_and_then (object_entity input) d
+entity_named input name d names = ap (option_and_then (object_entity input)) names
+
+pub unless_is : (input : Input) (name : List ℕ) → is_made_name input name ≡ false
+    → unless_made input name ≡ named_entity input name
+unless_is input name unmade = rw unmade refl
+
+pub unless_none : (input : Input) (name : List ℕ) → is_made_name input name ≡ true → unless_made input name ≡ None
+unless_none input name made = rw made refl
+
+-- ---- the entry's function
+
+function_kind : (kind : WasmSymbolKind) → is_function_kind kind ≡ true → kind ≡ Func
+function_kind Func e = refl
+function_kind Data e = absurd cc
+function_kind GlobalKind e = absurd cc
+function_kind Section e = absurd cc
+function_kind Event e = absurd cc
+function_kind Table e = absurd cc
+
+both : (a b : Bool) → (a && b) ≡ true → (a ≡ true) × (b ≡ true)
+both true b e = (refl, e)
+both false b e = absurd cc
+
+not_so : (a : Bool) → not a ≡ true → a ≡ false
+not_so true e = absurd cc
+not_so false e = refl
+
+pub function_parts_of : (s : LinkedSymbol) → is_defined_function s ≡ true → (s.kind ≡ Func) × (is_undefined s ≡ false)
+function_parts_of s e =
+    let h = both (is_function_kind s.kind) (not (is_undefined s)) e in
+    (function_kind s.kind h.0, not_so (is_undefined s) h.1)
+
+no_function : (f : ℕ → GlobalEntry) (n : Option ℕ)
+    → option_and_then only_function (option_map (λ k. OfGlobal (f k)) n) ≡ None
+no_function f None = refl
+no_function f (Some k) = refl
+
+all_functions : (f : ℕ → FunctionEntry) (n : Option ℕ)
+    → option_and_then only_function (option_map (λ k. OfFunction (f k)) n) ≡ option_map (λ k. OfFunction (f k)) n
+all_functions f None = refl
+all_functions f (Some k) = refl
+
+only_none : (object number : ℕ) (o : Object) (kind : WasmSymbolKind) (index : ℕ) → is_function_kind kind ≡ false
+    → option_and_then only_function (defined_of_kind object number o kind index) ≡ None
+only_none object number o Func index fails = absurd cc
+only_none object number o Data index fails = refl
+only_none object number o GlobalKind index fails =
+    no_function (λ n. GlobalOf (global.Defined object n)) (own_number GlobalKind o index)
+only_none object number o Section index fails = refl
+only_none object number o Event index fails = refl
+only_none object number o Table index fails = refl
+
+-- no function that the object defines
+entry_none : (input : Input) (object number : ℕ) (o : Object) (s : LinkedSymbol) → is_defined_function s ≡ false
+    → option_and_then only_function (defined_entity input object number o s) ≡ None
+entry_none input object number o s fails = elim (cases_Bool (is_undefined s)) [
+  | inl undefined ↦ rw undefined refl
+  | inr defined ↦ elim (cases_Bool (is_function_kind s.kind)) [
+    | inl holds ↦ let wrong : true ≡ false = rw (holds, defined) at fails in absurd cc
+    | inr other ↦ rw defined (only_none object number o s.kind s.index other)
+  ]
+]
+
+-- a function that it defines
+entry_same : (input : Input) (object number : ℕ) (o : Object) (s : LinkedSymbol) → is_defined_function s ≡ true
+    → option_and_then only_function (defined_entity input object number o s) ≡ defined_entity input object number o s
+entry_same input object number o s holds =
+    let h = function_parts_of s holds in
+    let is : defined_entity input object number o s ≡ defined_of_kind object number o Func s.index =
+    rw h.1 (ap (λ (k : WasmSymbolKind). defined_of_kind object number o k s.index) h.0) in
+    ap (option_and_then only_function) is
+    ∙ (all_functions (λ n. FunctionOf (function.Defined object n)) (own_number Func o s.index) ∙ sym is)
+
+-- what the entry's name stands for, where that is this symbol
+pub named_by : (input : Input) (name : List ℕ) (object number : ℕ) (s : LinkedSymbol)
+    → named input.link name ≡ Some (Symbol object number) → (f : Found input.link.objects object number s)
+    → named_entity input name ≡ defined_entity input object number f.owner s
+named_by input name object number s names f =
+    entity_named input name (Some (Symbol object number)) names ∙ entity_found input object number s f
+
+pub entry_absent : (input : Input) (name : List ℕ) (d : Option Definition) → named input.link name ≡ d
+    → option_and_then (object_entity input) d ≡ None → named_function input name ≡ None
+entry_absent input name d names none =
+    ap (option_and_then only_function) (entity_named input name d names ∙ none)
+
+pub entry_other : (input : Input) (name : List ℕ) (object number : ℕ) (s : LinkedSymbol)
+    → named input.link name ≡ Some (Symbol object number)
+    → symbol_in input.link.objects object number ≡ Some s → is_defined_function s ≡ false
+    → named_function input name ≡ None
+entry_other input name object number s names at fails =
+    let f = found input.link.objects object number s at in
+    ap (option_and_then only_function) (named_by input name object number s names f)
+    ∙ entry_none input object number f.owner s fails
+
+pub entry_is : (input : Input) (name : List ℕ) (object number : ℕ) (s : LinkedSymbol)
+    → named input.link name ≡ Some (Symbol object number)
+    → (f : Found input.link.objects object number s) → is_defined_function s ≡ true
+    → named_function input name ≡ defined_entity input object number f.owner s
+entry_is input name object number s names f holds =
+    ap (option_and_then only_function) (named_by input name object number s names f)
+    ∙ entry_same input object number f.owner s holds
+
+pub forced_absent : (input : Input) (name : List ℕ) (d : Option Definition) → is_made_name input name ≡ false
+    → named input.link name ≡ d → option_and_then (object_entity input) d ≡ None → unless_made input name ≡ None
+forced_absent input name d unmade names none = unless_is input name unmade ∙ (entity_named input name d names ∙ none)
+
+pub forced_is : (input : Input) (name : List ℕ) (object number : ℕ) (s : LinkedSymbol)
+    → is_made_name input name ≡ false → named input.link name ≡ Some (Symbol object number)
+    → (f : Found input.link.objects object number s)
+    → unless_made input name ≡ defined_entity input object number f.owner s
+forced_is input name object number s unmade names f =
+    unless_is input name unmade ∙ named_by input name object number s names f
+
+-- ---- symbol by symbol
+
+candidates_step : (input : Input) (test : WasmSymbolKind → Bool) (object : ℕ) (o : Object) (n k m : ℕ)
+    (symbols : List LinkedSymbol) (s : LinkedSymbol) → n + k ≡ m → slice_get symbols k ≡ Some s
+    → candidates_from input test object o n (take (suc k) symbols)
+    ≡ candidates_from input test object o n (take k symbols) ++ option_to_list (candidate input test object m o s)
+candidates_step input test object o n k m [] s same at = absurd cc
+candidates_step input test object o n zero m (x ∷ symbols) s same at =
+    let is : x ≡ s = cc in
+    let number : n ≡ m = omega (arith, same) in
+    append-nil (option_to_list (candidate input test object n o x))
+    ∙ (ap (λ (y : LinkedSymbol). option_to_list (candidate input test object n o y)) is
+    ∙ ap (λ (i : ℕ). option_to_list (candidate input test object i o s)) number)
+candidates_step input test object o n (suc k) m (x ∷ symbols) s same at =
+    ap (λ (es : List ExportEntry). option_to_list (candidate input test object n o x) ++ es)
+    (candidates_step input test object o (n + 1) k m symbols s (omega (arith, same)) at)
+    ∙ sym (append_assoc (option_to_list (candidate input test object n o x))
+    (candidates_from input test object o (n + 1) (take k symbols)) (option_to_list (candidate input test object m o s)))
+
+pub candidates_next : (input : Input) (test : WasmSymbolKind → Bool) (object : ℕ) (o : Object) (symbols : List LinkedSymbol)
+    (k : ℕ) (s : LinkedSymbol) (old middle new : List Exported) → slice_get symbols k ≡ Some s
+    → AddsExports input (candidates_from input test object o 0 (take k symbols)) old middle
+    → AddsExports input (option_to_list (candidate input test object k o s)) middle new
+    → AddsExports input (candidates_from input test object o 0 (take (k + 1) symbols)) old new
+candidates_next input test object o symbols k s old middle new at a b =
+    let front : List ExportEntry = candidates_from input test object o 0 (take k symbols) in
+    let more : front ++ option_to_list (candidate input test object k o s)
+    ≡ candidates_from input test object o 0 (take (k + 1) symbols) =
+    rw add-one (sym (candidates_step input test object o 0 k k symbols s (omega arith) at)) in
+    adds_same input (front ++ option_to_list (candidate input test object k o s))
+    (candidates_from input test object o 0 (take (k + 1) symbols)) old new more
+    (adds_more input front (option_to_list (candidate input test object k o s)) old middle new a b)
+
+pub candidate_none : (input : Input) (test : WasmSymbolKind → Bool) (object number : ℕ) (o : Object) (s : LinkedSymbol)
+    → (test s.kind && has_name s && is_candidate input.link object number s) ≡ false
+    → candidate input test object number o s ≡ None
+candidate_none input test object number o s fails = rw fails refl
+
+pub candidate_is : (input : Input) (test : WasmSymbolKind → Bool) (object number : ℕ) (o : Object) (s : LinkedSymbol)
+    → (test s.kind && has_name s && is_candidate input.link object number s) ≡ true
+    → candidate input test object number o s ≡ option_map (export_of s.name) (defined_entity input object number o s)
+candidate_is input test object number o s holds = rw holds refl
+
+-- those of an object
+abbrev pub candidates_in : Input → Wanted → ℕ → Object → List ExportEntry
+candidates_in input wanted object o = candidates_from input (takes wanted) object o 0 o.symbols
+
+-- the one name, if it is asked for
+pub names_one : (entity : List ℕ → Option Entity) (asked : Option (List ℕ)) (name : List ℕ) → asked ≡ Some name
+    → option_to_list (name_entry entity name) ≡ by_names entity (option_to_list asked)
+names_one entity asked name e =
+    sym (ap (λ (o : Option (List ℕ)). by_names entity (option_to_list o)) e ∙ one_item (name_entry entity name))
+
+pub three_true : (a b d : Bool) → a ≡ true → b ≡ true → d ≡ true → (a && b && d) ≡ true
+three_true a b d x y z = rw (x, y, z) refl
+
+pub dynamic_is : (input : Input) → input.link.args.export_dynamic ≡ true
+    → (stack_pointer_export input ++ candidates input is_code) ++ candidates input is_data ≡ dynamic_exports input
+dynamic_is input dynamic = rw dynamic refl

@@ -1,0 +1,12 @@
+pub mod ListLaws
+pub mod GrowLaws
+pub mod PlaceLaws
+pub mod DataLaws
+pub mod ShownLaws
+pub mod NameLaws
+pub mod WrapLaws
+pub mod FaultLaws
+pub mod OneLaws
+pub mod EntryLaws
+pub mod MadeLaws
+pub mod ThreadLaws

@@ -1,0 +1,23 @@
+use Rattle.std.proofs.Common.{◌≡◌, ◌∙◌, ◌<◌, List, length, get_or, ap, subst}
+use Rattle.wl_linking.specs.Symbols.{Symbol as LinkedSymbol}
+use Rattle.wl_exports.specs.Exports.{candidate}
+use Rattle.wl_exports.specs.ExportSteps.{takes}
+use Rattle.wl_exports.proofs.EntryLaws.{candidates_next}
+use Rattle.wl_exports.proofs.ListLaws.{at_read}
+use Rattle.wl_exports.proofs.dynamic.push_symbols.Goals as goal
+
+pub loop-i-preserved : goal.loop-i-preserved
+loop-i-preserved c =
+    let input = c.args.sources.now.input.now in
+    let i = c.loop-i.i in
+    let s = c.symbol-item.result in
+    let items : c.symbols-symbol-items.result.now ≡ c.args.file.now.symbols = c.symbols-symbol-items.ensures in
+    let lt : i < length c.args.file.now.symbols =
+    subst (λ (xs : List LinkedSymbol). i < length xs) items c.loop-i-test.true in
+    let is : s ≡ get_or c.args.file.now.symbols i s =
+    c.symbol-item.is ∙ ap (λ (xs : List LinkedSymbol). get_or xs i s) items in
+    candidates_next input (takes c.args.wanted) c.args.object c.args.file.now c.args.file.now.symbols i s
+    c.args.exports.now.items c.loop-i.exports.items c.push_some.new.exports.items
+    (at_read c.args.file.now.symbols i s lt is) c.loop-i.invariant
+    (c.in_ok-push_some.ensures input (candidate input (takes c.args.wanted) c.args.object i c.args.file.now s)
+    c.candidate_export-export.ensures)

@@ -1,0 +1,11 @@
+use Rattle.std.proofs.Common.{take}
+use Rattle.wl_symbols.specs.Texts.{texts}
+use Rattle.wl_exports.specs.Exports.{by_names, made_under}
+use Rattle.wl_exports.specs.ExportSteps.{AddsExports}
+use Rattle.wl_exports.proofs.made.push_made.Given as goal
+
+abbrev pub invariant-loop-name : goal.invariant-loop-name
+invariant-loop-name l =
+    AddsExports l.sources.input.now
+    (by_names (made_under l.sources.input.now) (texts (take l.name-index l.name-items)))
+    l.initial.exports.items l.exports.items

@@ -1,0 +1,10 @@
+pub mod Exports
+pub mod Wrappers
+pub mod Sources
+pub mod Wrapped
+pub mod Faults
+pub mod DataSteps
+pub mod ExportSteps
+pub mod FaultSteps
+pub mod NameSteps
+pub mod WrapSteps

@@ -1,0 +1,136 @@
+//! What `--export-dynamic` exports.
+
+ghost use Rattle.std.specs.Prelude.{◌≡◌, true, Some, slice_get, OnOk};
+ghost use Rattle.wl_exports.specs.DataSteps.{AreDataPlaces};
+ghost use Rattle.wl_exports.specs.Exports.{candidate, candidates_from, candidates, dynamic_exports};
+ghost use Rattle.wl_exports.specs.ExportSteps.{IsPlainIf, AddsExports, takes};
+ghost use Rattle.wl_exports.specs.Sources.{AreSources};
+
+use crate::adding::push_some;
+use crate::data_places::DataPlaces;
+use crate::made::push_stack_pointer;
+use crate::named::symbol_export;
+use crate::sources::ExportSources;
+use std::alloc::AllocError;
+use wl_linking::{File, WasmSymbol, WasmSymbolKind};
+use wl_live::{is_candidate, live_units_are_closed};
+use wl_module::OutputExport;
+
+/// Which symbols are exported in one go.
+#[derive(Clone, Copy, Debug, PartialEq, Eq)]
+enum Wanted {
+    /// Functions and globals.
+    Code,
+    /// Data.
+    Data,
+}
+
+impl Wanted {
+    /// Whether a symbol of that kind is one of them.
+    fn takes(self, kind: WasmSymbolKind) -> bool
+        ensures { result ≡ takes self kind }
+    {
+        match kind {
+            WasmSymbolKind::Data => self == Wanted::Data,
+            WasmSymbolKind::Func
+            | WasmSymbolKind::Global
+            | WasmSymbolKind::Section
+            | WasmSymbolKind::Event
+            | WasmSymbolKind::Table => self == Wanted::Code,
+        }
+    }
+}
+
+/// The export of a symbol, if it is one of the wanted ones, and `--export-dynamic` exports it.
+fn candidate_export<'a>(
+    sources: &ExportSources<'_, '_, 'a>,
+    places: &DataPlaces,
+    wanted: Wanted,
+    object: usize,
+    file: &File<'a>,
+    number: u32,
+    symbol: &WasmSymbol<'a>,
+) -> Option<OutputExport<'a>>
+    requires sources { AreSources sources.now }
+    requires places { AreDataPlaces sources.now.input.now places.now }
+    requires dynamic { sources.now.input.now.link.args.export_dynamic ≡ true }
+    requires here { slice_get sources.now.input.now.link.objects object ≡ Some file.now }
+    requires at { slice_get file.now.symbols number ≡ Some symbol.now }
+    ensures { IsPlainIf sources.now.input.now
+        (candidate sources.now.input.now (takes wanted) object number file.now symbol.now) result }
+{
+    live_units_are_closed();
+    let symbols = sources.input.symbols();
+    if wanted.takes(symbol.kind)
+        && symbol.has_name()
+        && is_candidate(symbols, object, number, symbol)
+    {
+        symbol_export(sources, places, symbol.name, object, number, symbol)
+    } else {
+        None
+    }
+}
+
+/// Adds the exports of those symbols of an object.
+fn push_symbols<'a>(
+    exports: &mut Vec<OutputExport<'a>>,
+    sources: &ExportSources<'_, '_, 'a>,
+    places: &DataPlaces,
+    wanted: Wanted,
+    object: usize,
+    file: &File<'a>,
+) -> Result<(), AllocError>
+    requires sources { AreSources sources.now }
+    requires places { AreDataPlaces sources.now.input.now places.now }
+    requires dynamic { sources.now.input.now.link.args.export_dynamic ≡ true }
+    requires here { slice_get sources.now.input.now.link.objects object ≡ Some file.now }
+    ensures { OnOk result (AddsExports sources.now.input.now
+        (candidates_from sources.now.input.now (takes wanted) object file.now 0 file.now.symbols)
+        exports.old.items exports.new.items) }
+{
+    file.stands_for_an_object();
+    for (i, symbol) in file.symbols().iter().enumerate() {
+        let export = candidate_export(sources, places, wanted, object, file, i as u32, symbol);
+        push_some(exports, export)?;
+    }
+    Ok(())
+}
+
+/// Adds the exports of those symbols of all objects.
+fn push_candidates<'a>(
+    exports: &mut Vec<OutputExport<'a>>,
+    sources: &ExportSources<'_, '_, 'a>,
+    places: &DataPlaces,
+    wanted: Wanted,
+) -> Result<(), AllocError>
+    requires sources { AreSources sources.now }
+    requires places { AreDataPlaces sources.now.input.now places.now }
+    requires dynamic { sources.now.input.now.link.args.export_dynamic ≡ true }
+    ensures { OnOk result (AddsExports sources.now.input.now
+        (candidates sources.now.input.now (takes wanted)) exports.old.items exports.new.items) }
+{
+    for (object, file) in sources.input.files().as_slice().iter().enumerate() {
+        push_symbols(exports, sources, places, wanted, object, file)?;
+    }
+    Ok(())
+}
+
+/// Adds what `--export-dynamic` exports, where it is given: the stack pointer, functions and
+/// globals, and then data.
+pub(crate) fn push_dynamic<'a>(
+    exports: &mut Vec<OutputExport<'a>>,
+    sources: &ExportSources<'_, '_, 'a>,
+    places: &DataPlaces,
+) -> Result<(), AllocError>
+    requires sources { AreSources sources.now }
+    requires places { AreDataPlaces sources.now.input.now places.now }
+    ensures { OnOk result (AddsExports sources.now.input.now
+        (dynamic_exports sources.now.input.now) exports.old.items exports.new.items) }
+{
+    if !sources.args.export_dynamic {
+        return Ok(());
+    }
+    push_stack_pointer(exports, sources)?;
+    push_candidates(exports, sources, places, Wanted::Code)?;
+    push_candidates(exports, sources, places, Wanted::Data)
+}
