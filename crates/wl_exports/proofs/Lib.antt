@@ -5,6 +5,7 @@ pub mod DataLaws
 pub mod ShownLaws
 pub mod NameLaws
 pub mod WrapLaws
+pub mod CallLaws
 pub mod FaultLaws
 pub mod OneLaws
 pub mod EntryLaws

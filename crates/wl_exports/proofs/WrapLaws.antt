@@ -288,7 +288,7 @@ own_is_function input (OfGlobal g) x is own = absurd cc
 own_is_function input OfTable x is own = absurd cc
 own_is_function input OfMemory x is own = absurd cc
 
-and_left : (a b : Bool) → (a && b) ≡ true → a ≡ true
+pub and_left : (a b : Bool) → (a && b) ≡ true → a ≡ true
 and_left true b e = refl
 and_left false b e = absurd cc
 

@@ -2,6 +2,7 @@ pub mod Exports
 pub mod Wrappers
 pub mod Sources
 pub mod Wrapped
+pub mod Interface
 pub mod Faults
 pub mod DataSteps
 pub mod ExportSteps

@@ -1,8 +1,12 @@
 -- Exports that are wrapped: they lead to wrappers, which stand behind all other functions.
-use Rattle.std.specs.Prelude.{◌≡◌, ℕ, ◌+◌, ◌&&◌, Bool, true, false, List, length, take, Some, slice_get}
+use Rattle.std.specs.Prelude.{◌≡◌, ℕ, ◌+◌, ◌<◌, ◌&&◌, Bool, true, false, List, length, take, Some, slice_get}
 use Rattle.std.specs.List.{AllZip, filter}
 use Rattle.wl_module.specs.Exports.{Exported}
 use Rattle.wl_module.specs.declared.imports.ExternalKind.TheVariants.{Func}
+use Rattle.wl_linking.specs.declared.error.LinkError.{LinkError}
+use Rattle.wl_linking.specs.declared.error.LinkError.TheVariants.{TooLarge}
+use Rattle.wl_linking.specs.declared.error.Quantity.TheVariants.{Space}
+use Rattle.wl_types.specs.Types.{max_entries}
 use Rattle.wl_bind.specs.FunctionSpace.{FunctionEntry, function_space}
 use Rattle.wl_bind.specs.Input.{Input}
 use Rattle.wl_exports.specs.Exports.{ExportEntry, OfFunction, exports}
@@ -48,3 +52,8 @@ pub record IsWrapper (input : Input) (e : ExportEntry) (w : WrapperEntry) : Type
 -- those of the link, in the order of their exports
 abbrev pub AreWrappers : Input → List WrapperEntry → Type 0
 AreWrappers input ws = AllZip (IsWrapper input) (wrapped input) ws
+
+-- with the wrappers the functions are too many
+abbrev pub AreTooManyWrappers : Input → LinkError → Type 0
+AreTooManyWrappers input e =
+    (e ≡ TooLarge Space) × (max_entries < length (function_space input) + length (wrapped input))

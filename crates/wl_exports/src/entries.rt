@@ -92,7 +92,7 @@ fn push_untaken<'a>(
 ///
 /// # Errors
 /// `AllocError` where memory runs out.
-pub fn output_exports<'a>(
+pub(crate) fn output_exports<'a>(
     alloc: Global,
     sources: &ExportSources<'_, '_, 'a>,
 ) -> Result<ItemList<OutputExport<'a>>, AllocError>

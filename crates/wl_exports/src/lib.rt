@@ -1,9 +1,8 @@
 //! What the output exports, and by which indices; and which exports are wrapped, so that the
 //! constructors run before each call.
 //!
-//! [`output_exports`] lists the exports before any is wrapped, [`wrap_exports`] gives those that
-//! are wrapped the indices of their wrappers, and [`check_exports`] says why there can't be these
-//! exports.
+//! [`output_interface`] lists the exports, and the wrappers that some of them lead to;
+//! [`check_exports`] says why there can't be these exports.
 #![tactic(auto)]
 
 mod adding;
@@ -13,6 +12,7 @@ mod dynamic;
 mod entries;
 mod indexed;
 mod inherited;
+mod interface;
 mod laws;
 mod made;
 mod named;
@@ -21,7 +21,7 @@ mod sources;
 mod wrappers;
 
 pub use checking::check_exports;
-pub use entries::output_exports;
-pub use laws::exports_are_one;
+pub use interface::{OutputInterface, output_interface};
+pub use laws::{exports_are_one, wrappers_call_functions};
 pub use sources::ExportSources;
-pub use wrappers::{Wrapper, count_wrappers, wrap_exports};
+pub use wrappers::Wrapper;

@@ -140,7 +140,7 @@ fn can_wrap(export: &OutputExport<'_>, hosts: usize) -> bool
 // ---- wrapping
 
 /// How many exports are wrapped.
-pub fn count_wrappers(
+pub(crate) fn count_wrappers(
     input: &LinkInput<'_, '_>,
     hosts: usize,
     exports: &[OutputExport<'_>],
@@ -216,7 +216,7 @@ fn push_wrapped<'a>(
 ///
 /// # Errors
 /// `AllocError` where memory runs out.
-pub fn wrap_exports<'a>(
+pub(crate) fn wrap_exports<'a>(
     alloc: Global,
     input: &LinkInput<'_, 'a>,
     hosts: usize,
