@@ -49,7 +49,7 @@ use Rattle.wl_plan.specs.Addresses.{symbol_address}
 use Rattle.wl_plan.specs.FixupSteps.{AreFixupSources, HasRoom, is_absolute, left_of, counted_base, number_by, IsRefusedAt}
 use Rattle.wl_plan.specs.Fixups.{type_named, global_named, slot_named, address_named, bases_of, address_taken, addend_left, number_taken, IsTaken}
 use Rattle.wl_plan.specs.IndexedMaps.{IsWholeMap, AreWholeMaps}
-use Rattle.wl_plan.specs.Table.{slot_of, slot_of_entry, function_slots}
+use Rattle.wl_plan.specs.Table.{slot_of, slot_of_entry, space_slots}
 use Rattle.wl_plan.specs.declared.fixups.FixupSources.{FixupSources}
 use Rattle.wl_plan.specs.declared.placing.Placing.{Placing}
 use Rattle.wl_plan.proofs.SlotLaws.{TableLaws, slot_is}
@@ -137,7 +137,7 @@ abbrev pub resolver_of : Input → Placing → Object → WasmObjectIndexMap →
 resolver_of input g o m = record {
   map = m;
   symbols = o.symbols;
-  slots = function_slots input;
+  slots = space_slots input;
   bases = bases_of g;
 }
 
@@ -441,7 +441,7 @@ module _ (input : Input) (g : Placing) (r : Relocated) (o : Object) (m : WasmObj
       let s = slot_is known.table input l.target known.room.table has in
       let own : slot_of_entry input (FunctionOf l.target) ≡ s.slot =
       ap (λ (x : Option ℕ). unwrap_or x WASM_DEAD_INDEX) s.is in
-      let at : slice_get (function_slots input) l.place ≡ Some s.slot =
+      let at : slice_get (space_slots input) l.place ≡ Some s.slot =
       slice_get-map (slot_of_entry input) (function_space input) l.place
       ∙ (ap (option_map (slot_of_entry input)) l.stands ∙ ap (λ (x : ℕ). Some x) own) in
       let live : slot_in (Some s.slot) ≡ Ok s.slot = rw (not_dead s.slot s.low) refl in
@@ -702,7 +702,7 @@ given m symbols slots g =
 
 pub answers_by : (input : Input) (g : Placing) (r : Relocated) (o : Object)
     (m : WasmObjectIndexMap) (symbols : List LinkedSymbol) (slots : List ℕ)
-    → IsKnown input g r o m → symbols ≡ o.symbols → slots ≡ function_slots input
+    → IsKnown input g r o m → symbols ≡ o.symbols → slots ≡ space_slots input
     → Answers input g r (taking_of r.relocation.ty) (left_of (address_named input g r) r.relocation)
     (resolved (given m symbols slots g) r.relocation)
 answers_by input g r o m symbols slots known symbols_are slots_are =

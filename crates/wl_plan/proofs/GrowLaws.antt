@@ -23,7 +23,7 @@ use Rattle.wl_bind.specs.Input.{Input, keeps}
 use Rattle.wl_bind.specs.Made.{is_made, has_init_memory}
 use Rattle.wl_bind.specs.Parts.{by_object}
 use Rattle.wl_bind.specs.declared.binding.FunctionTarget.TheVariants.{Defined, Made, Host, Stub}
-use Rattle.wl_plan.specs.Bodies.{IsBodyOf, IsBodyIn, AreBodies, body_in, called}
+use Rattle.wl_plan.specs.Bodies.{IsBodyOf, IsBodyIn, AreOwnBodies, body_in, called}
 use Rattle.wl_plan.specs.BodySteps.{IsBodyFrom, AddsMadeBody, AddsBodies}
 use Rattle.wl_plan.specs.FunctionSteps.{own_function_part}
 use Rattle.wl_plan.specs.Functions.{own_functions}
@@ -201,7 +201,7 @@ own_are input alone =
 pub bodies_are : (input : Input) (g : Placing) (bodies : List Body)
     → input.link.args.shared_memory ≡ false
     → AddsBodies input g (linker_part input ++ object_functions input) [] bodies
-    → AreBodies input g bodies
+    → AreOwnBodies input g bodies
 bodies_are input g bodies alone a =
     subst (λ (es : List FunctionEntry). AllZip (IsBodyOf input g) es bodies) (sym (own_are input alone))
     (subst (λ (bs : List Body). AllZip (IsBodyOf input g) (linker_part input ++ object_functions input) bs)

@@ -12,7 +12,6 @@ pub mod UniqueFiles
 pub mod UniqueLaws
 pub mod GlobalLaws
 pub mod GlobalParts
-pub mod EntryLaws
 pub mod TypePlaceLaws
 pub mod FunctionLaws
 pub mod ImportLaws
@@ -23,7 +22,6 @@ pub mod GrowLaws
 pub mod NumberLaws
 pub mod BodyLaws
 pub mod DebugLaws
-pub mod HeldLaws
 pub mod PositionLaws
 pub mod ParsingLaws
 pub mod FieldLaws
@@ -34,3 +32,4 @@ pub mod StepLaws
 pub mod PlannedLaws
 pub mod PlanLaws
 pub mod LinkLaws
+pub mod WrapperLaws

@@ -1,5 +1,5 @@
 -- From objects to a plan: bytes by their number, and what the options don't ask for.
-use Rattle.std.proofs.Common.{◌≡◌, ◌<◌, ◌≤◌, ◌||◌, ℕ, zero, suc, Bool, true, false, List, [], ◌∷◌, length, get_or, None, Some, refl, sym, ap, subst, arith, inl, inr, slice_get, Vec, Global}
+use Rattle.std.proofs.Common.{◌≡◌, ◌<◌, ◌≤◌, ℕ, zero, suc, false, List, [], ◌∷◌, length, get_or, None, Some, refl, sym, ap, subst, arith, inl, inr, slice_get, Vec, Global}
 use Rattle.std.specs.List.{AllByRecursion}
 use Rattle.std.specs.Prelude.{IfErr, IfOk, OnOk, Result, Ok, Err}
 use Rattle.std.proofs.lemmas.Bool.{cases_Bool}
@@ -24,7 +24,7 @@ use Rattle.wl_plan.specs.Faults.{IsLaterFault, input_of, kept_fault, link_fault}
 use Rattle.wl_plan.specs.LinkPlan.{HasLinkFault, IsLinkPlan, IsPlanOf}
 use Rattle.wl_plan.specs.Objects.{AreObjects}
 use Rattle.wl_plan.specs.Plan.{IsPlan}
-use Rattle.wl_plan.specs.Planned.{IsNotYet, IsUnplannedOption, are_some, asks_for_unplanned}
+use Rattle.wl_plan.specs.Planned.{IsUnplannedOption}
 use Rattle.wl_plan.specs.declared.layout.LinkPlan.{LinkPlan}
 use Rattle.wl_plan.specs.declared.objects.TheConstants.{MAX_OBJECT}
 use Rattle.wl_plan.proofs.StepLaws.{IsRow, clear_end, clear_step, refuses_behind, refuses_here, row_behind, row_clear, row_end, row_more}
@@ -51,26 +51,12 @@ within_at (b ∷ objects) (suc i) bytes h is = within_at objects i bytes h.1 is
 
 -- ---- options
 
-first_false : (a b : Bool) → (a || b) ≡ false → a ≡ false
-first_false true b e = absurd cc
-first_false false b e = refl
-
-rest_false : (a b : Bool) → (a || b) ≡ false → b ≡ false
-rest_false true b e = absurd cc
-rest_false false b e = e
-
-not_asked : (args : WasmArgs) → Clear (IsUnplannedOption args) → asks_for_unplanned args ≡ false
-not_asked args clear = elim (cases_Bool (asks_for_unplanned args)) [
+-- words that ask for nothing that can't be planned don't ask for shared memory
+pub alone_by : (args : WasmArgs) → Clear (IsUnplannedOption args) → args.shared_memory ≡ false
+alone_by args clear = elim (cases_Bool args.shared_memory) [
   | inl asked ↦ absurd (clear.none (Unsupported 0 NotYet) (refl, asked))
   | inr none ↦ none
 ]
-
--- words that ask for nothing that can't be planned don't ask for shared memory
-pub alone_by : (args : WasmArgs) → Clear (IsUnplannedOption args) → args.shared_memory ≡ false
-alone_by args clear =
-    let none = not_asked args clear in
-    first_false args.shared_memory _ (rest_false args.export_dynamic _
-    (rest_false (are_some args.export_symbols) _ none))
 
 -- ---- what is kept
 
@@ -104,7 +90,6 @@ feature_is_row link =
 -- the steps before the last have no cause
 pub record AreClear (link : Link) : Type 0 where
   pub names : Clear (IsDuplicate link.objects)
-  pub planned : Clear (IsNotYet link)
   pub options : Clear (IsUnplannedOption link.args)
   pub features : Clear (feature_fault link)
   pub entry : Clear (IsEntryFault link)
@@ -115,22 +100,20 @@ last_refuses : (link : Link) (e : LinkError) → AreClear link → Refuses (IsLa
     → Refuses (link_fault link) e
 last_refuses link e clear h =
     refuses_behind (IsDuplicate link.objects) _ e clear.names
-    (refuses_behind (IsNotYet link) _ e clear.planned
     (refuses_behind (IsUnplannedOption link.args) _ e clear.options
     (row_behind (feature_row link) (feature_is_row link) _ e clear.features
     (refuses_behind (IsEntryFault link) _ e clear.entry
     (refuses_behind (IsKeptFault link) _ e clear.kept
-    (refuses_here (IsLaterFault link) NoStep e h))))))
+    (refuses_here (IsLaterFault link) NoStep e h)))))
 
 all_clear : (link : Link) → AreClear link → Clear (IsLaterFault link) → Clear (link_fault link)
 all_clear link clear last =
     clear_step (IsDuplicate link.objects) _ clear.names
-    (clear_step (IsNotYet link) _ clear.planned
     (clear_step (IsUnplannedOption link.args) _ clear.options
     (row_clear (feature_row link) (feature_is_row link) _ clear.features
     (clear_step (IsEntryFault link) _ clear.entry
     (clear_step (IsKeptFault link) _ clear.kept
-    (clear_step (IsLaterFault link) NoStep last clear_end))))))
+    (clear_step (IsLaterFault link) NoStep last clear_end)))))
 
 -- ---- answers
 
@@ -160,11 +143,6 @@ pub sound_by : (link : Link) (live : Live) (input : Input) → input ≡ input_o
 sound_by link live input same whole kept clear =
     subst (λ (x : Input). AreSoundBodies x) (sym same)
     (record { whole = whole; kept = kept; clear = clear })
-
-pub entry_by : (link : Link) (live : Live) (input : Input) → input ≡ input_of link live
-    → Clear (IsEntryFault link) → Clear (IsEntryFault input.link)
-entry_by link live input same clear =
-    subst (λ (x : Input). Clear (IsEntryFault x.link)) (sym same) clear
 
 pub features_by : (link : Link) (live : Live) (input : Input) (names : List (List ℕ))
     → input ≡ input_of link live → AreTaken link names → AreTaken input.link names

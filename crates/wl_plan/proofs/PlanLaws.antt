@@ -25,7 +25,7 @@ use Rattle.wl_bind.specs.GlobalSpace.{global_space}
 use Rattle.wl_bind.specs.Input.{Input}
 use Rattle.wl_bind.specs.Kinds.{IsWrongKind}
 use Rattle.wl_bind.specs.OutputTypes.{output_types}
-use Rattle.wl_bind.specs.Parts.{joined}
+use Rattle.wl_bind.specs.Parts.{StandOnce, joined}
 use Rattle.wl_bind.specs.References.{IsSettled}
 use Rattle.wl_bind.specs.Shared.{function_imports}
 use Rattle.wl_bind.specs.Signatures.{IsMismatch}
@@ -33,13 +33,15 @@ use Rattle.wl_bind.specs.SpaceFaults.{IsSpaceTooLarge, index_fault}
 use Rattle.wl_bind.specs.Undefined.{IsUndefinedData, IsUndefinedImport}
 use Rattle.wl_bind.specs.declared.binding.FunctionTarget.TheVariants.{Host}
 use Rattle.wl_plan.specs.Addresses.{numbers_from, segment_space}
-use Rattle.wl_plan.specs.Bodies.{IsBodyOf, AreBodies}
+use Rattle.wl_exports.specs.Wrapped.{WrapperEntry, IsWrapper, AreWrappers}
+use Rattle.wl_exports.specs.Wrappers.{wrapped}
+use Rattle.wl_plan.specs.Bodies.{IsBodyOf, IsWrapperBody, AreBodies}
 use Rattle.wl_plan.specs.BodySteps.{AreSoundBodies}
 use Rattle.wl_plan.specs.Faults.{HasLargeBodies, IsPlacedFault, IsSizeFault, placed_fault}
-use Rattle.wl_plan.specs.Functions.{IsOutputFunction, AreOutputFunctions, own_functions}
+use Rattle.wl_plan.specs.Functions.{IsOutputFunction, AreOwnFunctions, IsWrapperFunction, AreOutputFunctions, own_functions}
 use Rattle.wl_plan.specs.Origins.{PlannedFunction}
+use Rattle.wl_plan.specs.Outline.{AreFew, HasWrapperRoom}
 use Rattle.wl_plan.specs.Placing.{IsPlacing, AreTooManySegments, IsMemoryFault, data_input, place_steps}
-use Rattle.wl_plan.specs.PlanSteps.{AreFew}
 use Rattle.wl_plan.specs.SizeSteps.{IsTooBig}
 use Rattle.wl_plan.specs.declared.placing.Placing.{Placing}
 use Rattle.wl_plan.proofs.StepLaws.{IsRow, row_end, row_more, first_clear, rest_clear}
@@ -86,7 +88,7 @@ space_clear input clear =
     (rest_clear (IsUndefinedData input) _ (rest_clear (IsMismatch input) _
     (rest_clear (IsWrongKind input) _ clear))))))
 
-at_most : (n : ℕ) → (max_entries < n → ⊥) → n ≤ max_entries
+pub at_most : (n : ℕ) → (max_entries < n → ⊥) → n ≤ max_entries
 at_most n none = elim (cases_lt max_entries n) [ inl over ↦ absurd (none over) | inr le ↦ le ]
 
 pub few_by : (input : Input) → Clear (index_fault input) → AreFew input
@@ -128,7 +130,7 @@ zip_length R [] (y ∷ ys) h = absurd h
 zip_length R (x ∷ xs) [] h = absurd h
 zip_length R (x ∷ xs) (y ∷ ys) h = ap suc (zip_length R xs ys h.1)
 
-hosts_length : (input : Input) → length (function_imports input) ≡ length (host_function_part input)
+pub hosts_length : (input : Input) → length (function_imports input) ≡ length (host_function_part input)
 hosts_length input =
     length-map (first_imports (host_functions input)) first_slot
     ∙ sym (length-map (first_imports (host_functions input)) (λ (t : ImportSlot). FunctionOf (Host t.object t.number)))
@@ -146,17 +148,18 @@ hosts_within input =
     (made_function_part input CallCtors ∷ made_function_part input InitTls ∷ init_memory_part input
     ∷ stub_part input ∷ []) (object_functions input)
 
-pub bodies_few : (input : Input) (g : Placing) (bodies : List Body)
-    → length (function_space input) ≤ max_entries → AreBodies input g bodies
-    → length bodies ≤ max_entries
+pub bodies_few : (input : Input) (g : Placing) (bodies : List Body) → HasWrapperRoom input
+    → AreBodies input g bodies → length bodies ≤ max_entries
 bodies_few input g bodies few h =
-    let same = zip_length (IsBodyOf input g) (own_functions input) bodies h in
+    let own = zip_length (IsBodyOf input g) (own_functions input) h.own h.are_own in
+    let wrappers = zip_length (IsWrapperBody input) (wrapped input) h.wrappers h.are_wrappers in
+    let both = ap (λ (bs : List Body). length bs) h.parts ∙ length-append h.own h.wrappers in
     let len = length-drop (length (host_function_part input)) (function_space input) in
-    omega (arith, few, same, len)
+    omega (arith, few, own, wrappers, both, len)
 
 -- with those that are imported, the functions are as many as the space has entries
 pub functions_all : (input : Input) (functions : List PlannedFunction)
-    → AreOutputFunctions input (output_types input) functions
+    → AreOwnFunctions input (output_types input) functions
     → length (function_imports input) + length functions ≡ length (function_space input)
 functions_all input functions h =
     let same = zip_length (IsOutputFunction input (output_types input)) (own_functions input) functions h in
@@ -164,6 +167,17 @@ functions_all input functions h =
     let hosts = hosts_length input in
     let within = hosts_within input in
     omega (arith, same, len, hosts, within)
+
+-- the wrappers come on top of these
+pub functions_wrapped : (input : Input) (functions : List PlannedFunction) (ws : List WrapperEntry)
+    → AreOutputFunctions input (output_types input) functions → AreWrappers input ws
+    → length (function_imports input) + length functions ≡ length (function_space input) + length ws
+functions_wrapped input functions ws h zip =
+    let own = functions_all input h.own h.are_own in
+    let more = zip_length (IsWrapperFunction input (output_types input)) (wrapped input) h.wrappers h.are_wrappers in
+    let all = zip_length (IsWrapper input) (wrapped input) ws zip in
+    let both = ap (λ (fs : List PlannedFunction). length fs) h.parts ∙ length-append h.own h.wrappers in
+    omega (arith, own, more, all, both)
 
 -- ---- how many segments there are
 
@@ -198,17 +212,17 @@ pub size_refuses : (input : Input) (g : Placing) (bodies : List Body) (e : LinkE
 size_refuses input g bodies e are h = (h.0, large_as input g bodies g.places.layouts are h.1)
 
 large_one : FormsAreOne → (input : Input) (g : Placing) (bodies : List Body)
-    (rows : List (List SegmentLayout)) → AreBodies input g bodies
+    (rows : List (List SegmentLayout)) → StandOnce (function_space input) → AreBodies input g bodies
     → (HasLargeBodies input g ⊎ (2 ^ 62 ≤ all_encoded_bytes rows))
     → ((2 ^ 62 ≤ body_bytes bodies) ⊎ (2 ^ 62 ≤ all_encoded_bytes rows))
-large_one forms input g bodies rows are (inl h) =
+large_one forms input g bodies rows once are (inl h) =
     inl (subst (λ (bs : List Body). 2 ^ 62 ≤ body_bytes bs)
-    (bodies_one forms input g h.bodies bodies h.are_bodies are) h.large)
-large_one forms input g bodies rows are (inr large) = inr large
+    (bodies_one forms input g once h.bodies bodies h.are_bodies are) h.large)
+large_one forms input g bodies rows once are (inr large) = inr large
 
 pub size_clear : FormsAreOne → (input : Input) (g : Placing) (bodies : List Body)
-    → AreBodies input g bodies → Clear (IsTooBig bodies g.places.layouts)
-    → Clear (IsSizeFault input g)
-size_clear forms input g bodies are clear = record {
-  none = λ e h. clear.none e (h.0, large_one forms input g bodies g.places.layouts are h.1);
+    → StandOnce (function_space input) → AreBodies input g bodies
+    → Clear (IsTooBig bodies g.places.layouts) → Clear (IsSizeFault input g)
+size_clear forms input g bodies once are clear = record {
+  none = λ e h. clear.none e (h.0, large_one forms input g bodies g.places.layouts once are h.1);
 }

@@ -1,52 +1,86 @@
 -- What planning answers, by the answers of its steps.
-use Rattle.std.proofs.Common.{◌≡◌, inl, inr}
+use Rattle.std.proofs.Common.{◌≡◌, ◌+◌, length, refl, subst, inl, inr}
 use Rattle.std.specs.Prelude.{IfErr, OnOk, Result, Ok, Err}
 use Rattle.wl_linking.specs.Steps.{Clear, Refuses, Step, NoStep}
 use Rattle.wl_linking.specs.declared.error.LinkError.{LinkError}
 use Rattle.wl_linking.specs.declared.error.LinkError.TheVariants.{TooLarge}
-use Rattle.wl_linking.specs.declared.error.Quantity.TheVariants.{Address}
+use Rattle.wl_linking.specs.declared.error.Quantity.TheVariants.{Address, Space}
+use Rattle.wl_bind.specs.FunctionSpace.{function_space}
 use Rattle.wl_bind.specs.Input.{Input}
 use Rattle.wl_bind.specs.SpaceFaults.{index_fault}
+use Rattle.wl_exports.specs.Faults.{IsExportFault}
+use Rattle.wl_exports.specs.Wrapped.{AreTooManyWrappers}
+use Rattle.wl_exports.specs.Wrappers.{wrapped}
 use Rattle.wl_plan.specs.Addresses.{HasHighExport, HasHighSymbol, IsAddressTooHigh}
 use Rattle.wl_plan.specs.Faults.{IsPlacedFault, kept_fault, placed_fault, value_steps}
+use Rattle.wl_plan.specs.Outline.{AreChecked, HasWrapperRoom}
 use Rattle.wl_plan.specs.Placing.{IsPlacing, place_fault}
 use Rattle.wl_plan.specs.declared.layout.LinkPlan.{LinkPlan}
 use Rattle.wl_plan.specs.declared.placing.Placing.{Placing}
-use Rattle.wl_plan.proofs.PlanLaws.{OnePlacing, index_is_row, index_row, place_is_row, place_row, placed_clear, placed_refuses}
-use Rattle.wl_plan.proofs.StepLaws.{clear_end, clear_step, refuses_here, refuses_more, row_behind, row_clear, row_refuses}
+use Rattle.wl_plan.proofs.PlanLaws.{OnePlacing, at_most, index_is_row, index_row, place_is_row, place_row, placed_clear, placed_refuses}
+use Rattle.wl_plan.proofs.StepLaws.{clear_end, clear_step, refuses_behind, refuses_here, refuses_more, row_behind, row_clear, row_refuses}
 
 -- what is judged behind the numbering of things
 abbrev behind_index : Input → LinkError → Type 0
-behind_index input = place_row input (Step (IsPlacedFault input) NoStep)
+behind_index input =
+    Step (AreTooManyWrappers input) (place_row input (Step (IsPlacedFault input) NoStep))
+
+-- what is judged behind the wrappers
+abbrev behind_wrappers : Input → LinkError → Type 0
+behind_wrappers input = place_row input (Step (IsPlacedFault input) NoStep)
 
 pub index_refuses : (input : Input) (e : LinkError) → Refuses (index_fault input) e
     → Refuses (kept_fault input) e
 index_refuses input e h =
     row_refuses (index_row input) (index_is_row input) (behind_index input) e h
 
-pub place_refuses : (input : Input) (e : LinkError) → Clear (index_fault input)
+pub wrapper_refuses : (input : Input) (e : LinkError) → Clear (index_fault input)
+    → Refuses (AreTooManyWrappers input) e → Refuses (kept_fault input) e
+wrapper_refuses input e clear h =
+    row_behind (index_row input) (index_is_row input) (behind_index input) e clear
+    (refuses_here (AreTooManyWrappers input) (behind_wrappers input) e h)
+
+-- the wrappers have room where they aren't too many
+pub wrapper_room : (input : Input) → Clear (AreTooManyWrappers input) → HasWrapperRoom input
+wrapper_room input clear =
+    at_most (length (function_space input) + length (wrapped input))
+    (λ over. clear.none (TooLarge Space) (refl, over))
+
+-- nothing of what is judged before data is placed has a cause
+pub record AreNumbered (input : Input) : Type 0 where
+  pub indexed : Clear (index_fault input)
+  pub few : Clear (AreTooManyWrappers input)
+
+behind_refuses : (input : Input) (e : LinkError) → AreNumbered input
+    → Refuses (behind_wrappers input) e → Refuses (kept_fault input) e
+behind_refuses input e clear h =
+    row_behind (index_row input) (index_is_row input) (behind_index input) e clear.indexed
+    (refuses_behind (AreTooManyWrappers input) (behind_wrappers input) e clear.few h)
+
+pub place_refuses : (input : Input) (e : LinkError) → AreNumbered input
     → Refuses (place_fault input) e → Refuses (kept_fault input) e
 place_refuses input e clear h =
-    row_behind (index_row input) (index_is_row input) (behind_index input) e clear
+    behind_refuses input e clear
     (row_refuses (place_row input) (place_is_row input) (Step (IsPlacedFault input) NoStep) e h)
 
 pub kept_err : (input : Input) (g : Placing) (r : Result LinkPlan LinkError) → IsPlacing input g
-    → Clear (index_fault input) → Clear (place_fault input)
+    → AreNumbered input → Clear (place_fault input)
     → IfErr r (Refuses (placed_fault input g)) → IfErr r (Refuses (kept_fault input))
 kept_err input g (Ok plan) placed indexed clear h = tt
 kept_err input g (Err e) placed indexed clear h =
-    row_behind (index_row input) (index_is_row input) (behind_index input) e indexed
+    behind_refuses input e indexed
     (row_behind (place_row input) (place_is_row input) (Step (IsPlacedFault input) NoStep) e clear
     (refuses_here (IsPlacedFault input) NoStep e (placed_refuses input g e placed h)))
 
 pub kept_clear : OnePlacing → (input : Input) (g : Placing) (r : Result LinkPlan LinkError)
-    → IsPlacing input g → Clear (index_fault input) → Clear (place_fault input)
+    → IsPlacing input g → AreNumbered input → Clear (place_fault input)
     → OnOk r (Clear (placed_fault input g)) → OnOk r (Clear (kept_fault input))
 kept_clear one input g (Err e) placed indexed clear h = tt
 kept_clear one input g (Ok plan) placed indexed clear h =
-    row_clear (index_row input) (index_is_row input) (behind_index input) indexed
+    row_clear (index_row input) (index_is_row input) (behind_index input) indexed.indexed
+    (clear_step (AreTooManyWrappers input) (behind_wrappers input) indexed.few
     (row_clear (place_row input) (place_is_row input) (Step (IsPlacedFault input) NoStep) clear
-    (clear_step (IsPlacedFault input) NoStep (placed_clear one input g placed h) clear_end))
+    (clear_step (IsPlacedFault input) NoStep (placed_clear one input g placed h) clear_end)))
 
 -- ---- addresses
 
@@ -76,3 +110,15 @@ pub placed_ok : (input : Input) (g : Placing) → (HasHighSymbol input g → ⊥
 placed_ok input g symbols exports values =
     clear_step (IsAddressTooHigh input g) (value_steps input g) (low_clear input g symbols exports)
     values
+
+-- ---- exports
+
+pub checked_sound : (input : Input) (r : Result (Unit {0}) LinkError) (u : Unit {0}) → r ≡ Ok u
+    → AreChecked input r → Clear (IsExportFault input)
+checked_sound input r u is h =
+    subst (λ (x : Result (Unit {0}) LinkError). OnOk x (Clear (IsExportFault input))) is h.sound
+
+pub checked_refused : (input : Input) (r : Result (Unit {0}) LinkError) (e : LinkError) → r ≡ Err e
+    → AreChecked input r → Refuses (IsExportFault input) e
+checked_refused input r e is h =
+    subst (λ (x : Result (Unit {0}) LinkError). IfErr x (Refuses (IsExportFault input))) is h.refused

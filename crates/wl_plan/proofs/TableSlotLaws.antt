@@ -24,7 +24,7 @@ use Rattle.wl_bind.specs.MadeIndices.{AreMadeIndices}
 use Rattle.wl_bind.specs.Parts.{StandOnce, joined, AreStarts, HasEntry, lengths_of, starts_from, total}
 use Rattle.wl_bind.specs.declared.indices.LinkerDefinedIndices.{LinkerDefinedIndices}
 use Rattle.wl_bind.specs.declared.parts.PartStarts.{PartStarts}
-use Rattle.wl_plan.specs.Table.{function_slots, slot_of_entry, IsElement}
+use Rattle.wl_plan.specs.Table.{space_slots, slot_of_entry, IsElement}
 use Rattle.wl_plan.specs.TableSteps.{is_stub_of, place_slot, slot_among, stub_slot}
 use Rattle.wl_plan.proofs.FunctionLaws.{IsIn, in_at, in_if, in_map, in_object, in_split, length_mapped, mapped_at, take_next, there_is}
 use Rattle.wl_plan.proofs.TableLaws.{TableIs, table_is_few, within}
@@ -324,7 +324,7 @@ last_slot input (FunctionOf (Host o s)) = refl
 
 -- when all have theirs
 pub elements_set : (input : Input) (k : ℕ) (slots : List ℕ) → length (table_functions input) ≤ k
-    → slots ≡ map (slot_among (take k (table_functions input))) (function_space input) → slots ≡ function_slots input
+    → slots ≡ map (slot_among (take k (table_functions input))) (function_space input) → slots ≡ space_slots input
 elements_set input k slots le so_far =
     so_far ∙ (ap (λ (ts : List FunctionTarget). map (slot_among ts) (function_space input)) (take_all k (table_functions input) le)
     ∙ same_maps (slot_among (table_functions input)) (slot_of_entry input) (function_space input) (λ j x at. last_slot input x))

@@ -1,8 +1,9 @@
 -- Bodies, where fields stand in them, what fields take, and how many bytes sections take, are fixed
 -- by the link and by where things lie.
-use Rattle.std.proofs.Common.{◌≡◌, ◌∙◌, ℕ, ℤ, zero, suc, ◌+◌, map, Bool, not, ◌||◌, ◌==◌, List, [], ◌∷◌, ◌++◌, length, refl, sym, ap, subst, arith, Option, Some, None, Result, Ok}
+use Rattle.std.proofs.Common.{◌≡◌, ◌∙◌, ℕ, ℤ, zero, suc, ◌+◌, map, Bool, not, ◌||◌, ◌==◌, List, [], ◌∷◌, ◌++◌, length, refl, sym, ap, subst, arith, Option, Some, None, Result, Ok, slice_get}
 use Rattle.wl_bytes.specs.Leb.{IsShortest, IsShortestSleb}
 use Rattle.wl_module.specs.Bodies.{Body}
+use Rattle.wl_module.specs.Types.{FunctionType}
 use Rattle.wl_linking.specs.declared.relocation_type.RelocationType.{RelocationType}
 use Rattle.wl_ops.specs.Numbers.{HasNumbers}
 use Rattle.wl_ops.specs.Rewriting.{IsShort, Rewrites, before, NewBytes, Moves}
@@ -15,12 +16,13 @@ use Rattle.wl_reloc.specs.declared.takings.Taking.TheVariants.{FunctionIndex, Sl
 use Rattle.wl_ctors.specs.InitCalls.{AreInitCalls}
 use Rattle.wl_ctors.specs.declared.calls.InitCall.{InitCall}
 use Rattle.wl_ops.specs.declared.op.Op.{Op}
-use Rattle.wl_synth.specs.Bodies.{call_sequence_ops}
+use Rattle.wl_synth.specs.Bodies.{call_sequence_ops, wrapper_ops}
 use Rattle.wl_synth.specs.Encoding.{IsEncoded}
 use Rattle.wl_synth.specs.declared.calls.TheConstants.{UNREACHABLE_FUNCTION_BODY}
 use Rattle.wl_symbols.specs.declared.linker_symbol.WasmLinkerSymbol.{WasmLinkerSymbol}
 use Rattle.wl_symbols.specs.declared.linker_symbol.WasmLinkerSymbol.TheVariants.{CallCtors}
-use Rattle.wl_bind.specs.FunctionSpace.{FunctionOf, InitMemory, function_space}
+use Rattle.wl_bind.specs.EntryTypes.{type_of_entry}
+use Rattle.wl_bind.specs.FunctionSpace.{FunctionEntry, FunctionOf, InitMemory, function_space}
 use Rattle.wl_bind.specs.GlobalSpace.{global_space}
 use Rattle.wl_bind.specs.IndexMaps.{symbol_function}
 use Rattle.wl_bind.specs.Input.{Input}
@@ -31,7 +33,9 @@ use Rattle.wl_bind.specs.declared.binding.FunctionTarget.TheVariants.{Defined, M
 use Rattle.wl_bind.specs.declared.relocated.FixupPlace.{FixupPlace}
 use Rattle.wl_bind.specs.declared.relocated.FixupPlace.TheVariants.{Code, Segment}
 use Rattle.wl_bind.specs.declared.relocated.Relocated.{Relocated}
-use Rattle.wl_plan.specs.Bodies.{new_number, IsMovedBy, IsRenumbered, body_in, IsBodyIn, IsMadeBody, IsCtorsBody, IsLinkerBody, called, IsBodyOf, AreBodies, IsMovedAt}
+use Rattle.wl_exports.specs.Exports.{Entity, OfFunction}
+use Rattle.wl_exports.specs.Wrappers.{wrapped}
+use Rattle.wl_plan.specs.Bodies.{new_number, IsMovedBy, IsRenumbered, body_in, IsBodyIn, IsMadeBody, IsCtorsBody, IsLinkerBody, called, IsBodyOf, AreOwnBodies, IsWrapperBody, AreBodies, IsMovedAt}
 use Rattle.wl_plan.specs.Fixups.{StandsAt, type_named, global_named, address_taken, IsTaken, IsFieldOf, IsFixup, AreFixups}
 use Rattle.wl_plan.specs.Functions.{own_functions}
 use Rattle.wl_plan.specs.declared.layout.Fixup.{Fixup}
@@ -169,10 +173,45 @@ body_one forms input g (FunctionOf (Stub object slot)) x y p q =
     made_one UNREACHABLE_FUNCTION_BODY x y p q
 body_one forms input g InitMemory x y p q = absurd p
 
-pub bodies_one : FormsAreOne → (input : Input) (g : Placing) (xs ys : List Body)
-    → AreBodies input g xs → AreBodies input g ys → xs ≡ ys
-bodies_one forms input g xs ys p q =
+own_bodies_one : FormsAreOne → (input : Input) (g : Placing) (xs ys : List Body)
+    → AreOwnBodies input g xs → AreOwnBodies input g ys → xs ≡ ys
+own_bodies_one forms input g xs ys p q =
     zip_one (IsBodyOf input g) (body_one forms input g) (own_functions input) xs ys p q
+
+pub exported_one : (entity : Entity) (f g : FunctionEntry) → entity ≡ OfFunction f
+    → entity ≡ OfFunction g → f ≡ g
+exported_one entity f g p q = cc
+
+wrapper_one : FormsAreOne → (input : Input) → StandOnce (function_space input)
+    → GivesOne (IsWrapperBody input)
+wrapper_one forms input once e x y p q =
+    let function : p.function ≡ q.function =
+    exported_one e.entity p.function q.function p.leads q.leads in
+    let stands : slice_get (function_space input) p.original ≡ Some q.function =
+    p.stands ∙ ap (λ (f : FunctionEntry). Some f) function in
+    let original = once p.original q.original q.function stands q.stands in
+    let made = once p.constructors q.constructors (FunctionOf (Made CallCtors)) p.are_made q.are_made in
+    let typed : type_of_entry input q.function ≡ Some p.ty =
+    subst (λ (f : FunctionEntry). type_of_entry input f ≡ Some p.ty) function p.typed in
+    let ty = some_one (type_of_entry input q.function) p.ty q.ty typed q.typed in
+    let ops : wrapper_ops p.constructors p.original (length p.ty.params)
+    ≡ wrapper_ops q.constructors q.original (length q.ty.params) =
+    ap (λ (n : ℕ). wrapper_ops n p.original (length p.ty.params)) made
+    ∙ (ap (λ (n : ℕ). wrapper_ops q.constructors n (length p.ty.params)) original
+    ∙ ap (λ (t : FunctionType). wrapper_ops q.constructors q.original (length t.params)) ty) in
+    let encoded = subst (λ (os : List Op). IsEncoded os p.bytes) ops p.encoded in
+    let bytes = forms.encoded (wrapper_ops q.constructors q.original (length q.ty.params)) p.bytes
+    q.bytes encoded q.encoded in
+    made_one q.bytes x y (subst (λ (t : List ℕ). IsMadeBody t x) bytes p.made) q.made
+
+pub bodies_one : FormsAreOne → (input : Input) (g : Placing) → StandOnce (function_space input)
+    → (xs ys : List Body) → AreBodies input g xs → AreBodies input g ys → xs ≡ ys
+bodies_one forms input g once xs ys p q =
+    let own = own_bodies_one forms input g p.own q.own p.are_own q.are_own in
+    let wrappers = zip_one (IsWrapperBody input) (wrapper_one forms input once) (wrapped input)
+    p.wrappers q.wrappers p.are_wrappers q.are_wrappers in
+    p.parts ∙ (ap (λ (bs : List Body). bs ++ p.wrappers) own
+    ∙ (ap (λ (bs : List Body). q.own ++ bs) wrappers ∙ sym q.parts))
 
 -- ---- sizes
 

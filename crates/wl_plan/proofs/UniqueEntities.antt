@@ -1,13 +1,10 @@
--- Functions, imports, globals and exports of the output are fixed by the link and by where things
--- lie.
+-- Functions, imports and globals of the output are fixed by the link and by where things lie.
 use Rattle.std.proofs.Common.{◌≡◌, ◌∙◌, ℕ, ◌+◌, Bool, true, false, List, [], ◌∷◌, ◌++◌, refl, sym, ap, subst, inl, inr, Option, Some, None, slice_get, map, if◌then◌else◌}
 use Rattle.std.specs.Int.{w32, cast_signed}
 use Rattle.std.specs.Prelude.{MatchOption}
-use Rattle.wl_module.specs.Exports.{Exported}
 use Rattle.wl_module.specs.Globals.{DefinedGlobal}
 use Rattle.wl_module.specs.Types.{FunctionType}
 use Rattle.wl_module.specs.declared.globals.GlobalType.{GlobalType}
-use Rattle.wl_module.specs.declared.imports.ExternalKind.{ExternalKind}
 use Rattle.wl_linking.specs.Object.{Object}
 use Rattle.wl_symbols.specs.declared.linker_symbol.WasmLinkerSymbol.{WasmLinkerSymbol}
 use Rattle.wl_symbols.specs.declared.linker_symbol.WasmLinkerSymbol.TheVariants.{CallCtors, InitTls}
@@ -25,8 +22,8 @@ use Rattle.wl_bind.specs.Shared.{function_imports, global_imports}
 use Rattle.wl_bind.specs.declared.binding.FunctionTarget.{FunctionTarget}
 use Rattle.wl_bind.specs.declared.binding.FunctionTarget.TheVariants as function
 use Rattle.wl_bind.specs.declared.binding.GlobalTarget.TheVariants.{Defined, Made, GotMem, GotFunc, Host}
-use Rattle.wl_plan.specs.Entry.{named_function, memory_exports, is_memory_name, IsFunctionExport, IsExportedUnless, IsEntryExport, AreExports}
-use Rattle.wl_plan.specs.Functions.{own_functions, origin_of, IsTypeNumber, IsOutputFunction, AreOutputFunctions}
+use Rattle.wl_exports.specs.Wrappers.{wrapped}
+use Rattle.wl_plan.specs.Functions.{own_functions, origin_of, IsTypeNumber, IsOutputFunction, IsWrapperFunction, AreOutputFunctions}
 use Rattle.wl_plan.specs.Globals.{IsConstant, start_of_global, global_in, IsMadeGlobal, IsGlobalOf, IsPlannedGlobal, own_globals, ArePlannedGlobals}
 use Rattle.wl_plan.specs.Imports.{IsFunctionImport, IsGlobalImport, global_type_of_slot, memory_imports, AreImports}
 use Rattle.wl_plan.specs.Origins.{Origin, PlannedFunction}
@@ -39,7 +36,7 @@ use Rattle.wl_plan.specs.declared.layout.PlannedGlobal.{PlannedGlobal}
 use Rattle.wl_plan.specs.declared.placing.Placing.{Placing}
 use Rattle.wl_plan.proofs.UniqueParts.{some_one, GivesOne, zip_one}
 use Rattle.wl_plan.proofs.UniqueSegments.{IsIn, in_at, in_split}
-use Rattle.wl_plan.proofs.UniqueBodies.{FormsAreOne, ok_one}
+use Rattle.wl_plan.proofs.UniqueBodies.{FormsAreOne, exported_one, ok_one}
 
 -- ---- functions
 
@@ -62,11 +59,29 @@ function_one input types once entry x y p q =
     rw (index, from) refl in
     h
 
+wrapper_one : (input : Input) (types : List FunctionType) → StandOnce types
+    → GivesOne (IsWrapperFunction input types)
+unfolding make_function
+wrapper_one input types once e x y p q =
+    let function = exported_one e.entity p.function q.function p.leads q.leads in
+    let typed = subst (λ (f : FunctionEntry). IsTypeNumber types (type_of_entry input f) x.type_index)
+    function p.typed in
+    let index = type_one types once (type_of_entry input q.function) x.type_index y.type_index typed q.typed in
+    let from : x.origin ≡ y.origin = p.origin ∙ sym q.origin in
+    let h : make_function x.type_index x.origin ≡ make_function y.type_index y.origin =
+    rw (index, from) refl in
+    h
+
 pub functions_one : (input : Input) (types : List FunctionType) → StandOnce types
     → (xs ys : List PlannedFunction) → AreOutputFunctions input types xs
     → AreOutputFunctions input types ys → xs ≡ ys
 functions_one input types once xs ys p q =
-    zip_one (IsOutputFunction input types) (function_one input types once) (own_functions input) xs ys p q
+    let own = zip_one (IsOutputFunction input types) (function_one input types once) (own_functions input)
+    p.own q.own p.are_own q.are_own in
+    let wrappers = zip_one (IsWrapperFunction input types) (wrapper_one input types once) (wrapped input)
+    p.wrappers q.wrappers p.are_wrappers q.are_wrappers in
+    p.parts ∙ (ap (λ (fs : List PlannedFunction). fs ++ p.wrappers) own
+    ∙ (ap (λ (fs : List PlannedFunction). q.own ++ fs) wrappers ∙ sym q.parts))
 
 -- ---- imports
 
@@ -273,41 +288,3 @@ pub globals_one : FormsAreOne → (input : Input) (g : Placing) → (xs ys : Lis
     → ArePlannedGlobals input g xs → ArePlannedGlobals input g ys → xs ≡ ys
 globals_one forms input g xs ys p q =
     zip_one (IsPlannedGlobal input g) (global_one forms input g) (own_globals input) xs ys p q
-
--- ---- exports
-
-make_export : List ℕ → ExternalKind → ℕ → Exported
-make_export name kind index = record { name = name; kind = kind; index = index }
-
-export_one : (input : Input) → StandOnce (function_space input) → (under : List ℕ) (x y : Exported)
-    → IsFunctionExport input under x → IsFunctionExport input under y → x ≡ y
-unfolding make_export
-export_one input once under x y p q =
-    let same = some_one (named_function input.link under) p.entry q.entry p.stands_for q.stands_for in
-    let at : slice_get (function_space input) x.index ≡ Some q.entry =
-    p.index ∙ ap (λ (e : FunctionEntry). Some e) same in
-    let index = once x.index y.index q.entry at q.index in
-    let name : x.name ≡ y.name = p.name ∙ sym q.name in
-    let kind : x.kind ≡ y.kind = p.kind ∙ sym q.kind in
-    let h : make_export x.name x.kind x.index ≡ make_export y.name y.kind y.index =
-    rw (name, kind, index) refl in
-    h
-
-unless_one : (input : Input) → StandOnce (function_space input) → (taken : Bool) (name : List ℕ)
-    (xs ys : List Exported) → IsExportedUnless input taken name xs
-    → IsExportedUnless input taken name ys → xs ≡ ys
-unless_one input once true name xs ys p q = p ∙ sym q
-unless_one input once false name xs ys p q =
-    p.1 ∙ ap (λ (x : Exported). x ∷ []) (export_one input once name p.0 q.0 p.2 q.2) ∙ sym q.1
-
-entry_one : (input : Input) → StandOnce (function_space input) → (entry : Option (List ℕ))
-    (xs ys : List Exported) → IsEntryExport input entry xs → IsEntryExport input entry ys → xs ≡ ys
-entry_one input once None xs ys p q = p ∙ sym q
-entry_one input once (Some name) xs ys p q =
-    unless_one input once (is_memory_name input name) name xs ys p q
-
-pub exports_one : (input : Input) → StandOnce (function_space input) → (xs ys : List Exported)
-    → AreExports input xs → AreExports input ys → xs ≡ ys
-exports_one input once xs ys p q =
-    p.1 ∙ ap (λ (es : List Exported). memory_exports input ++ es)
-    (entry_one input once input.link.args.entry p.0 q.0 p.2 q.2) ∙ sym q.1

@@ -19,6 +19,7 @@ use Rattle.wl_bind.specs.GlobalSpace.{global_space}
 use Rattle.wl_bind.specs.Input.{Input}
 use Rattle.wl_bind.specs.OutputTypes.{output_types}
 use Rattle.wl_bind.specs.Parts.{StandOnce}
+use Rattle.wl_exports.specs.Wrapped.{AreOutputExports}
 use Rattle.wl_plan.specs.Extras.{AreTakenIf, AreOutputFeatures}
 use Rattle.wl_plan.specs.Fixups.{AreFixups}
 use Rattle.wl_plan.specs.Origins.{PlannedFunction}
@@ -31,7 +32,7 @@ use Rattle.wl_plan.specs.declared.layout.PlannedGlobal.{PlannedGlobal}
 use Rattle.wl_plan.specs.declared.layout.WasmLayout.{WasmLayout}
 use Rattle.wl_plan.specs.declared.placing.Placing.{Placing}
 use Rattle.wl_plan.proofs.UniqueBodies.{FormsAreOne, bodies_one, section_one, text_one, fixups_one}
-use Rattle.wl_plan.proofs.UniqueEntities.{functions_one, imports_one, elements_one, start_one, globals_one, exports_one}
+use Rattle.wl_plan.proofs.UniqueEntities.{functions_one, imports_one, elements_one, start_one, globals_one}
 use Rattle.wl_plan.proofs.UniqueParts.{AreOnce, maps_one}
 use Rattle.wl_plan.proofs.UniqueSegments.{SegmentsHaveLayouts, segments_once}
 
@@ -41,6 +42,16 @@ use Rattle.wl_plan.proofs.UniqueSegments.{SegmentsHaveLayouts, segments_once}
 abbrev pub FeaturesAreOne : Type 0
 FeaturesAreOne = (link : Link) (a b : List (List ℕ)) → AreTaken link a → AreTaken link b → a ≡ b
 
+-- the exports are one list
+abbrev pub ExportsAreOne : Type 0
+ExportsAreOne = (input : Input) (a b : List Exported) → AreOutputExports input a
+    → AreOutputExports input b → a ≡ b
+
+-- what a layout names: its features, and its exports
+pub record NamesAreOne : Type 0 where
+  pub features : FeaturesAreOne
+  pub exports : ExportsAreOne
+
 -- data lies in one way, where each segment has its layout; spaces have nothing twice
 pub record LawsBelow : Type 0 where
   pub forms : FormsAreOne
@@ -49,7 +60,7 @@ pub record LawsBelow : Type 0 where
   pub functions : (input : Input) → StandOnce (function_space input)
   pub globals : (input : Input) → StandOnce (global_space input)
   pub types : (input : Input) → StandOnce (output_types input)
-  pub features : FeaturesAreOne
+  pub names : NamesAreOne
 
 placing_one : LawsBelow → (input : Input) (g h : Placing) → IsPlacing input g → IsPlacing input h → g ≡ h
 placing_one laws input g h p q =
@@ -123,7 +134,7 @@ record HasLayoutParts (input : Input) (g : Placing) (layout : WasmLayout) : Type
   pub spaces : HasSpaces input g layout
   pub bodies : HasBodies input g layout
 
-layout_one : FormsAreOne → FeaturesAreOne → (input : Input) (g : Placing) → AreOnce input g → (a b : WasmLayout)
+layout_one : FormsAreOne → NamesAreOne → (input : Input) (g : Placing) → AreOnce input g → (a b : WasmLayout)
     → HasLayoutParts input g a → HasLayoutParts input g b → a ≡ b
 unfolding make_layout
 layout_one forms named input g once a b p q =
@@ -132,7 +143,8 @@ layout_one forms named input g once a b p q =
     p.entities.imports q.entities.imports in
     let functions = functions_one input (output_types input) once.types a.function_type_indices
     b.function_type_indices p.spaces.functions q.spaces.functions in
-    let bodies = bodies_one forms input g a.function_bodies b.function_bodies p.bodies.bodies q.bodies.bodies in
+    let bodies = bodies_one forms input g once.functions a.function_bodies b.function_bodies p.bodies.bodies
+    q.bodies.bodies in
     let globals = globals_one forms input g a.globals b.globals p.spaces.globals q.spaces.globals in
     let memory : a.memory ≡ b.memory = p.places.memory ∙ sym q.places.memory in
     let table : a.table ≡ b.table = p.entities.table ∙ sym q.entities.table in
@@ -141,7 +153,7 @@ layout_one forms named input g once a b p q =
     let slots : a.function_table_slots ≡ b.function_table_slots = p.entities.slots ∙ sym q.entities.slots in
     let data_is : a.object_data_layouts ≡ b.object_data_layouts =
     p.places.data_layouts ∙ sym q.places.data_layouts in
-    let exports = exports_one input once.functions a.exports b.exports p.spaces.exports q.spaces.exports in
+    let exports = named.exports input a.exports b.exports p.spaces.exports q.spaces.exports in
     let start = start_one input once.functions a.start_function b.start_function
     p.entities.start q.entities.start in
     let memory_base : a.memory_base ≡ b.memory_base = p.places.memory_base ∙ sym q.places.memory_base in
@@ -153,7 +165,7 @@ layout_one forms named input g once a b p q =
     let code_size = code_size_one forms a b bodies p.bodies.size q.bodies.size in
     let data_size = section_one forms (segment_count g.places.layouts) (all_encoded_bytes g.places.layouts)
     a.data_section_size b.data_section_size p.places.data_size q.places.data_size in
-    let features = features_one named input.link a.features b.features p.bodies.features
+    let features = features_one named.features input.link a.features b.features p.bodies.features
     q.bodies.features in
     let debug : a.debug_sections ≡ b.debug_sections = p.bodies.debug_sections ∙ sym q.bodies.debug_sections in
     let maps = maps_one input g once a.object_index_maps b.object_index_maps p.spaces.maps q.spaces.maps in
@@ -208,7 +220,7 @@ plan_at input plan p = record {
   fixups = p.fixups;
 }
 
-plan_there_one : FormsAreOne → FeaturesAreOne → (input : Input) (g : Placing) → AreOnce input g → (a b : LinkPlan)
+plan_there_one : FormsAreOne → NamesAreOne → (input : Input) (g : Placing) → AreOnce input g → (a b : LinkPlan)
     → IsPlanAt input g a → IsPlanAt input g b → a ≡ b
 unfolding make_plan
 plan_there_one forms named input g once a b p q =
@@ -221,5 +233,5 @@ plan_there_one forms named input g once a b p q =
 pub plans_one : LawsBelow → (input : Input) (a b : LinkPlan) → IsPlan input a → IsPlan input b → a ≡ b
 plans_one laws input a b p q =
     let same = placing_one laws input p.placing q.placing p.placed q.placed in
-    plan_there_one laws.forms laws.features input q.placing (all_once laws input q.placing q.placed) a b
+    plan_there_one laws.forms laws.names input q.placing (all_once laws input q.placing q.placed) a b
     (subst (λ (g : Placing). IsPlanAt input g a) same (plan_at input a p)) (plan_at input b q)

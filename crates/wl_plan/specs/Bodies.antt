@@ -3,6 +3,7 @@ use Rattle.std.specs.Prelude.{◌≡◌, ℕ, ◌+◌, ◌==◌, ◌&&◌, ◌||
 use Rattle.std.specs.List.{AllZip}
 use Rattle.std.specs.Option.{option_and_then}
 use Rattle.wl_module.specs.Bodies.{Body}
+use Rattle.wl_module.specs.Types.{FunctionType}
 use Rattle.wl_linking.specs.Debug.{DebugInput}
 use Rattle.wl_linking.specs.Object.{Object}
 use Rattle.wl_symbols.specs.declared.linker_symbol.WasmLinkerSymbol.{WasmLinkerSymbol}
@@ -10,18 +11,21 @@ use Rattle.wl_symbols.specs.declared.linker_symbol.WasmLinkerSymbol.TheVariants.
 use Rattle.wl_ops.specs.Numbers.{AreTold}
 use Rattle.wl_ops.specs.Rewriting.{Rewrites, Moves}
 use Rattle.wl_ops.specs.declared.op.DataIndexImm.{DataIndexImm}
-use Rattle.wl_synth.specs.Bodies.{call_sequence_ops}
+use Rattle.wl_synth.specs.Bodies.{call_sequence_ops, wrapper_ops}
 use Rattle.wl_synth.specs.Encoding.{IsEncoded}
 use Rattle.wl_synth.specs.declared.calls.TheConstants.{UNREACHABLE_FUNCTION_BODY}
 use Rattle.wl_live.specs.declared.units.WasmGcUnit.TheVariants.{DataSegment}
 use Rattle.wl_ctors.specs.InitCalls.{AreInitCalls}
 use Rattle.wl_ctors.specs.declared.calls.InitCall.{InitCall}
-use Rattle.wl_bind.specs.FunctionSpace.{FunctionEntry, FunctionOf, InitMemory}
+use Rattle.wl_bind.specs.EntryTypes.{type_of_entry}
+use Rattle.wl_bind.specs.FunctionSpace.{FunctionEntry, FunctionOf, InitMemory, function_space}
 use Rattle.wl_bind.specs.Input.{Input, keeps}
 use Rattle.wl_bind.specs.declared.binding.FunctionTarget.TheVariants.{Defined, Made, Host, Stub}
 use Rattle.wl_bind.specs.declared.relocated.FixupPlace.{FixupPlace}
 use Rattle.wl_bind.specs.declared.relocated.FixupPlace.TheVariants.{Code, Segment}
 use Rattle.wl_bind.specs.declared.relocated.Relocated.{Relocated}
+use Rattle.wl_exports.specs.Exports.{ExportEntry, OfFunction}
+use Rattle.wl_exports.specs.Wrappers.{wrapped}
 use Rattle.wl_plan.specs.Addresses.{segment_space}
 use Rattle.wl_plan.specs.Functions.{own_functions}
 use Rattle.wl_plan.specs.declared.placing.Placing.{Placing}
@@ -101,9 +105,32 @@ IsBodyOf input g (FunctionOf (Host object slot)) b = ⊥
 IsBodyOf input g (FunctionOf (Stub object slot)) b = IsMadeBody UNREACHABLE_FUNCTION_BODY b
 IsBodyOf input g InitMemory b = ⊥
 
--- one for each function that isn't imported, in order
-abbrev pub AreBodies : Input → Placing → List Body → Type 0
-AreBodies input g bodies = AllZip (IsBodyOf input g) (own_functions input) bodies
+-- one for each function of the space that isn't imported, in order
+abbrev pub AreOwnBodies : Input → Placing → List Body → Type 0
+AreOwnBodies input g bodies = AllZip (IsBodyOf input g) (own_functions input) bodies
+
+-- the body of the wrapper of an export: it calls what runs the constructors, and then what the
+-- export leads to, with its own parameters
+pub record IsWrapperBody (input : Input) (e : ExportEntry) (b : Body) : Type 0 where
+  pub function : FunctionEntry
+  pub leads : e.entity ≡ OfFunction function
+  pub original : ℕ
+  pub stands : slice_get (function_space input) original ≡ Some function
+  pub constructors : ℕ
+  pub are_made : slice_get (function_space input) constructors ≡ Some (FunctionOf (Made CallCtors))
+  pub ty : FunctionType
+  pub typed : type_of_entry input function ≡ Some ty
+  pub bytes : List ℕ
+  pub encoded : IsEncoded (wrapper_ops constructors original (length ty.params)) bytes
+  pub made : IsMadeBody bytes b
+
+-- a body for each function that isn't imported: those of the space, and behind them the wrappers'
+pub record AreBodies (input : Input) (g : Placing) (bodies : List Body) : Type 0 where
+  pub own : List Body
+  pub wrappers : List Body
+  pub parts : bodies ≡ own ++ wrappers
+  pub are_own : AreOwnBodies input g own
+  pub are_wrappers : AllZip (IsWrapperBody input) (wrapped input) wrappers
 
 -- ---- fields
 

@@ -15,12 +15,14 @@ use Rattle.wl_live.specs.Live.{Live, IsLiveOf}
 use Rattle.wl_bind.specs.Bound.{bind_steps}
 use Rattle.wl_bind.specs.Input.{Input}
 use Rattle.wl_bind.specs.SpaceFaults.{IsSpaceTooLarge}
+use Rattle.wl_exports.specs.Faults.{IsExportFault}
+use Rattle.wl_exports.specs.Wrapped.{AreTooManyWrappers}
 use Rattle.wl_plan.specs.Addresses.{IsAddressTooHigh}
 use Rattle.wl_plan.specs.Bodies.{AreBodies}
 use Rattle.wl_plan.specs.Fixups.{IsFixupFault}
 use Rattle.wl_plan.specs.Globals.{IsGlobalFault}
 use Rattle.wl_plan.specs.Placing.{IsPlacing, place_steps}
-use Rattle.wl_plan.specs.Planned.{IsNotYet, IsUnplannedOption}
+use Rattle.wl_plan.specs.Planned.{IsUnplannedOption}
 use Rattle.wl_plan.specs.declared.placing.Placing.{Placing}
 
 -- ---- where it is known where things lie
@@ -43,7 +45,11 @@ IsSizeFault input g e =
 
 -- the reasons that are judged where each address is one, in their order
 abbrev pub value_steps : Input → Placing → LinkError → Type 0
-value_steps input g = Step (IsValueFault input g) (Step (IsSizeFault input g) NoStep)
+value_steps input g =
+    Step (IsValueFault input g)
+    (Step (IsExportFault input)
+    (Step (IsSizeFault input g)
+    NoStep))
 
 -- all of them
 abbrev pub placed_fault : Input → Placing → LinkError → Type 0
@@ -61,7 +67,11 @@ pub record IsPlacedFault (input : Input) (e : LinkError) : Type 0 where
 abbrev pub kept_fault : Input → LinkError → Type 0
 kept_fault input =
     bind_steps input
-    (Step (IsSpaceTooLarge input) (place_steps input (Step (IsPlacedFault input) NoStep)))
+    (Step (IsSpaceTooLarge input)
+    (Step (AreTooManyWrappers input)
+    (place_steps input
+    (Step (IsPlacedFault input)
+    NoStep))))
 
 -- the link, and what is kept of it
 abbrev pub input_of : Link → Live → Input
@@ -79,10 +89,9 @@ pub record IsLaterFault (link : Link) (e : LinkError) : Type 0 where
 abbrev pub link_fault : Link → LinkError → Type 0
 link_fault link =
     Step (IsDuplicate link.objects)
-    (Step (IsNotYet link)
     (Step (IsUnplannedOption link.args)
     (feature_steps link
     (Step (IsEntryFault link)
     (Step (IsKeptFault link)
     (Step (IsLaterFault link)
-    NoStep))))))
+    NoStep)))))

@@ -22,7 +22,7 @@ use Rattle.wl_bind.specs.Scan.{table_functions}
 use Rattle.wl_bind.specs.declared.relocated.Relocated.{Relocated}
 use Rattle.wl_plan.specs.Fixups.{address_named, address_taken, address_refusal}
 use Rattle.wl_plan.specs.IndexedMaps.{AreWholeMaps}
-use Rattle.wl_plan.specs.Table.{function_slots}
+use Rattle.wl_plan.specs.Table.{space_slots}
 use Rattle.wl_plan.specs.declared.fixups.FixupSources.{FixupSources}
 
 -- there is room in the spaces of the output, and for the slots of the functions of the table
@@ -36,7 +36,7 @@ pub record AreFixupSources (s : FixupSources) : Type 0 where
   pub settled : IsSettled s.input.now
   pub room : HasRoom s.input.now
   pub maps : AreWholeMaps s.input.now s.placing.now s.maps.now
-  pub slots : s.slots.now ≡ function_slots s.input.now
+  pub slots : s.slots.now ≡ space_slots s.input.now
 
 -- an address that counts from the start of the memory
 abbrev pub is_absolute : RelocationType → Bool

@@ -1,5 +1,5 @@
 -- The functions of the output that aren't imported: where each is from, and its type.
-use Rattle.std.specs.Prelude.{◌≡◌, ℕ, List, length, drop, Option, Some, None, slice_get}
+use Rattle.std.specs.Prelude.{◌≡◌, ℕ, List, ◌++◌, length, drop, Option, Some, None, slice_get}
 use Rattle.std.specs.List.{AllZip}
 use Rattle.std.specs.Option.{option_map}
 use Rattle.wl_module.specs.Types.{FunctionType}
@@ -8,7 +8,9 @@ use Rattle.wl_bind.specs.EntryTypes.{function_slot, type_of_entry}
 use Rattle.wl_bind.specs.Input.{Input}
 use Rattle.wl_bind.specs.FunctionSpace.{FunctionEntry, FunctionOf, InitMemory, function_space, host_function_part}
 use Rattle.wl_bind.specs.declared.binding.FunctionTarget.TheVariants.{Defined, Made, Host, Stub}
-use Rattle.wl_plan.specs.Origins.{Origin, OfObject, OfLinker, OfInitMemory, OfStub, PlannedFunction}
+use Rattle.wl_exports.specs.Exports.{ExportEntry, OfFunction}
+use Rattle.wl_exports.specs.Wrappers.{wrapped}
+use Rattle.wl_plan.specs.Origins.{Origin, OfObject, OfLinker, OfInitMemory, OfStub, OfWrapper, PlannedFunction}
 
 -- the function space behind the imports
 abbrev pub own_functions : Input → List FunctionEntry
@@ -39,6 +41,25 @@ pub record IsOutputFunction (input : Input) (types : List FunctionType) (entry :
   pub typed : IsTypeNumber types (type_of_entry input entry) f.type_index
 
 -- the functions are those of the space, in order
-abbrev pub AreOutputFunctions : Input → List FunctionType → List PlannedFunction → Type 0
-AreOutputFunctions input types functions =
+abbrev pub AreOwnFunctions : Input → List FunctionType → List PlannedFunction → Type 0
+AreOwnFunctions input types functions =
     AllZip (IsOutputFunction input types) (own_functions input) functions
+
+-- ---- wrappers
+
+-- the function is the wrapper of an export, with the type of what the export leads to
+pub record IsWrapperFunction (input : Input) (types : List FunctionType) (e : ExportEntry)
+    (f : PlannedFunction) : Type 0 where
+  pub origin : f.origin ≡ OfWrapper e.name
+  pub function : FunctionEntry
+  pub leads : e.entity ≡ OfFunction function
+  pub typed : IsTypeNumber types (type_of_entry input function) f.type_index
+
+-- the functions that aren't imported: those of the space, and behind them the wrappers
+pub record AreOutputFunctions (input : Input) (types : List FunctionType)
+    (functions : List PlannedFunction) : Type 0 where
+  pub own : List PlannedFunction
+  pub wrappers : List PlannedFunction
+  pub parts : functions ≡ own ++ wrappers
+  pub are_own : AreOwnFunctions input types own
+  pub are_wrappers : AllZip (IsWrapperFunction input types) (wrapped input) wrappers

@@ -22,11 +22,10 @@ pub mod BodySteps
 pub mod PositionSteps
 pub mod Fixups
 pub mod FixupSteps
-pub mod Entry
-pub mod EntrySteps
 pub mod SizeSteps
 pub mod Extras
 pub mod Planned
+pub mod Outline
 pub mod Plan
 pub mod PlanSteps
 pub mod Faults

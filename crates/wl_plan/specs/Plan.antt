@@ -6,8 +6,8 @@ use Rattle.wl_bind.specs.FunctionSpace.{InitMemory, function_space}
 use Rattle.wl_bind.specs.Input.{Input}
 use Rattle.wl_bind.specs.Made.{has_init_memory, has_shared_tls}
 use Rattle.wl_bind.specs.OutputTypes.{output_types}
+use Rattle.wl_exports.specs.Wrapped.{AreOutputExports}
 use Rattle.wl_plan.specs.Bodies.{AreBodies}
-use Rattle.wl_plan.specs.Entry.{AreExports}
 use Rattle.wl_plan.specs.Extras.{AreOutputFeatures, output_debug_sections}
 use Rattle.wl_plan.specs.Fixups.{AreFixups}
 use Rattle.wl_plan.specs.Functions.{AreOutputFunctions}
@@ -59,7 +59,7 @@ pub record HasSpaces (input : Input) (g : Placing) (layout : WasmLayout) : Type 
   pub functions : AreOutputFunctions input (output_types input) layout.function_type_indices
   pub globals : ArePlannedGlobals input g layout.globals
   pub maps : AreWholeMaps input g layout.object_index_maps
-  pub exports : AreExports input layout.exports
+  pub exports : AreOutputExports input layout.exports
 
 -- ---- bodies
 

@@ -2,45 +2,42 @@
 use Rattle.std.specs.Prelude.{◌≡◌, ◌≤◌, MatchOption, false, length, Some, slice_get}
 use Rattle.wl_types.specs.Types.{max_entries}
 use Rattle.wl_bind.specs.FunctionSpace.{InitMemory, function_space}
-use Rattle.wl_bind.specs.GlobalSpace.{global_space}
 use Rattle.wl_bind.specs.Made.{has_init_memory, has_shared_tls}
 use Rattle.wl_bind.specs.Input.{Input}
 use Rattle.wl_bind.specs.OutputTypes.{output_types}
+use Rattle.wl_exports.specs.Wrapped.{AreOutputExports, AreWrappers}
 use Rattle.wl_plan.specs.AddressSteps.{IsBook}
 use Rattle.wl_plan.specs.Addresses.{segment_space}
 use Rattle.wl_plan.specs.Bodies.{AreBodies}
 use Rattle.wl_plan.specs.Bound.{AreBindings}
-use Rattle.wl_plan.specs.Entry.{AreExports}
-use Rattle.wl_plan.specs.Extras.{output_debug_sections}
+use Rattle.wl_plan.specs.Extras.{AreOutputFeatures, output_debug_sections}
 use Rattle.wl_plan.specs.Fixups.{AreFixups}
 use Rattle.wl_plan.specs.Functions.{AreOutputFunctions}
 use Rattle.wl_plan.specs.Globals.{ArePlannedGlobals}
 use Rattle.wl_plan.specs.Imports.{AreImports, own_memory}
 use Rattle.wl_plan.specs.IndexedMaps.{AreWholeMaps}
+use Rattle.wl_plan.specs.Outline.{AreFew, HasWrapperRoom}
 use Rattle.wl_plan.specs.Placing.{IsPlacing}
 use Rattle.wl_plan.specs.SizeSteps.{HasSizes}
 use Rattle.wl_plan.specs.Table.{AreElements, function_slots, output_table}
 use Rattle.wl_plan.specs.declared.addresses.AddressBook.{AddressBook}
 use Rattle.wl_plan.specs.declared.placing.Placing.{Placing}
-use Rattle.wl_plan.specs.declared.plan.OutputCode.{OutputCode}
+use Rattle.wl_plan.specs.declared.plan.OutputLists.{OutputLists}
 use Rattle.wl_plan.specs.declared.plan.OutputModule.{OutputModule}
 use Rattle.wl_plan.specs.declared.plan.OutputNames.{OutputNames}
 use Rattle.wl_plan.specs.declared.plan.OutputParts.{OutputParts}
 use Rattle.wl_plan.specs.declared.plan.OutputValues.{OutputValues}
 use Rattle.wl_plan.specs.declared.plan.PlacedThings.{PlacedThings}
 
--- there is room for the types, the functions and the globals of the output
-pub record AreFew (input : Input) : Type 0 where
-  pub types : length (output_types input) ≤ max_entries
-  pub functions : length (function_space input) ≤ max_entries
-  pub globals : length (global_space input) ≤ max_entries
-
 -- they are those of one link, and there is room for its segments
 pub record ArePlacedThings (t : PlacedThings) : Type 0 where
   pub placed : IsPlacing t.input.now t.placing.now
   pub bindings : AreBindings t.input.now t.bindings.now
   pub maps : AreWholeMaps t.input.now t.placing.now t.maps.now
+  pub functions : AreOutputFunctions t.input.now (output_types t.input.now) t.functions.now
+  pub wrappers : AreWrappers t.input.now t.wrappers.now
   pub few : AreFew t.input.now
+  pub wrapper_room : HasWrapperRoom t.input.now
   pub room : length (segment_space t.placing.now) ≤ max_entries
 
 -- the book is of the same link
@@ -49,11 +46,6 @@ pub record IsBookOf (t : PlacedThings) (book : AddressBook) : Type 0 where
   pub input : book.input.now ≡ t.input.now
   pub placing : book.placing.now ≡ t.placing.now
 
--- the functions and their bodies
-pub record HasCode (input : Input) (g : Placing) (code : OutputCode) : Type 0 where
-  pub functions : AreOutputFunctions input (output_types input) code.functions
-  pub bodies : AreBodies input g code.bodies
-
 -- what takes its numbers from where things lie
 pub record HasValues (input : Input) (g : Placing) (values : OutputValues) : Type 0 where
   pub globals : ArePlannedGlobals input g values.globals
@@ -61,18 +53,25 @@ pub record HasValues (input : Input) (g : Placing) (values : OutputValues) : Typ
   pub slots : values.slots ≡ function_slots input
   pub fixups : AreFixups input g values.fixups
 
--- what is imported and exported, and the debug sections
+-- what is imported, and the debug sections
 pub record HasNames (input : Input) (g : Placing) (names : OutputNames) : Type 0 where
   pub imports : AreImports input (output_types input) g names.imports
-  pub exports : AreExports input names.exports
   pub debug_sections : names.debug_sections ≡ output_debug_sections input.link
 
 -- all of them
 pub record HasPartsOf (input : Input) (g : Placing) (parts : OutputParts) : Type 0 where
-  pub code : HasCode input g parts.code
+  pub bodies : AreBodies input g parts.bodies
   pub values : HasValues input g parts.values
   pub names : HasNames input g parts.names
-  pub sizes : HasSizes parts.code.bodies g.places.layouts parts.sizes
+  pub sizes : HasSizes parts.bodies g.places.layouts parts.sizes
+
+-- the lists that are made before it is known where things lie, and the maps
+pub record AreLists (input : Input) (g : Placing) (lists : OutputLists) : Type 0 where
+  pub types : lists.types ≡ output_types input
+  pub functions : AreOutputFunctions input (output_types input) lists.functions
+  pub exports : AreOutputExports input lists.exports
+  pub features : AreOutputFeatures input.link lists.features
+  pub maps : AreWholeMaps input g lists.maps
 
 -- what the options and the bindings say
 pub record IsOutputModule (input : Input) (g : Placing) (m : OutputModule) : Type 0 where

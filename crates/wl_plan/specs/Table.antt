@@ -1,5 +1,5 @@
 -- The table of functions, and their slots in it.
-use Rattle.std.specs.Prelude.{◌≡◌, ℕ, ◌+◌, List, map, if◌then◌else◌, Option, Some, None, unwrap_or, position, slice_get}
+use Rattle.std.specs.Prelude.{◌≡◌, ℕ, ◌+◌, List, ◌++◌, map, if◌then◌else◌, Option, Some, None, unwrap_or, position, slice_get}
 use Rattle.std.specs.List.{AllZip}
 use Rattle.std.specs.Option.{option_map}
 use Rattle.wl_module.specs.declared.limits.TableType.{TableType}
@@ -11,6 +11,8 @@ use Rattle.wl_bind.specs.Sameness.{same_target}
 use Rattle.wl_bind.specs.Scan.{table_functions}
 use Rattle.wl_bind.specs.declared.binding.FunctionTarget.{FunctionTarget}
 use Rattle.wl_bind.specs.declared.binding.FunctionTarget.TheVariants.{Defined, Made, Host, Stub}
+use Rattle.wl_exports.specs.Exports.{ExportEntry}
+use Rattle.wl_exports.specs.Wrappers.{wrapped}
 
 -- ---- slots
 
@@ -31,9 +33,17 @@ abbrev pub slot_of_entry : Input → FunctionEntry → ℕ
 slot_of_entry input (FunctionOf target) = unwrap_or (slot_of input target) WASM_DEAD_INDEX
 slot_of_entry input InitMemory = WASM_DEAD_INDEX
 
+-- the slots of the functions of the space, by their indices
+abbrev pub space_slots : Input → List ℕ
+space_slots input = map (slot_of_entry input) (function_space input)
+
+-- no wrapper has a slot
+abbrev pub wrapper_slots : Input → List ℕ
+wrapper_slots input = map (λ (e : ExportEntry). WASM_DEAD_INDEX) (wrapped input)
+
 -- the slots of all functions, by their indices
 abbrev pub function_slots : Input → List ℕ
-function_slots input = map (slot_of_entry input) (function_space input)
+function_slots input = space_slots input ++ wrapper_slots input
 
 -- ---- the table
 

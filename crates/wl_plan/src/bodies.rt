@@ -10,7 +10,7 @@ ghost use Rattle.wl_bind.specs.FunctionSpace.{made_function_part, stub_part, fun
 ghost use Rattle.wl_synth.specs.Bodies.{call_sequence_ops};
 ghost use Rattle.wl_synth.specs.Encoding.{IsEncoded};
 ghost use Rattle.wl_plan.specs.Addresses.{segment_space};
-ghost use Rattle.wl_plan.specs.Bodies.{body_in, called, AreBodies, object_debug_sections};
+ghost use Rattle.wl_plan.specs.Bodies.{body_in, called, AreOwnBodies, object_debug_sections};
 ghost use Rattle.wl_plan.specs.BodySteps.{kept_number, AreNewNumbers, AreAllNumbers, AreSoundBodies, HasSoundBody, IsBodyFrom, AddsMadeBody, AddsBodies, debug_in};
 ghost use Rattle.wl_plan.specs.Bound.{AreBindings};
 ghost use Rattle.wl_plan.specs.FunctionSteps.{own_function_part};
@@ -145,7 +145,10 @@ fn renumbered<'a>(
 // ---- bodies
 
 /// Adds a body that the linker makes.
-fn push_made<'a>(bodies: &mut Vec<WasmFunctionBody<'a>>, bytes: Vec<u8>) -> Result<(), AllocError>
+pub(crate) fn push_made<'a>(
+    bodies: &mut Vec<WasmFunctionBody<'a>>,
+    bytes: Vec<u8>,
+) -> Result<(), AllocError>
     ensures { OnOk result (AddsMadeBody bytes.items bodies.old.items bodies.new.items) }
 {
     bodies.push(WasmFunctionBody {
@@ -280,22 +283,22 @@ fn push_bodies<'a>(
     Ok(())
 }
 
-/// The bodies of the functions that aren't imported, in order.
+/// The bodies of the functions of the space that aren't imported, in order.
 ///
 /// # Errors
 /// Want of memory alone.
-pub(crate) fn output_bodies<'a>(
+pub(crate) fn own_bodies<'a>(
     alloc: Global,
     input: &LinkInput<'_, 'a>,
     placing: &Placing<'a>,
     bindings: &Bindings<'a>,
     numbers: &[ItemList<Option<u32>>],
-) -> Result<ItemList<WasmFunctionBody<'a>>, LinkError>
+) -> Result<Vec<WasmFunctionBody<'a>>, LinkError>
     requires sound { AreSoundBodies input.now }
     requires bindings { AreBindings input.now bindings.now }
     requires numbers { AreAllNumbers input.now placing.now numbers.now }
     requires alone { input.now.link.args.shared_memory ≡ false }
-    ensures ok { IfOk result (AreBodies input.now placing.now) }
+    ensures ok { IfOk result (λ bodies. AreOwnBodies input.now placing.now bodies.items) }
     ensures err { IfErr result (λ e. e ≡ OutOfMemory) }
 {
     let mut bodies = Vec::new(alloc);
@@ -305,7 +308,7 @@ pub(crate) fn output_bodies<'a>(
         let row = numbers[object].as_slice();
         push_bodies(alloc, &mut bodies, input, placing, object, file, row)?;
     }
-    Ok(ItemList::new(bodies))
+    Ok(bodies)
 }
 
 // ---- debug sections

@@ -5,7 +5,7 @@ ghost use Rattle.wl_symbols.specs.declared.linker_symbol.WasmLinkerSymbol.TheVar
 ghost use Rattle.wl_bind.specs.FunctionSpace.{made_function_part, stub_part, functions_of};
 ghost use Rattle.wl_bind.specs.OutputTypes.{output_types};
 ghost use Rattle.wl_bind.specs.References.{IsSettled};
-ghost use Rattle.wl_plan.specs.Functions.{AreOutputFunctions};
+ghost use Rattle.wl_plan.specs.Functions.{AreOwnFunctions};
 ghost use Rattle.wl_plan.specs.Bound.{AreBindings};
 ghost use Rattle.wl_plan.specs.FunctionSteps.{AddsFunction, AddsFunctions, own_function_part};
 ghost use Rattle.wl_plan.specs.OriginsSeen.{origin_seen};
@@ -151,12 +151,12 @@ fn push_functions<'a>(
     Ok(())
 }
 
-/// The functions of the output that aren't imported: what the linker makes, and then what objects
+/// The functions of the space that aren't imported: what the linker makes, and then what objects
 /// define.
 ///
 /// # Errors
 /// `AllocError` where memory runs out.
-pub(crate) fn output_functions<'a>(
+pub(crate) fn own_functions<'a>(
     alloc: Global,
     input: &LinkInput<'_, 'a>,
     bindings: &Bindings<'a>,
@@ -164,7 +164,7 @@ pub(crate) fn output_functions<'a>(
     requires bindings { AreBindings input.now bindings.now }
     requires alone { input.now.link.args.shared_memory ≡ false }
     ensures { IfOk result
-        (λ functions. AreOutputFunctions input.now (output_types input.now) functions.items) }
+        (λ functions. AreOwnFunctions input.now (output_types input.now) functions.items) }
 {
     let mut functions = Vec::new(alloc);
     push_call_ctors(alloc, &mut functions, input, bindings)?;

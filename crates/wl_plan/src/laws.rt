@@ -12,6 +12,7 @@ use wl_bind::entries_stand_once;
 use wl_bytes::shortest_form_is_one;
 use wl_ctors::init_calls_are_one;
 use wl_data::{places_are_one, segments_have_layouts};
+use wl_exports::exports_are_one;
 use wl_features::features_are_one;
 use wl_linking::object_or_fault;
 use wl_live::live_sets_are_one;
@@ -33,6 +34,7 @@ pub fn plan_or_fault()
     init_calls_are_one();
     body_or_fault();
     features_are_one();
+    exports_are_one();
 }
 
 /// The bytes of objects have one plan at most, and never both a plan and a cause of a refusal.

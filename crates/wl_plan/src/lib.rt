@@ -4,7 +4,6 @@
 mod addresses;
 mod bindings;
 mod bodies;
-mod entry;
 mod extras;
 mod fixups;
 mod functions;
@@ -18,6 +17,7 @@ mod layout;
 mod link;
 mod module_layout;
 mod objects;
+mod outline;
 mod parsing;
 mod placing;
 mod plan;
@@ -25,6 +25,7 @@ mod planned;
 mod positions;
 mod sizes;
 mod table;
+mod wrappers;
 
 pub use laws::{link_plan_or_fault, plan_or_fault};
 pub use layout::{

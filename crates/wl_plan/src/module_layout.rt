@@ -2,7 +2,6 @@
 
 ghost use Rattle.std.specs.Prelude.{◌≡◌, false, OnOk, IfOk, IfErr};
 ghost use Rattle.wl_linking.specs.Steps.{Clear, Refuses};
-ghost use Rattle.wl_live.specs.Entry.{IsEntryFault};
 ghost use Rattle.wl_plan.specs.BodySteps.{AreSoundBodies};
 ghost use Rattle.wl_plan.specs.Faults.{kept_fault};
 ghost use Rattle.wl_plan.specs.Plan.{IsLayout};
@@ -15,18 +14,16 @@ use wl_features::taken_features;
 use wl_linking::LinkError;
 
 /// The layout of the output module: that of the plan of whole objects, of which it is known what is
-/// kept. What is judged before that is to have no cause: kept bodies are decoded, and the entry is
-/// defined where one is asked for.
+/// kept. What is judged before that is to have no cause: kept bodies are decoded.
 ///
 /// # Errors
-/// Why references can't be bound, things numbered or data placed, or why a global or a field can't
-/// take its value, or code or data has too many bytes.
+/// Why references can't be bound, things numbered or data placed, why a global or a field can't
+/// take its value, why there can't be the exports, or that code or data has too many bytes.
 pub fn build_output_module_layout<'a>(
     alloc: Global,
     input: &LinkInput<'a, 'a>,
 ) -> Result<WasmLayout<'a>, LinkError>
     requires sound { AreSoundBodies input.now }
-    requires entry { Clear (IsEntryFault input.now.link) }
     requires alone { input.now.link.args.shared_memory ≡ false }
     ensures ok { IfOk result (IsLayout input.now) }
     ensures clear { OnOk result (Clear (kept_fault input.now)) }

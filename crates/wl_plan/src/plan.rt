@@ -4,47 +4,46 @@ ghost use Rattle.std.specs.Prelude.{◌≡◌, ◌≤◌, false, length, OnOk, I
 ghost use Rattle.wl_linking.specs.Steps.{Clear, Refuses};
 ghost use Rattle.wl_linking.specs.declared.error.LinkError.TheVariants.{OutOfMemory};
 ghost use Rattle.wl_types.specs.Types.{max_entries};
-ghost use Rattle.wl_live.specs.Entry.{IsEntryFault};
-ghost use Rattle.wl_bind.specs.BoundIndices.{IsBoundIndices};
+ghost use Rattle.wl_features.specs.Taken.{AreTaken};
 ghost use Rattle.wl_bind.specs.FunctionSpace.{function_space};
 ghost use Rattle.wl_bind.specs.IndexMaps.{AreIndexMaps};
-ghost use Rattle.wl_bind.specs.OutputTypes.{output_types};
-ghost use Rattle.wl_bind.specs.References.{IsSettled};
-ghost use Rattle.wl_bind.specs.Signatures.{IsMismatch};
-ghost use Rattle.wl_features.specs.Taken.{AreTaken};
+ghost use Rattle.wl_bind.specs.Input.{Input};
 ghost use Rattle.wl_plan.specs.Addresses.{segment_space, IsAddressTooHigh};
+ghost use Rattle.wl_plan.specs.Bodies.{AreBodies};
 ghost use Rattle.wl_plan.specs.BodySteps.{AreAllNumbers, AreSoundBodies};
 ghost use Rattle.wl_plan.specs.Bound.{AreBindings};
-ghost use Rattle.wl_plan.specs.Extras.{AreOutputFeatures};
 ghost use Rattle.wl_plan.specs.Faults.{IsValueFault, value_steps, placed_fault, kept_fault};
 ghost use Rattle.wl_plan.specs.IndexedMaps.{AreWholeMaps};
+ghost use Rattle.wl_plan.specs.Outline.{AreChecked, AreFew, HasOutline, HasWrapperRoom};
 ghost use Rattle.wl_plan.specs.Placing.{IsPlacing};
 ghost use Rattle.wl_plan.specs.Plan.{IsPlan};
-ghost use Rattle.wl_plan.specs.PlanSteps.{AreFew, ArePlacedThings, IsBookOf, HasCode, HasValues, HasNames, HasPartsOf, IsOutputModule};
+ghost use Rattle.wl_plan.specs.PlanSteps.{ArePlacedThings, IsBookOf, HasValues, HasNames, HasPartsOf, AreLists, IsOutputModule};
+ghost use Rattle.wl_plan.specs.declared.placing.Placing.{Placing as Places};
 
 use crate::addresses::{AddressBook, all_starts, check_exported};
 use crate::bindings::Bindings;
-use crate::bodies::{all_numbers, output_bodies};
-use crate::entry::output_exports;
+use crate::bodies::{all_numbers, own_bodies};
 use crate::extras::{output_debug_sections, output_features};
 use crate::fixups::{FixupSources, all_fixups};
-use crate::functions::output_functions;
 use crate::global_starts::GlobalSources;
 use crate::globals::planned_globals;
 use crate::imports::output_imports;
 use crate::index_maps::whole_maps;
 use crate::layout::{Fixup, LinkPlan, OutputFunction, OutputImport, PlannedGlobal, WasmLayout};
+use crate::outline::{Outline, outline_of};
 use crate::placing::{Placing, place_data, placings_are_one};
 use crate::positions::moved_positions;
 use crate::sizes::{SectionSizes, section_sizes};
-use crate::table::{element_functions, function_slots, output_table};
+use crate::table::{element_functions, output_table, space_slots};
+use crate::wrappers::{push_wrapper_bodies, push_wrapper_slots};
 use std::alloc::{AllocError, Global};
 use wl_bind::{
-    BoundIndices, LinkInput, WasmObjectIndexMap, build_index_maps, same_targets_are_one,
+    LinkInput, WasmObjectIndexMap, build_index_maps, entries_stand_once, same_targets_are_one,
     table_functions_stand_once,
 };
 use wl_bytes::shortest_form_is_one;
-use wl_ctors::{init_calls, init_calls_are_one};
+use wl_ctors::init_calls_are_one;
+use wl_exports::Wrapper;
 use wl_features::FeatureList;
 use wl_linking::{DebugSectionInput, ItemList, LinkError};
 use wl_module::{FuncType, MemoryType, OutputExport, TableType, WasmFunctionBody};
@@ -63,13 +62,45 @@ struct PlacedThings<'p, 'i, 'a> {
     bindings: &'p Bindings<'a>,
     /// Where the things of each object stand.
     maps: &'p [WasmObjectIndexMap],
+    /// The functions that aren't imported, with the wrappers.
+    functions: &'p [OutputFunction<'a>],
+    /// The wrappers.
+    wrappers: &'p [Wrapper<'a>],
 }
 
-/// The functions that aren't imported, with their bodies.
-#[derive(Drop)]
-struct OutputCode<'a> {
-    functions: ItemList<OutputFunction<'a>>,
-    bodies: ItemList<WasmFunctionBody<'a>>,
+/// The bodies of the functions that aren't imported, in order.
+fn output_bodies<'a>(
+    alloc: Global,
+    things: &PlacedThings<'_, '_, 'a>,
+    numbers: &[ItemList<Option<u32>>],
+) -> Result<ItemList<WasmFunctionBody<'a>>, LinkError>
+    requires things { ArePlacedThings things.now }
+    requires sound { AreSoundBodies things.now.input.now }
+    requires numbers { AreAllNumbers things.now.input.now things.now.placing.now numbers.now }
+    requires alone { things.now.input.now.link.args.shared_memory ≡ false }
+    ensures ok { IfOk result (AreBodies things.now.input.now things.now.placing.now) }
+    ensures err { IfErr result (λ e. e ≡ OutOfMemory) }
+{
+    let (input, bindings) = (things.input, things.bindings);
+    let mut bodies = own_bodies(alloc, input, things.placing, bindings, numbers)?;
+    push_wrapper_bodies(
+        alloc,
+        &mut bodies,
+        input,
+        bindings,
+        things.functions,
+        things.wrappers,
+    )?;
+    Ok(ItemList::new(bodies))
+}
+
+/// How many functions there are without the wrappers.
+fn space_len(things: &PlacedThings<'_, '_, '_>) -> usize
+    requires { ArePlacedThings things.now }
+    ensures { result ≡ length (function_space things.now.input.now) }
+{
+    let hosts = things.bindings.shared.functions().len();
+    hosts + things.functions.len() - things.wrappers.len()
 }
 
 /// What takes its numbers from where things lie.
@@ -81,41 +112,17 @@ struct OutputValues<'a> {
     fixups: ItemList<Fixup>,
 }
 
-/// The functions that aren't imported, with their bodies, and where fields stand in these.
-fn output_code<'a>(
-    alloc: Global,
-    things: &PlacedThings<'_, '_, 'a>,
-    numbers: &[ItemList<Option<u32>>],
-) -> Result<OutputCode<'a>, LinkError>
-    requires things { ArePlacedThings things.now }
-    requires sound { AreSoundBodies things.now.input.now }
-    requires numbers { AreAllNumbers things.now.input.now things.now.placing.now numbers.now }
-    requires alone { things.now.input.now.link.args.shared_memory ≡ false }
-    ensures ok { IfOk result (HasCode things.now.input.now things.now.placing.now) }
-    ensures err { IfErr result (λ e. e ≡ OutOfMemory) }
-{
-    let (input, bindings) = (things.input, things.bindings);
-    let functions = output_functions(alloc, input, bindings)?;
-    let bodies = output_bodies(alloc, input, things.placing, bindings, numbers)?;
-    Ok(OutputCode {
-        functions: ItemList::new(functions),
-        bodies,
-    })
-}
-
-/// What takes its numbers from where things lie, of so many functions.
+/// What takes its numbers from where things lie.
 fn output_values<'a>(
     alloc: Global,
     things: &PlacedThings<'_, '_, 'a>,
     book: &AddressBook<'_, '_, 'a>,
     numbers: &[ItemList<Option<u32>>],
-    functions: usize,
 ) -> Result<OutputValues<'a>, LinkError>
     requires things { ArePlacedThings things.now }
     requires sound { AreSoundBodies things.now.input.now }
     requires book { IsBookOf things.now book.now }
     requires numbers { AreAllNumbers things.now.input.now things.now.placing.now numbers.now }
-    requires all { functions ≡ length (function_space things.now.input.now) }
     requires low { Clear (IsAddressTooHigh things.now.input.now things.now.placing.now) }
     ensures ok { IfOk result (HasValues things.now.input.now things.now.placing.now) }
     ensures clear { OnOk result
@@ -140,7 +147,8 @@ fn output_values<'a>(
         },
     )?;
     let elements = element_functions(alloc, input, placing, bindings, maps)?;
-    let slots = function_slots(alloc, input, bindings, elements.as_slice(), functions)?;
+    let count = space_len(things);
+    let mut slots = space_slots(alloc, input, bindings, elements.as_slice(), count)?;
     let relocations = bindings.scan.relocations.as_slice();
     let positions = moved_positions(alloc, input, placing, numbers, relocations)?;
     let sources = FixupSources {
@@ -150,6 +158,7 @@ fn output_values<'a>(
         slots: slots.as_slice(),
     };
     let fixups = all_fixups(alloc, &sources, relocations, &positions)?;
+    push_wrapper_slots(&mut slots, things.wrappers)?;
     Ok(OutputValues {
         globals,
         elements,
@@ -158,15 +167,14 @@ fn output_values<'a>(
     })
 }
 
-/// What stands in a layout beside these: what is imported and exported, and debug sections.
+/// What stands in a layout beside these: what is imported, and debug sections.
 #[derive(Drop)]
 struct OutputNames<'a> {
     imports: ItemList<OutputImport<'a>>,
-    exports: ItemList<OutputExport<'a>>,
     debug_sections: ItemList<DebugSectionInput<'a>>,
 }
 
-/// What is imported and exported, and the debug sections.
+/// What is imported, and the debug sections.
 fn output_names<'a>(
     alloc: Global,
     things: &PlacedThings<'_, '_, 'a>,
@@ -174,19 +182,12 @@ fn output_names<'a>(
 ) -> Result<OutputNames<'a>, LinkError>
     requires things { ArePlacedThings things.now }
     requires args { args.now ≡ things.now.input.now.link.args }
-    requires entry { Clear (IsEntryFault things.now.input.now.link) }
     ensures ok { IfOk result (HasNames things.now.input.now things.now.placing.now) }
     ensures err { IfErr result (λ e. e ≡ OutOfMemory) }
 {
-    let (input, placing, bindings, maps) = (
-        things.input,
-        things.placing,
-        things.bindings,
-        things.maps,
-    );
+    let (input, placing, bindings) = (things.input, things.placing, things.bindings);
     Ok(OutputNames {
         imports: output_imports(alloc, input, args, bindings, placing)?,
-        exports: output_exports(alloc, input, args, placing, bindings, maps)?,
         debug_sections: output_debug_sections(alloc, input.files(), args)?,
     })
 }
@@ -194,26 +195,28 @@ fn output_names<'a>(
 /// All parts that are made from where things lie.
 #[derive(Drop)]
 struct OutputParts<'a> {
-    code: OutputCode<'a>,
+    bodies: ItemList<WasmFunctionBody<'a>>,
     values: OutputValues<'a>,
     names: OutputNames<'a>,
     sizes: SectionSizes,
 }
 
-/// All parts that are made from where things lie.
+/// All parts that are made from where things lie, where it was judged whether there can be the
+/// exports: that is told behind all that is judged here, but before sizes.
 fn output_parts<'a>(
     alloc: Global,
     things: &PlacedThings<'_, '_, 'a>,
     book: &AddressBook<'_, '_, 'a>,
     args: &'a WasmArgs,
+    checked: Result<(), LinkError>,
 ) -> Result<OutputParts<'a>, LinkError>
     requires things { ArePlacedThings things.now }
     requires sound { AreSoundBodies things.now.input.now }
     requires book { IsBookOf things.now book.now }
     requires args { args.now ≡ things.now.input.now.link.args }
-    requires entry { Clear (IsEntryFault things.now.input.now.link) }
     requires alone { things.now.input.now.link.args.shared_memory ≡ false }
     requires low { Clear (IsAddressTooHigh things.now.input.now things.now.placing.now) }
+    requires checked { AreChecked things.now.input.now checked }
     ensures ok { IfOk result (HasPartsOf things.now.input.now things.now.placing.now) }
     ensures clear { OnOk result (Clear (value_steps things.now.input.now things.now.placing.now)) }
     ensures err { IfErr result
@@ -223,17 +226,17 @@ fn output_parts<'a>(
     shortest_form_is_one();
     init_calls_are_one();
     body_or_fault();
+    entries_stand_once();
     let numbers = all_numbers(alloc, things.input, things.placing, things.maps)?;
     let numbers = numbers.as_slice();
-    let code = output_code(alloc, things, numbers)?;
-    let hosts = things.bindings.shared.functions().len();
-    let count = hosts + code.functions.as_slice().len();
-    let values = output_values(alloc, things, book, numbers, count)?;
+    let bodies = output_bodies(alloc, things, numbers)?;
+    let values = output_values(alloc, things, book, numbers)?;
+    checked?;
     let layouts = things.placing.places.layouts.as_slice();
-    let sizes = section_sizes(code.bodies.as_slice(), layouts)?;
+    let sizes = section_sizes(bodies.as_slice(), layouts)?;
     Ok(OutputParts {
         names: output_names(alloc, things, args)?,
-        code,
+        bodies,
         values,
         sizes,
     })
@@ -248,26 +251,32 @@ struct OutputModule {
     shared_memory_tls: bool,
 }
 
+/// Lists that are made before it is known where things lie, and the maps of the objects.
+#[derive(Drop)]
+struct OutputLists<'a> {
+    types: ItemList<FuncType>,
+    functions: ItemList<OutputFunction<'a>>,
+    exports: ItemList<OutputExport<'a>>,
+    features: FeatureList<'a>,
+    maps: ItemList<WasmObjectIndexMap>,
+}
+
 /// The plan of these parts, where things lie there.
 fn plan_of<'a>(
     input: &LinkInput<'_, 'a>,
-    types: ItemList<FuncType>,
-    maps: ItemList<WasmObjectIndexMap>,
+    lists: OutputLists<'a>,
     parts: OutputParts<'a>,
     whole: OutputModule,
     placing: Placing<'a>,
-    features: FeatureList<'a>,
 ) -> LinkPlan<'a>
     requires placed { IsPlacing input.now placing }
-    requires types { types ≡ output_types input.now }
-    requires maps { AreWholeMaps input.now placing maps }
+    requires lists { AreLists input.now placing lists }
     requires parts { HasPartsOf input.now placing parts }
     requires whole { IsOutputModule input.now placing whole }
-    requires features { AreOutputFeatures input.now.link features }
     ensures { IsPlan input.now result }
 {
     let OutputParts {
-        code,
+        bodies,
         values,
         names,
         sizes,
@@ -281,17 +290,17 @@ fn plan_of<'a>(
     } = placing;
     LinkPlan {
         layout: WasmLayout {
-            output_types: types,
+            output_types: lists.types,
             imports: names.imports,
-            function_type_indices: code.functions,
-            function_bodies: code.bodies,
+            function_type_indices: lists.functions,
+            function_bodies: bodies,
             globals: values.globals,
             memory: whole.memory,
             table: whole.table,
             element_functions: values.elements,
             function_table_slots: values.slots,
             object_data_layouts: places.layouts,
-            exports: names.exports,
+            exports: lists.exports,
             start_function: whole.start_function,
             memory_base,
             tls_base: places.tls_base,
@@ -301,9 +310,9 @@ fn plan_of<'a>(
             data_end: places.data_end,
             code_section_size: sizes.code,
             data_section_size: sizes.segments,
-            features,
+            features: lists.features,
             debug_sections: names.debug_sections,
-            object_index_maps: maps,
+            object_index_maps: lists.maps,
         },
         fixups: values.fixups,
     }
@@ -329,84 +338,118 @@ fn output_module(
     }
 }
 
-/// The parts of the bound link that a plan is made from, with what is called at the start, and the
-/// maps of its objects.
-fn bindings_of<'a>(
+/// The lists of an outline, and these maps.
+fn lists_of<'a>(
     alloc: Global,
-    input: &LinkInput<'_, 'a>,
-    bound: BoundIndices<'a>,
-) -> Result<(Bindings<'a>, ItemList<WasmObjectIndexMap>), AllocError>
-    requires settled { IsSettled input.now }
-    requires signatures { Clear (IsMismatch input.now) }
-    requires bound { IsBoundIndices input.now bound }
-    requires room { length (function_space input.now) ≤ max_entries }
-    ensures bindings { IfOk result (λ r. AreBindings input.now r.0) }
-    ensures maps { IfOk result (λ r. AreIndexMaps input.now r.1) }
+    args: &'a WasmArgs,
+    outline: Outline<'a>,
+    maps: ItemList<WasmObjectIndexMap>,
+) -> Result<OutputLists<'a>, AllocError>
+    ensures { (input : Input) (placing : Places) → args.now ≡ input.link.args
+        → HasOutline input outline.entry → AreWholeMaps input placing maps
+        → IfOk result (AreLists input placing) }
 {
-    let types = bound.types;
-    let bindings = Bindings {
-        scan: bound.scan,
-        stubs: bound.stubs,
-        shared: bound.shared,
-        indices: bound.indices,
-        types: types.types,
-        calls: init_calls(alloc, input, bound.maps.as_slice())?,
-    };
-    Ok((bindings, bound.maps))
+    let Outline {
+        bindings,
+        functions,
+        interface,
+        features,
+    } = outline;
+    let types = bindings.types.into_types()?;
+    let features = output_features(alloc, args, features);
+    Ok(OutputLists {
+        types,
+        functions,
+        exports: interface.exports,
+        features,
+        maps,
+    })
 }
 
-/// The plan of a link, whose references are bound, and whose data lies there.
+/// All parts that are made from where things lie, and the maps of the objects with their data, of a
+/// link with that outline.
+fn placed_parts<'a>(
+    alloc: Global,
+    input: &LinkInput<'_, 'a>,
+    args: &'a WasmArgs,
+    outline: &Outline<'a>,
+    placing: &Placing<'a>,
+    maps: ItemList<WasmObjectIndexMap>,
+    checked: Result<(), LinkError>,
+) -> Result<(ItemList<WasmObjectIndexMap>, OutputParts<'a>), LinkError>
+    requires sound { AreSoundBodies input.now }
+    requires outline { HasOutline input.now outline.now }
+    requires placed { IsPlacing input.now placing.now }
+    requires maps { AreIndexMaps input.now maps }
+    requires checked { AreChecked input.now checked }
+    requires few { AreFew input.now }
+    requires wrapper_room { HasWrapperRoom input.now }
+    requires segments { length (segment_space placing.now) ≤ max_entries }
+    requires args { args.now ≡ input.now.link.args }
+    requires alone { input.now.link.args.shared_memory ≡ false }
+    ensures maps { IfOk result (λ r. AreWholeMaps input.now placing.now r.0) }
+    ensures parts { IfOk result (λ r. HasPartsOf input.now placing.now r.1) }
+    ensures clear { OnOk result (Clear (placed_fault input.now placing.now)) }
+    ensures err { IfErr result (Refuses (placed_fault input.now placing.now)) }
+{
+    let starts = all_starts(alloc, input, placing)?;
+    let book = AddressBook {
+        input,
+        placing,
+        starts: starts.as_slice(),
+    };
+    let maps = whole_maps(alloc, &book, maps)?;
+    check_exported(input, placing, outline.bindings.indices.exported())?;
+    let things = PlacedThings {
+        input,
+        placing,
+        bindings: &outline.bindings,
+        maps: maps.as_slice(),
+        functions: outline.functions.as_slice(),
+        wrappers: outline.interface.wrappers.as_slice(),
+    };
+    let parts = output_parts(alloc, &things, &book, args, checked)?;
+    Ok((maps, parts))
+}
+
+/// The plan of a link with that outline, whose data lies there.
 fn plan_placed<'a>(
     alloc: Global,
     input: &LinkInput<'_, 'a>,
     args: &'a WasmArgs,
-    bound: BoundIndices<'a>,
+    outline: Outline<'a>,
+    maps: ItemList<WasmObjectIndexMap>,
+    checked: Result<(), LinkError>,
     placing: Placing<'a>,
-    features: FeatureList<'a>,
 ) -> Result<LinkPlan<'a>, LinkError>
     requires sound { AreSoundBodies input.now }
-    requires settled { IsSettled input.now }
-    requires signatures { Clear (IsMismatch input.now) }
-    requires features { AreTaken input.now.link features }
-    requires bound { IsBoundIndices input.now bound }
+    requires outline { HasOutline input.now outline }
+    requires maps { AreIndexMaps input.now maps }
+    requires checked { AreChecked input.now checked }
     requires placed { IsPlacing input.now placing }
     requires few { AreFew input.now }
+    requires wrapper_room { HasWrapperRoom input.now }
     requires segments { length (segment_space placing) ≤ max_entries }
     requires args { args.now ≡ input.now.link.args }
-    requires entry { Clear (IsEntryFault input.now.link) }
     requires alone { input.now.link.args.shared_memory ≡ false }
     ensures ok { IfOk result (IsPlan input.now) }
     ensures clear { OnOk result (Clear (placed_fault input.now placing.entry)) }
     ensures err { IfErr result (Refuses (placed_fault input.now placing.entry)) }
 {
-    let (bindings, maps) = bindings_of(alloc, input, bound)?;
-    let starts = all_starts(alloc, input, &placing)?;
-    let book = AddressBook {
-        input,
-        placing: &placing,
-        starts: starts.as_slice(),
-    };
-    let maps = whole_maps(alloc, &book, maps)?;
-    check_exported(input, &placing, bindings.indices.exported())?;
-    let things = PlacedThings {
-        input,
-        placing: &placing,
-        bindings: &bindings,
-        maps: maps.as_slice(),
-    };
-    let parts = output_parts(alloc, &things, &book, args)?;
-    let whole = output_module(input, &placing, &bindings);
-    let types = bindings.types.into_types()?;
-    let features = output_features(alloc, args, features);
-    Ok(plan_of(input, types, maps, parts, whole, placing, features))
+    let (maps, parts) = placed_parts(alloc, input, args, &outline, &placing, maps, checked)?;
+    let whole = output_module(input, &placing, &outline.bindings);
+    let lists = lists_of(alloc, args, outline, maps)?;
+    Ok(plan_of(input, lists, parts, whole, placing))
 }
 
 /// The plan of a link, of which it is known what is kept.
 ///
 /// # Errors
-/// As [`build_index_maps`]; then as [`place_data`]; then `TooLarge` where data lies past the last
-/// address; then `Unsupported`, `RelocationRange` or `ConstantRange` where a global or a field
-/// can't take its value; then `TooLarge` where code or data has too many bytes.
+/// As [`build_index_maps`]; then `TooLarge` where with the wrappers there are too many functions;
+/// then as [`place_data`]; then `TooLarge` where data lies past the last address; then
+/// `Unsupported`, `RelocationRange` or `ConstantRange` where a global or a field can't take its
+/// value; then what [`wl_exports::check_exports`] refuses; then `TooLarge` where code or data has
+/// too many bytes.
 pub(crate) fn plan_kept<'a>(
     alloc: Global,
     input: &LinkInput<'_, 'a>,
@@ -416,7 +459,6 @@ pub(crate) fn plan_kept<'a>(
     requires sound { AreSoundBodies input.now }
     requires args { args.now ≡ input.now.link.args }
     requires features { AreTaken input.now.link features }
-    requires entry { Clear (IsEntryFault input.now.link) }
     requires alone { input.now.link.args.shared_memory ≡ false }
     ensures ok { IfOk result (IsPlan input.now) }
     ensures clear { OnOk result (Clear (kept_fault input.now)) }
@@ -424,6 +466,7 @@ pub(crate) fn plan_kept<'a>(
 {
     placings_are_one();
     let bound = build_index_maps(alloc, input)?;
-    let placing = place_data(alloc, input, bound.indices.needs())?;
-    plan_placed(alloc, input, args, bound, placing, features)
+    let (outline, maps, checked) = outline_of(alloc, input, args, bound, features)?;
+    let placing = place_data(alloc, input, outline.bindings.indices.needs())?;
+    plan_placed(alloc, input, args, outline, maps, checked, placing)
 }

@@ -12,7 +12,7 @@ ghost use Rattle.wl_bind.specs.declared.binding.FunctionTarget.{FunctionTarget a
 ghost use Rattle.wl_bind.specs.declared.binding.FunctionTarget.TheVariants.{Defined};
 ghost use Rattle.wl_plan.specs.Bound.{AreBindings};
 ghost use Rattle.wl_plan.specs.IndexedMaps.{AreWholeMaps};
-ghost use Rattle.wl_plan.specs.Table.{slot_of, slot_behind_first, function_slots, output_table, AreElements};
+ghost use Rattle.wl_plan.specs.Table.{slot_of, slot_behind_first, space_slots, output_table, AreElements};
 ghost use Rattle.wl_plan.specs.TableSteps.{index_at, slot_among, table_minimums};
 
 use crate::bindings::Bindings;
@@ -219,11 +219,11 @@ fn stub_slots(
     Ok(slots)
 }
 
-/// The slot of each function by its index: 0 for a stub, 4294967295 for what has none.
+/// The slot of each function of the space by its index: 0 for a stub, 4294967295 for what has none.
 ///
 /// # Errors
 /// `AllocError` where memory runs out.
-pub(crate) fn function_slots(
+pub(crate) fn space_slots(
     alloc: Global,
     input: &LinkInput<'_, '_>,
     bindings: &Bindings<'_>,
@@ -233,7 +233,7 @@ pub(crate) fn function_slots(
     requires bindings { AreBindings input.now bindings.now }
     requires elements { AreElements input.now elements.now }
     requires all { count ≡ length (function_space input.now) }
-    ensures { IfOk result (λ slots. slots ≡ function_slots input.now) }
+    ensures { IfOk result (λ slots. slots ≡ space_slots input.now) }
 {
     table_functions_are_kept();
     table_functions_stand_once();

@@ -23,7 +23,10 @@ returns-clause-one c = λ link a b p q.
       functions = c.entries_stand_once.ensures.functions;
       globals = c.entries_stand_once.ensures.globals;
       types = c.entries_stand_once.ensures.types;
-      features = c.features_are_one.ensures;
+      names = record {
+        features = c.features_are_one.ensures;
+        exports = c.exports_are_one.ensures.exports;
+      };
     } in
     plans_one laws (input_of link q.live) a b
     (subst (λ (live : Live). IsPlan (input_of link live) a) same p.is_plan) q.is_plan

@@ -1,34 +1,25 @@
-use Rattle.std.proofs.Common.{◌≡◌, ◌≤◌, ◌∙◌, ap, arith, length, List, rules, subst, sym}
+use Rattle.std.proofs.Common.{◌≡◌, ◌≤◌, length, List, rules, subst, sym}
 use Rattle.std.proofs.lemmas.Result.{err_from_is_err_and}
 use Rattle.wl_module.specs.Bodies.{Body}
 use Rattle.wl_linking.specs.Steps.{Clear, NoStep, Step}
 use Rattle.wl_types.specs.Types.{max_entries}
 use Rattle.wl_data.specs.Segments.{SegmentLayout}
 use Rattle.wl_data.specs.Sizes.{segment_count}
-use Rattle.wl_bind.specs.Shared.{Shared, function_imports}
+use Rattle.wl_exports.specs.Faults.{IsExportFault}
 use Rattle.wl_plan.specs.Faults.{IsSizeFault, IsValueFault}
 use Rattle.wl_plan.specs.SizeSteps.{IsTooBig}
-use Rattle.wl_plan.proofs.PlanLaws.{bodies_few, functions_all, segments_few, size_clear, size_refuses}
+use Rattle.wl_plan.proofs.PlannedLaws.{checked_refused, checked_sound}
+use Rattle.wl_plan.proofs.PlanLaws.{bodies_few, segments_few, size_clear, size_refuses}
 use Rattle.wl_plan.proofs.StepLaws.{clear_end, clear_step, refuses_behind, refuses_for, refuses_here}
 use Rattle.wl_plan.proofs.UniqueBodies.{FormsAreOne}
 use Rattle.wl_plan.proofs.plan.output_parts.Goals as goal
 
-pub output_values-requires-clause-all : goal.output_values-requires-clause-all
-output_values-requires-clause-all c =
-    let input = c.args.things.now.input.now in
-    let all = functions_all input c.in_ok-code.code.functions
-    c.in_ok-code.ensures.ok.functions in
-    let hosts : c.functions-hosts.result.now ≡ function_imports input =
-    c.functions-hosts.ensures ∙ ap (λ (s : Shared). s.functions) c.requires.things.bindings.shared in
-    let own : c.as_slice.result.now ≡ c.in_ok-code.code.functions = search rules in
-    omega (arith, all, ap length hosts, ap length own)
-
 pub section_sizes-requires-clause-bodies : goal.section_sizes-requires-clause-bodies
 section_sizes-requires-clause-bodies c =
     let input = c.args.things.now.input.now in
-    let few = bodies_few input c.args.things.now.placing.now c.in_ok-code.code.bodies
-    c.requires.things.few.functions c.in_ok-code.ensures.ok.bodies in
-    let same : c.as_slice-2.result.now ≡ c.in_ok-code.code.bodies = search rules in
+    let few = bodies_few input c.args.things.now.placing.now c.in_ok-bodies.bodies
+    c.requires.things.wrapper_room c.in_ok-bodies.ensures.ok in
+    let same : c.as_slice.result.now ≡ c.in_ok-bodies.bodies = search rules in
     subst (λ (bodies : List Body). length bodies ≤ max_entries) (sym same) few
 
 pub section_sizes-requires-clause-layouts : goal.section_sizes-requires-clause-layouts
@@ -45,16 +36,17 @@ returns-in_err-sizes-clause-err c =
     let input = c.args.things.now.input.now in
     let g = c.args.things.now.placing.now in
     let e = c.in_err-sizes.field-0.0 in
-    let bodies : c.as_slice-2.result.now ≡ c.in_ok-code.code.bodies = search rules in
+    let bodies : c.as_slice.result.now ≡ c.in_ok-bodies.bodies = search rules in
     let layouts : c.as_slice-layouts.result.now ≡ g.places.layouts = search rules in
-    let big : IsTooBig c.in_ok-code.code.bodies g.places.layouts e =
-    subst (λ (rows : List (List SegmentLayout)). IsTooBig c.in_ok-code.code.bodies rows e) layouts
+    let big : IsTooBig c.in_ok-bodies.bodies g.places.layouts e =
+    subst (λ (rows : List (List SegmentLayout)). IsTooBig c.in_ok-bodies.bodies rows e) layouts
     (subst (λ (bs : List Body). IsTooBig bs c.as_slice-layouts.result.now e) bodies
     c.in_err-sizes.ensures.err) in
-    let fault = size_refuses input g c.in_ok-code.code.bodies e c.in_ok-code.ensures.ok.bodies big in
-    rw (p.1, p.2) (refuses_behind (IsValueFault input g) (Step (IsSizeFault input g) NoStep) e
-    c.in_ok-values.ensures.clear
-    (refuses_here (IsSizeFault input g) NoStep e (refuses_for (IsSizeFault input g) e fault)))
+    let fault = size_refuses input g c.in_ok-bodies.bodies e c.in_ok-bodies.ensures.ok big in
+    rw (p.1, p.2) (refuses_behind (IsValueFault input g) _ e c.in_ok-values.ensures.clear
+    (refuses_behind (IsExportFault input) (Step (IsSizeFault input g) NoStep) e
+    (checked_sound input c.args.checked c.in_ok-checked.field-0 c.in_ok-checked.was c.requires.checked)
+    (refuses_here (IsSizeFault input g) NoStep e (refuses_for (IsSizeFault input g) e fault))))
 
 pub returns-clause-clear : goal.returns-clause-clear
 returns-clause-clear c =
@@ -67,15 +59,37 @@ returns-clause-clear c =
       calls = c.init_calls_are_one.ensures;
       encoded = c.body_or_fault.ensures.one;
     } in
-    let bodies : c.as_slice-2.result.now ≡ c.in_ok-code.code.bodies = search rules in
+    let bodies : c.as_slice.result.now ≡ c.in_ok-bodies.bodies = search rules in
     let layouts : c.as_slice-layouts.result.now ≡ g.places.layouts = search rules in
-    let small : Clear (IsTooBig c.in_ok-code.code.bodies g.places.layouts) =
-    subst (λ (rows : List (List SegmentLayout)). Clear (IsTooBig c.in_ok-code.code.bodies rows))
+    let small : Clear (IsTooBig c.in_ok-bodies.bodies g.places.layouts) =
+    subst (λ (rows : List (List SegmentLayout)). Clear (IsTooBig c.in_ok-bodies.bodies rows))
     layouts
     (subst (λ (bs : List Body). Clear (IsTooBig bs c.as_slice-layouts.result.now)) bodies
     c.in_ok-sizes.ensures.clear) in
-    clear_step (IsValueFault input g) (Step (IsSizeFault input g) NoStep)
-    c.in_ok-values.ensures.clear
+    clear_step (IsValueFault input g) _ c.in_ok-values.ensures.clear
+    (clear_step (IsExportFault input) (Step (IsSizeFault input g) NoStep)
+    (checked_sound input c.args.checked c.in_ok-checked.field-0 c.in_ok-checked.was c.requires.checked)
     (clear_step (IsSizeFault input g) NoStep
-    (size_clear forms input g c.in_ok-code.code.bodies c.in_ok-code.ensures.ok.bodies small)
-    clear_end)
+    (size_clear forms input g c.in_ok-bodies.bodies (c.entries_stand_once.ensures.functions input)
+    c.in_ok-bodies.ensures.ok small)
+    clear_end))
+
+pub returns-in_err-values-clause-err : goal.returns-in_err-values-clause-err
+returns-in_err-values-clause-err c =
+    let residual = c.from_residual-in_err-values in
+    let p = err_from_is_err_and residual.result residual.ensures.1 in
+    let input = c.args.things.now.input.now in
+    let g = c.args.things.now.placing.now in
+    rw (p.1, p.2)
+    (refuses_here (IsValueFault input g) _ c.in_err-values.field-0.0 c.in_err-values.ensures.err)
+
+pub returns-in_err-checked-clause-err : goal.returns-in_err-checked-clause-err
+returns-in_err-checked-clause-err c =
+    let residual = c.from_residual-in_err-checked in
+    let p = err_from_is_err_and residual.result residual.ensures.1 in
+    let input = c.args.things.now.input.now in
+    let g = c.args.things.now.placing.now in
+    let e = c.in_err-checked.field-0.0 in
+    let refused = checked_refused input c.args.checked e c.in_err-checked.was c.requires.checked in
+    rw (p.1, p.2) (refuses_behind (IsValueFault input g) _ e c.in_ok-values.ensures.clear
+    (refuses_here (IsExportFault input) _ e refused))

@@ -1,13 +1,16 @@
-use Rattle.std.proofs.Common.{◌≡◌, ◌≤◌, arith, length, rules}
+use Rattle.std.proofs.Common.{◌≡◌, ◌∙◌, ◌≤◌, ℕ, List, ◌++◌, ap, arith, length, map, rules}
 use Rattle.wl_linking.specs.Steps.{Clear}
 use Rattle.wl_bind.specs.FunctionSpace.{function_space}
 use Rattle.wl_bind.specs.Scan.{table_functions}
 use Rattle.wl_types.specs.Types.{max_entries}
+use Rattle.wl_types.specs.declared.types.TheConstants.{WASM_DEAD_INDEX}
+use Rattle.wl_exports.specs.Wrapped.{WrapperEntry}
 use Rattle.wl_plan.specs.Fixups.{IsFixupFault}
-use Rattle.wl_plan.specs.Globals.{IsGlobalFault}
-use Rattle.wl_plan.specs.Table.{function_slots}
+use Rattle.wl_plan.specs.Globals.{ArePlannedGlobals, IsGlobalFault}
+use Rattle.wl_plan.specs.Table.{function_slots, space_slots}
 use Rattle.wl_plan.proofs.SlotLaws.{TableLaws, few_in_table}
 use Rattle.wl_plan.proofs.StepLaws.{clear_both}
+use Rattle.wl_plan.proofs.WrapperLaws.{dead_are}
 use Rattle.wl_plan.proofs.plan.output_values.Goals as goal
 
 pub all_fixups-requires-clause-sources : goal.all_fixups-requires-clause-sources
@@ -21,7 +24,7 @@ all_fixups-requires-clause-sources c =
     let within : length (table_functions input) ≤ length (function_space input) =
     few_in_table laws input c.in_ok-elements.elements c.in_ok-elements.ensures in
     let room : length (function_space input) ≤ max_entries = things.few.functions in
-    let slots : c.as_slice-2.result.now ≡ function_slots input = search rules in
+    let slots : c.as_slice-2.result.now ≡ space_slots input = search rules in
     record {
       settled = things.bindings.settled;
       room = record {
@@ -40,3 +43,21 @@ returns-clause-clear c =
     let first : Clear (IsGlobalFault input g) =
     rw (c.requires.book.input, c.requires.book.placing) at c.in_ok-globals.ensures.clear in
     clear_both (IsGlobalFault input g) (IsFixupFault input g) first c.in_ok-fixups.ensures.clear
+
+pub returns-clause-ok : goal.returns-clause-ok
+returns-clause-ok c =
+    let input = c.args.things.now.input.now in
+    let g = c.args.things.now.placing.now in
+    let ws = c.args.things.now.wrappers.now in
+    let globals : ArePlannedGlobals input g c.in_ok-globals.globals =
+    rw (c.requires.book.input, c.requires.book.placing) at c.in_ok-globals.ensures.ok in
+    let slots : c.push_wrapper_slots.new.slots ≡ function_slots input =
+    c.in_ok-push_wrapper_slots.ensures
+    ∙ (ap (λ (ns : List ℕ). ns ++ map (λ (w : WrapperEntry). WASM_DEAD_INDEX) ws) c.in_ok-slots.ensures
+    ∙ ap (λ (ns : List ℕ). space_slots input ++ ns) (dead_are input ws c.requires.things.wrappers)) in
+    record {
+      globals = globals;
+      elements = c.in_ok-elements.ensures;
+      slots = slots;
+      fixups = c.in_ok-fixups.ensures.ok;
+    }

@@ -7,7 +7,7 @@ use Rattle.wl_bind.specs.FunctionSpace.{FunctionEntry, made_function_part, stub_
 use Rattle.wl_plan.specs.FunctionSteps.{AddsFunctions}
 use Rattle.wl_plan.specs.Origins.{PlannedFunction}
 use Rattle.wl_plan.proofs.FunctionLaws.{adds_more, adds_same, objects_done, objects_more}
-use Rattle.wl_plan.proofs.functions.output_functions.Goals as goal
+use Rattle.wl_plan.proofs.functions.own_functions.Goals as goal
 
 pub loop-object-init : goal.loop-object-init
 loop-object-init c =

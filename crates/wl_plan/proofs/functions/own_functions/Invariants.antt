@@ -3,7 +3,7 @@ use Rattle.wl_symbols.specs.declared.linker_symbol.WasmLinkerSymbol.TheVariants.
 use Rattle.wl_bind.specs.FunctionSpace.{made_function_part, stub_part, functions_of}
 use Rattle.wl_bind.specs.Parts.{by_object}
 use Rattle.wl_plan.specs.FunctionSteps.{AddsFunctions}
-use Rattle.wl_plan.proofs.functions.output_functions.Given as goal
+use Rattle.wl_plan.proofs.functions.own_functions.Given as goal
 
 abbrev pub invariant-loop-object : goal.invariant-loop-object
 invariant-loop-object l =

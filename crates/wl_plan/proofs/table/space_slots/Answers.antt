@@ -4,7 +4,7 @@ use Rattle.wl_bind.specs.Scan.{table_functions}
 use Rattle.wl_plan.specs.TableSteps.{slot_among}
 use Rattle.wl_plan.proofs.TableLaws.{TableIs}
 use Rattle.wl_plan.proofs.TableSlotLaws.{ElementIs, element_fits, element_is, element_set, elements_length, elements_set, index_within}
-use Rattle.wl_plan.proofs.table.function_slots.Goals as goal
+use Rattle.wl_plan.proofs.table.space_slots.Goals as goal
 
 pub overflow_cast-place : goal.overflow_cast-place
 overflow_cast-place c =

@@ -1,6 +1,6 @@
 use Rattle.std.proofs.Common.{◌∙◌, []}
 use Rattle.wl_plan.proofs.GrowLaws.{object_here, objects_more}
-use Rattle.wl_plan.proofs.bodies.output_bodies.Goals as goal
+use Rattle.wl_plan.proofs.bodies.own_bodies.Goals as goal
 
 pub loop-object-preserved : goal.loop-object-preserved
 loop-object-preserved c =

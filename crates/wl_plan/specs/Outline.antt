@@ -1,0 +1,38 @@
+-- What of the output is known before it is known where its data lies.
+use Rattle.std.specs.Prelude.{◌≤◌, ◌+◌, length, Result, OnOk, IfErr}
+use Rattle.wl_linking.specs.Steps.{Clear, Refuses}
+use Rattle.wl_linking.specs.declared.error.LinkError.{LinkError}
+use Rattle.wl_types.specs.Types.{max_entries}
+use Rattle.wl_features.specs.Taken.{AreTaken}
+use Rattle.wl_bind.specs.FunctionSpace.{function_space}
+use Rattle.wl_bind.specs.GlobalSpace.{global_space}
+use Rattle.wl_bind.specs.Input.{Input}
+use Rattle.wl_bind.specs.OutputTypes.{output_types}
+use Rattle.wl_exports.specs.Faults.{IsExportFault}
+use Rattle.wl_exports.specs.Interface.{IsInterface}
+use Rattle.wl_exports.specs.Wrappers.{wrapped}
+use Rattle.wl_plan.specs.Bound.{AreBindings}
+use Rattle.wl_plan.specs.Functions.{AreOutputFunctions}
+use Rattle.wl_plan.specs.declared.outline.Outline.{Outline}
+
+-- there is room for the types, the functions and the globals of the output
+pub record AreFew (input : Input) : Type 0 where
+  pub types : length (output_types input) ≤ max_entries
+  pub functions : length (function_space input) ≤ max_entries
+  pub globals : length (global_space input) ≤ max_entries
+
+-- there is room for the wrappers behind the functions
+abbrev pub HasWrapperRoom : Input → Type 0
+HasWrapperRoom input = length (function_space input) + length (wrapped input) ≤ max_entries
+
+-- it is that of the link
+pub record HasOutline (input : Input) (o : Outline) : Type 0 where
+  pub bindings : AreBindings input o.bindings
+  pub functions : AreOutputFunctions input (output_types input) o.functions
+  pub interface : IsInterface input o.interface
+  pub features : AreTaken input.link o.features
+
+-- it tells whether there can be the exports
+pub record AreChecked (input : Input) (r : Result (Unit {0}) LinkError) : Type 0 where
+  pub sound : OnOk r (Clear (IsExportFault input))
+  pub refused : IfErr r (Refuses (IsExportFault input))
