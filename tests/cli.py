@@ -17,6 +17,7 @@ ROWS = ROOT / "tests" / "rows.txt"
 OPERATORS = ROOT / "tests" / "operators.txt"
 FORMAT = ROOT / "docs" / "FORMAT.md"
 OPTIONS = ROOT / "docs" / "OPTIONS.md"
+ERRORS = ROOT / "docs" / "ERRORS.md"
 README = ROOT / "README.md"
 FLAGS = ["--no-gc-sections", "--no-entry"]
 LARGEST = 1 << 30
@@ -60,6 +61,22 @@ def listings():
         check(f"{made.name}, one dash", run([made, "-no-entry", "-no-gc-sections"]), 0, listing)
 
 
+def counter():
+    """The example of the README has the listing that stands beside it, and the README shows lines of that."""
+    folder = EXAMPLES / "counter"
+    names = ["--export", "count", "--export", "last", "--export", "chosen"]
+    objects = [folder / "counter.o", folder / "setup.o"]
+    listing = (folder / "counter.plan").read_bytes()
+    check("the counter", run(["--no-entry", *names, *objects]), 0, listing)
+    section = README.read_text().split("\n## An example\n")[1].split("\n## ")[0]
+    shown = [line.strip() for line in section.splitlines() if line.startswith("    ")]
+    command = " ".join(["./wildplan --no-entry", *names, *(str(made.relative_to(ROOT)) for made in objects)])
+    note("the command of the example", command in shown)
+    lines = listing.decode().splitlines()
+    listed = [line for line in shown if not line.startswith(("./wildplan ", "clang "))]
+    note("the lines of the example", listed == [line for line in lines if line in listed])
+
+
 def words():
     """Words that aren't a command line: the first at fault is told, by its number."""
     faults = [
@@ -87,7 +104,7 @@ def words():
 
 
 def options():
-    """Of options the last counts; those that ask for what has no plan yet are told so."""
+    """Of options the last counts."""
     made = EXAMPLES / "two_functions.o"
     listing = (EXAMPLES / "two_functions.plan").read_bytes()
     idle = [
@@ -130,8 +147,14 @@ def options():
     check("features left out", run([*FLAGS, features, "-s", made]), 0, listing)
     check("features left in", run([*FLAGS, features, "-s", "--keep-section=target_features", made]), 0, featured)
     check("features without debug sections", run([*FLAGS, features, "-S", made]), 0, featured)
-    for option in ["--export=a", "--export-if-defined=a", "--export-dynamic"]:
-        check(f"word {option}", run([*FLAGS, option, made]), 1, err=b"error: Unsupported 0 NotYet\n")
+    exported = listing.replace(b"memory 0\n", b'memory 0\nexport "a" func 0\n')
+    for option in ["--export=a", "--export-if-defined=a"]:
+        check(f"word {option}", run([*FLAGS, option, made]), 0, exported)
+    both = exported.replace(b"func 0\nfix", b'func 0\nexport "b" func 1\nfix')
+    check("word --export-dynamic", run([*FLAGS, "--export-dynamic", made]), 0, both)
+    check("a name that is there once", run([*FLAGS, "--export=a", "--export=a", made]), 0, exported)
+    check("no such name", run([*FLAGS, "--export=c", made]), 1, err=b'error: ExportNotFound "c"\n')
+    check("no name is asked for", run([*FLAGS, "--export-if-defined=c", made]), 0, listing)
 
 
 def reads(folder):
@@ -320,12 +343,64 @@ def documented_options():
     code = (ROOT / "crates" / "wl_symbols" / "src" / "options.rt").read_text()
     wanted = set(re.findall(r'name: "([\w-]+)"', code))
     tables = [
-        (OPTIONS, "| option | value | field of `WasmArgs` | of several | without it |"),
+        (OPTIONS, "| option | value | what it does | given again | without it |"),
         (README, "| option | meaning | without it |"),
     ]
     for document, title in tables:
         names = {name for row in table_of(document, title) for name in re.findall(r"`-{0,2}([\w-]+)", row[0])}
         note(f"the options of {document.name}: {names ^ wanted}", names == wanted)
+
+
+def documented_refusals():
+    """The refusals of docs/ERRORS.md are those that the program has lines for."""
+    folder = ROOT / "crates"
+    refusals = (folder / "wl_linking" / "src" / "error.rt").read_text().split("pub enum LinkError {")[1].split("\n}")[0]
+    faults = (folder / "wl_symbols" / "src" / "error.rt").read_text().split("pub enum ArgError {")[1].split("\n}")[0]
+    wanted = {name for text in [refusals, faults] for name in re.findall(r"^    (\w+)", text, re.M)} - {"OutOfMemory"}
+    told = re.findall(r"^\|.*", ERRORS.read_text(), re.M)
+    lines = {words[-1] for row in told for words in re.findall(r"`error: (BadWords )?(\w+)", row.split("|")[1])}
+    explained = (lines | {"SharedMemoryFeature"}) - {"ReadFault", "NotUtf8"}
+    note(f"the refusals of {ERRORS.name}: {explained ^ wanted}", explained == wanted)
+
+
+def documented_words():
+    """Each option of docs/OPTIONS.md is known, with the value that it says, and its wrong uses are told."""
+
+    def ends(given, fault):
+        line = run(given).stderr.decode()
+        note(f"the words {given}: {line}", line == f"error: {fault}\n")
+
+    none, unknown = "BadWords NoInputs", "BadWords UnknownOption 0"
+    for names, value, *_ in table_of(OPTIONS, "| option | value | what it does | given again | without it |"):
+        for name in re.findall(r"`(-[\w-]+)`", names):
+            spelled = [name, name[1:]] if name.startswith("--") else [name]
+            if name.startswith("--"):
+                ends(["-" + name], unknown)
+            else:
+                ends(["-" + name], unknown)
+                ends([name + "1"], unknown)
+            for word in spelled:
+                if value == "none":
+                    ends([word], none)
+                    ends([word + "=1"], unknown)
+                elif value == "[name]":
+                    ends([word], none)
+                    ends([word + "=a"], none)
+                    ends([word, ""], "ReadFault 0")
+                else:
+                    front = re.findall(r"`([\w-]+=)`", value)
+                    sound = front[0] + "1" if front else "1"
+                    ends([word], "BadWords MissingValue 0")
+                    ends([word, sound], none)
+                    ends([f"{word}={sound}"], none)
+                    bound = re.search(r"a number below 2\^(\d+)", value)
+                    if bound:
+                        large = f"{sound[:-1]}{2 ** int(bound[1])}"
+                        ends([word, f"{sound[:-1]}{2 ** int(bound[1]) - 1}"], none)
+                        ends([word, large], "BadWords BadNumber 1")
+                        ends([f"{word}={sound}x"], "BadWords BadNumber 0")
+                    if front:
+                        ends([word, "1"], "BadWords UnknownOption 1")
 
 
 def documented_relocations(folder):
@@ -421,7 +496,10 @@ def main():
     objects_as_written()
     documented_names()
     documented_options()
+    documented_words()
+    documented_refusals()
     listings()
+    counter()
     words()
     options()
     with tempfile.TemporaryDirectory() as name:
