@@ -1,7 +1,6 @@
 //! The relocations of the objects whose fields lie in units that are kept.
 
-ghost use Rattle.std.specs.Prelude.{◌≡◌, ℕ, ◌<◌, ◌^◌, ◌++◌, length, OnOk, IfOk, Some, slice_get};
-ghost use Rattle.wl_linking.specs.declared.sites.Site.{Site as SiteRecord};
+ghost use Rattle.std.specs.Prelude.{◌≡◌, ◌++◌, length, OnOk, IfOk};
 ghost use Rattle.wl_bind.specs.Relocations.{unit_in, relocated_if, relocated_in, object_relocations};
 ghost use Rattle.wl_bind.specs.Scan.{relocations};
 
@@ -48,11 +47,10 @@ fn push_kept(
     live: &LiveSet,
     relocated: Relocated,
 ) -> Result<(), AllocError>
-    requires { relocated.site.unit < 2 ^ 32 }
     ensures { OnOk result
         (relocations.new.items ≡ relocations.old.items ++ relocated_if live.now relocated) }
 {
-    let unit = unit_in(relocated.place, relocated.site.unit as u32);
+    let unit = unit_in(relocated.place, relocated.site.unit);
     if !live.is_live(relocated.object, unit) {
         return Ok(());
     }
@@ -70,7 +68,6 @@ fn push_section(
     sites: &[Site],
 ) -> Result<(), AllocError>
     requires each { length sites.now ≡ length listed.now }
-    requires units { (k : ℕ) (s : SiteRecord) → slice_get sites.now k ≡ Some s → s.unit < 2 ^ 32 }
     ensures { OnOk result (kept.new.items
         ≡ kept.old.items ++ relocated_in live.now place object listed.now sites.now) }
 {

@@ -9,7 +9,7 @@ use Rattle.wl_bytes.specs.Parse.{Takes}
 use Rattle.wl_module.specs.declared.section_kind.SectionKind.{SectionKind}
 use Rattle.wl_module.specs.Lists.{Listed}
 use Rattle.wl_module.specs.Chains.{Chain}
-use Rattle.wl_module.specs.Sections.{Section, IsContentOf, IsSection, next, magic, sections_in_turn}
+use Rattle.wl_module.specs.Sections.{Section, IsContentOf, IsModule, IsSection, next, magic, sections_in_turn}
 use Rattle.wl_module.specs.SectionKinds.{is_custom}
 use Rattle.wl_module.proofs.CountLaws.{number_bytes, name_bytes, items_few, listed_few, modules_few, types_few, placed_imports_few, indices_few, memories_few, globals_few, exports_few, bodies_few, targeted_few}
 use Rattle.wl_linking.specs.Infos.{IsInfo, AreInfos, IsInit, AreInits}
@@ -215,12 +215,40 @@ length-ordered (x ∷ xs) = length-put x (ordered xs) ∙ ap suc (length-ordered
 length-in_order : (entries rs : List WasmRelocation) → AreInOrder entries rs → length rs ≡ length entries
 length-in_order entries rs h = ap length (order_one entries rs (ordered entries) h (order_exists entries)) ∙ length-ordered entries
 
+-- what all sections hold has at most as many items as there are bytes
+parts_few : (n : ℕ) (sections : List Section) (bytes : List ℕ) (p : Parts) → IsModule sections bytes
+    → AreSound sections no_parts sections p → length bytes ≤ n → size p ≤ n
+parts_few n sections bytes p framed sound le =
+    let all : length bytes ≡ length magic + length framed.0 =
+    ap length framed.1 ∙ length-append magic framed.0 in
+    omega (
+      arith,
+      all,
+      le,
+      all_few size size_measures sections no_parts 0 8 sections framed.0 p
+          framed.2 sound,
+    )
+
+-- and so have the bodies
+pub few_bodies : (n : ℕ) (sections : List Section) (bytes : List ℕ) (p : Parts)
+    → IsModule sections bytes → AreSound sections no_parts sections p → length bytes ≤ n
+    → length p.bodies ≤ n
+few_bodies n sections bytes p framed sound le =
+    let few = parts_few n sections bytes p framed sound le in omega (arith, few)
+
+-- and the segments
+pub few_segments : (n : ℕ) (sections : List Section) (bytes : List ℕ) (p : Parts)
+    → IsModule sections bytes → AreSound sections no_parts sections p → length bytes ≤ n
+    → length p.segments ≤ n
+few_segments n sections bytes p framed sound le =
+    let few = parts_few n sections bytes p framed sound le in omega (arith, few)
+
 -- each list of an object has at most as many items as the object has bytes
 pub few_items : (n : ℕ) (bytes : List ℕ) (o : Object) → IsObject o bytes → length bytes ≤ n → HasFewItems n o
 few_items n bytes o h le =
     let p = h.parts in
     let all : length bytes ≡ length magic + length h.framed.0 = ap length h.framed.1 ∙ length-append magic h.framed.0 in
-    let few : size p ≤ n = omega (arith, all, le, all_few size size_measures h.sections no_parts 0 8 h.sections h.framed.0 p h.framed.2 h.sound) in
+    let few : size p ≤ n = parts_few n h.sections bytes p h.framed h.sound le in
     let memories : length p.segment_memories ≤ n = omega (arith, all, le, all_few (λ q. length q.segment_memories) memories_measure h.sections no_parts 0 8 h.sections h.framed.0 p h.framed.2 h.sound) in
     let code : length o.code_relocations ≤ n = omega (arith, few, length-in_order p.code_relocations o.code_relocations h.items.code) in
     let data' : length o.data_relocations ≤ n = omega (arith, few, length-in_order p.data_relocations o.data_relocations h.items.data_) in

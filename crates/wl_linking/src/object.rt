@@ -36,6 +36,8 @@ fn place<'a>(
     requires bodies { Ascend 0 (map body_piece parts.bodies) }
     requires spans { AllByRecursion IsSpanned parts.segments }
     requires segments { Ascend 0 (map segment_piece parts.segments) }
+    requires few_bodies { length parts.bodies ≤ MAX_LEN }
+    requires few_segments { length parts.segments ≤ MAX_LEN }
     ensures { MatchResult result (IsPlacedObject bytes.now sections parts.entry)
         (HasCause (PartsFault bytes.now sections parts.entry)) }
 {

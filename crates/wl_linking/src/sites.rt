@@ -1,6 +1,7 @@
 //! Where the fields of relocations lie (object file linking, version 2, "Relocation Sections").
 
-ghost use Rattle.std.specs.Prelude.{◌≡◌, nat_le, take, drop, map, IfOk, MatchResult, MatchBool};
+ghost use Rattle.std.specs.Prelude.{◌≡◌, ◌≤◌, length, nat_le, take, drop, map, IfOk, MatchResult, MatchBool};
+ghost use Rattle.wl_bytes.specs.declared.reader.TheConstants.{MAX_LEN};
 ghost use Rattle.std.specs.List.{AllByRecursion};
 ghost use Rattle.std.specs.List.Sorted.{IsNonDecreasingBy};
 ghost use Rattle.wl_linking.specs.Sites.{AreInOrder, AreSites, AreApart, HasOverlap, LieApart, FieldsFault, body_piece, segment_piece, is_padded, has_form, field_len, offset_of};
@@ -18,7 +19,7 @@ use wl_module::{ReadError, WasmDataSegment, WasmFunctionBody, Why};
 #[derive(Clone, Copy, Debug, PartialEq, Eq)]
 pub struct Site {
     /// The number of the function, among those that the object defines, or of the segment.
-    pub unit: usize,
+    pub unit: u32,
     /// How many bytes of the body or the segment lie before the field.
     pub position: u32,
 }
@@ -165,12 +166,13 @@ fn position_in(piece: &Piece<'_>, form: FieldForm, offset: u32) -> Option<u32>
 }
 
 /// The site of a field, among the pieces from that one on.
-fn find_site(pieces: &[Piece<'_>], from: usize, form: FieldForm, offset: u32) -> Option<Site>
+fn find_site(pieces: &[Piece<'_>], from: u32, form: FieldForm, offset: u32) -> Option<Site>
+    requires { length pieces.now ≤ MAX_LEN }
     ensures { result ≡ site_of from (drop from pieces.now) form offset }
 {
     let mut unit = from;
-    while unit < pieces.len() {
-        let piece = &pieces[unit];
+    while (unit as usize) < pieces.len() {
+        let piece = &pieces[unit as usize];
         if !ends_by(piece, offset) {
             return position_in(piece, form, offset).map(|position| Site { unit, position });
         }
@@ -186,12 +188,13 @@ fn find_sites(
     relocations: &[WasmRelocation],
 ) -> Result<ItemList<Site>, ReadError>
     requires pieces { Ascend 0 pieces.now }
+    requires few { length pieces.now ≤ MAX_LEN }
     requires order { IsNonDecreasingBy offset_of relocations.now }
     ensures { MatchResult result (AreSites pieces.now relocations.now)
         (HasCause (FieldFault pieces.now relocations.now)) }
 {
     let mut sites = Vec::new(alloc);
-    let mut unit = 0usize;
+    let mut unit = 0;
     for relocation in relocations {
         let form = relocation.ty.field_form();
         let Some(site) = find_site(pieces, unit, form, relocation.offset) else {
@@ -225,6 +228,7 @@ fn place_fields(
     relocations: &[WasmRelocation],
 ) -> Result<ItemList<Site>, ReadError>
     requires pieces { Ascend 0 pieces.now }
+    requires few { length pieces.now ≤ MAX_LEN }
     requires order { IsNonDecreasingBy offset_of relocations.now }
     ensures { MatchResult result (LieApart pieces.now relocations.now)
         (HasCause (FieldsFault pieces.now relocations.now)) }
@@ -243,6 +247,7 @@ pub(crate) fn code_sites(
     relocations: &[WasmRelocation],
 ) -> Result<ItemList<Site>, ReadError>
     requires bodies { Ascend 0 (map body_piece bodies.now) }
+    requires few { length bodies.now ≤ MAX_LEN }
     requires order { IsNonDecreasingBy offset_of relocations.now }
     ensures { let pieces = map body_piece bodies.now in
         MatchResult result (LieApart pieces relocations.now)
@@ -260,6 +265,7 @@ pub(crate) fn data_sites(
 ) -> Result<ItemList<Site>, ReadError>
     requires spans { AllByRecursion IsSpanned segments.now }
     requires segments { Ascend 0 (map segment_piece segments.now) }
+    requires few { length segments.now ≤ MAX_LEN }
     requires order { IsNonDecreasingBy offset_of relocations.now }
     ensures { let pieces = map segment_piece segments.now in
         MatchResult result (LieApart pieces relocations.now)

@@ -1,7 +1,6 @@
 //! What an object says of its units, whatever names stand for.
 
-ghost use Rattle.std.specs.Prelude.{◌≡◌, ℕ, ◌<◌, ◌^◌, ◌++◌, length, IfOk, OnOk, Some, slice_get};
-ghost use Rattle.wl_linking.specs.declared.sites.Site.{Site as SiteRecord};
+ghost use Rattle.std.specs.Prelude.{◌≡◌, ◌++◌, length, IfOk, OnOk};
 ghost use Rattle.wl_live.specs.Facts.{use_of, section_uses, uses_of, slot_unit, slot_use, slot_uses, AreFacts, AreAllFacts};
 
 use crate::faults::{BodyFacts, collect_faults};
@@ -93,13 +92,12 @@ fn push_use(
     relocation: &WasmRelocation,
     site: &Site,
 ) -> Result<(), AllocError>
-    requires { site.now.unit < 2 ^ 32 }
     ensures { OnOk result
         (list.new.items ≡ list.old.items ++ use_of kind relocation.now site.now) }
 {
     if !relocation.ty.names_a_type() {
         list.push(SymbolUse {
-            unit: sibling_of(kind, site.unit as u32),
+            unit: sibling_of(kind, site.unit),
             symbol: relocation.index,
         })?;
     }
@@ -114,7 +112,6 @@ fn push_uses(
     sites: &[Site],
 ) -> Result<(), AllocError>
     requires each { length sites.now ≡ length relocations.now }
-    requires units { (k : ℕ) (s : SiteRecord) → slice_get sites.now k ≡ Some s → s.unit < 2 ^ 32 }
     ensures { OnOk result
         (list.new.items ≡ list.old.items ++ section_uses kind relocations.now sites.now) }
 {

@@ -1,10 +1,12 @@
 use Rattle.std.proofs.Common.{◌∙◌, ap, subst, sym}
 use Rattle.std.specs.List.{AllByRecursion}
 use Rattle.std.proofs.lemmas.Result.{err_from_is_err_and}
+use Rattle.wl_bytes.specs.declared.reader.TheConstants.{MAX_LEN}
 use Rattle.wl_module.specs.Sections.{headers_of}
 use Rattle.wl_linking.specs.Object.{Object}
 use Rattle.wl_linking.specs.Fitting.{NameStands, NamingFault, PartsFault, ObjectFault}
 use Rattle.wl_linking.proofs.Exact.{cause_follows}
+use Rattle.wl_linking.proofs.FewLaws.{few_bodies, few_segments}
 use Rattle.wl_linking.proofs.ImportNameLaws.{parts_names_stand}
 use Rattle.wl_linking.proofs.ImportPlaces.{parts_spanned}
 use Rattle.wl_linking.proofs.ObjectLaws.{object_from, unfitting, unnamed}
@@ -23,6 +25,16 @@ place-requires-clause-spans c = parts_spanned c.args.bytes.now c.in_ok-sections.
 
 pub place-requires-clause-segments : goal.place-requires-clause-segments
 place-requires-clause-segments c = data_ascends c.args.bytes.now c.in_ok-sections.sections.items c.in_ok-parts.parts c.in_ok-sections.ensures.sound (rw c.deref-2.ensures.value at c.in_ok-parts.ensures)
+
+pub place-requires-clause-few_bodies : goal.place-requires-clause-few_bodies
+place-requires-clause-few_bodies c =
+    few_bodies MAX_LEN c.in_ok-sections.sections.items c.args.bytes.now c.in_ok-parts.parts
+    c.in_ok-sections.ensures.sound (rw c.deref-2.ensures.value at c.in_ok-parts.ensures) c.requires
+
+pub place-requires-clause-few_segments : goal.place-requires-clause-few_segments
+place-requires-clause-few_segments c =
+    few_segments MAX_LEN c.in_ok-sections.sections.items c.args.bytes.now c.in_ok-parts.parts
+    c.in_ok-sections.ensures.sound (rw c.deref-2.ensures.value at c.in_ok-parts.ensures) c.requires
 
 pub check_names-requires : goal.check_names-requires
 check_names-requires c =
