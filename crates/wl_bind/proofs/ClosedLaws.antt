@@ -1,5 +1,5 @@
 -- What a kept slot is bound to is kept.
-use Rattle.std.proofs.Common.{◌≡◌, ◌∙◌, ◌⊎◌, ◌<◌, ℕ, zero, suc, ◌+◌, Bool, true, false, not, ◌&&◌, ◌==◌, ◌≤◌, List, [], ◌∷◌, length, map, refl, sym, ap, subst, arith, inl, inr, Option, Some, None, slice_get, slice_index_or, Contains, nat_lt, if◌then◌else◌, MatchOption, eqb-true}
+use Rattle.std.proofs.Common.{◌≡◌, ◌∙◌, ◌<◌, ℕ, zero, suc, ◌+◌, Bool, true, false, not, ◌&&◌, ◌==◌, ◌≤◌, List, [], ◌∷◌, length, map, refl, sym, ap, subst, arith, inl, inr, Option, Some, None, slice_get, slice_index_or, Contains, nat_lt, if◌then◌else◌, MatchOption, eqb-true}
 use Rattle.std.specs.Option.{option_map, option_map_or, option_and_then}
 use Rattle.std.proofs.lemmas.Bool.{cases_Bool}
 use Rattle.std.proofs.lemmas.List.Sums.{length-filter}
@@ -19,20 +19,28 @@ use Rattle.wl_symbols.specs.declared.entry.Definition.TheVariants.{Symbol, Made 
 use Rattle.wl_symbols.specs.declared.linker_symbol.WasmLinkerSymbol.{WasmLinkerSymbol}
 use Rattle.wl_live.specs.Definitions.{definition_unit, definition_at, other_unit, defined_unit, unit_at}
 use Rattle.wl_live.specs.Live.{Live, is_live, IsLiveOf}
+use Rattle.wl_live.specs.References.{RefersBySlot}
 use Rattle.wl_live.specs.Units.{units_of, counts_of, units_at, unit_in, unit_of, no_units}
 use Rattle.wl_live.specs.declared.units.LinkUnit.{LinkUnit}
 use Rattle.wl_live.specs.declared.units.UnitCounts.{UnitCounts}
 use Rattle.wl_live.specs.declared.units.WasmGcUnit.{WasmGcUnit}
 use Rattle.wl_live.specs.declared.units.WasmGcUnit.TheVariants.{DefinedFunction, DefinedGlobal, FunctionImport, GlobalImport}
-use Rattle.wl_live.proofs.KeptLaws.{live_by_slot}
 use Rattle.wl_slots.specs.ImportSlots.{ImportSlot, numbers_where, is_on, symbols_on, numbered_slots, slot_imports, object_slots}
 use Rattle.wl_slots.specs.SlotCases.{IsLeft, IsBoundTo, HasDefinition}
 use Rattle.wl_slots.specs.SlotTargets.{own_number, is_definition_of, slot_target}
 use Rattle.wl_slots.specs.declared.targets.SlotTarget.{SlotTarget}
 use Rattle.wl_slots.specs.declared.targets.SlotTarget.TheVariants as slot
-use Rattle.wl_slots.proofs.CaseLaws.{target_cases}
-use Rattle.wl_slots.proofs.NumberLaws.{slots_length}
 use Rattle.wl_bind.proofs.HostLaws.{IsAt, placed}
+use Rattle.wl_bind.proofs.MemberLaws.{first_or_behind}
+
+-- ---- what is told of slots
+
+-- what each slot is bound to, case by case; and what a live one refers to is live
+pub record SlotLaws : Type 0 where
+  pub targets : (link : Link) (t : ImportSlot)
+      → MatchOption (slot_target link t) (IsLeft link t) (IsBoundTo link t)
+  pub closed : (link : Link) (live : Live) (u v : LinkUnit) → IsLiveOf link live
+      → is_live live u ≡ true → RefersBySlot link u v → is_live live v ≡ true
 
 -- ---- the symbols on a slot
 
@@ -42,10 +50,6 @@ record Passes {X : Type 0} (test : X → Bool) (n : ℕ) (xs : List X) (number :
   x : X
   here : slice_get xs place ≡ Some x
   pass : test x ≡ true
-
-listed : {X : Type 0} (y : X) (xs : List X) (x : X) → Contains (y ∷ xs) x → (y ≡ x) ⊎ Contains xs x
-listed y xs x (zero, lt, is) = inl is
-listed y xs x (suc k, lt, is) = inr (k, omega (arith, lt), is)
 
 behind : {X : Type 0} (test : X → Bool) (n : ℕ) (y : X) (xs : List X) (number : ℕ) → Passes test (n + 1) xs number
     → Passes test n (y ∷ xs) number
@@ -62,7 +66,7 @@ passes_where : {X : Type 0} (test : X → Bool) (n : ℕ) (xs : List X) (number 
 passes_where test n [] number h = absurd (omega (arith, h.1))
 passes_where test n (y ∷ xs) number h = elim (cases_Bool (test y)) [
   | inl so ↦ (let there : Contains (n ∷ numbers_where test (n + 1) xs) number = rw so at h in
-      elim (listed n (numbers_where test (n + 1) xs) number there) [
+      elim (first_or_behind n number (numbers_where test (n + 1) xs) there) [
         | inl same ↦ record { place = 0; number_is = omega (arith, same); x = y; here = refl; pass = so }
         | inr rest ↦ behind test n y xs number (passes_where test (n + 1) xs number rest)
       ])
@@ -98,6 +102,12 @@ stands_on kind number o symbol h =
       of_kind = parts.1;
       index_is = eqb-true (p.x).index number parts.2;
     }
+
+-- imports have a slot each
+slots_length : (object : ℕ) (kind : WasmSymbolKind) (ss : List LinkedSymbol) (n : ℕ)
+    (is : List Imported) → length (numbered_slots object kind ss n is) ≡ length is
+slots_length object kind ss n [] = refl
+slots_length object kind ss n (i ∷ is) = ap suc (slots_length object kind ss (n + 1) is)
 
 symbols_at : (object : ℕ) (kind : WasmSymbolKind) (ss : List LinkedSymbol) (n : ℕ) (is : List Imported) (k : ℕ) (t : ImportSlot)
     → slice_get (numbered_slots object kind ss n is) k ≡ Some t → (t.symbols ≡ symbols_on kind t.number ss) × (k < length is)
@@ -216,27 +226,30 @@ other_is link object number s d found stands =
 
 -- ---- what names bind slots to
 
-bound_to : (link : Link) (t : ImportSlot) (named : SlotTarget) → slot_target link t ≡ Some named → IsBoundTo link t named
-bound_to link t named is =
-    subst (λ (x : Option SlotTarget). MatchOption x (IsLeft link t) (IsBoundTo link t)) is (target_cases link t)
+bound_to : SlotLaws → (link : Link) (t : ImportSlot) (named : SlotTarget)
+    → slot_target link t ≡ Some named → IsBoundTo link t named
+bound_to laws link t named is =
+    subst (λ (x : Option SlotTarget). MatchOption x (IsLeft link t) (IsBoundTo link t)) is
+    (laws.targets link t)
 
 -- what the linker makes, and a slot is bound to, is of its kind
-pub bound_of_kind : (link : Link) (t : ImportSlot) (m : WasmLinkerSymbol) → slot_target link t ≡ Some (slot.Made m)
-    → matches_kind t.kind m ≡ true
-bound_of_kind link t m is = elim (bound_to link t (slot.Made m) is).1 [
+pub bound_of_kind : SlotLaws → (link : Link) (t : ImportSlot) (m : WasmLinkerSymbol)
+    → slot_target link t ≡ Some (slot.Made m) → matches_kind t.kind m ≡ true
+bound_of_kind laws link t m is = elim (bound_to laws link t (slot.Made m) is).1 [
   | inl named ↦ named.of_kind
   | inr field ↦ field.1.of_kind
 ]
 
 -- what an object defines, and a kept slot of a kind is bound to, is kept
-kept_definition : (link : Link) (live : Live) → IsLiveOf link live → (kind : WasmSymbolKind) (slot_unit own : ℕ → WasmGcUnit)
+kept_definition : SlotLaws → (link : Link) (live : Live) → IsLiveOf link live
+    → (kind : WasmSymbolKind) (slot_unit own : ℕ → WasmGcUnit)
     → AreUnits kind slot_unit own → (object k : ℕ) (o : Object) (t : ImportSlot) (i j : ℕ) → slice_get link.objects object ≡ Some o
     → slice_get (object_slots object kind o) k ≡ Some t → IsAt object kind k t
     → is_live live (record { object = object; unit = slot_unit k }) ≡ true
     → slot_target link t ≡ Some (slot.Defined i j)
     → is_live live (record { object = i; unit = own j }) ≡ true
-kept_definition link live of kind slot_unit own units object k o t i j here at is_at kept bound =
-    let d : HasDefinition link t i j = bound_to link t (slot.Defined i j) bound in
+kept_definition laws link live of kind slot_unit own units object k o t i j here at is_at kept is =
+    let d : HasDefinition link t i j = bound_to laws link t (slot.Defined i j) is in
     let symbols = symbols_at object kind o.symbols 0 (slot_imports kind o.imports) k t at in
     let lt = symbols.1 in
     let on_slot : Contains (symbols_on kind k o.symbols) d.undefined =
@@ -253,7 +266,8 @@ kept_definition link live of kind slot_unit own units object k o t i j here at i
     let number : own_number kind d.o (d.s).index ≡ Some j =
     subst (λ (of : WasmSymbolKind). own_number of d.o (d.s).index ≡ Some j) is_at.kind_is d.number_is in
     let so : is_undefined d.s ≡ false = not_true (is_undefined d.s) (both (not (is_undefined d.s)) (is_imported_as kind (d.s).kind) defines).0 in
-    live_by_slot link live (record { object = object; unit = slot_unit k }) (record { object = i; unit = own j }) of kept
+    laws.closed link live (record { object = object; unit = slot_unit k })
+    (record { object = i; unit = own j }) of kept
     (record {
       object = o;
       here = here;
@@ -267,14 +281,18 @@ kept_definition link live of kind slot_unit own units object k o t i j here at i
           ∙ definition_is link i d.symbol d.o d.s (own j) d.object_is d.symbol_is so (units.defined d.o d.s j defines number);
     })
 
-pub kept_function : (link : Link) (live : Live) → IsLiveOf link live → (object k : ℕ) (o : Object) (t : ImportSlot) (i j : ℕ)
+pub kept_function : SlotLaws → (link : Link) (live : Live) → IsLiveOf link live
+    → (object k : ℕ) (o : Object) (t : ImportSlot) (i j : ℕ)
     → slice_get link.objects object ≡ Some o → slice_get (object_slots object Func o) k ≡ Some t → IsAt object Func k t
     → is_live live (record { object = object; unit = FunctionImport k }) ≡ true → slot_target link t ≡ Some (slot.Defined i j)
     → is_live live (record { object = i; unit = DefinedFunction j }) ≡ true
-kept_function link live of = kept_definition link live of Func FunctionImport DefinedFunction function_units
+kept_function laws link live of =
+    kept_definition laws link live of Func FunctionImport DefinedFunction function_units
 
-pub kept_global : (link : Link) (live : Live) → IsLiveOf link live → (object k : ℕ) (o : Object) (t : ImportSlot) (i j : ℕ)
+pub kept_global : SlotLaws → (link : Link) (live : Live) → IsLiveOf link live
+    → (object k : ℕ) (o : Object) (t : ImportSlot) (i j : ℕ)
     → slice_get link.objects object ≡ Some o → slice_get (object_slots object Global o) k ≡ Some t → IsAt object Global k t
     → is_live live (record { object = object; unit = GlobalImport k }) ≡ true → slot_target link t ≡ Some (slot.Defined i j)
     → is_live live (record { object = i; unit = DefinedGlobal j }) ≡ true
-kept_global link live of = kept_definition link live of Global GlobalImport DefinedGlobal global_units
+kept_global laws link live of =
+    kept_definition laws link live of Global GlobalImport DefinedGlobal global_units

@@ -6,11 +6,10 @@ use Rattle.std.specs.Option.{option_and_then, option_or}
 use Rattle.std.specs.Cmp.Lexicographic.{nat_list_eq_equiv}
 use Rattle.std.proofs.lemmas.Bool.{cases_Bool, cases_lt}
 use Rattle.std.proofs.lemmas.Cmp.{on_equiv, and_equiv, nat_eq_equiv}
-use Rattle.std.proofs.lemmas.List.Elements.{Contains-append_cases}
+use Rattle.std.proofs.lemmas.List.Elements.{Contains-push_cases}
 use Rattle.std.proofs.lemmas.List.Folds.{find-append}
 use Rattle.std.proofs.lemmas.Option.{same_Some, slice_get_within}
 use Rattle.indexmap.specs.IndexSet.{insert_key, insert_all}
-use Rattle.wl_live.proofs.JoinLaws.{Contains-none, in_single}
 use Rattle.wl_module.specs.SameType.{types_equiv}
 use Rattle.wl_module.specs.Types.{FunctionType, value_type_code}
 use Rattle.wl_module.specs.declared.globals.GlobalType.{GlobalType}
@@ -22,6 +21,7 @@ use Rattle.wl_bind.specs.Conflicts.{same_function_type, global_type, same_global
 use Rattle.wl_bind.specs.ConflictSteps.{SlotPair, slot_at, conflicting, with_first, conflict_from, conflict_of}
 use Rattle.wl_bind.specs.FunctionTypes.{slot_type}
 use Rattle.wl_bind.proofs.FindLaws.{find_some, or_none, or_some}
+use Rattle.wl_bind.proofs.MemberLaws.{nowhere}
 
 -- ---- slots of one import, and types that are the same
 
@@ -149,9 +149,10 @@ find_last same laws firsts t e = find_behind (same t) firsts (t ∷ []) e ∙ rw
 
 once_by : (same : ImportSlot → ImportSlot → Bool) → IsEquivalence same → (firsts : List ImportSlot) (t : ImportSlot) (o : Option ImportSlot) → find (same t) firsts ≡ o → IsOnce same firsts → IsOnce same (with_first firsts o t)
 once_by same laws firsts t (Some f) e once = once
-once_by same laws firsts t None e once = λ z m. elim (Contains-append_cases firsts (t ∷ []) z m) [
+once_by same laws firsts t None e once = λ z m. elim (Contains-push_cases firsts t z m) [
   | inl before ↦ find_in_front (same z) firsts (t ∷ []) z (once z before)
-  | inr last ↦ subst (λ x. find (same x) (firsts ++ t ∷ []) ≡ Some x) (sym (in_single t z last)) (find_last same laws firsts t e)
+  | inr last ↦ subst (λ x. find (same x) (firsts ++ t ∷ []) ≡ Some x) last
+      (find_last same laws firsts t e)
 ]
 
 once_all : (same : ImportSlot → ImportSlot → Bool) → IsEquivalence same → (firsts slots : List ImportSlot) → IsOnce same firsts → IsOnce same (insert_all same firsts slots)
@@ -244,7 +245,7 @@ pair_found objects same laws firsts (t ∷ slots) p e =
 clear_by : (objects : List Object) (same : ImportSlot → ImportSlot → Bool) → IsEquivalence same → (slots : List ImportSlot) → conflict_from objects same [] slots ≡ None → Clear (IsConflict objects same slots)
 clear_by objects same laws slots none = record {
   none = λ e h.
-      let once = once_all same laws [] slots (λ z m. absurd (Contains-none z m)) in
+      let once = once_all same laws [] slots (λ z m. absurd (nowhere z m)) in
       let nothing = none_differs objects same laws [] slots h.first none (once h.first h.is_first) in
       let second = h.is_second in
       let apart : None ≡ Some h.second = sym nothing ∙ second in

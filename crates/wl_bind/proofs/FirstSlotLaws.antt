@@ -27,7 +27,7 @@ use Rattle.wl_bind.proofs.ClosedLaws.{counts_at, is_function, bound_of_kind, kep
 use Rattle.wl_bind.proofs.FindLaws.{find_some}
 use Rattle.wl_bind.proofs.HostLaws.{IsAt, placed, kept_at}
 use Rattle.wl_bind.proofs.LeftLaws.{cases_option, none_found, itself, left_of, stub_found, no_stub, rules_join, named_binds}
-use Rattle.wl_bind.proofs.MadeLaws.{bound_is_made_function}
+use Rattle.wl_bind.proofs.MadeLaws.{BindingLaws, bound_is_made_function}
 use Rattle.wl_bind.proofs.NumberingLaws.{slots_here}
 use Rattle.wl_bind.proofs.OnceParts.{IsIn, in_filter, passes, in_firsts, Given, given_by}
 use Rattle.wl_bind.proofs.OneRuleLaws.{own_import}
@@ -216,24 +216,27 @@ pub record IsKeptAt (input : Input) (object k : ℕ) (o : Object) (t : ImportSlo
   pub kept : is_kept_slot input t ≡ true
   pub listed : Contains (kept_slots input Func) t
 
-named_is_there : (input : Input) → IsLiveOf input.link input.live → (object k : ℕ) (o : Object) (t : ImportSlot)
+named_is_there : BindingLaws → (input : Input) → IsLiveOf input.link input.live
+    → (object k : ℕ) (o : Object) (t : ImportSlot)
     → IsKeptAt input object k o t → (named : SlotTarget) → slot_target input.link t ≡ Some named
     → IsInOutput input (named_function named)
-named_is_there input live object k o t at (slot.Defined i j) is =
+named_is_there laws input live object k o t at (slot.Defined i j) is =
     kept_is_there input live i j
-    (kept_function input.link input.live live object k o t i j at.here at.at at.is_at
+    (kept_function laws.slots input.link input.live live object k o t i j at.here at.at at.is_at
     (kept_at input object Func k t at.is_at ∙ at.kept) is)
-named_is_there input live object k o t at (slot.Made m) is = record {
+named_is_there laws input live object k o t at (slot.Made m) is = record {
   kind = is_function (row_of m).kind
-      (subst (λ (kind : WasmSymbolKind). matches_kind kind m ≡ true) at.is_at.kind_is (bound_of_kind input.link t m is));
-  made = bound_is_made_function input t m at.listed (named_binds input t (slot.Made m) is);
+      (subst (λ (kind : WasmSymbolKind). matches_kind kind m ≡ true) at.is_at.kind_is
+      (bound_of_kind laws.slots input.link t m is));
+  made = bound_is_made_function laws input t m at.listed (named_binds input t (slot.Made m) is);
 }
 
-pub bound_is_there : (input : Input) → IsLiveOf input.link input.live → (object k : ℕ) (o : Object) (t : ImportSlot)
+pub bound_is_there : BindingLaws → (input : Input) → IsLiveOf input.link input.live
+    → (object k : ℕ) (o : Object) (t : ImportSlot)
     → IsKeptAt input object k o t → IsInOutput input (binds_function input t)
-bound_is_there input live object k o t at = elim (cases_option (slot_target input.link t)) [
+bound_is_there laws input live object k o t at = elim (cases_option (slot_target input.link t)) [
   | inr named ↦ subst (λ (f : FunctionTarget). IsInOutput input f) (sym (named_binds input t named.0 named.1))
-      (named_is_there input live object k o t at named.0 named.1)
+      (named_is_there laws input live object k o t at named.0 named.1)
   | inl none ↦ left_is_there input t
       (stays (λ (s : ImportSlot). is_none (slot_target input.link s)) (kept_slots input Func) t at.listed (ap is_none none)) none
 ]

@@ -20,7 +20,6 @@ use Rattle.wl_slots.specs.Left.{HostImport, same_field, same_import, is_stub, fi
 use Rattle.wl_slots.specs.SlotTargets.{slot_target}
 use Rattle.wl_slots.specs.declared.targets.SlotTarget.{SlotTarget}
 use Rattle.wl_slots.specs.declared.targets.SlotTarget.TheVariants as slot
-use Rattle.wl_slots.proofs.FirstLaws.{import_found}
 use Rattle.wl_types.specs.Types.{max_entries}
 use Rattle.wl_types.specs.declared.types.TheConstants.{WASM_DEAD_INDEX}
 use Rattle.wl_bind.specs.GlobalBinding.{left_globals, host_globals, is_from, is_called, by_got, by_host, binds_global, named_global}
@@ -50,7 +49,7 @@ use Rattle.wl_bind.proofs.ClosedLaws.{kept_global, bound_of_kind}
 use Rattle.wl_bind.proofs.HostLaws.{IsAt, placed}
 use Rattle.wl_bind.proofs.LeftLaws.{cases_option}
 use Rattle.wl_bind.proofs.GlobalLaws.{binds as binds_by}
-use Rattle.wl_bind.proofs.SlotIndexLaws.{Leads, has_entry, get_via, in_front, places_in, entry_stands}
+use Rattle.wl_bind.proofs.SlotIndexLaws.{ImportLaws, Leads, has_entry, get_via, in_front, places_in, entry_stands}
 use Rattle.wl_bind.proofs.MadeLaws.{bound_is_made_global}
 use Rattle.wl_bind.proofs.NumberingLaws.{zip_map, zip_joined, slots_here, OwnAt, fits, global_at, has_ordinal, own_globals}
 use Rattle.wl_bind.proofs.PlaceLaws.{get_in_front}
@@ -94,15 +93,16 @@ is_global_kind Section e = absurd cc
 is_global_kind Event e = absurd cc
 is_global_kind Table e = absurd cc
 
-made_leads : (n : Numbering) (t : ImportSlot) (m : WasmLinkerSymbol) → Contains (kept_slots n.input.now Global) t
+made_leads : ImportLaws → (n : Numbering) (t : ImportSlot) (m : WasmLinkerSymbol)
+    → Contains (kept_slots n.input.now Global) t
     → binds_global n.input.now t ≡ global.Made m → matches_kind Global m ≡ true
     → Leads n Global t (LinkerDefined m) (global_space n.input.now) (GlobalOf (global.Made m))
-made_leads n t m kept bound of_kind =
+made_leads laws n t m kept bound of_kind =
     record {
       has = tt;
       stands = λ index made.
           subst (λ (kind : WasmSymbolKind). StandsAt n.input.now m kind index) (is_global_kind (row_of m).kind of_kind)
-          (made (bound_is_made_global n.input.now t m kept bound));
+          (made (bound_is_made_global laws.binding n.input.now t m kept bound));
     }
 
 abbrev other_parts : Input → List (List GlobalEntry)
@@ -111,15 +111,16 @@ other_parts input =
     ∷ made_global_part input TlsBase ∷ made_global_part input TlsSize ∷ made_global_part input TlsAlign
     ∷ address_part input ∷ got_mem_part input ∷ got_func_part input ∷ dynamic_part input ∷ forced_part input ∷ []
 
-host_leads : (n : Numbering) → IsNumbering n.input.now n → (object k : ℕ) (t : ImportSlot)
+host_leads : ImportLaws → (n : Numbering) → IsNumbering n.input.now n
+    → (object k : ℕ) (t : ImportSlot)
     → slice_get (import_slots n.input.now.link.objects object Global) k ≡ Some t
     → Contains (host_globals n.input.now) t → is_host_slot n.input.now Global t ≡ true
     → Leads n Global t Unresolved (global_space n.input.now) (GlobalOf (by_host n.input.now t))
-host_leads n is object k t here listed host =
+host_leads laws n is object k t here listed host =
     let input : Input = n.input.now in
     let first : ImportSlot = first_like same_import (first_imports (host_globals input)) t in
     let y : GlobalEntry = GlobalOf (global.Host first.object first.number) in
-    let p = import_found (host_globals input) t listed in
+    let p = laws.imports (host_globals input) t listed in
     let gives : import_place input Global (global_imports input) t ≡ Some p.0 = rw host p.1 in
     let place : place_at n.shared.now Global t.object t.number ≡ Some p.0 =
     ap (λ (s : Shared). place_at s Global t.object t.number) is.shared ∙ (global_place input object k t here ∙ gives) in
@@ -143,11 +144,12 @@ named_binds : (input : Input) (t : ImportSlot) (named : SlotTarget) → slot_tar
 named_binds input t named is = binds_by input t (Some named) is
 
 -- the unit of a definition that a kept slot is bound to is kept
-named_is_live : (input : Input) → IsLiveOf input.link input.live → (object k : ℕ) (t : ImportSlot) (i j : ℕ)
+named_is_live : ImportLaws → (input : Input) → IsLiveOf input.link input.live
+    → (object k : ℕ) (t : ImportSlot) (i j : ℕ)
     → slice_get (import_slots input.link.objects object Global) k ≡ Some t → is_kept_slot input t ≡ true
     → slot_target input.link t ≡ Some (slot.Defined i j)
     → is_live input.live (record { object = i; unit = DefinedGlobal j }) ≡ true
-named_is_live input live object k t i j here kept is =
+named_is_live laws input live object k t i j here kept is =
     let at : IsAt object Global k t = placed input.link.objects object Global k t here in
     let own : keeps_slot input Global object k ≡ true =
     subst (λ (m : ℕ). keeps_slot input Global object m ≡ true) at.number_is
@@ -155,30 +157,34 @@ named_is_live input live object k t i j here kept is =
     (subst (λ (kind : WasmSymbolKind). keeps_slot input kind t.object t.number ≡ true) at.kind_is kept)) in
     elim (cases_option (slice_get input.link.objects object)) [
       | inl none ↦ absurd (let no_slot : None ≡ Some t = rw none at here in cc)
-      | inr o ↦ kept_global input.link input.live live object k o.0 t i j o.1
+      | inr o ↦ kept_global laws.binding.slots input.link input.live live object k o.0 t i j o.1
           (subst (λ (ts : List ImportSlot). slice_get ts k ≡ Some t) (slots_here input.link.objects object Global o.0 o.1) here) at own is
     ]
 
 -- what the linker makes, and a slot is bound to, is of its kind
-named_is_of_kind : (input : Input) (object k : ℕ) (t : ImportSlot) (m : WasmLinkerSymbol)
+named_is_of_kind : ImportLaws → (input : Input) (object k : ℕ) (t : ImportSlot)
+    (m : WasmLinkerSymbol)
     → slice_get (import_slots input.link.objects object Global) k ≡ Some t
     → slot_target input.link t ≡ Some (slot.Made m) → matches_kind Global m ≡ true
-named_is_of_kind input object k t m here is =
+named_is_of_kind laws input object k t m here is =
     let at : IsAt object Global k t = placed input.link.objects object Global k t here in
-    subst (λ (kind : WasmSymbolKind). matches_kind kind m ≡ true) at.kind_is (bound_of_kind input.link t m is)
+    subst (λ (kind : WasmSymbolKind). matches_kind kind m ≡ true) at.kind_is
+    (bound_of_kind laws.binding.slots input.link t m is)
 
 abbrev GlobalLeads : Numbering → ImportSlot → GlobalTarget → Type 0
 GlobalLeads n t target =
     Leads n Global t (as_global n.input.now target) (global_space n.input.now) (GlobalOf target)
 
-named_leads : (n : Numbering) → IsNumbering n.input.now n → IsLiveOf n.input.now.link n.input.now.live → (object k : ℕ) (t : ImportSlot)
+named_leads : ImportLaws → (n : Numbering) → IsNumbering n.input.now n
+    → IsLiveOf n.input.now.link n.input.now.live → (object k : ℕ) (t : ImportSlot)
     → slice_get (import_slots n.input.now.link.objects object Global) k ≡ Some t → is_kept_slot n.input.now t ≡ true
     → Contains (kept_slots n.input.now Global) t → (named : SlotTarget) → slot_target n.input.now.link t ≡ Some named
     → GlobalLeads n t (named_global named)
-named_leads n is live object k t here kept listed (slot.Defined i j) bound =
-    own_leads n is live t i j (named_is_live n.input.now live object k t i j here kept bound)
-named_leads n is live object k t here kept listed (slot.Made m) bound =
-    made_leads n t m listed (named_binds n.input.now t (slot.Made m) bound) (named_is_of_kind n.input.now object k t m here bound)
+named_leads laws n is live object k t here kept listed (slot.Defined i j) bound =
+    own_leads n is live t i j (named_is_live laws n.input.now live object k t i j here kept bound)
+named_leads laws n is live object k t here kept listed (slot.Made m) bound =
+    made_leads laws n t m listed (named_binds n.input.now t (slot.Made m) bound)
+    (named_is_of_kind laws n.input.now object k t m here bound)
 
 -- ---- entries of the GOT lists
 
@@ -243,11 +249,12 @@ got_leads n is t (global.Defined i j) lt = absurd lt
 got_leads n is t (global.Made m) lt = absurd lt
 got_leads n is t (global.Host i j) lt = absurd lt
 
-left_leads : (n : Numbering) → IsNumbering n.input.now n → (object k : ℕ) (t : ImportSlot)
+left_leads : ImportLaws → (n : Numbering) → IsNumbering n.input.now n
+    → (object k : ℕ) (t : ImportSlot)
     → slice_get (import_slots n.input.now.link.objects object Global) k ≡ Some t → is_kept_slot n.input.now t ≡ true
     → Contains (kept_slots n.input.now Global) t → slot_target n.input.now.link t ≡ None
     → GlobalLeads n t (binds_global n.input.now t)
-left_leads n is object k t here kept listed none =
+left_leads laws n is object k t here kept listed none =
     let input : Input = n.input.now in
     let no_name : is_none (slot_target input.link t) ≡ true = rw none refl in
     let left : Contains (left_globals input) t = passes (λ (s : ImportSlot). is_none (slot_target input.link s)) (kept_slots input Global) t listed no_name in
@@ -262,13 +269,15 @@ left_leads n is object k t here kept listed none =
           let among : Contains (host_globals input) t = passes (λ (s : ImportSlot). is_none (by_got input s)) (left_globals input) t left passed in
           let bound_to_host : is_host_global (binds_global input t) ≡ true = ap is_host_global target in
           let host : is_host_slot input Global t ≡ true = rw (kept, bound_to_host) refl in
-          subst (λ (x : GlobalTarget). GlobalLeads n t x) (sym target) (host_leads n is object k t here among host))
+          subst (λ (x : GlobalTarget). GlobalLeads n t x) (sym target)
+          (host_leads laws n is object k t here among host))
     ]
 
-global_leads : (n : Numbering) → IsNumbering n.input.now n → IsLiveOf n.input.now.link n.input.now.live → (object k : ℕ) (t : ImportSlot)
+global_leads : ImportLaws → (n : Numbering) → IsNumbering n.input.now n
+    → IsLiveOf n.input.now.link n.input.now.live → (object k : ℕ) (t : ImportSlot)
     → slice_get (import_slots n.input.now.link.objects object Global) k ≡ Some t → is_kept_slot n.input.now t ≡ true
     → Leads n Global t (resolution_of n.input.now Global t) (global_space n.input.now) (GlobalOf (binds_global n.input.now t))
-global_leads n is live object k t here kept =
+global_leads laws n is live object k t here kept =
     let input : Input = n.input.now in
     let listed : Contains (kept_slots input Global) t =
     passes (is_kept_slot input) (slots_from Global 0 input.link.objects) t
@@ -276,27 +285,31 @@ global_leads n is live object k t here kept =
     let resolved : global_resolution input t ≡ as_global input (binds_global input t) = rw kept refl in
     subst (λ (r : ImportResolution). Leads n Global t r (global_space input) (GlobalOf (binds_global input t))) (sym resolved)
     (elim (cases_option (slot_target input.link t)) [
-      | inl none ↦ left_leads n is object k t here kept listed none
+      | inl none ↦ left_leads laws n is object k t here kept listed none
       | inr named ↦ subst (λ (x : GlobalTarget). GlobalLeads n t x) (sym (named_binds input t named.0 named.1))
-          (named_leads n is live object k t here kept listed named.0 named.1)
+          (named_leads laws n is live object k t here kept listed named.0 named.1)
     ])
 
-pub globals_have : (n : Numbering) → IsNumbering n.input.now n → IsLiveOf n.input.now.link n.input.now.live → (object : ℕ)
+pub globals_have : ImportLaws → (n : Numbering) → IsNumbering n.input.now n
+    → IsLiveOf n.input.now.link n.input.now.live → (object : ℕ)
     → HaveSlotIndices n Global (import_slots n.input.now.link.objects object Global)
-globals_have n is live object k t here kept = (global_leads n is live object k t here kept).has
+globals_have laws n is live object k t here kept =
+    (global_leads laws n is live object k t here kept).has
 
-pub all_globals : (n : Numbering) → IsNumbering n.input.now n → IsLiveOf n.input.now.link n.input.now.live → (object : ℕ) (o : Object)
+pub all_globals : ImportLaws → (n : Numbering) → IsNumbering n.input.now n
+    → IsLiveOf n.input.now.link n.input.now.live → (object : ℕ) (o : Object)
     → slice_get n.input.now.link.objects object ≡ Some o → (indices firsts new : List ℕ)
     → AllZip (IsSlotIndex n Global) (import_slots n.input.now.link.objects object Global) indices
     → firsts ≡ n.global_firsts.items → new ≡ indices ++ own_indices_of n.input.now Globals firsts object o
     → AreIndicesOf (global_space n.input.now) (local_globals n.input.now object o) new
-all_globals n is live object o here indices firsts new slots are pushed =
+all_globals laws n is live object o here indices firsts new slots are pushed =
     let input : Input = n.input.now in
     let space : List GlobalEntry = global_space input in
     let first : AreIndicesOf space (map (global_slot_entry input) (import_slots input.link.objects object Global)) indices =
     zip_map (IsSlotIndex n Global) (IsIndexOf space) (global_slot_entry input) (import_slots input.link.objects object Global) indices
     (λ k t index at so. entry_stands (is_kept_slot input t) space (GlobalOf (binds_global input t)) index
-    (λ kept. (global_leads n is live object k t at kept).stands index (so.kept kept)) so.dead) slots in
+    (λ kept. (global_leads laws n is live object k t at kept).stands index (so.kept kept))
+    so.dead) slots in
     let at_object : AreIndicesOf space (map (global_slot_entry input) (object_slots object Global o)) indices =
     subst (λ (ts : List ImportSlot). AreIndicesOf space (map (global_slot_entry input) ts) indices)
     (slots_here input.link.objects object Global o here) first in

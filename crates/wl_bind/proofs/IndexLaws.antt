@@ -1,12 +1,11 @@
 -- The lengths of the parts of spaces, and the addresses of the linker's that are exported.
-use Rattle.std.proofs.Common.{◌≡◌, ◌∙◌, ◌⊎◌, ℕ, zero, suc, ◌+◌, ◌<◌, ◌≤◌, Bool, true, false, List, [], ◌∷◌, ◌++◌, length, map, refl, sym, ap, subst, arith, inl, inr, Option, Some, None, is_some, Result, Ok, Err, IfOk, IfErr, slice_get, get_or, position, filter_map, if◌then◌else◌, MatchOption, length-append}
+use Rattle.std.proofs.Common.{◌≡◌, ◌∙◌, ◌⊎◌, ℕ, zero, suc, ◌+◌, ◌<◌, ◌≤◌, Bool, true, false, List, [], ◌∷◌, ◌++◌, length, map, refl, sym, ap, subst, arith, inl, inr, Option, Some, None, Result, Ok, Err, IfOk, IfErr, slice_get, get_or, position, filter_map, if◌then◌else◌, MatchOption, length-append}
 use Rattle.std.specs.List.{list_any, range_with_len, cons_option}
 use Rattle.std.specs.Str.{bytes_eq}
 use Rattle.std.proofs.lemmas.Bool.{cases_Bool}
 use Rattle.std.proofs.lemmas.List.Quantifiers.{position-Some}
 use Rattle.std.proofs.lemmas.Option.{slice_get-get_or}
 use Rattle.std.proofs.lemmas.Slice.Eq.{bytes_eq-Decides}
-use Rattle.wl_slots.proofs.PlaceLaws.{any_placed}
 use Rattle.indexmap.specs.IndexSet.{insert_all}
 use Rattle.wl_types.specs.Types.{max_entries}
 use Rattle.wl_linking.specs.Symbols.{is_data}
@@ -30,6 +29,7 @@ use Rattle.wl_bind.specs.Sameness.{same_made}
 use Rattle.wl_bind.specs.SpaceFaults.{AreTooMany, IsSpaceOver}
 use Rattle.wl_bind.specs.declared.indices.LinkerDefinedIndices.{LinkerDefinedIndices}
 use Rattle.wl_bind.specs.declared.parts.PartStarts.{PartStarts}
+use Rattle.wl_bind.proofs.ListedLaws.{any_in, some_place_of}
 use Rattle.wl_bind.proofs.OnceParts.{IsIn, in_split}
 use Rattle.wl_bind.proofs.OwnLaws.{mapped_at}
 use Rattle.wl_bind.proofs.PlaceLaws.{joined_length}
@@ -202,17 +202,10 @@ forced_is_made input made.TlsAlign e = absurd cc
 forced_is_made input made.CallCtors e = absurd cc
 forced_is_made input made.InitTls e = absurd cc
 
-any_in : {X : Type 0} (p : X → Bool) (xs : List X) (x : X) → IsIn xs x → p x ≡ true → list_any p xs ≡ true
-any_in p [] x h t = absurd h
-any_in {X} p (y ∷ xs) x h t = elim h [
-  | inl e ↦ (let here : p y ≡ true = ap p e ∙ t in rw here refl)
-  | inr r ↦ elim (cases_Bool (p y)) [ inl so ↦ rw so refl | inr f ↦ rw f (any_in p xs x r t) ]
-]
-
 placed_one : {X : Type 0} (p : X → Bool) (xs : List X) (x : X) → IsIn xs x → p x ≡ true → position p xs ≡ None → ⊥
 placed_one p xs x h t none =
-    let any : is_some (position p xs) ≡ true = sym (any_placed p xs) ∙ any_in p xs x h t in
-    let no : is_some (position p xs) ≡ false = ap is_some none in
+    let place = some_place_of p xs (any_in p xs x h t) in
+    let both : None ≡ Some place.0 = sym none ∙ place.1 in
     absurd cc
 
 -- where the address of data has no place, its name isn't to be exported

@@ -1,5 +1,5 @@
 -- What a kept slot is bound to of the linker's exists.
-use Rattle.std.proofs.Common.{◌≡◌, ◌∙◌, ◌&&◌, ◌||◌, ℕ, zero, suc, ◌+◌, Bool, true, false, List, [], ◌∷◌, filter, refl, sym, ap, subst, inl, inr, arith, Option, Some, None, Contains, codes, if◌then◌else◌}
+use Rattle.std.proofs.Common.{◌≡◌, ◌∙◌, ◌&&◌, ◌||◌, ℕ, zero, suc, ◌+◌, Bool, true, false, List, [], ◌∷◌, filter, refl, sym, ap, subst, inl, inr, arith, Option, Some, None, MatchOption, Contains, codes, if◌then◌else◌}
 use Rattle.std.specs.List.{list_any, position}
 use Rattle.std.specs.Option.{option_map, unwrap_or}
 use Rattle.std.proofs.lemmas.Bool.{cases_Bool}
@@ -14,22 +14,18 @@ use Rattle.wl_linking.specs.declared.symbols.WasmSymbolKind.TheVariants.{Func, G
 use Rattle.wl_symbols.specs.Entries.{symbol_in, is_private}
 use Rattle.wl_symbols.specs.Link.{Link}
 use Rattle.wl_symbols.specs.LinkerNames.{exists_under, matches_kind}
-use Rattle.wl_symbols.specs.Names.{named, def, StandsFor}
+use Rattle.wl_symbols.specs.Names.{named, def, StandsFor, IsUnknown}
 use Rattle.wl_symbols.specs.contracts.linker_symbol.WasmLinkerSymbol.{the_type}
 use Rattle.wl_symbols.specs.declared.entry.Definition.{Definition}
 use Rattle.wl_symbols.specs.declared.entry.Definition.TheVariants as definition
 use Rattle.wl_symbols.specs.declared.linker_symbol.WasmLinkerSymbol.{WasmLinkerSymbol}
 use Rattle.wl_symbols.specs.declared.linker_symbol.WasmLinkerSymbol.TheVariants as made
-use Rattle.wl_symbols.proofs.NamedLaws.{named_cases, def_shared}
-use Rattle.wl_live.proofs.ReachLaws.{Contains-cons_cases}
-use Rattle.wl_live.proofs.JoinLaws.{Contains-none}
 use Rattle.wl_slots.specs.ImportSlots.{ImportSlot, slot_at, numbered_slots, slot_imports, object_slots}
 use Rattle.wl_slots.specs.Left.{same_import, first_like, first_imports}
 use Rattle.wl_slots.specs.SlotCases.{IsBoundTo}
 use Rattle.wl_slots.specs.SlotTargets.{slot_target}
 use Rattle.wl_slots.specs.declared.targets.SlotTarget.{SlotTarget}
 use Rattle.wl_slots.specs.declared.targets.SlotTarget.TheVariants as slot
-use Rattle.wl_slots.proofs.CaseLaws.{target_cases}
 use Rattle.wl_bind.specs.Input.{Input}
 use Rattle.wl_bind.specs.KeptSlots.{slots_from, is_kept_slot, kept_slots}
 use Rattle.wl_bind.specs.FunctionBinding.{named_function, binds_function}
@@ -41,9 +37,22 @@ use Rattle.wl_bind.specs.Scan.{got_mem, got_func}
 use Rattle.wl_bind.specs.declared.binding.FunctionTarget.{FunctionTarget}
 use Rattle.wl_bind.specs.declared.binding.FunctionTarget.TheVariants as function
 use Rattle.wl_bind.specs.declared.binding.GlobalTarget.TheVariants as global
+use Rattle.wl_bind.proofs.ClosedLaws.{SlotLaws}
 use Rattle.wl_bind.proofs.GlobalLaws.{binds}
 use Rattle.wl_bind.proofs.LeftLaws.{cases_option}
+use Rattle.wl_bind.proofs.MemberLaws.{nowhere, first_or_behind}
 use Rattle.wl_bind.proofs.OneRuleLaws.{bound_as}
+
+-- ---- what is told of slots and of names
+
+-- of slots; and what a name stands for, and a symbol that other objects know by its name
+pub record BindingLaws : Type 0 where
+  pub slots : SlotLaws
+  pub names : (link : Link) (name : List ℕ)
+      → MatchOption (named link name) (IsUnknown link name) (StandsFor link name)
+  pub symbols : (link : Link) (object symbol : ℕ) (s : LinkedSymbol)
+      → symbol_in link.objects object symbol ≡ Some s → is_private s ≡ false
+      → StandsFor link s.name (def link object symbol)
 
 -- ---- lists
 
@@ -75,9 +84,9 @@ sifted_of test (y ∷ xs) x listed = elim (cases_Bool (test y)) [
 numbered_kind : (object : ℕ) (kind : WasmSymbolKind) (symbols : List LinkedSymbol) (n : ℕ)
     (is : List Imported) (t : ImportSlot)
     → Contains (numbered_slots object kind symbols n is) t → t.kind ≡ kind
-numbered_kind object kind symbols n [] t listed = absurd (Contains-none t listed)
+numbered_kind object kind symbols n [] t listed = absurd (nowhere t listed)
 numbered_kind object kind symbols n (i ∷ is) t listed =
-    elim (Contains-cons_cases (slot_at object kind symbols n i) t
+    elim (first_or_behind (slot_at object kind symbols n i) t
     (numbered_slots object kind symbols (n + 1) is) listed) [
       | inl here ↦ ap (λ (s : ImportSlot). s.kind) (sym here)
       | inr there ↦ numbered_kind object kind symbols (n + 1) is t there
@@ -85,7 +94,7 @@ numbered_kind object kind symbols n (i ∷ is) t listed =
 
 slots_kind : (kind : WasmSymbolKind) (n : ℕ) (os : List Object) (t : ImportSlot)
     → Contains (slots_from kind n os) t → t.kind ≡ kind
-slots_kind kind n [] t listed = absurd (Contains-none t listed)
+slots_kind kind n [] t listed = absurd (nowhere t listed)
 slots_kind kind n (o ∷ os) t listed =
     elim (Contains-append_cases (object_slots n kind o) (slots_from kind (n + 1) os) t listed) [
       | inl here ↦ numbered_kind n kind o.symbols 0 (slot_imports kind o.imports) t here
@@ -113,9 +122,9 @@ stands_made link name d m stands is =
     subst (λ (e : Definition). StandsFor link name e) is stands in
     stands_for.2.exists_
 
-def_made : (link : Link) (object symbol : ℕ) (m : WasmLinkerSymbol)
+def_made : BindingLaws → (link : Link) (object symbol : ℕ) (m : WasmLinkerSymbol)
     → def link object symbol ≡ definition.Made m → exists_under link.args m ≡ true
-def_made link object symbol m is = by_symbol (symbol_in link.objects object symbol) refl
+def_made laws link object symbol m is = by_symbol (symbol_in link.objects object symbol) refl
   where
     itself_not : definition.Symbol object symbol ≡ definition.Made m → ⊥
     itself_not e = cc
@@ -132,27 +141,27 @@ def_made link object symbol m is = by_symbol (symbol_in link.objects object symb
           absurd (itself_not (sym itself ∙ is)))
       | inr shared ↦
           stands_made link s.name (def link object symbol) m
-          (def_shared link object symbol s at shared) is
+          (laws.symbols link object symbol s at shared) is
     ]
 
-named_made : (link : Link) (name : List ℕ) (m : WasmLinkerSymbol)
+named_made : BindingLaws → (link : Link) (name : List ℕ) (m : WasmLinkerSymbol)
     → named link name ≡ Some (definition.Made m) → exists_under link.args m ≡ true
-named_made link name m is =
-    let stands : StandsFor link name (definition.Made m) = rw is at (named_cases link name) in
+named_made laws link name m is =
+    let stands : StandsFor link name (definition.Made m) = rw is at (laws.names link name) in
     stands.2.exists_
 
-slot_made : (link : Link) (t : ImportSlot) (m : WasmLinkerSymbol)
+slot_made : BindingLaws → (link : Link) (t : ImportSlot) (m : WasmLinkerSymbol)
     → slot_target link t ≡ Some (slot.Made m) → IsThere link t.kind m
-slot_made link t m is =
-    let bound : IsBoundTo link t (slot.Made m) = rw is at (target_cases link t) in
+slot_made laws link t m is =
+    let bound : IsBoundTo link t (slot.Made m) = rw is at (laws.slots.targets link t) in
     elim bound.1 [
       | inl symbol ↦ record {
         of_kind = symbol.of_kind;
-        exists_ = def_made link t.object symbol.undefined m symbol.stands;
+        exists_ = def_made laws link t.object symbol.undefined m symbol.stands;
       }
       | inr field ↦ record {
         of_kind = field.1.of_kind;
-        exists_ = named_made link t.item.name m field.1.stands;
+        exists_ = named_made laws link t.item.name m field.1.stands;
       }
     ]
 
@@ -171,11 +180,11 @@ host_not : (object number : ℕ) (m : WasmLinkerSymbol)
     → function.Host object number ≡ function.Made m → ⊥
 host_not object number m e = cc
 
-function_there : (input : Input) (t : ImportSlot) (m : WasmLinkerSymbol)
+function_there : BindingLaws → (input : Input) (t : ImportSlot) (m : WasmLinkerSymbol)
     → Contains (kept_slots input Func) t
     → binds_function input t ≡ function.Made m → IsThere input.link t.kind m
-function_there input t m kept is = elim (bound_as input t kept) [
-  | inl n ↦ slot_made input.link t m
+function_there laws input t m kept is = elim (bound_as input t kept) [
+  | inl n ↦ slot_made laws input.link t m
       (n.bound ∙ ap (λ s. Some s) (named_by_function n.named m (sym n.target_is ∙ is)))
   | inr left ↦ elim left [
     | inl stub ↦ absurd (stub_not stub.first.object stub.first.number m (sym stub.target_is ∙ is))
@@ -201,9 +210,9 @@ left_not false true x None object number m e = cc
 left_not false true x (Some k) object number m e = cc
 left_not false false x y object number m e = cc
 
-global_there : (input : Input) (t : ImportSlot) (m : WasmLinkerSymbol)
+global_there : BindingLaws → (input : Input) (t : ImportSlot) (m : WasmLinkerSymbol)
     → binds_global input t ≡ global.Made m → IsThere input.link t.kind m
-global_there input t m is = elim (cases_option (slot_target input.link t)) [
+global_there laws input t m is = elim (cases_option (slot_target input.link t)) [
   | inl none ↦
       (let first = first_like same_import (first_imports (host_globals input)) t in
       let mem = position (is_called input t.item.name) (got_mem input) in
@@ -211,7 +220,7 @@ global_there input t m is = elim (cases_option (slot_target input.link t)) [
       (got_func input) in
       absurd (left_not (is_from (codes "GOT.mem") t) (is_from (codes "GOT.func") t) mem func
       first.object first.number m (sym (binds input t None none) ∙ is)))
-  | inr named ↦ slot_made input.link t m
+  | inr named ↦ slot_made laws input.link t m
       (named.1 ∙ ap (λ s. Some s) (named_by_global named.0 m
       (sym (binds input t (Some named.0) named.1) ∙ is)))
 ]
@@ -312,22 +321,22 @@ global_made input made.CallCtors k x b = absurd cc
 global_made input made.InitTls k x b = absurd cc
 
 -- what a kept function slot is bound to of the linker's exists
-pub bound_is_made_function : (input : Input) (t : ImportSlot) (m : WasmLinkerSymbol)
+pub bound_is_made_function : BindingLaws → (input : Input) (t : ImportSlot) (m : WasmLinkerSymbol)
     → Contains (kept_slots input Func) t → binds_function input t ≡ function.Made m
     → is_made input m ≡ true
-bound_is_made_function input t m kept is =
-    let there = function_there input t m kept is in
+bound_is_made_function laws input t m kept is =
+    let there = function_there laws input t m kept is in
     let kind : matches_kind Func m ≡ true =
     subst (λ (k : WasmSymbolKind). matches_kind k m ≡ true) (kept_kind input Func t kept)
     there.of_kind in
     function_made input m kind there.exists_ (function_bound input t m kept is)
 
 -- what a kept global slot is bound to of the linker's exists
-pub bound_is_made_global : (input : Input) (t : ImportSlot) (m : WasmLinkerSymbol)
+pub bound_is_made_global : BindingLaws → (input : Input) (t : ImportSlot) (m : WasmLinkerSymbol)
     → Contains (kept_slots input Global) t → binds_global input t ≡ global.Made m
     → is_made input m ≡ true
-bound_is_made_global input t m kept is =
-    let there = global_there input t m is in
+bound_is_made_global laws input t m kept is =
+    let there = global_there laws input t m is in
     let kind : matches_kind Global m ≡ true =
     subst (λ (k : WasmSymbolKind). matches_kind k m ≡ true) (kept_kind input Global t kept)
     there.of_kind in

@@ -11,8 +11,14 @@ module _ {X : Type 0} where
   pub behind : (x y : X) (xs : List X) → Contains xs y → Contains (x ∷ xs) y
   behind x y xs h = Contains-append_right (x ∷ []) xs y h
 
-  nowhere : (x : X) → Contains [] x → ⊥
+  -- nothing is in an empty list
+  pub nowhere : (x : X) → Contains [] x → ⊥
   nowhere x (k, lt, e) = absurd (omega (arith, lt))
+
+  -- what is in a list is its first or stands behind it
+  pub first_or_behind : (y x : X) (xs : List X) → Contains (y ∷ xs) x → (y ≡ x) ⊎ Contains xs x
+  first_or_behind y x xs (zero, lt, e) = inl e
+  first_or_behind y x xs (suc k, lt, e) = inr (k, omega (arith, lt), e)
 
   alone : (y x : X) → Contains (y ∷ []) x → y ≡ x
   alone y x (zero, lt, e) = e

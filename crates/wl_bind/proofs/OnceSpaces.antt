@@ -16,7 +16,8 @@ use Rattle.wl_symbols.specs.Entries.{symbol_in}
 use Rattle.wl_symbols.specs.declared.linker_symbol.WasmLinkerSymbol.{WasmLinkerSymbol}
 use Rattle.wl_symbols.specs.declared.linker_symbol.WasmLinkerSymbol.TheVariants as made
 use Rattle.wl_module.specs.SameType.{types_equiv}
-use Rattle.wl_types.proofs.FirstLaws.{types_once}
+use Rattle.wl_module.specs.Types.{FunctionType, same_type}
+use Rattle.wl_types.specs.Types.{output_list}
 use Rattle.wl_bind.specs.Input.{Input, keeps}
 use Rattle.wl_bind.specs.KeptSlots.{slots_from, is_kept_slot, kept_slots, left_slots}
 use Rattle.wl_bind.specs.FunctionBinding.{left_functions, link_stubs, host_functions}
@@ -396,8 +397,14 @@ globals_once input =
 
 -- ---- types
 
+-- no type stands at two places of the types of an output
+abbrev pub TypesStandOnce : Type 0
+TypesStandOnce = (types : List FunctionType) (i k : ℕ) (a b : FunctionType)
+    → slice_get (output_list types) i ≡ Some a → slice_get (output_list types) k ≡ Some b
+    → same_type a b ≡ true → i ≡ k
+
 -- no type stands twice among the types of the output
-pub output_types_once : (input : Input) → StandOnce (output_types input)
-output_types_once input i k ty at_i at_k =
-    types_once (by_object (live_types input) 0 input.link.objects ++ made_types input) i k ty ty at_i at_k
+pub output_types_once : TypesStandOnce → (input : Input) → StandOnce (output_types input)
+output_types_once once input i k ty at_i at_k =
+    once (by_object (live_types input) 0 input.link.objects ++ made_types input) i k ty ty at_i at_k
     (types_equiv.refl ty)

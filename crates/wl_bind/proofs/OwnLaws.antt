@@ -3,18 +3,18 @@ use Rattle.std.proofs.Common.{◌≡◌, ◌∙◌, ℕ, zero, suc, ◌+◌, ◌
 use Rattle.std.specs.List.{range_with_len}
 use Rattle.std.proofs.lemmas.Bool.{cases_Bool, ltb-true}
 use Rattle.std.proofs.lemmas.List.Elements.{filter-append}
+use Rattle.std.proofs.lemmas.Option.{cond_some}
 use Rattle.wl_linking.specs.Object.{Object}
 use Rattle.wl_live.specs.Live.{Live, is_live, live_below, ordinal_of, IsLiveOf}
 use Rattle.wl_live.specs.Units.{counts_of, units_at, has_unit, exists, unit_number, unit_index}
 use Rattle.wl_live.specs.declared.units.LinkUnit.{LinkUnit}
 use Rattle.wl_live.specs.declared.units.UnitCounts.{UnitCounts}
-use Rattle.wl_live.proofs.DenseLaws.{ordinal_parts}
-use Rattle.wl_live.proofs.ExistLaws.{units_of-at}
 use Rattle.wl_bind.specs.Input.{Input, keeps}
 use Rattle.wl_bind.specs.OwnIndices.{own_unit, own_count, kept_own, firsts_from}
 use Rattle.wl_bind.specs.Parts.{by_object}
 use Rattle.wl_bind.specs.declared.own_indices.Own.{Own}
 use Rattle.wl_bind.specs.declared.own_indices.Own.TheVariants.{Functions, Globals}
+use Rattle.wl_bind.proofs.ClosedLaws.{counts_at}
 use Rattle.wl_bind.proofs.PlaceLaws.{get_behind, get_in_front}
 
 -- ---- numbers that pass a test
@@ -172,12 +172,15 @@ own_kept : (input : Input) (own : Own) (object number n : ℕ) (o : Object)
     → ordinal_of input.live (record { object = object; unit = own_unit own number }) ≡ Some n
     → IsLiveOf input.link input.live → slice_get (kept_own input own object o) n ≡ Some number
 own_kept input own object number n o at ordinal live =
-    let parts = ordinal_parts input.live (record { object = object; unit = own_unit own number }) n ordinal in
+    let u : LinkUnit = record { object = object; unit = own_unit own number } in
+    let parts = cond_some (is_live input.live u) (live_below input.live u (unit_index u.unit)) n
+    ordinal in
     let units : units_at input.live.units object ≡ counts_of o =
-    ap (λ (us : List UnitCounts). units_at us object) live.units ∙ units_of-at input.link.objects object o at in
+    ap (λ (us : List UnitCounts). units_at us object) live.units
+    ∙ counts_at input.link.objects object o at in
     let has : has_unit (counts_of o) (own_unit own number) ≡ true =
     ap (λ (c : UnitCounts). has_unit c (own_unit own number)) (sym units)
-    ∙ live_exists input.live (record { object = object; unit = own_unit own number }) parts.0 in
+    ∙ live_exists input.live u parts.0 in
     let below : passing (λ k. keeps input object (own_unit own k)) number ≡ n =
     sym (below_own input own object number number)
     ∙ (ap (λ (k : ℕ). live_below input.live (record { object = object; unit = own_unit own number }) k)

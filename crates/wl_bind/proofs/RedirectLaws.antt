@@ -38,7 +38,7 @@ use Rattle.wl_bind.specs.RedirectSteps.{as_place, row_place, at_index, definitio
 use Rattle.wl_bind.specs.declared.binding.FunctionTarget.{FunctionTarget}
 use Rattle.wl_bind.specs.declared.binding.FunctionTarget.TheVariants as function
 use Rattle.wl_bind.specs.declared.redirects.LocalFunction.{LocalFunction}
-use Rattle.wl_bind.proofs.ClosedLaws.{kept_function}
+use Rattle.wl_bind.proofs.ClosedLaws.{SlotLaws, kept_function}
 use Rattle.wl_bind.proofs.HostLaws.{IsAt, placed}
 use Rattle.wl_bind.proofs.LeftLaws.{cases_option, rules_join, named_binds}
 use Rattle.wl_bind.proofs.NumberingLaws.{zip_maps, slots_here}
@@ -120,6 +120,7 @@ pub record IsGiven (input : Input) (rows : List (List ℕ)) : Type 0 where
   pub room : length (function_space input) ≤ max_entries
   pub live : IsLiveOf input.link input.live
   pub whole : AllByRecursion IsWhole input.link.objects
+  pub laws : SlotLaws
   pub fitting : (o : Object) → IsWhole o → IsFitting o
   pub slots : (object : ℕ) (o : Object) → length (object_slots object Func o) ≡ count_imports external.Func o.imports
   pub numbers : (kind : WasmSymbolKind) (o : Object) (k : ℕ) (s : LinkedSymbol) → IsWhole o
@@ -260,26 +261,35 @@ left_is_kept input true stub host = refl
 left_is_kept input false stub host = refl
 
 -- what a kept slot is bound to is kept
-kept_target : (input : Input) → IsLiveOf input.link input.live → (object k : ℕ) (o : Object) (t : ImportSlot)
+kept_target : SlotLaws → (input : Input) → IsLiveOf input.link input.live
+    → (object k : ℕ) (o : Object) (t : ImportSlot)
     → slice_get input.link.objects object ≡ Some o → slice_get (object_slots object Func o) k ≡ Some t → IsAt object Func k t
     → is_kept_slot input t ≡ true → is_kept_target input (binds_function input t) ≡ true
-kept_target input live object k o t here at is_at kept = elim (cases_option (slot_target input.link t)) [
-  | inr named ↦ named_is_kept named.0 named.1
-  | inl none ↦
-      (let left : binds_function input t ≡ unwrap_or (by_stub input t) (by_host input t) = rules_join input t ∙ rw none refl in
-      ap (is_kept_target input) left
-      ∙ left_is_kept input (is_stub input.link.objects (left_functions input) t)
-      (first_like same_field (link_stubs input) t) (first_like same_import (first_imports (host_functions input)) t))
-] where
-  named_is_kept : (target : SlotTarget) → slot_target input.link t ≡ Some target → is_kept_target input (binds_function input t) ≡ true
-  named_is_kept (slot.Defined i j) named =
-      let live_slot : keeps_slot input Func object k ≡ true =
-      subst (λ (n : ℕ). keeps_slot input Func object n ≡ true) is_at.number_is
-      (subst (λ (n : ℕ). keeps_slot input Func n t.number ≡ true) is_at.object_is
-      (subst (λ (of : WasmSymbolKind). keeps_slot input of t.object t.number ≡ true) is_at.kind_is kept)) in
-      ap (is_kept_target input) (named_binds input t (slot.Defined i j) named)
-      ∙ kept_function input.link input.live live object k o t i j here at is_at live_slot named
-  named_is_kept (slot.Made m) named = ap (is_kept_target input) (named_binds input t (slot.Made m) named)
+kept_target laws input live object k o t here at is_at kept =
+    elim (cases_option (slot_target input.link t)) [
+      | inr named ↦ named_is_kept named.0 named.1
+      | inl none ↦
+          (let left : binds_function input t ≡ unwrap_or (by_stub input t) (by_host input t) =
+          rules_join input t ∙ rw none refl in
+          ap (is_kept_target input) left
+          ∙ left_is_kept input (is_stub input.link.objects (left_functions input) t)
+          (first_like same_field (link_stubs input) t)
+          (first_like same_import (first_imports (host_functions input)) t))
+    ]
+  where
+    named_is_kept : (target : SlotTarget) → slot_target input.link t ≡ Some target
+        → is_kept_target input (binds_function input t) ≡ true
+    named_is_kept (slot.Defined i j) named =
+        let live_slot : keeps_slot input Func object k ≡ true =
+        subst (λ (n : ℕ). keeps_slot input Func object n ≡ true) is_at.number_is
+        (subst (λ (n : ℕ). keeps_slot input Func n t.number ≡ true) is_at.object_is
+        (subst (λ (of : WasmSymbolKind). keeps_slot input of t.object t.number ≡ true) is_at.kind_is
+        kept)) in
+        ap (is_kept_target input) (named_binds input t (slot.Defined i j) named)
+        ∙ kept_function laws input.link input.live live object k o t i j here at is_at live_slot
+        named
+    named_is_kept (slot.Made m) named =
+        ap (is_kept_target input) (named_binds input t (slot.Made m) named)
 
 -- the entry of what a slot is bound to
 entry_is : (input : Input) (kept : Bool) (target : FunctionTarget) → (kept ≡ true → is_kept_target input target ≡ true)
@@ -322,7 +332,8 @@ import_leads input rows given object k o s here at of_kind so =
     let is : option_and_then (entry_of input) (binding_at input object s.index) ≡ function_slot_entry input t =
     ap (λ (x : Option FunctionTarget). option_and_then (entry_of input) x) bound
     ∙ entry_is input (is_kept_slot input t) (binds_function input t)
-    (λ kept. kept_target input given.live object s.index o t here there.here is_at kept) in
+    (λ kept. kept_target given.laws input given.live object s.index o t here there.here is_at kept)
+    in
     subst (λ (e : Option FunctionEntry). IsPlaceOf (function_space input) e (row_place rows (at_index object s))) (sym is)
     (place_of_entry input rows given object o (at_index object s) (function_slot_entry input t) refl here entry)
 

@@ -56,6 +56,7 @@ use Rattle.wl_bind.specs.declared.relocated.Relocated.{Relocated}
 use Rattle.wl_bind.proofs.ClosedLaws.{function_units, counts_at, definition_is, other_is}
 use Rattle.wl_bind.proofs.HostLaws.{IsAt, placed, kept_at}
 use Rattle.wl_bind.proofs.LeftLaws.{cases_option, itself, left_of}
+use Rattle.wl_bind.proofs.MadeLaws.{BindingLaws}
 use Rattle.wl_bind.proofs.NumberingLaws.{slots_here}
 use Rattle.wl_bind.proofs.OnceParts.{IsIn, in_split, in_firsts, Given, given_by}
 use Rattle.wl_bind.proofs.RedirectLaws.{test_at, target_is, undefined_below, kind_is}
@@ -66,7 +67,7 @@ use Rattle.wl_bind.proofs.StubTypeLaws.{whole_at}
 use Rattle.wl_bind.proofs.ListedLaws.{MadeOf, and_both, any_in, as_in, as_listed, is_not, made_of_one, made_of_some, or_left, or_right, still_in}
 use Rattle.wl_bind.proofs.FirstSlotLaws.{bound_is_there, kept_is_there}
 
--- ---- what is told of objects, of slots and of live sets
+-- ---- what is told of objects, of names, of slots and of live sets
 
 pub record Laws : Type 0 where
   pub fitting : (o : Object) → IsWhole o → IsFitting o
@@ -76,6 +77,7 @@ pub record Laws : Type 0 where
       → slice_get o.symbols k ≡ Some s → is_definition_of kind s ≡ true → (n : ℕ) × (own_number kind o s.index ≡ Some n)
   pub closed : (link : Link) (live : Live) (u v : LinkUnit) → IsLiveOf link live → is_live live u ≡ true
       → RefersBySymbol link u v → is_live live v ≡ true
+  pub binding : BindingLaws
 
 -- ---- where a kept relocation is from
 
@@ -364,7 +366,7 @@ undefined_leads laws input r settled n kind so =
       target = binds_function input t;
       leads = ap (λ (x : Option ImportSlot). option_and_then (kept_binding input) x) at
           ∙ ap (λ (b : Bool). if b then Some (binds_function input t) else None) kept;
-      there = bound_is_there input settled.kept r.object s.index o t (record {
+      there = bound_is_there laws.binding input settled.kept r.object s.index o t (record {
         here = n.from.here;
         at = there.1;
         is_at = is_at;

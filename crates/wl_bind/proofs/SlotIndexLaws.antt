@@ -19,7 +19,6 @@ use Rattle.wl_slots.specs.Left.{HostImport, same_field, same_import, is_stub, fi
 use Rattle.wl_slots.specs.SlotTargets.{slot_target}
 use Rattle.wl_slots.specs.declared.targets.SlotTarget.{SlotTarget}
 use Rattle.wl_slots.specs.declared.targets.SlotTarget.TheVariants as slot
-use Rattle.wl_slots.proofs.FirstLaws.{import_found}
 use Rattle.wl_types.specs.Types.{max_entries}
 use Rattle.wl_types.specs.declared.types.TheConstants.{WASM_DEAD_INDEX}
 use Rattle.wl_bind.specs.FunctionBinding.{left_functions, link_stubs, host_functions, by_stub, by_host, binds_function, named_function}
@@ -44,10 +43,21 @@ use Rattle.wl_bind.specs.declared.resolution.ImportResolution.TheVariants.{Unres
 use Rattle.wl_bind.proofs.ClosedLaws.{kept_function, bound_of_kind}
 use Rattle.wl_bind.proofs.HostLaws.{IsAt, placed}
 use Rattle.wl_bind.proofs.LeftLaws.{cases_option, no_place, some_place, stub_found, no_stub, rules_join, named_binds}
-use Rattle.wl_bind.proofs.MadeLaws.{bound_is_made_function}
+use Rattle.wl_bind.proofs.MadeLaws.{BindingLaws, bound_is_made_function}
 use Rattle.wl_bind.proofs.NumberingLaws.{zip_map, zip_joined, slots_here, OwnAt, fits, function_at, has_ordinal, own_functions}
 use Rattle.wl_bind.proofs.PlaceLaws.{get_in_front}
 use Rattle.wl_bind.proofs.RowLaws.{passes, at_is_in, slot_is_one}
+
+-- ---- what is told of slots, of names and of host imports
+
+-- of slots and names; and that each slot has its place among the host imports
+pub record ImportLaws : Type 0 where
+  pub binding : BindingLaws
+  pub imports : (slots : List ImportSlot) (t : ImportSlot) → Contains slots t
+      → (p : ℕ)
+      × (place_of_import t.item.origin t.item.name (map first_slot (first_imports slots)) ≡ Some p)
+      × (slice_get (map first_slot (first_imports slots)) p
+      ≡ Some (first_slot (first_like same_import (first_imports slots) t)))
 
 -- ---- parts
 
@@ -169,15 +179,16 @@ is_function_kind Section e = absurd cc
 is_function_kind Event e = absurd cc
 is_function_kind Table e = absurd cc
 
-made_leads : (n : Numbering) (t : ImportSlot) (m : WasmLinkerSymbol) → Contains (kept_slots n.input.now Func) t
+made_leads : ImportLaws → (n : Numbering) (t : ImportSlot) (m : WasmLinkerSymbol)
+    → Contains (kept_slots n.input.now Func) t
     → binds_function n.input.now t ≡ function.Made m → matches_kind Func m ≡ true
     → Leads n Func t (LinkerDefined m) (function_space n.input.now) (FunctionOf (function.Made m))
-made_leads n t m kept bound of_kind =
+made_leads laws n t m kept bound of_kind =
     record {
       has = tt;
       stands = λ index made.
           subst (λ (kind : WasmSymbolKind). StandsAt n.input.now m kind index) (is_function_kind (row_of m).kind of_kind)
-          (made (bound_is_made_function n.input.now t m kept bound));
+          (made (bound_is_made_function laws.binding n.input.now t m kept bound));
     }
 
 stub_leads : (n : Numbering) → IsNumbering n.input.now n → (t s : ImportSlot)
@@ -203,15 +214,16 @@ abbrev other_parts : Input → List (List FunctionEntry)
 other_parts input =
     made_function_part input CallCtors ∷ made_function_part input InitTls ∷ init_memory_part input ∷ stub_part input ∷ []
 
-host_leads : (n : Numbering) → IsNumbering n.input.now n → (object k : ℕ) (t : ImportSlot)
+host_leads : ImportLaws → (n : Numbering) → IsNumbering n.input.now n
+    → (object k : ℕ) (t : ImportSlot)
     → slice_get (import_slots n.input.now.link.objects object Func) k ≡ Some t
     → Contains (host_functions n.input.now) t → is_host_slot n.input.now Func t ≡ true
     → Leads n Func t Unresolved (function_space n.input.now) (FunctionOf (by_host n.input.now t))
-host_leads n is object k t here listed host =
+host_leads laws n is object k t here listed host =
     let input : Input = n.input.now in
     let first : ImportSlot = first_like same_import (first_imports (host_functions input)) t in
     let y : FunctionEntry = FunctionOf (function.Host first.object first.number) in
-    let p = import_found (host_functions input) t listed in
+    let p = laws.imports (host_functions input) t listed in
     let gives : import_place input Func (function_imports input) t ≡ Some p.0 = rw host p.1 in
     let place : place_at n.shared.now Func t.object t.number ≡ Some p.0 =
     ap (λ (s : Shared). place_at s Func t.object t.number) is.shared ∙ (function_place input object k t here ∙ gives) in
@@ -231,11 +243,12 @@ host_leads n is object k t here listed host =
 -- ---- function slots
 
 -- the unit of a definition that a kept slot is bound to is kept
-named_is_live : (input : Input) → IsLiveOf input.link input.live → (object k : ℕ) (t : ImportSlot) (i j : ℕ)
+named_is_live : ImportLaws → (input : Input) → IsLiveOf input.link input.live
+    → (object k : ℕ) (t : ImportSlot) (i j : ℕ)
     → slice_get (import_slots input.link.objects object Func) k ≡ Some t → is_kept_slot input t ≡ true
     → slot_target input.link t ≡ Some (slot.Defined i j)
     → is_live input.live (record { object = i; unit = DefinedFunction j }) ≡ true
-named_is_live input live object k t i j here kept is =
+named_is_live laws input live object k t i j here kept is =
     let at : IsAt object Func k t = placed input.link.objects object Func k t here in
     let own : keeps_slot input Func object k ≡ true =
     subst (λ (m : ℕ). keeps_slot input Func object m ≡ true) at.number_is
@@ -243,36 +256,41 @@ named_is_live input live object k t i j here kept is =
     (subst (λ (kind : WasmSymbolKind). keeps_slot input kind t.object t.number ≡ true) at.kind_is kept)) in
     elim (cases_option (slice_get input.link.objects object)) [
       | inl none ↦ absurd (let no_slot : None ≡ Some t = rw none at here in cc)
-      | inr o ↦ kept_function input.link input.live live object k o.0 t i j o.1
+      | inr o ↦ kept_function laws.binding.slots input.link input.live live object k o.0 t i j o.1
           (subst (λ (ts : List ImportSlot). slice_get ts k ≡ Some t) (slots_here input.link.objects object Func o.0 o.1) here) at own is
     ]
 
 -- what the linker makes, and a slot is bound to, is of its kind
-named_is_of_kind : (input : Input) (object k : ℕ) (t : ImportSlot) (m : WasmLinkerSymbol)
+named_is_of_kind : ImportLaws → (input : Input) (object k : ℕ) (t : ImportSlot)
+    (m : WasmLinkerSymbol)
     → slice_get (import_slots input.link.objects object Func) k ≡ Some t
     → slot_target input.link t ≡ Some (slot.Made m) → matches_kind Func m ≡ true
-named_is_of_kind input object k t m here is =
+named_is_of_kind laws input object k t m here is =
     let at : IsAt object Func k t = placed input.link.objects object Func k t here in
-    subst (λ (kind : WasmSymbolKind). matches_kind kind m ≡ true) at.kind_is (bound_of_kind input.link t m is)
+    subst (λ (kind : WasmSymbolKind). matches_kind kind m ≡ true) at.kind_is
+    (bound_of_kind laws.binding.slots input.link t m is)
 
 abbrev FunctionLeads : Numbering → ImportSlot → FunctionTarget → Type 0
 FunctionLeads n t target =
     Leads n Func t (as_function n.input.now t target) (function_space n.input.now) (FunctionOf target)
 
-named_leads : (n : Numbering) → IsNumbering n.input.now n → IsLiveOf n.input.now.link n.input.now.live → (object k : ℕ) (t : ImportSlot)
+named_leads : ImportLaws → (n : Numbering) → IsNumbering n.input.now n
+    → IsLiveOf n.input.now.link n.input.now.live → (object k : ℕ) (t : ImportSlot)
     → slice_get (import_slots n.input.now.link.objects object Func) k ≡ Some t → is_kept_slot n.input.now t ≡ true
     → Contains (kept_slots n.input.now Func) t → (named : SlotTarget) → slot_target n.input.now.link t ≡ Some named
     → FunctionLeads n t (named_function named)
-named_leads n is live object k t here kept listed (slot.Defined i j) bound =
-    own_leads n is live t i j (named_is_live n.input.now live object k t i j here kept bound)
-named_leads n is live object k t here kept listed (slot.Made m) bound =
-    made_leads n t m listed (named_binds n.input.now t (slot.Made m) bound) (named_is_of_kind n.input.now object k t m here bound)
+named_leads laws n is live object k t here kept listed (slot.Defined i j) bound =
+    own_leads n is live t i j (named_is_live laws n.input.now live object k t i j here kept bound)
+named_leads laws n is live object k t here kept listed (slot.Made m) bound =
+    made_leads laws n t m listed (named_binds n.input.now t (slot.Made m) bound)
+    (named_is_of_kind laws n.input.now object k t m here bound)
 
-left_leads : (n : Numbering) → IsNumbering n.input.now n → (object k : ℕ) (t : ImportSlot)
+left_leads : ImportLaws → (n : Numbering) → IsNumbering n.input.now n
+    → (object k : ℕ) (t : ImportSlot)
     → slice_get (import_slots n.input.now.link.objects object Func) k ≡ Some t → is_kept_slot n.input.now t ≡ true
     → Contains (kept_slots n.input.now Func) t → slot_target n.input.now.link t ≡ None
     → FunctionLeads n t (binds_function n.input.now t)
-left_leads n is object k t here kept listed none =
+left_leads laws n is object k t here kept listed none =
     let input : Input = n.input.now in
     let no_name : is_none (slot_target input.link t) ≡ true = rw none refl in
     let left : Contains (left_functions input) t = passes (λ (s : ImportSlot). is_none (slot_target input.link s)) (kept_slots input Func) t listed no_name in
@@ -289,13 +307,15 @@ left_leads n is object k t here kept listed none =
           let passed : not (is_stub input.link.objects (left_functions input) t) ≡ true = rw so refl in
           let among : Contains (host_functions input) t = passes test (left_functions input) t left passed in
           let host : is_host_slot input Func t ≡ true = rw (kept, target) refl in
-          subst (λ (x : FunctionTarget). FunctionLeads n t x) (sym target) (host_leads n is object k t here among host))
+          subst (λ (x : FunctionTarget). FunctionLeads n t x) (sym target)
+          (host_leads laws n is object k t here among host))
     ]
 
-function_leads : (n : Numbering) → IsNumbering n.input.now n → IsLiveOf n.input.now.link n.input.now.live → (object k : ℕ) (t : ImportSlot)
+function_leads : ImportLaws → (n : Numbering) → IsNumbering n.input.now n
+    → IsLiveOf n.input.now.link n.input.now.live → (object k : ℕ) (t : ImportSlot)
     → slice_get (import_slots n.input.now.link.objects object Func) k ≡ Some t → is_kept_slot n.input.now t ≡ true
     → Leads n Func t (resolution_of n.input.now Func t) (function_space n.input.now) (FunctionOf (binds_function n.input.now t))
-function_leads n is live object k t here kept =
+function_leads laws n is live object k t here kept =
     let input : Input = n.input.now in
     let listed : Contains (kept_slots input Func) t =
     passes (is_kept_slot input) (slots_from Func 0 input.link.objects) t
@@ -303,14 +323,16 @@ function_leads n is live object k t here kept =
     let resolved : function_resolution input t ≡ as_function input t (binds_function input t) = rw kept refl in
     subst (λ (r : ImportResolution). Leads n Func t r (function_space input) (FunctionOf (binds_function input t))) (sym resolved)
     (elim (cases_option (slot_target input.link t)) [
-      | inl none ↦ left_leads n is object k t here kept listed none
+      | inl none ↦ left_leads laws n is object k t here kept listed none
       | inr named ↦ subst (λ (x : FunctionTarget). FunctionLeads n t x) (sym (named_binds input t named.0 named.1))
-          (named_leads n is live object k t here kept listed named.0 named.1)
+          (named_leads laws n is live object k t here kept listed named.0 named.1)
     ])
 
-pub functions_have : (n : Numbering) → IsNumbering n.input.now n → IsLiveOf n.input.now.link n.input.now.live → (object : ℕ)
+pub functions_have : ImportLaws → (n : Numbering) → IsNumbering n.input.now n
+    → IsLiveOf n.input.now.link n.input.now.live → (object : ℕ)
     → HaveSlotIndices n Func (import_slots n.input.now.link.objects object Func)
-functions_have n is live object k t here kept = (function_leads n is live object k t here kept).has
+functions_have laws n is live object k t here kept =
+    (function_leads laws n is live object k t here kept).has
 
 -- an entry where the slot is kept
 pub entry_stands : {Y : Type 0} (kept : Bool) (space : List Y) (y : Y) (index : ℕ)
@@ -319,18 +341,20 @@ pub entry_stands : {Y : Type 0} (kept : Bool) (space : List Y) (y : Y) (index : 
 entry_stands true space y index stands dead = stands refl
 entry_stands false space y index stands dead = dead refl
 
-pub all_functions : (n : Numbering) → IsNumbering n.input.now n → IsLiveOf n.input.now.link n.input.now.live → (object : ℕ) (o : Object)
+pub all_functions : ImportLaws → (n : Numbering) → IsNumbering n.input.now n
+    → IsLiveOf n.input.now.link n.input.now.live → (object : ℕ) (o : Object)
     → slice_get n.input.now.link.objects object ≡ Some o → (indices firsts new : List ℕ)
     → AllZip (IsSlotIndex n Func) (import_slots n.input.now.link.objects object Func) indices
     → firsts ≡ n.function_firsts.items → new ≡ indices ++ own_indices_of n.input.now Functions firsts object o
     → AreIndicesOf (function_space n.input.now) (local_functions n.input.now object o) new
-all_functions n is live object o here indices firsts new slots are pushed =
+all_functions laws n is live object o here indices firsts new slots are pushed =
     let input : Input = n.input.now in
     let space : List FunctionEntry = function_space input in
     let first : AreIndicesOf space (map (function_slot_entry input) (import_slots input.link.objects object Func)) indices =
     zip_map (IsSlotIndex n Func) (IsIndexOf space) (function_slot_entry input) (import_slots input.link.objects object Func) indices
     (λ k t index at so. entry_stands (is_kept_slot input t) space (FunctionOf (binds_function input t)) index
-    (λ kept. (function_leads n is live object k t at kept).stands index (so.kept kept)) so.dead) slots in
+    (λ kept. (function_leads laws n is live object k t at kept).stands index (so.kept kept))
+    so.dead) slots in
     let at_object : AreIndicesOf space (map (function_slot_entry input) (object_slots object Func o)) indices =
     subst (λ (ts : List ImportSlot). AreIndicesOf space (map (function_slot_entry input) ts) indices)
     (slots_here input.link.objects object Func o here) first in

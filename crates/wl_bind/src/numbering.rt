@@ -27,9 +27,9 @@ use crate::scan::RelocScan;
 use crate::shared::SharedUnresolvedImports;
 use std::alloc::{AllocError, Global};
 use wl_linking::{File, ItemList, LinkError, WasmSymbolKind, whole_objects};
-use wl_live::WasmGcUnit;
-use wl_slots::slots_are_numbered;
-use wl_symbols::WasmLinkerSymbol;
+use wl_live::{WasmGcUnit, live_units_are_closed};
+use wl_slots::{host_imports_are_found, slots_are_numbered, targets_by_cases};
+use wl_symbols::{WasmLinkerSymbol, name_by_cases};
 use wl_types::WASM_DEAD_INDEX;
 
 /// What the things of objects are numbered by.
@@ -285,6 +285,10 @@ impl<'n, 'i, 'a> Numbering<'n, 'i, 'a> {
         file.stands_for_an_object();
         whole_objects();
         slots_are_numbered();
+        name_by_cases();
+        targets_by_cases();
+        host_imports_are_found();
+        live_units_are_closed();
         let _ = self.input.live();
         let row = self.function_row(object);
         let mut indices = self.slot_indices(alloc, WasmSymbolKind::Func, object, row)?;
@@ -313,6 +317,10 @@ impl<'n, 'i, 'a> Numbering<'n, 'i, 'a> {
         file.stands_for_an_object();
         whole_objects();
         slots_are_numbered();
+        name_by_cases();
+        targets_by_cases();
+        host_imports_are_found();
+        live_units_are_closed();
         let _ = self.input.live();
         let row = self.global_row(object);
         let mut indices = self.slot_indices(alloc, WasmSymbolKind::Global, object, row)?;

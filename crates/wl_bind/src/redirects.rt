@@ -11,8 +11,8 @@ ghost use Rattle.wl_bind.specs.RedirectSteps.{as_place, row_place, defined_by, d
 use crate::input::LinkInput;
 use std::alloc::{AllocError, Global};
 use wl_linking::{File, ItemList, WasmSymbol, whole_objects};
-use wl_live::{is_defined_function, is_function_kind};
-use wl_slots::{definitions_have_numbers, slots_are_numbered};
+use wl_live::{is_defined_function, is_function_kind, live_units_are_closed};
+use wl_slots::{definitions_have_numbers, slots_are_numbered, targets_by_cases};
 use wl_symbols::Definition;
 use wl_types::WASM_DEAD_INDEX;
 
@@ -153,7 +153,9 @@ pub(crate) fn function_redirects(
 {
     whole_objects();
     slots_are_numbered();
+    targets_by_cases();
     definitions_have_numbers();
+    live_units_are_closed();
     let _ = input.live();
     let _ = input.files().as_slice();
     redirects(alloc, input, function_rows, object, file)

@@ -14,12 +14,12 @@ ghost use Rattle.wl_bind.specs.declared.relocated.Relocated.{Relocated as KeptRe
 
 use wl_linking::whole_objects;
 use wl_live::live_units_are_closed;
-use wl_slots::{definitions_have_numbers, slots_are_numbered};
+use wl_slots::{definitions_have_numbers, slots_are_numbered, targets_by_cases};
+use wl_symbols::name_by_cases;
 use wl_types::same_types_are_one;
 
 /// What a kept relocation names is in the output: its type, its function, its global; and a
 /// function whose slot it takes has one.
-#[tactic(auto, using(crate::proofs::ReferenceLaws::type_is_named, crate::proofs::ReferenceLaws::symbol_is_named, crate::proofs::ReferenceLaws::function_is_named, crate::proofs::ReferenceLaws::slot_is_there, crate::proofs::GlobalReferenceLaws::global_is_named))]
 pub fn references_are_kept()
     ensures types { (input : Input) (r : KeptRelocation) → IsSettled input
         → Contains (relocations input) r → names_a_type r.relocation.ty ≡ true → NamesType input r }
@@ -39,18 +39,21 @@ pub fn references_are_kept()
         → HasSlot input target }
 {
     whole_objects();
+    name_by_cases();
+    targets_by_cases();
     slots_are_numbered();
     definitions_have_numbers();
     live_units_are_closed();
 }
 
 /// The output has the functions of the table.
-#[tactic(auto, using(crate::proofs::ReferenceLaws::table_is_kept))]
 pub fn table_functions_are_kept()
     ensures { (input : Input) (target : Target) → IsSettled input
         → Contains (table_functions input) target → IsInOutput input target }
 {
     whole_objects();
+    name_by_cases();
+    targets_by_cases();
     slots_are_numbered();
     definitions_have_numbers();
     live_units_are_closed();

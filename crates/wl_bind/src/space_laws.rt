@@ -10,10 +10,13 @@ ghost use Rattle.wl_bind.specs.GlobalSpace.{GlobalEntry, global_space};
 ghost use Rattle.wl_bind.specs.OutputTypes.{output_types};
 ghost use Rattle.wl_bind.specs.Parts.{StandOnce};
 
+use wl_types::types_stand_once;
+
 /// No entry stands at two places of a space: so two kept definitions have different indices.
-#[tactic(auto, using(crate::proofs::OnceSpaces::functions_once, crate::proofs::OnceSpaces::globals_once, crate::proofs::OnceSpaces::output_types_once))]
 pub fn entries_stand_once()
     ensures functions { (input : Input) → StandOnce (function_space input) }
     ensures globals { (input : Input) → StandOnce (global_space input) }
     ensures types { (input : Input) → StandOnce (output_types input) }
-{}
+{
+    types_stand_once();
+}

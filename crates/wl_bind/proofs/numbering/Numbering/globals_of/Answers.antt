@@ -7,6 +7,7 @@ use Rattle.wl_slots.specs.ImportSlots.{ImportSlot}
 use Rattle.wl_bind.specs.NumberingSteps.{FitsOwn, resolution_of}
 use Rattle.wl_bind.proofs.NumberingLaws.{row_there, slots_here, globals_fit, row_few}
 use Rattle.wl_bind.proofs.GlobalIndexLaws.{globals_have, all_globals}
+use Rattle.wl_bind.proofs.SlotIndexLaws.{ImportLaws}
 use Rattle.wl_bind.proofs.numbering.Numbering.globals_of.Goals as goal
 
 pub global_row-row-requires : goal.global_row-row-requires
@@ -33,7 +34,19 @@ slot_indices-requires-clause-few c =
     (c.whole_objects.ensures.imports c.args.file.now external.Global c.stands_for_an_object.ensures.whole)
 
 pub slot_indices-requires-clause-there : goal.slot_indices-requires-clause-there
-slot_indices-requires-clause-there c = globals_have c.args.self.now c.requires.numbering c.live.ensures.kept c.args.object
+slot_indices-requires-clause-there c =
+    let laws : ImportLaws = record {
+      binding = record {
+        slots = record {
+          targets = c.targets_by_cases.ensures;
+          closed = c.live_units_are_closed.ensures.slot;
+        };
+        names = c.name_by_cases.ensures.name;
+        symbols = c.name_by_cases.ensures.shared;
+      };
+      imports = c.host_imports_are_found.ensures;
+    } in
+    globals_have laws c.args.self.now c.requires.numbering c.live.ensures.kept c.args.object
 
 pub push_own-requires : goal.push_own-requires
 push_own-requires c =
@@ -43,6 +56,18 @@ push_own-requires c =
 
 pub returns : goal.returns
 returns c =
-    all_globals c.args.self.now c.requires.numbering c.live.ensures.kept c.args.object c.args.file.now c.requires.here
+    let laws : ImportLaws = record {
+      binding = record {
+        slots = record {
+          targets = c.targets_by_cases.ensures;
+          closed = c.live_units_are_closed.ensures.slot;
+        };
+        names = c.name_by_cases.ensures.name;
+        symbols = c.name_by_cases.ensures.shared;
+      };
+      imports = c.host_imports_are_found.ensures;
+    } in
+    all_globals laws c.args.self.now c.requires.numbering c.live.ensures.kept c.args.object
+    c.args.file.now c.requires.here
     c.in_ok-indices.indices c.deref.result.now c.push_own.new.indices c.in_ok-indices.ensures c.deref.ensures.value
     c.in_ok-push_own.ensures
