@@ -86,8 +86,8 @@ fn push_untaken<'a>(
 
 /// What the output exports, in order, before any export is wrapped. First comes what objects export
 /// and the output has, object by object, and the memory; of what follows the first of a name
-/// counts: the entry; the size, the alignment and the initialiser of the block of each thread; the names
-/// that are asked for and that the linker makes; the other names that are asked for; and what
+/// counts: the entry; the size, the alignment and the initialiser of the block of each thread; the
+/// names that are asked for and that the linker makes; the other names that are asked for; and what
 /// `--export-dynamic` exports, the stack pointer, functions and globals, and data.
 ///
 /// # Errors

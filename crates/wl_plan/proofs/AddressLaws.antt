@@ -1,5 +1,5 @@
 -- Which segments the output has of an object, and where they begin.
-use Rattle.std.proofs.Common.{◌≡◌, ◌∙◌, ◌⊎◌, ◌≤◌, ◌<◌, ◌==◌, ◌&&◌, ◌||◌, not, ℕ, zero, suc, ◌+◌, Bool, true, false, if◌then◌else◌, List, [], ◌∷◌, ◌++◌, length, map, filter, take, set, get_or, replicate, find, nat_lt, refl, sym, ap, subst, arith, inl, inr, Option, Some, None, slice_get, length-take-le}
+use Rattle.std.proofs.Common.{◌≡◌, ◌∙◌, ◌⊎◌, ◌≤◌, ◌<◌, ◌==◌, ◌&&◌, ◌||◌, not, ℕ, zero, suc, ◌+◌, Bool, true, false, if◌then◌else◌, List, [], ◌∷◌, ◌++◌, length, map, filter, take, set, get_or, replicate, find, nat_lt, refl, sym, ap, subst, arith, inl, inr, Option, Some, None, slice_get}
 use Rattle.std.specs.List.{AllZip, list_all, range_with_len, slice_index_or}
 use Rattle.std.specs.Option.{option_map_or, option_and_then}
 use Rattle.std.proofs.lemmas.Bool.{cases_Bool, cases_eq, eq-eqb, ne_eqb}
@@ -30,19 +30,10 @@ use Rattle.wl_plan.specs.AddressSteps.{AreOnce, starts_among, AreObjectStarts}
 use Rattle.wl_plan.specs.KeptData.{kept_data, kept_from, kept_segments, segments_from}
 use Rattle.wl_plan.specs.Placing.{data_options, IsPlacing}
 use Rattle.wl_plan.specs.declared.placing.Placing.{Placing}
+use Rattle.wl_plan.proofs.ListLaws.{left_and, right_and}
+use Rattle.wl_plan.proofs.RowLaws.{row_found}
 
 -- ---- lists
-
--- what a list has at a place
-pub record Splits {X : Type 0} (xs : List X) (k : ℕ) : Type 0 where
-  pub x : X
-  pub here : slice_get xs k ≡ Some x
-
-pub splits : {X : Type 0} (xs : List X) (k : ℕ) → k < length xs → Splits xs k
-splits [] k lt = absurd (omega (arith, lt))
-splits (x ∷ xs) zero lt = record { x = x; here = refl }
-splits (x ∷ xs) (suc k) lt =
-    let rest = splits xs k (omega (arith, lt)) in record { x = rest.x; here = rest.here }
 
 -- what stands among the first ones
 pub taken : {X : Type 0} (xs : List X) (i k : ℕ) (x : X) → slice_get (take i xs) k ≡ Some x
@@ -96,80 +87,6 @@ find_pass p (y ∷ xs) x fails = elim (cases_Bool (p y)) [
 ]
 
 -- ---- rows
-
--- the row of an object
-pub record RowOf {X : Type 0} (P : ℕ → Object → X → Type 0) (rows : List X) (k n : ℕ) (o : Object)
-    : Type 0 where
-  pub row : X
-  pub here : slice_get rows k ≡ Some row
-  pub is : P n o row
-
-pub row_of_object : {X : Type 0} (P : ℕ → Object → X → Type 0) (n : ℕ) (objects : List Object)
-    (rows : List X) (k m : ℕ) (o : Object) → AreRows P n objects rows
-    → slice_get objects k ≡ Some o → m ≡ n + k → RowOf P rows k m o
-row_of_object P n [] rows k m o are at is = absurd cc
-row_of_object P n (p ∷ objects) [] k m o are at is = absurd are
-row_of_object {X} P n (p ∷ objects) (row ∷ rows) zero m o are at is =
-    let same : p ≡ o = cc in
-    let here : n ≡ m = omega (arith, is) in
-    record {
-      row = row;
-      here = refl;
-      is = subst (λ (q : Object). P m q row) same (subst (λ (i : ℕ). P i p row) here are.0);
-    }
-row_of_object P n (p ∷ objects) (row ∷ rows) (suc k) m o are at is =
-    let rest = row_of_object P (n + 1) objects rows k m o are.1 at (omega (arith, is)) in
-    record { row = rest.row; here = rest.here; is = rest.is }
-
--- an object has a row, and only one
-pub row_within : {X : Type 0} (P : ℕ → Object → X → Type 0) (objects : List Object) (rows : List X)
-    (k : ℕ) (o : Object) → AreRows P 0 objects rows → slice_get objects k ≡ Some o
-    → k < length rows
-row_within P objects rows k o are at =
-    let r = row_of_object P 0 objects rows k k o are at (omega arith) in
-    slice_get_within rows k r.row r.here
-
-pub row_found : {X : Type 0} (P : ℕ → Object → X → Type 0) (objects : List Object) (rows : List X)
-    (k : ℕ) (o : Object) (row : X) → AreRows P 0 objects rows → slice_get objects k ≡ Some o
-    → slice_get rows k ≡ Some row → P k o row
-row_found {X} P objects rows k o row are at found =
-    let r = row_of_object P 0 objects rows k k o are at (omega arith) in
-    let some : Some r.row ≡ Some row = sym r.here ∙ found in
-    let same : r.row ≡ row = cc in
-    subst (λ (x : X). P k o x) same r.is
-
--- there are as many as objects
-pub rows_length : {X : Type 0} (P : ℕ → Object → X → Type 0) (n : ℕ) (objects : List Object)
-    (rows : List X) → AreRows P n objects rows → length rows ≡ length objects
-rows_length P n [] [] are = refl
-rows_length P n [] (row ∷ rows) are = absurd are
-rows_length P n (o ∷ objects) [] are = absurd are
-rows_length P n (o ∷ objects) (row ∷ rows) are =
-    let rest = rows_length P (n + 1) objects rows are.1 in omega (arith, rest)
-
-rows_pushed : {X : Type 0} (P : ℕ → Object → X → Type 0) (n m : ℕ) (os : List Object)
-    (rows : List X) (o : Object) (row : X) → n + length os ≡ m → AreRows P n os rows → P m o row
-    → AreRows P n (os ++ o ∷ []) (rows ++ row ∷ [])
-rows_pushed P n m [] [] o row is are so =
-    let e : m ≡ n = omega (arith, is) in (subst (λ (i : ℕ). P i o row) e so, tt)
-rows_pushed P n m [] (r ∷ rows) o row is are so = absurd are
-rows_pushed P n m (p ∷ os) [] o row is are so = absurd are
-rows_pushed P n m (p ∷ os) (r ∷ rows) o row is are so =
-    (are.0, rows_pushed P (n + 1) m os rows o row (omega (arith, is)) are.1 so)
-
--- one row more
-pub row_more : {X : Type 0} (P : ℕ → Object → X → Type 0) (objects : List Object)
-    (rows new : List X) (k : ℕ) (row : X) → k < length objects
-    → ((o : Object) → slice_get objects k ≡ Some o → P k o row) → new ≡ rows ++ row ∷ []
-    → AreRows P 0 (take k objects) rows → AreRows P 0 (take (k + 1) objects) new
-row_more P objects rows new k row lt here pushed so_far =
-    let s = splits objects k lt in
-    let more : take (k + 1) objects ≡ take k objects ++ s.x ∷ [] =
-    take_more objects k s.x lt
-    ∙ ap (λ (o : Object). take k objects ++ o ∷ []) (get_or_from_slice_get objects k s.x s.x s.here) in
-    let long : length (take k objects) ≡ k = length-take-le k objects (omega (arith, lt)) in
-    rw (more, pushed)
-    (rows_pushed P 0 k (take k objects) rows s.x row (omega (arith, long)) so_far (here s.x s.here))
 
 -- what is read at the place of an object is the object
 pub same_object : (objects files : List Object) (k : ℕ) (o p : Object) → files ≡ objects
@@ -493,14 +410,6 @@ start_at g object number o starts are lt =
     )
 
 -- ---- symbols
-
-left_and : (a b : Bool) → (a && b) ≡ true → a ≡ true
-left_and true b both = refl
-left_and false b both = absurd cc
-
-right_and : (a b : Bool) → (a && b) ≡ true → b ≡ true
-right_and true b both = both
-right_and false b both = absurd cc
 
 test_at : {X : Type 0} (test : X → Bool) (xs : List X) (k : ℕ) (x : X) → list_all test xs ≡ true
     → slice_get xs k ≡ Some x → test x ≡ true

@@ -1,6 +1,5 @@
 -- What becomes of the bodies of kept functions.
-use Rattle.std.proofs.Common.{◌≡◌, ◌∙◌, ◌≤◌, ◌<◌, ℕ, zero, suc, ◌+◌, Bool, true, false, not, ◌||◌, ◌==◌, List, [], ◌∷◌, ◌++◌, length, refl, sym, ap, subst, arith, inl, inr, Option, Some, None, slice_get, if◌then◌else◌, eqb-true, lt-ltb, length-append}
-use Rattle.std.specs.List.{AllByRecursion}
+use Rattle.std.proofs.Common.{◌≡◌, ◌∙◌, ◌≤◌, ◌<◌, ℕ, ◌+◌, Bool, true, false, not, ◌||◌, ◌==◌, List, [], ◌∷◌, ◌++◌, length, refl, sym, ap, subst, arith, inl, inr, Option, Some, None, slice_get, if◌then◌else◌, eqb-true, lt-ltb, length-append}
 use Rattle.std.specs.Option.{option_and_then}
 use Rattle.std.proofs.lemmas.Bool.{cases_lt}
 use Rattle.wl_bytes.specs.declared.reader.TheConstants.{MAX_LEN}
@@ -29,6 +28,7 @@ use Rattle.wl_plan.specs.Bodies.{body_in, new_number}
 use Rattle.wl_plan.specs.BodySteps.{AreNewNumbers, AreSoundBodies, HasSoundBody, IsBodyFrom}
 use Rattle.wl_plan.specs.Parsing.{link_error_of}
 use Rattle.wl_plan.specs.declared.placing.Placing.{Placing}
+use Rattle.wl_plan.proofs.ListLaws.{all_at}
 use Rattle.wl_plan.proofs.NumberLaws.{counts_at}
 
 -- ---- what lower crates say
@@ -44,12 +44,6 @@ SegmentsAreClosed = (link : Link) (live : Live) (u v : LinkUnit) → IsLiveOf li
     → is_live live v ≡ true
 
 -- ---- where a body is from
-
-pub all_at : {X : Type 0} (P : X → Type 0) (xs : List X) (i : ℕ) (x : X) → AllByRecursion P xs
-    → slice_get xs i ≡ Some x → P x
-all_at P [] i x all here = absurd cc
-all_at P (y ∷ xs) zero x all here = let same : y ≡ x = cc in subst P same all.0
-all_at P (y ∷ xs) (suc i) x all here = all_at P xs i x all.1 here
 
 -- the object has the body
 pub record IsFound (input : Input) (object function : ℕ) (b : Body) : Type 0 where

@@ -1,10 +1,7 @@
 -- Where kept relocations are from.
-use Rattle.std.proofs.Common.{◌≡◌, ◌⊎◌, ◌<◌, ◌^◌, ℕ, zero, suc, ◌+◌, Bool, true, false, List, [], ◌∷◌, length, refl, sym, ap, subst, arith, inl, inr, Some, slice_get, Contains, if◌then◌else◌}
-use Rattle.std.specs.List.{AllByRecursion}
+use Rattle.std.proofs.Common.{◌≡◌, ◌⊎◌, ◌<◌, ℕ, zero, suc, ◌+◌, Bool, true, false, List, [], ◌∷◌, length, refl, sym, ap, subst, arith, inl, inr, Some, slice_get, Contains, if◌then◌else◌}
 use Rattle.std.proofs.lemmas.List.Elements.{Contains-append_cases}
 use Rattle.std.proofs.lemmas.Option.{slice_get_within}
-use Rattle.wl_bytes.specs.declared.reader.TheConstants.{MAX_LEN}
-use Rattle.wl_linking.specs.Fitting.{IsWhole, HasFewItems}
 use Rattle.wl_linking.specs.Object.{Object}
 use Rattle.wl_linking.specs.declared.relocations.WasmRelocation.{WasmRelocation}
 use Rattle.wl_linking.specs.declared.sites.Site.{Site}
@@ -15,20 +12,7 @@ use Rattle.wl_bind.specs.Scan.{relocations}
 use Rattle.wl_bind.specs.declared.relocated.FixupPlace.{FixupPlace}
 use Rattle.wl_bind.specs.declared.relocated.FixupPlace.TheVariants.{Code, Segment}
 use Rattle.wl_bind.specs.declared.relocated.Relocated.{Relocated}
-
--- ---- lists
-
-pub at_is_in : {X : Type 0} (xs : List X) (k : ℕ) (x : X) → slice_get xs k ≡ Some x → Contains xs x
-at_is_in [] k x at = absurd cc
-at_is_in (y ∷ xs) zero x at = (let is : y ≡ x = cc in (zero, omega arith, is))
-at_is_in (y ∷ xs) (suc k) x at =
-    (let rest = at_is_in xs k x at in (suc rest.0, omega (arith, rest.1), rest.2))
-
-pub one_at : {X : Type 0} (P : X → Type 0) (xs : List X) (k : ℕ) (x : X) → AllByRecursion P xs
-    → slice_get xs k ≡ Some x → P x
-one_at P [] k x all at = absurd cc
-one_at P (y ∷ xs) zero x all at = (let is : y ≡ x = cc in subst P is all.0)
-one_at P (y ∷ xs) (suc k) x all at = one_at P xs k x all.1 at
+use Rattle.wl_plan.proofs.ListLaws.{at_is_in}
 
 -- ---- sections
 
@@ -160,30 +144,3 @@ among i o r (inr seg) = inr (at_is_in o.data_relocations seg.k r.relocation seg.
 pub among_those : (input : Input) (r : Relocated) (h : HasObject input r)
     → Contains h.object.code_relocations r.relocation ⊎ Contains h.object.data_relocations r.relocation
 among_those input r h = among r.object h.object r h.of
-
--- ---- units
-
--- what is told of whole objects
-pub record WholeLaws : Type 0 where
-  pub few : (o : Object) → IsWhole o → HasFewItems MAX_LEN o
-  pub code_units : (o : Object) (i : ℕ) (s : Site) → IsWhole o → slice_get o.code_sites i ≡ Some s
-      → s.unit < length o.bodies
-  pub data_units : (o : Object) (i : ℕ) (s : Site) → IsWhole o → slice_get o.data_sites i ≡ Some s
-      → s.unit < length o.segments
-
-unit_of : WholeLaws → (i : ℕ) (o : Object) (r : Relocated) → IsWhole o → IsOfObject i o r
-    → r.site.unit < 2 ^ 32
-unit_of laws i o r whole (inl code) =
-    let few = (laws.few o whole).bodies in
-    omega (arith, few, laws.code_units o code.k r.site whole code.site)
-unit_of laws i o r whole (inr seg) =
-    let few = (laws.few o whole).segments in
-    omega (arith, few, laws.data_units o seg.k r.site whole seg.site)
-
-pub small_unit : WholeLaws → (input : Input) (r : Relocated)
-    → AllByRecursion IsWhole input.link.objects → Contains (relocations input) r
-    → r.site.unit < 2 ^ 32
-small_unit laws input r all kept =
-    let h = object_of input r kept in
-    unit_of laws r.object h.object r (one_at IsWhole input.link.objects r.object h.object all h.here)
-    h.of

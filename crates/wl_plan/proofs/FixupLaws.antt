@@ -1,12 +1,12 @@
 -- What the field of a kept relocation takes, or why it takes nothing.
-use Rattle.std.proofs.Common.{◌≡◌, ◌⊎◌, ◌∙◌, ◌||◌, ◌<◌, ◌≤◌, inl, inr, ℕ, zero, suc, ◌+◌, ◌-◌, Bool, true, false, eqb, List, [], ◌∷◌, length, map, refl, sym, ap, subst, arith, Option, Some, None, slice_get, Contains, if◌then◌else◌}
-use Rattle.std.specs.Prelude.{ℤ, pos, ◌+ℤ◌, ◌-ℤ◌, Result, Ok, Err}
+use Rattle.std.proofs.Common.{◌≡◌, ◌⊎◌, ◌∙◌, ◌||◌, ◌<◌, ◌≤◌, inl, inr, ℕ, zero, suc, ◌-◌, Bool, true, false, eqb, List, [], ◌∷◌, length, map, refl, sym, ap, subst, arith, Option, Some, None, slice_get, Contains, if◌then◌else◌}
+use Rattle.std.specs.Prelude.{nat_lt, ℤ, pos, ◌+ℤ◌, ◌-ℤ◌, Result, Ok, Err}
 use Rattle.std.specs.List.{range_with_len}
 use Rattle.std.specs.Option.{option_map, option_map_or, option_and_then, unwrap_or}
 use Rattle.std.proofs.lemmas.Bool.{cases_lt, ne_eqb}
 use Rattle.std.proofs.lemmas.Int.{ints}
-use Rattle.std.proofs.lemmas.List.FromFn.{length-map-range_with_len, get_or-map-range_with_len}
-use Rattle.std.proofs.lemmas.Option.{slice_get-get_or, slice_get-map, slice_get_past, slice_get_within, same_Some}
+use Rattle.std.proofs.lemmas.List.FromFn.{length-map-range_with_len}
+use Rattle.std.proofs.lemmas.Option.{slice_get-map, slice_get_past, slice_get_within, same_Some}
 use Rattle.wl_linking.specs.Object.{Object}
 use Rattle.wl_linking.specs.RelocationTypes.{names_a_type}
 use Rattle.wl_linking.specs.Steps.{Clear}
@@ -20,11 +20,12 @@ use Rattle.wl_data.specs.declared.segments.WasmDataAddress.{WasmDataAddress}
 use Rattle.wl_data.specs.declared.segments.WasmDataAddress.TheVariants as address
 use Rattle.wl_types.specs.Types.{max_entries}
 use Rattle.wl_types.specs.declared.types.TheConstants.{WASM_DEAD_INDEX}
-use Rattle.wl_reloc.specs.Addresses.{as_word}
+use Rattle.wl_reloc.specs.Addresses.{address_value, as_word, is_s32, s32_or_range}
 use Rattle.wl_reloc.specs.Resolving.{Resolver, kept_index, redirect, got_global, slot_in, function_index, slot_of as resolved_slot, behind_first, global_index, table_number, address_in, address_of, taken_of, taken_at, taken, resolved}
 use Rattle.wl_reloc.specs.Takings.{taking_of}
 use Rattle.wl_reloc.specs.declared.addresses.AddressBases.{AddressBases}
 use Rattle.wl_reloc.specs.declared.error.RelocError.{RelocError}
+use Rattle.wl_reloc.specs.declared.error.RelocError.TheVariants as reloc
 use Rattle.wl_reloc.specs.declared.index_map.WasmObjectIndexMap.{WasmObjectIndexMap}
 use Rattle.wl_reloc.specs.declared.takings.AddressBase.{AddressBase}
 use Rattle.wl_reloc.specs.declared.takings.AddressBase.TheVariants.{Memory, MemoryBase, ThreadData}
@@ -39,7 +40,7 @@ use Rattle.wl_bind.specs.IndexMaps.{is_kept_target, entry_of, symbol_function, s
 use Rattle.wl_bind.specs.Input.{Input}
 use Rattle.wl_bind.specs.Kinds.{takes_kind, is_table_kind}
 use Rattle.wl_bind.specs.OutputTypes.{output_types, local_types}
-use Rattle.wl_bind.specs.Parts.{IsIndexOf, AreIndicesOf, IsPlaceOf, ArePlacesOf, AreRows}
+use Rattle.wl_bind.specs.Parts.{IsIndexOf, AreIndicesOf, IsPlaceOf, ArePlacesOf}
 use Rattle.wl_bind.specs.References.{there, live_type, symbol_global, HasSlot, IsInOutput, IsSettled, NamesType, NamesSymbol, NamesFunction, NamesGlobal}
 use Rattle.wl_bind.specs.Scan.{relocations, symbol_of, names_function, is_table_index, is_global_index}
 use Rattle.wl_bind.specs.declared.binding.FunctionTarget.{FunctionTarget}
@@ -47,11 +48,13 @@ use Rattle.wl_bind.specs.declared.binding.FunctionTarget.TheVariants as function
 use Rattle.wl_bind.specs.declared.relocated.Relocated.{Relocated}
 use Rattle.wl_plan.specs.Addresses.{symbol_address}
 use Rattle.wl_plan.specs.FixupSteps.{AreFixupSources, HasRoom, is_absolute, left_of, counted_base, number_by, IsRefusedAt}
-use Rattle.wl_plan.specs.Fixups.{type_named, global_named, slot_named, address_named, bases_of, address_taken, addend_left, number_taken, IsTaken}
+use Rattle.wl_plan.specs.Fixups.{type_named, global_named, slot_named, address_named, bases_of, address_taken, addend_left, number_taken, IsTaken, IsAddressReason}
 use Rattle.wl_plan.specs.IndexedMaps.{IsWholeMap, AreWholeMaps}
 use Rattle.wl_plan.specs.Table.{slot_of, slot_of_entry, space_slots}
 use Rattle.wl_plan.specs.declared.fixups.FixupSources.{FixupSources}
 use Rattle.wl_plan.specs.declared.placing.Placing.{Placing}
+use Rattle.wl_plan.proofs.ListLaws.{of_range}
+use Rattle.wl_plan.proofs.RowLaws.{rows_length, row_found}
 use Rattle.wl_plan.proofs.SlotLaws.{TableLaws, slot_is}
 
 -- ---- lists
@@ -85,13 +88,6 @@ place_at {X} space (o ∷ entries) (p ∷ places) zero x h e =
     (subst (λ (q : Option X). IsPlaceOf space q p) (same_Some o (Some x) e) h.0) in
     (here.0, ap (λ (q : Option ℕ). Some q) here.1, here.2)
 place_at space (o ∷ entries) (p ∷ places) (suc k) x h e = place_at space entries places k x h.1 e
-
-of_range : {Y : Type 0} (f : ℕ → Y) (n k : ℕ) → k < n
-    → slice_get (map f (range_with_len 0 n)) k ≡ Some (f k)
-of_range {Y} f n k lt =
-    slice_get-get_or (map f (range_with_len 0 n)) k (f k)
-    (omega (arith, lt, length-map-range_with_len f 0 n))
-    ∙ ap (λ (y : Y). Some y) (get_or-map-range_with_len f 0 n k k (f k) lt (omega arith))
 
 not_dead : (i : ℕ) → i < WASM_DEAD_INDEX → eqb i WASM_DEAD_INDEX ≡ false
 not_dead i lt = ne_eqb i WASM_DEAD_INDEX (λ e. absurd (omega (arith, lt, e)))
@@ -232,28 +228,6 @@ number_is type.MemoryAddrTlsSleb base bases a addend e = number_as ThreadData ba
 
 -- ---- rows of objects
 
-rows_length : {X : Type 0} (IsRow : ℕ → Object → X → Type 0) (n : ℕ) (objects : List Object)
-    (rows : List X) → AreRows IsRow n objects rows → length rows ≡ length objects
-rows_length IsRow n [] [] h = refl
-rows_length IsRow n [] (row ∷ rows) h = absurd h
-rows_length IsRow n (o ∷ objects) [] h = absurd h
-rows_length IsRow n (o ∷ objects) (row ∷ rows) h =
-    ap suc (rows_length IsRow (n + 1) objects rows h.1)
-
-row_at : {X : Type 0} (IsRow : ℕ → Object → X → Type 0) (n k m : ℕ) (objects : List Object)
-    (rows : List X) (o : Object) (row : X) → n + k ≡ m → AreRows IsRow n objects rows
-    → slice_get objects k ≡ Some o → slice_get rows k ≡ Some row → IsRow m o row
-row_at IsRow n k m [] rows o row e h here at = absurd cc
-row_at IsRow n k m (p ∷ objects) [] o row e h here at = absurd h
-row_at {X} IsRow n zero m (p ∷ objects) (q ∷ rows) o row e h here at =
-    let number : n ≡ m = omega (arith, e) in
-    let object : p ≡ o = cc in
-    let same : q ≡ row = cc in
-    subst (λ (i : ℕ). IsRow i o row) number (subst (λ (x : Object). IsRow n x row) object
-    (subst (λ (y : X). IsRow n p y) same h.0))
-row_at IsRow n (suc k) m (p ∷ objects) (q ∷ rows) o row e h here at =
-    row_at IsRow (n + 1) k m objects rows o row (omega (arith, e)) h.1 here at
-
 pub maps_within : (input : Input) (g : Placing) (maps : List WasmObjectIndexMap) (object : ℕ)
     → AreWholeMaps input g maps → object < length input.link.objects → object < length maps
 maps_within input g maps object h lt =
@@ -263,7 +237,7 @@ pub map_of : (input : Input) (g : Placing) (maps : List WasmObjectIndexMap) (obj
     (m : WasmObjectIndexMap) → AreWholeMaps input g maps → slice_get input.link.objects object ≡ Some o
     → slice_get maps object ≡ Some m → IsWholeMap input g object o m
 map_of input g maps object o m h here at =
-    row_at (IsWholeMap input g) 0 object object input.link.objects maps o m (omega arith) h here at
+    row_found (IsWholeMap input g) input.link.objects maps object o m h here at
 
 -- ---- the address of a data symbol
 
@@ -684,6 +658,47 @@ pub resolves_as : (input : Input) (g : Placing) (r : Relocated) (o : Object)
     → Answers input g r (taking_of r.relocation.ty) (left_of (address_named input g r) r.relocation)
     (resolved (resolver_of input g o m) r.relocation)
 resolves_as input g r o m known = by_type input g r o m known r.relocation.ty refl
+
+-- ---- why an address isn't taken
+
+s32_reason : (b : Bool) (z : ℤ) (why : RelocError) → ◌≡◌ {A = Result ℤ RelocError}
+    (if b then Ok z else Err reloc.Range) (Err why) → IsAddressReason why
+s32_reason true z why e = absurd cc
+s32_reason false z why e = inr (let same : why ≡ reloc.Range = cc in same)
+
+unsupported : (why : RelocError) → ◌≡◌ {A = Result ℤ RelocError} (Err reloc.Unsupported) (Err why)
+    → IsAddressReason why
+unsupported why e = inl (let same : why ≡ reloc.Unsupported = cc in same)
+
+behind_reason : (b : Bool) (z : ℤ) (why : RelocError) → ◌≡◌ {A = Result ℤ RelocError}
+    (if b then Err reloc.Range else s32_or_range z) (Err why) → IsAddressReason why
+behind_reason true z why e = inr (let same : why ≡ reloc.Range = cc in same)
+behind_reason false z why e = s32_reason (is_s32 z) z why e
+
+value_reason : (base : AddressBase) (b : AddressBases) (a : WasmDataAddress) (addend : ℤ)
+    (why : RelocError) → address_value base b a addend ≡ Err why → IsAddressReason why
+value_reason Memory b address.Missing addend why e = absurd cc
+value_reason Memory b (address.Placed place) addend why e = absurd cc
+value_reason Memory b address.Passive addend why e = unsupported why e
+value_reason Memory b (address.TlsOffset offset) addend why e = unsupported why e
+value_reason MemoryBase b address.Missing addend why e =
+    let z = (pos 0 -ℤ pos b.memory_base) +ℤ addend in s32_reason (is_s32 z) z why e
+value_reason MemoryBase b (address.Placed place) addend why e =
+    let z = (pos place -ℤ pos b.memory_base) +ℤ addend in s32_reason (is_s32 z) z why e
+value_reason MemoryBase b address.Passive addend why e = unsupported why e
+value_reason MemoryBase b (address.TlsOffset offset) addend why e = unsupported why e
+value_reason ThreadData b address.Missing addend why e = absurd cc
+value_reason ThreadData b (address.Placed place) addend why e =
+    behind_reason (nat_lt place b.tls_base) ((pos place -ℤ pos b.tls_base) +ℤ addend) why e
+value_reason ThreadData b address.Passive addend why e = unsupported why e
+value_reason ThreadData b (address.TlsOffset offset) addend why e =
+    let z = pos offset +ℤ addend in s32_reason (is_s32 z) z why e
+
+-- its value doesn't fit, or it has none there
+pub reason_of : (input : Input) (g : Placing) (r : Relocated) (base : AddressBase)
+    (why : RelocError) → address_taken input g r base ≡ Err why → IsAddressReason why
+reason_of input g r base why e =
+    value_reason base (bases_of g) (address_named input g r) r.relocation.addend why e
 
 -- what takes an address isn't refused one
 pub not_refused : (input : Input) (g : Placing) (r : Relocated) (value : ℕ) (left : ℤ)

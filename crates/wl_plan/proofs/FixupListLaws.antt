@@ -12,6 +12,7 @@ use Rattle.wl_bind.specs.declared.relocated.Relocated.{Relocated}
 use Rattle.wl_plan.specs.FixupSteps.{IsRefusedAt, NoneRefused}
 use Rattle.wl_plan.specs.Fixups.{IsFixupFault}
 use Rattle.wl_plan.specs.declared.fixups.FixupSources.{FixupSources}
+use Rattle.wl_plan.proofs.FixupLaws.{reason_of}
 
 -- what stands where a list has nothing
 abbrev pub no_relocation : Relocated
@@ -93,6 +94,7 @@ one_refused s r e kept h = record {
     takes = h.takes;
     why = h.why;
     fault = h.fault;
+    reason = reason_of s.input.now s.placing.now r h.base h.why h.fault;
     told = h.told;
   };
 }

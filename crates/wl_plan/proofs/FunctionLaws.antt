@@ -1,9 +1,9 @@
 -- Entries of the function space, their types, and the functions of the output that they are.
-use Rattle.std.proofs.Common.{◌≡◌, ◌⊎◌, ◌∙◌, ℕ, zero, suc, ◌+◌, ◌<◌, ◌≤◌, Bool, true, false, not, List, [], ◌∷◌, ◌++◌, length, refl, sym, ap, subst, arith, inl, inr, Option, Some, None, slice_get, filter, filter_map, map, take, drop, get_or, is_some, if◌then◌else◌, Contains, Result, Ok, Err, OnOk}
+use Rattle.std.proofs.Common.{◌≡◌, ◌⊎◌, ◌∙◌, ℕ, zero, suc, ◌+◌, ◌<◌, ◌≤◌, Bool, true, false, not, List, [], ◌∷◌, ◌++◌, length, refl, sym, ap, subst, arith, inl, inr, Option, Some, None, slice_get, filter, filter_map, map, take, get_or, is_some, if◌then◌else◌, Contains, Result, Ok, Err, OnOk}
 use Rattle.std.specs.List.{AllByRecursion, AllZip, list_any, range_with_len}
 use Rattle.std.specs.Option.{option_map, option_map_or, option_and_then, is_none}
 use Rattle.std.proofs.lemmas.Bool.{cases_Bool, cases_eq}
-use Rattle.std.proofs.lemmas.List.{append-nil, append_assoc, take_all}
+use Rattle.std.proofs.lemmas.List.{append-nil, append_assoc, take_all, length-map}
 use Rattle.std.proofs.lemmas.Option.{same_Some, get_or_from_slice_get, slice_get-get_or}
 use Rattle.indexmap.specs.IndexSet.{insert_all}
 use Rattle.wl_module.specs.Imports.{Imported}
@@ -34,67 +34,10 @@ use Rattle.wl_bind.specs.declared.binding.FunctionTarget.TheVariants.{Defined, M
 use Rattle.wl_plan.specs.FunctionSteps.{AddsFunction, AddsFunctions, own_function_part}
 use Rattle.wl_plan.specs.Functions.{own_functions, origin_of, IsOutputFunction}
 use Rattle.wl_plan.specs.Origins.{Origin, OfStub, PlannedFunction}
+use Rattle.wl_plan.proofs.ListLaws.{IsIn, in_at, in_list, in_split, in_front, in_back, in_filter, in_map, map_in, there_is, mapped_at, zip_joined, drop_front, all_at}
+use Rattle.wl_plan.proofs.RowLaws.{by_object_more}
 
 -- ---- what stands in a list
-
-abbrev pub IsIn : {X : Type 0} → List X → X → Type 0
-IsIn [] z = ⊥
-IsIn (x ∷ xs) z = (x ≡ z) ⊎ IsIn xs z
-
-pub in_at : {X : Type 0} (xs : List X) (k : ℕ) (z : X) → slice_get xs k ≡ Some z → IsIn xs z
-in_at [] k z e = absurd (cc)
-in_at (x ∷ xs) zero z e = let h : x ≡ z = cc in inl h
-in_at (x ∷ xs) (suc k) z e = inr (in_at xs k z e)
-
-pub in_list : {X : Type 0} (xs : List X) (z : X) → IsIn xs z → Contains xs z
-in_list [] z h = absurd h
-in_list (x ∷ xs) z h = elim h [
-  | inl e ↦ (0, omega arith, e)
-  | inr r ↦ (let m = in_list xs z r in (suc m.0, omega (arith, m.1), m.2))
-]
-
-pub list_in : {X : Type 0} (xs : List X) (z : X) → Contains xs z → IsIn xs z
-list_in [] z (k, lt, e) = absurd (omega (arith, lt))
-list_in (x ∷ xs) z (zero, lt, e) = inl e
-list_in (x ∷ xs) z (suc k, lt, e) = inr (list_in xs z (k, omega (arith, lt), e))
-
-pub in_split : {X : Type 0} (xs ys : List X) (z : X) → IsIn (xs ++ ys) z → IsIn xs z ⊎ IsIn ys z
-in_split [] ys z h = inr h
-in_split (x ∷ xs) ys z h = elim h [
-  | inl e ↦ inl (inl e)
-  | inr r ↦ elim (in_split xs ys z r) [ inl a ↦ inl (inr a) | inr b ↦ inr b ]
-]
-
-pub in_front : {X : Type 0} (xs ys : List X) (z : X) → IsIn xs z → IsIn (xs ++ ys) z
-in_front [] ys z h = absurd h
-in_front (x ∷ xs) ys z h = elim h [ inl e ↦ inl e | inr r ↦ inr (in_front xs ys z r) ]
-
-pub in_back : {X : Type 0} (xs ys : List X) (z : X) → IsIn ys z → IsIn (xs ++ ys) z
-in_back [] ys z h = h
-in_back (x ∷ xs) ys z h = inr (in_back xs ys z h)
-
-pub in_filter : {X : Type 0} (p : X → Bool) (xs : List X) (z : X) → IsIn (filter p xs) z → IsIn xs z
-in_filter p [] z h = h
-in_filter p (x ∷ xs) z h = elim (cases_Bool (p x)) [
-  | inl t ↦ elim (rw t at h) [ inl e ↦ inl e | inr r ↦ inr (in_filter p xs z r) ]
-  | inr f ↦ inr (in_filter p xs z (rw f at h))
-]
-
-pub record Came {X Y : Type 0} (f : X → Y) (xs : List X) (z : Y) : Type 0 where
-  pub from : X
-  pub there : IsIn xs from
-  pub to : f from ≡ z
-
-pub in_map : {X Y : Type 0} (f : X → Y) (xs : List X) (z : Y) → IsIn (map f xs) z → Came f xs z
-in_map f [] z h = absurd h
-in_map f (x ∷ xs) z h = elim h [
-  | inl e ↦ record { from = x; there = inl refl; to = e }
-  | inr r ↦ (let c = in_map f xs z r in record { from = c.from; there = inr c.there; to = c.to })
-]
-
-pub map_in : {X Y : Type 0} (f : X → Y) (xs : List X) (x : X) → IsIn xs x → IsIn (map f xs) (f x)
-map_in f [] x h = absurd h
-map_in f (y ∷ xs) x h = elim h [ inl e ↦ inl (ap f e) | inr r ↦ inr (map_in f xs x r) ]
 
 in_firsts_onto : {X : Type 0} (same : X → X → Bool) (seen xs : List X) (z : X)
     → IsIn (insert_all same seen xs) z → IsIn seen z ⊎ IsIn xs z
@@ -115,28 +58,6 @@ pub in_firsts : {X : Type 0} (same : X → X → Bool) (xs : List X) (z : X)
 in_firsts same xs z h = elim (in_firsts_onto same [] xs z h) [ inl a ↦ absurd a | inr b ↦ b ]
 
 -- ---- what stands at a place
-
-pub there_is : {X : Type 0} (xs : List X) (k : ℕ) → k < length xs → (x : X) × (slice_get xs k ≡ Some x)
-there_is [] k lt = absurd (omega (arith, lt))
-there_is (x ∷ xs) zero lt = (x, refl)
-there_is (x ∷ xs) (suc k) lt = there_is xs k (omega (arith, lt))
-
-pub mapped_at : {X Y : Type 0} (f : X → Y) (xs : List X) (k : ℕ) (x : X) → slice_get xs k ≡ Some x
-    → slice_get (map f xs) k ≡ Some (f x)
-mapped_at f [] k x e = absurd cc
-mapped_at f (y ∷ xs) zero x e = let same : y ≡ x = cc in ap (λ (z : _). Some (f z)) same
-mapped_at f (y ∷ xs) (suc k) x e = mapped_at f xs k x e
-
--- what is made of what stands at a place
-pub came_at : {X Y : Type 0} (f : X → Y) (xs : List X) (k : ℕ) (y : Y) → slice_get (map f xs) k ≡ Some y
-    → (x : X) × (slice_get xs k ≡ Some x) × (f x ≡ y)
-came_at f [] k y e = absurd cc
-came_at f (x ∷ xs) zero y e = (x, refl, same_Some (f x) y e)
-came_at f (x ∷ xs) (suc k) y e = came_at f xs k y e
-
-pub length_mapped : {X Y : Type 0} (f : X → Y) (xs : List X) → length (map f xs) ≡ length xs
-length_mapped f [] = refl
-length_mapped f (x ∷ xs) = ap suc (length_mapped f xs)
 
 -- one more of what is at the front
 pub take_next : {X : Type 0} (xs : List X) (k : ℕ) (x : X) → slice_get xs k ≡ Some x
@@ -192,19 +113,6 @@ in_object f n (o ∷ objects) z h = elim (in_split (f n o) (by_object f (n + 1) 
   | inl l ↦ record { number = n; object = o; there = l }
   | inr r ↦ in_object f (n + 1) objects z r
 ]
-
--- what one more object gives
-pub object_more : {X : Type 0} (f : ℕ → Object → List X) (n k m : ℕ) (objects : List Object) (o : Object)
-    → n + k ≡ m → slice_get objects k ≡ Some o
-    → by_object f n (take (suc k) objects) ≡ by_object f n (take k objects) ++ f m o
-object_more f n k m [] o same at = absurd cc
-object_more {X} f n zero m (p ∷ objects) o same at =
-    let is : p ≡ o = cc in
-    let number : n ≡ m = omega (arith, same) in
-    append-nil (f n p) ∙ (ap (λ (q : Object). f n q) is ∙ ap (λ (i : ℕ). f i o) number)
-object_more {X} f n (suc k) m (p ∷ objects) o same at =
-    ap (λ (xs : List X). f n p ++ xs) (object_more f (n + 1) k m objects o (omega (arith, same)) at)
-    ∙ sym (append_assoc (f n p) (by_object f (n + 1) (take k objects)) (f m o))
 
 -- ---- the space and its parts
 
@@ -401,13 +309,6 @@ ctors_are input (Some i) ty ps rs types is some made p r =
 
 -- ---- functions that are added
 
-pub zip_joined : {A B : Type 0} (R : A → B → Type 0) (xs more_xs : List A) (ys more_ys : List B)
-    → AllZip R xs ys → AllZip R more_xs more_ys → AllZip R (xs ++ more_xs) (ys ++ more_ys)
-zip_joined R [] mx [] my zip more = more
-zip_joined R [] mx (y ∷ ys) my zip more = absurd zip
-zip_joined R (x ∷ xs) mx [] my zip more = absurd zip
-zip_joined R (x ∷ xs) mx (y ∷ ys) my zip more = (zip.0, zip_joined R xs mx ys my zip.1 more)
-
 pub adds_none : (input : Input) (old : List PlannedFunction) → AddsFunctions input [] old old
 adds_none input old = record { more = []; are = tt; grown = sym (append-nil old) }
 
@@ -487,10 +388,6 @@ one_own input object n is = ap (λ (b : Bool). if b then FunctionOf (Defined obj
 
 -- ---- what isn't imported
 
-drop_front : {X : Type 0} (xs ys : List X) → drop (length xs) (xs ++ ys) ≡ ys
-drop_front [] ys = refl
-drop_front (x ∷ xs) ys = drop_front xs ys
-
 no_tls : (input : Input) → input.link.args.shared_memory ≡ false → made_function_part input InitTls ≡ []
 no_tls input alone = rw alone refl
 
@@ -507,9 +404,7 @@ own_is input alone =
     let own : List FunctionEntry = object_functions input in
     let tls : List FunctionEntry = made_function_part input InitTls in
     let init : List FunctionEntry = init_memory_part input in
-    let whole : drop (length hosts) ((hosts ++ behind_hosts input) ++ own) ≡ behind_hosts input ++ own =
-    ap (λ (es : List FunctionEntry). drop (length hosts) es) (append_assoc hosts (behind_hosts input) own)
-    ∙ drop_front hosts (behind_hosts input ++ own) in
+    let whole = drop_front hosts (behind_hosts input) own in
     let short : behind_hosts input ≡ ctors ++ stubs =
     ap (λ (es : List FunctionEntry). ctors ++ (es ++ (init ++ (stubs ++ [])))) (no_tls input alone)
     ∙ (ap (λ (es : List FunctionEntry). ctors ++ (es ++ (stubs ++ []))) (no_init input alone)
@@ -647,7 +542,7 @@ pub stub_place : (input : Input) (k : ℕ) → HaveTypes input → k < length (m
     → k < length (stub_types input)
 stub_place input k typed lt =
     let a = stubs_length input typed in
-    let b = length_mapped first_slot (link_stubs input) in
+    let b = length-map (link_stubs input) first_slot in
     omega (arith, a, b, lt)
 
 pub stub_is : (input : Input) (k : ℕ) (h : HostImport) (ty : FunctionType) → HaveTypes input
@@ -655,7 +550,7 @@ pub stub_is : (input : Input) (k : ℕ) (h : HostImport) (ty : FunctionType) →
     → ty ≡ get_or (stub_types input) k ty → StubIs input k ty h.name
 stub_is input k h ty typed lt host-at type-at =
     let stubs : List ImportSlot = link_stubs input in
-    let len = length_mapped first_slot stubs in
+    let len = length-map stubs first_slot in
     let there = there_is stubs k (omega (arith, len, lt)) in
     let t : ImportSlot = there.0 in
     let inside = in_at stubs k t there.1 in
@@ -699,18 +594,13 @@ pub stubs_done : (input : Input) (k : ℕ) (first new : List PlannedFunction)
     → length (map first_slot (link_stubs input)) ≤ k
     → AddsFunctions input (take k (stub_part input)) first new → AddsFunctions input (stub_part input) first new
 stubs_done input k first new le so_far =
-    let a = length_mapped first_slot (link_stubs input) in
-    let b = length_mapped (λ (t : ImportSlot). FunctionOf (Stub t.object t.number)) (link_stubs input) in
+    let a = length-map (link_stubs input) first_slot in
+    let b = length-map (link_stubs input)
+    (λ (t : ImportSlot). FunctionOf (Stub t.object t.number)) in
     let all : length (stub_part input) ≤ k = omega (arith, a, b, le) in
     adds_same input (take k (stub_part input)) (stub_part input) first new (take_all k (stub_part input) all) so_far
 
 -- ---- a function that an object defines
-
-pub whole_at : {X : Type 0} (P : X → Type 0) (xs : List X) (k : ℕ) (x : X) → AllByRecursion P xs
-    → slice_get xs k ≡ Some x → P x
-whole_at P [] k x all e = absurd cc
-whole_at {X} P (y ∷ xs) zero x all e = let same : y ≡ x = cc in subst P same all.0
-whole_at P (y ∷ xs) (suc k) x all e = whole_at P xs k x all.1 e
 
 -- it has a type, which is one of the output's
 pub record OwnIs (input : Input) (object function : ℕ) (ty : FunctionType) : Type 0 where
@@ -728,7 +618,8 @@ own_type input object o function d ty numbers types typed fits whole at lt keep 
     let z : FunctionEntry = FunctionOf (Defined object function) in
     let number : ℕ = get_or o.functions function d in
     let n : slice_get o.functions function ≡ Some number = slice_get-get_or o.functions function d lt in
-    let within : number < length o.types = fits o function number (whole_at IsWhole input.link.objects object o whole at) n in
+    let within : number < length o.types =
+    fits o function number (all_at IsWhole input.link.objects object o whole at) n in
     let there : ty ≡ get_or o.types number ty =
     type-at ∙ (ap (λ (ts : List FunctionType). get_or ts (get_or numbers function d) ty) types-are
     ∙ ap (λ (ns : List ℕ). get_or o.types (get_or ns function d) ty) numbers-are) in
@@ -750,16 +641,15 @@ pub objects_more : (input : Input) (k : ℕ) (o : Object) (front : List Function
     → AddsFunctions input (front ++ by_object (functions_of input) 0 (take k input.link.objects)) first old
     → AddsFunctions input (front ++ by_object (functions_of input) 0 (take (k + 1) input.link.objects)) first new
 objects_more input k o front first old new at adds so_far =
-    let next : k + 1 ≡ suc k = omega arith in
     let done : List FunctionEntry = by_object (functions_of input) 0 (take k input.link.objects) in
     let all : (front ++ done) ++ functions_of input k o
-    ≡ front ++ by_object (functions_of input) 0 (take (suc k) input.link.objects) =
+    ≡ front ++ by_object (functions_of input) 0 (take (k + 1) input.link.objects) =
     append_assoc front done (functions_of input k o)
     ∙ ap (λ (es : List FunctionEntry). front ++ es)
-    (sym (object_more (functions_of input) 0 k k input.link.objects o (omega arith) at)) in
-    rw next (adds_same input ((front ++ done) ++ functions_of input k o)
-    (front ++ by_object (functions_of input) 0 (take (suc k) input.link.objects)) first new all
-    (adds_more input (front ++ done) (functions_of input k o) first old new so_far adds))
+    (sym (by_object_more (functions_of input) 0 input.link.objects k k o (omega arith) at)) in
+    adds_same input ((front ++ done) ++ functions_of input k o)
+    (front ++ by_object (functions_of input) 0 (take (k + 1) input.link.objects)) first new all
+    (adds_more input (front ++ done) (functions_of input k o) first old new so_far adds)
 
 -- what was added to nothing is all of the list
 pub adds_all : (input : Input) (entries : List FunctionEntry) (new : List PlannedFunction)

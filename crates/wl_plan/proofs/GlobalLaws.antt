@@ -6,7 +6,7 @@ use Rattle.std.specs.Option.{option_map, unwrap_or}
 use Rattle.std.proofs.lemmas.Bool.{cases_Bool, ltb-true, ltb-false}
 use Rattle.std.proofs.lemmas.List.{drop_all, length-map}
 use Rattle.std.proofs.lemmas.List.FromFn.{length-map-range_with_len, get_or-map-range_with_len}
-use Rattle.std.proofs.lemmas.Option.{slice_get-map, slice_get-get_or, same_Some}
+use Rattle.std.proofs.lemmas.Option.{slice_get-map, slice_get-get_or, same_Some, slice_get_past}
 use Rattle.indexmap.specs.IndexSet.{insert_key, insert_all}
 use Rattle.wl_module.specs.Globals.{DefinedGlobal}
 use Rattle.wl_linking.specs.Object.{Object}
@@ -31,6 +31,8 @@ use Rattle.wl_plan.specs.GlobalSteps.{asks_for_entry, first_among}
 use Rattle.wl_plan.specs.Globals.{global_in}
 use Rattle.wl_plan.specs.IndexedMaps.{IsWholeMap, AreWholeMaps}
 use Rattle.wl_plan.specs.declared.placing.Placing.{Placing}
+use Rattle.wl_plan.proofs.ListLaws.{right_and}
+use Rattle.wl_plan.proofs.RowLaws.{row_of}
 
 -- ---- GOT lists
 
@@ -87,12 +89,6 @@ module _ {X : Type 0} where
   front_or_behind : (y : X) (xs : List X) (x : X) → Contains (y ∷ xs) x → (y ≡ x) ⊎ Contains xs x
   front_or_behind y xs x (zero, lt, e) = inl e
   front_or_behind y xs x (suc k, lt, e) = inr (k, omega (arith, lt), e)
-
-  -- what stands at a place is in the list
-  pub listed_at : (xs : List X) (k : ℕ) (x : X) → slice_get xs k ≡ Some x → Contains xs x
-  listed_at [] k x at = absurd cc
-  listed_at (y ∷ xs) zero x at = at_front y xs x cc
-  listed_at (y ∷ xs) (suc k) x at = behind y xs x (listed_at xs k x at)
 
   pushed_cases : (keys : List X) (y x : X) → Contains (keys ++ y ∷ []) x → Contains keys x ⊎ (y ≡ x)
   pushed_cases [] y x among = elim (front_or_behind y [] x among) [
@@ -153,10 +149,6 @@ from_some f (x ∷ xs) y among =
 
 -- ---- addresses of the GOT list of data
 
-both : (a b : Bool) → (a && b) ≡ true → (a ≡ true) × (b ≡ true)
-both true b e = (refl, e)
-both false b e = absurd cc
-
 some_if : {X : Type 0} (test : Bool) (x y : X) → (if test then Some x else None) ≡ Some y
     → (test ≡ true) × (x ≡ y)
 some_if true x y e = (refl, same_Some x y e)
@@ -170,7 +162,7 @@ high_symbol input g d r gives high =
     let given = some_if (is_global_index r.relocation.ty && names_data input r)
     (definition_of input r) d gives in
     let data_ : names_data input r ≡ true =
-    (both (is_global_index r.relocation.ty) (names_data input r) given.0).1 in
+    right_and (is_global_index r.relocation.ty) (names_data input r) given.0 in
     let address : symbol_address input g r.object r.relocation.index
     ≡ address_of_definition input g d =
     rw data_ (ap (address_of_definition input g) given.1) in
@@ -225,22 +217,6 @@ found_none input d rs k le = rw (drop_all k rs le) refl
 
 -- ---- the rows of objects
 
-row_at : (input : Input) (g : Placing) (n : ℕ) (objects : List Object)
-    (maps : List WasmObjectIndexMap) (i : ℕ) (m : WasmObjectIndexMap)
-    → AreRows (IsWholeMap input g) n objects maps → slice_get maps i ≡ Some m
-    → (o : Object) × (slice_get objects i ≡ Some o) × IsWholeMap input g (n + i) o m
-row_at input g n [] [] i m h at = absurd cc
-row_at input g n [] (x ∷ maps) i m h at = absurd h
-row_at input g n (o ∷ objects) [] i m h at = absurd h
-row_at input g n (o ∷ objects) (x ∷ maps) zero m h at =
-    let same : x ≡ m = same_Some x m at in
-    let none : n + 0 ≡ n = omega arith in
-    (o, refl, rw none (subst (λ (y : WasmObjectIndexMap). IsWholeMap input g n o y) same h.0))
-row_at input g n (o ∷ objects) (x ∷ maps) (suc i) m h at =
-    let rest = row_at input g (n + 1) objects maps i m h.1 at in
-    let on : n + suc i ≡ n + 1 + i = omega arith in
-    (rest.0, rest.1, rw on rest.2)
-
 no_row : (input : Input) (g : Placing) (n : ℕ) (objects : List Object)
     (maps : List WasmObjectIndexMap) (i : ℕ)
     → AreRows (IsWholeMap input g) n objects maps → slice_get maps i ≡ None
@@ -251,11 +227,6 @@ no_row input g n (o ∷ objects) [] i h at = absurd h
 no_row input g n (o ∷ objects) (x ∷ maps) zero h at = absurd cc
 no_row input g n (o ∷ objects) (x ∷ maps) (suc i) h at =
     no_row input g (n + 1) objects maps i h.1 at
-
-pub nothing_past : {X : Type 0} (xs : List X) (k : ℕ) → length xs ≤ k → slice_get xs k ≡ None
-nothing_past [] k le = refl
-nothing_past (x ∷ xs) zero le = absurd (omega (arith, le))
-nothing_past (x ∷ xs) (suc k) le = nothing_past xs k (omega (arith, le))
 
 -- what stands at a place of a list of so many, or nowhere
 past_or_at : {X : Type 0} (f : ℕ → X) (d : X) (n k : ℕ) → (n ≤ k → f k ≡ d)
@@ -274,7 +245,7 @@ past_or_at f d n k past = elim (cases_Bool (nat_lt k n)) [
       (let behind_all : n ≤ k = ltb-false k n ge in
       let long : length (map f (range_with_len 0 n)) ≡ n = length-map-range_with_len f 0 n in
       let nowhere : slice_get (map f (range_with_len 0 n)) k ≡ None =
-      nothing_past (map f (range_with_len 0 n)) k (omega (arith, behind_all, long)) in
+      slice_get_past (map f (range_with_len 0 n)) k (omega (arith, behind_all, long)) in
       rw nowhere (sym (past behind_all)))
 ]
 
@@ -283,7 +254,7 @@ no_symbol : (input : Input) (g : Placing) (object number : ℕ) (o : Object)
     → symbol_address input g object number ≡ Missing
 no_symbol input g object number o here le =
     let nowhere : symbol_in input.link.objects object number ≡ None =
-    rw here (nothing_past o.symbols number le) in
+    rw here (slice_get_past o.symbols number le) in
     rw nowhere refl
 
 -- the address that the row of an object has
@@ -291,7 +262,7 @@ pub address_in : (input : Input) (g : Placing) (maps : List WasmObjectIndexMap) 
     (m : WasmObjectIndexMap) → AreWholeMaps input g maps → slice_get maps object ≡ Some m
     → unwrap_or (slice_get m.data_addresses number) Missing ≡ symbol_address input g object number
 address_in input g maps object number m h at =
-    let row = row_at input g 0 input.link.objects maps object m h at in
+    let row = row_of (IsWholeMap input g) 0 input.link.objects maps object m h at in
     let none : 0 + object ≡ object = omega arith in
     let is_map : IsWholeMap input g object row.0 m =
     subst (λ (k : ℕ). IsWholeMap input g k row.0 m) none row.2 in
@@ -315,13 +286,6 @@ mem_never input g d (Ok address) low among h = tt
 mem_never input g d (Err e) low among h = mem_low input g d low among h.1
 
 -- ---- elements of loops
-
--- the object that a loop is at
-pub object_at : (objects items : List Object) (i : ℕ) (o : Object) → items ≡ objects
-    → i < length items → o ≡ get_or items i o → slice_get objects i ≡ Some o
-object_at objects items i o same lt is =
-    subst (λ (os : List Object). slice_get os i ≡ Some o) same
-    (slice_get-get_or items i o lt ∙ ap Some (sym is))
 
 -- the global of an object that a loop is at
 pub global_at : (objects : List Object) (object : ℕ) (o : Object) (items : List DefinedGlobal)

@@ -1,8 +1,8 @@
 -- How the list of globals grows, part by part.
-use Rattle.std.proofs.Common.{◌≡◌, ◌∙◌, ℕ, zero, suc, ◌+◌, ◌<◌, ◌≤◌, ◌++◌, Bool, true, false, List, [], ◌∷◌, length, map, take, drop, get_or, refl, sym, ap, subst, inl, inr, arith, Some, Ok, Err, Contains, append_assoc, append-nil, slice_get, if◌then◌else◌}
+use Rattle.std.proofs.Common.{◌≡◌, ◌∙◌, ℕ, zero, suc, ◌+◌, ◌<◌, ◌≤◌, ◌++◌, Bool, true, false, List, [], ◌∷◌, length, map, take, get_or, refl, sym, ap, subst, inl, inr, arith, Some, Ok, Err, Contains, append_assoc, append-nil, slice_get, if◌then◌else◌}
 use Rattle.std.specs.List.{AllZip, AllByRecursion, range_with_len, filter}
 use Rattle.std.proofs.lemmas.Bool.{cases_Bool}
-use Rattle.std.proofs.lemmas.List.{map_more, take_all}
+use Rattle.std.proofs.lemmas.List.{map_more, take_all, map-append}
 use Rattle.std.proofs.lemmas.List.Elements.{Contains-append_left, Contains-append_right, filter-append}
 use Rattle.std.proofs.lemmas.Option.{same_Some}
 use Rattle.std.proofs.lemmas.List.FromFn.{map-range_with_len_more, length-map-range_with_len, get_or-map-range_with_len}
@@ -10,7 +10,6 @@ use Rattle.wl_module.specs.Globals.{DefinedGlobal}
 use Rattle.wl_linking.specs.Object.{Object}
 use Rattle.wl_linking.specs.Steps.{Clear, Refuses}
 use Rattle.wl_linking.specs.declared.error.LinkError.{LinkError}
-use Rattle.wl_linking.specs.declared.error.LinkError.TheVariants.{OutOfMemory}
 use Rattle.wl_symbols.specs.LinkerNames.{row_of}
 use Rattle.wl_symbols.specs.declared.linker_symbol.WasmLinkerSymbol.{WasmLinkerSymbol}
 use Rattle.wl_symbols.specs.declared.linker_symbol.WasmLinkerSymbol.TheVariants as linker
@@ -36,15 +35,10 @@ use Rattle.wl_plan.specs.declared.layout.GlobalOrigin.TheVariants as origin
 use Rattle.wl_plan.specs.declared.layout.MadeGlobal.{MadeGlobal}
 use Rattle.wl_plan.specs.declared.layout.PlannedGlobal.{PlannedGlobal}
 use Rattle.wl_plan.specs.declared.placing.Placing.{Placing}
+use Rattle.wl_plan.proofs.ListLaws.{zip_joined, drop_front}
+use Rattle.wl_plan.proofs.RowLaws.{by_object_more}
 
 -- ---- lists
-
-zip_join : {X Y : Type 0} (R : X → Y → Type 0) (ps qs : List X) (xs ys : List Y)
-    → AllZip R ps xs → AllZip R qs ys → AllZip R (ps ++ qs) (xs ++ ys)
-zip_join R [] qs [] ys h k = k
-zip_join R [] qs (x ∷ xs) ys h k = absurd h
-zip_join R (p ∷ ps) qs [] ys h k = absurd h
-zip_join R (p ∷ ps) qs (x ∷ xs) ys h k = (h.0, zip_join R ps qs xs ys h.1 k)
 
 module _ {X : Type 0} where
   alone : (y x : X) → Contains (y ∷ []) x → y ≡ x
@@ -90,10 +84,6 @@ range_more a (suc k) j e =
     let on : suc k + 1 ≡ suc (k + 1) = omega arith in
     rw on (ap (λ (ns : List ℕ). a ∷ ns) (range_more (a + 1) k j (omega (arith, e))))
 
-map_join : {X Y : Type 0} (f : X → Y) (xs ys : List X) → map f (xs ++ ys) ≡ map f xs ++ map f ys
-map_join f [] ys = refl
-map_join {X} {Y} f (x ∷ xs) ys = ap (λ (l : List Y). f x ∷ l) (map_join f xs ys)
-
 own_part : (input : Input) (object k : ℕ)
     → map (λ (n : ℕ). GlobalOf (Defined object n))
     (filter (λ (n : ℕ). keeps input object (OwnGlobal n)) (k ∷ []))
@@ -115,30 +105,11 @@ kept_more input object k =
     let p : ℕ → Bool = λ (n : ℕ). keeps input object (OwnGlobal n) in
     ap (λ (ns : List ℕ). map f (filter p ns)) (range_more 0 k k (omega arith))
     ∙ (ap (map f) (filter-append p (range_with_len 0 k) (k ∷ []))
-    ∙ (map_join f (filter p (range_with_len 0 k)) (filter p (k ∷ []))
+    ∙ (map-append f (filter p (range_with_len 0 k)) (filter p (k ∷ []))
     ∙ ap (λ (l : List GlobalEntry). map f (filter p (range_with_len 0 k)) ++ l)
     (own_part input object k)))
 
--- what one more object gives
-objects_more : {Y : Type 0} (f : ℕ → Object → List Y) (n : ℕ) (os : List Object) (i j : ℕ)
-    (o : Object)
-    → n + i ≡ j → slice_get os i ≡ Some o
-    → by_object f n (take (i + 1) os) ≡ by_object f n (take i os) ++ f j o
-objects_more f n [] i j o e here = absurd cc
-objects_more f n (x ∷ os) zero j o e here =
-    let same : x ≡ o = same_Some x o here in
-    let at : n ≡ j = omega (arith, e) in
-    rw (same, at) (append-nil (f j o))
-objects_more {Y} f n (x ∷ os) (suc i) j o e here =
-    let on : suc i + 1 ≡ suc (i + 1) = omega arith in
-    rw on (ap (λ (l : List Y). f n x ++ l)
-    (objects_more f (n + 1) os i j o (omega (arith, e)) here)
-    ∙ sym (append_assoc (f n x) (by_object f (n + 1) (take i os)) (f j o)))
-
 -- ---- refusals
-
-pub refuses_memory : (P : LinkError → Type 0) (e : LinkError) → e ≡ OutOfMemory → Refuses P e
-refuses_memory P e is = record { cause_is = λ other. absurd (other is) }
 
 module _ (s : GlobalSources) where
   -- a fault of a part is one of a list that has the part
@@ -193,7 +164,7 @@ module _ (s : GlobalSources) where
       → AddsPart s p a b → AddsPart s q b c → AddsPart s (p ++ q) a c
   adds_join {p} {q} {a} {b} {c} h k = record {
     more = h.more ++ k.more;
-    are = zip_join (IsPlannedGlobal s.book.now.input.now s.book.now.placing.now) p q h.more k.more
+    are = zip_joined (IsPlannedGlobal s.book.now.input.now s.book.now.placing.now) p q h.more k.more
         h.are k.are;
     grown = k.grown ∙ (ap (λ (l : List PlannedGlobal). l ++ k.more) h.grown
         ∙ append_assoc a h.more k.more);
@@ -337,8 +308,8 @@ module _ (s : GlobalSources) where
       (take (i + 1) s.book.now.input.now.link.objects)) a c
   adds_object i o a b c here h one =
       subst (λ (part : List GlobalEntry). AddsPart s part a c)
-      (sym (objects_more (globals_of s.book.now.input.now) 0 s.book.now.input.now.link.objects i i o
-      (omega arith) here)) (adds_join h one)
+      (sym (by_object_more (globals_of s.book.now.input.now) 0 s.book.now.input.now.link.objects i i
+      o (omega arith) here)) (adds_join h one)
 
   pub all_objects : (i : ℕ) (a b : List PlannedGlobal)
       → length s.book.now.input.now.link.objects ≤ i
@@ -356,11 +327,6 @@ module _ (s : GlobalSources) where
       subst (λ (k : ℕ). AddsPart s (map f (range_with_len 0 k)) a b) is h
 
 -- ---- all of them
-
-drop_front : {X : Type 0} (host tail objects : List X)
-    → drop (length host) ((host ++ tail) ++ objects) ≡ tail ++ objects
-drop_front [] tail objects = refl
-drop_front (x ∷ host) tail objects = drop_front host tail objects
 
 regroup : {X : Type 0} (a b c d e f g h i j k : List X)
     → a ++ (b ++ (c ++ (d ++ (e ++ (f ++ (g ++ (h ++ (i ++ (j ++ (k ++ []))))))))))

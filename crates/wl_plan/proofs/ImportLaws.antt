@@ -3,7 +3,7 @@ use Rattle.std.proofs.Common.{◌≡◌, ◌∙◌, ℕ, zero, suc, ◌+◌, ◌
 use Rattle.std.specs.List.{AllZip}
 use Rattle.std.specs.Option.{option_and_then, is_none}
 use Rattle.std.proofs.lemmas.List.{append-nil, append_assoc, take_all}
-use Rattle.std.proofs.lemmas.Option.{same_Some, get_or_from_slice_get}
+use Rattle.std.proofs.lemmas.Option.{same_Some, get_or_from_slice_get, slice_get_within}
 use Rattle.wl_module.specs.Imports.{Imported}
 use Rattle.wl_module.specs.Types.{FunctionType}
 use Rattle.wl_module.specs.declared.globals.GlobalType.{GlobalType}
@@ -26,7 +26,8 @@ use Rattle.wl_plan.specs.Imports.{IsFunctionImport, IsGlobalImport, global_type_
 use Rattle.wl_plan.specs.PlannedImports.{PlannedImport}
 use Rattle.wl_plan.specs.declared.layout.OutputImportEntity.TheVariants.{Global}
 use Rattle.wl_plan.specs.declared.placing.Placing.{Placing}
-use Rattle.wl_plan.proofs.FunctionLaws.{IsIn, IsLocated, HaveTypes, came_at, in_at, in_list, in_filter, in_firsts, host_stands, left_located, map_in, mapped_at, slot_here, slot_object, take_next, zip_joined}
+use Rattle.wl_plan.proofs.FunctionLaws.{IsLocated, HaveTypes, in_firsts, host_stands, left_located, slot_here, slot_object, take_next}
+use Rattle.wl_plan.proofs.ListLaws.{IsIn, in_at, in_list, in_filter, map_in, mapped_at, came_at, zip_joined}
 
 -- ---- imports that are added
 
@@ -194,13 +195,8 @@ global_imported input h row number rows ty i rows-are row-is number-is is told o
 
 -- ---- a type in a row
 
-pub within : {X : Type 0} (xs : List X) (k : ℕ) (x : X) → slice_get xs k ≡ Some x → k < length xs
-within [] k x e = absurd cc
-within (y ∷ xs) zero x e = omega arith
-within (y ∷ xs) (suc k) x e = let rest : k < length xs = within xs k x e in omega (arith, rest)
-
 pub row_within : (rows : List (List GlobalType)) (row number : ℕ) → HasRowType rows row number → row < length rows
-row_within rows row number is = within rows row is.types is.here
+row_within rows row number is = slice_get_within rows row is.types is.here
 
 pub row_is : (rows : List (List GlobalType)) (row number : ℕ) (types list : List GlobalType)
     (is : HasRowType rows row number) → types ≡ get_or rows row types → list ≡ types → list ≡ is.types
@@ -209,7 +205,8 @@ row_is rows row number types list is at same = same ∙ (at ∙ get_or_from_slic
 pub number_within : (rows : List (List GlobalType)) (row number : ℕ) (list : List GlobalType)
     (is : HasRowType rows row number) → list ≡ is.types → number < length list
 number_within rows row number list is same =
-    subst (λ (ts : List GlobalType). number < length ts) (sym same) (within is.types number is.ty is.there)
+    subst (λ (ts : List GlobalType). number < length ts) (sym same)
+    (slice_get_within is.types number is.ty is.there)
 
 pub type_read : (rows : List (List GlobalType)) (row number : ℕ) (list : List GlobalType) (d : GlobalType)
     (is : HasRowType rows row number) → list ≡ is.types → type_in_row rows row number ≡ Some (get_or list number d)

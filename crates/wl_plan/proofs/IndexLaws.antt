@@ -25,7 +25,9 @@ use Rattle.wl_plan.specs.IndexedMaps.{IsWholeMap, AreWholeMaps}
 use Rattle.wl_plan.specs.IndexSteps.{number_among, numbers_among, segments_before, IsMapOf, IsWholeMapOf, AreLowOf, IsHighSymbol}
 use Rattle.wl_plan.specs.declared.addresses.AddressBook.{AddressBook}
 use Rattle.wl_plan.specs.declared.placing.Placing.{Placing}
-use Rattle.wl_plan.proofs.AddressLaws.{one_set, hits, hits_at, index_of, AreLaid, laid_here, others_before, splits, row_found, row_more, rows_length, none_high}
+use Rattle.wl_plan.proofs.AddressLaws.{one_set, hits, hits_at, index_of, AreLaid, laid_here, others_before, none_high}
+use Rattle.wl_plan.proofs.ListLaws.{there_is, get_in_front, get_behind, mapped_at}
+use Rattle.wl_plan.proofs.RowLaws.{row_found, rows_length, row_more}
 
 -- ---- the first place at which a test passes
 
@@ -154,24 +156,6 @@ missed {X} f n xs none = no_place (λ (y : X). f y == n) xs (λ k x at.
     ne_eqb (f x) n (λ e. let some = hits_at f n xs k x at e in omega (arith, some, none)))
 
 -- ---- the space of all segments
-
-get_behind : {X : Type 0} (xs ys : List X) (k n : ℕ) → length xs + k ≡ n
-    → slice_get (xs ++ ys) n ≡ slice_get ys k
-get_behind [] ys k n e = let e' : n ≡ k = omega (arith, e) in rw e'
-get_behind (x ∷ xs) ys k zero e = absurd (omega (arith, e))
-get_behind (x ∷ xs) ys k (suc n) e = get_behind xs ys k n (omega (arith, e))
-
-get_in_front : {X : Type 0} (xs ys : List X) (k : ℕ) (x : X) → slice_get xs k ≡ Some x
-    → slice_get (xs ++ ys) k ≡ Some x
-get_in_front [] ys k x e = absurd (cc)
-get_in_front (y ∷ xs) ys zero x e = e
-get_in_front (y ∷ xs) ys (suc k) x e = get_in_front xs ys k x e
-
-mapped_at : {X Y : Type 0} (f : X → Y) (xs : List X) (k : ℕ) (x : X) → slice_get xs k ≡ Some x
-    → slice_get (map f xs) k ≡ Some (f x)
-mapped_at f [] k x at = absurd cc
-mapped_at f (y ∷ xs) zero x at = let e : y ≡ x = cc in rw e refl
-mapped_at f (y ∷ xs) (suc k) x at = mapped_at f xs k x at
 
 -- the entry of a segment
 abbrev entry_for : ℕ → SegmentLayout → ℕ × ℕ
@@ -453,11 +437,11 @@ pub map_of : (input : Input) (maps : List WasmObjectIndexMap) (k : ℕ) (m : Was
     → AreIndexMaps input maps → k < length maps → m ≡ get_or maps k m → IsMapOf input k m
 map_of input maps k m are lt is =
     let long = rows_length (IsIndexMap input) 0 input.link.objects maps are in
-    let o = splits input.link.objects k (omega (arith, lt, long)) in
+    let o = there_is input.link.objects k (omega (arith, lt, long)) in
     record {
-      o = o.x;
-      here = o.here;
-      is = row_found (IsIndexMap input) input.link.objects maps k o.x m are o.here
+      o = o.0;
+      here = o.1;
+      is = row_found (IsIndexMap input) input.link.objects maps k o.0 m are o.1
           (slice_get_read maps (length maps) k m refl lt is);
     }
 

@@ -1,5 +1,5 @@
 -- The kept segments of objects, one by one.
-use Rattle.std.proofs.Common.{◌≡◌, ◌∙◌, ℕ, zero, suc, ◌+◌, ◌<◌, ◌≤◌, Bool, true, false, List, [], ◌∷◌, ◌++◌, length, get_or, drop, drop-cons, add-one, append_assoc, slice_get, Some, if◌then◌else◌, sym, ap, subst, arith}
+use Rattle.std.proofs.Common.{◌≡◌, ◌∙◌, ℕ, zero, suc, ◌+◌, ◌<◌, ◌≤◌, Bool, true, false, List, [], ◌∷◌, ◌++◌, length, get_or, drop, drop-cons, add-one, append_assoc, slice_get, Some, if◌then◌else◌, sym, ap, arith}
 use Rattle.std.proofs.lemmas.List.{append-nil, drop_all}
 use Rattle.std.specs.List.{AllByRecursion}
 use Rattle.std.specs.Option.{option_map_or}
@@ -14,22 +14,11 @@ use Rattle.wl_data.specs.Segments.{KeptData}
 use Rattle.wl_live.specs.declared.units.WasmGcUnit.TheVariants.{DataSegment}
 use Rattle.wl_bind.specs.Input.{Input, keeps}
 use Rattle.wl_plan.specs.KeptData.{kept_data, kept_from, kept_segments, segments_from}
+use Rattle.wl_plan.proofs.ListLaws.{all_at}
 use Rattle.wl_plan.proofs.SectionLaws.{all_append}
 use Rattle.wl_plan.proofs.WholeLaws.{HasAlignment, segments_are_aligned, segments_are_spanned}
 
 -- ---- items of lists
-
--- what stands there
-pub here_at : {X : Type 0} (xs : List X) (k : ℕ) (x : X) → k < length xs → x ≡ get_or xs k x → slice_get xs k ≡ Some x
-here_at [] k x lt at = absurd (omega (arith, lt))
-here_at (y ∷ xs) zero x lt at = ap (λ z. Some z) (sym at)
-here_at (y ∷ xs) (suc k) x lt at = here_at xs k x (omega (arith, lt)) at
-
--- what all have, the one that stands there has
-all_at : {X : Type 0} (P : X → Type 0) (xs : List X) (k : ℕ) (x : X) → AllByRecursion P xs → slice_get xs k ≡ Some x → P x
-all_at P [] k x h at = absurd cc
-all_at P (y ∷ xs) zero x h at = let same : y ≡ x = cc in subst P same h.0
-all_at P (y ∷ xs) (suc k) x h at = all_at P xs k x h.1 at
 
 -- the row begins with the item that stands there
 pub split_at : {X : Type 0} (xs : List X) (k : ℕ) (x : X) → k < length xs → x ≡ get_or xs k x → drop k xs ≡ x ∷ drop (k + 1) xs

@@ -1,3 +1,6 @@
+pub mod ListLaws
+pub mod RowLaws
+pub mod StepLaws
 pub mod SectionLaws
 pub mod WholeLaws
 pub mod KeptDataLaws
@@ -28,8 +31,8 @@ pub mod FieldLaws
 pub mod SlotLaws
 pub mod FixupLaws
 pub mod FixupListLaws
-pub mod StepLaws
 pub mod PlannedLaws
 pub mod PlanLaws
 pub mod LinkLaws
+pub mod ResolvedLaws
 pub mod WrapperLaws

@@ -1,8 +1,8 @@
 -- Which number each segment of an object has in the output.
-use Rattle.std.proofs.Common.{◌≡◌, ◌∙◌, ◌≤◌, ◌<◌, ℕ, zero, suc, ◌+◌, Bool, true, false, ◌&&◌, ◌==◌, List, [], ◌∷◌, ◌++◌, length, map, take, get_or, refl, sym, ap, subst, arith, inl, inr, Option, Some, None, slice_get, slice_index_or, position, eqb-true, ltb-true}
+use Rattle.std.proofs.Common.{◌≡◌, ◌∙◌, ◌≤◌, ◌<◌, ℕ, zero, suc, ◌+◌, true, false, ◌==◌, List, [], ◌∷◌, ◌++◌, length, map, take, get_or, refl, sym, ap, subst, arith, inl, inr, Option, Some, None, slice_get, slice_index_or, position, eqb-true, ltb-true}
 use Rattle.std.specs.List.{range_with_len}
 use Rattle.std.proofs.lemmas.Bool.{cases_Bool}
-use Rattle.std.proofs.lemmas.List.{map_more}
+use Rattle.std.proofs.lemmas.List.{map_more, length-map}
 use Rattle.std.proofs.lemmas.Option.{slice_get_within}
 use Rattle.wl_types.specs.Types.{max_entries}
 use Rattle.wl_types.specs.declared.types.TheConstants.{WASM_DEAD_INDEX}
@@ -15,14 +15,16 @@ use Rattle.wl_live.specs.declared.units.WasmGcUnit.TheVariants.{DataSegment}
 use Rattle.wl_ops.specs.Rewriting.{flattened, new_index}
 use Rattle.wl_reloc.specs.declared.index_map.WasmObjectIndexMap.{WasmObjectIndexMap}
 use Rattle.wl_bind.specs.Input.{Input, keeps}
-use Rattle.wl_bind.specs.Parts.{AreRows, IsIndexOf}
+use Rattle.wl_bind.specs.Parts.{IsIndexOf}
 use Rattle.wl_plan.specs.Addresses.{segment_space, segment_entry, local_segments, AreSegmentIndices}
 use Rattle.wl_plan.specs.Bodies.{new_number, same_segment}
 use Rattle.wl_plan.specs.BodySteps.{kept_number, AreNewNumbers, AreAllNumbers}
 use Rattle.wl_plan.specs.IndexedMaps.{IsWholeMap, AreWholeMaps}
 use Rattle.wl_plan.specs.Placing.{IsPlacing}
 use Rattle.wl_plan.specs.declared.placing.Placing.{Placing}
-use Rattle.wl_plan.proofs.SegmentLaws.{from_map, map_length, zip_left, zip_right, SegmentsHaveLayouts, place_is}
+use Rattle.wl_plan.proofs.ListLaws.{came_at, zip_left, zip_right, left_and, mapped_at, of_range}
+use Rattle.wl_plan.proofs.RowLaws.{rows_length, row_of}
+use Rattle.wl_plan.proofs.SegmentLaws.{SegmentsHaveLayouts, place_is}
 
 -- ---- lists
 
@@ -35,14 +37,6 @@ mapped_more {X} {Y} f xs i x old new y lt here made pushed so_far =
     ∙ (ap (λ (ys : List Y). ys ++ y ∷ []) so_far
     ∙ (ap (λ (z : Y). map f (take i xs) ++ z ∷ []) (made ∙ ap f here) ∙ sym (map_more f xs i x lt)))
 
-range_at : {Y : Type 0} (f : ℕ → Y) (a n k : ℕ) → k < n
-    → slice_get (map f (range_with_len a n)) k ≡ Some (f (a + k))
-range_at f a zero k lt = absurd (omega (arith, lt))
-range_at f a (suc n) zero lt = let e : a ≡ a + 0 = omega arith in ap (λ m. Some (f m)) e
-range_at f a (suc n) (suc k) lt =
-    let e : (a + 1) + k ≡ a + suc k = omega arith in
-    range_at f (a + 1) n k (omega (arith, lt)) ∙ ap (λ m. Some (f m)) e
-
 range_back : {Y : Type 0} (f : ℕ → Y) (a n k : ℕ) (y : Y)
     → slice_get (map f (range_with_len a n)) k ≡ Some y → y ≡ f (a + k)
 range_back f a zero k y here = absurd cc
@@ -54,12 +48,6 @@ range_back f a (suc n) (suc k) y here =
     let e : (a + 1) + k ≡ a + suc k = omega arith in
     range_back f (a + 1) n k y here ∙ ap f e
 
-map_at : {X Y : Type 0} (f : X → Y) (xs : List X) (i : ℕ) (x : X) → slice_get xs i ≡ Some x
-    → slice_get (map f xs) i ≡ Some (f x)
-map_at f [] i x here = absurd cc
-map_at f (y ∷ xs) zero x here = let same : y ≡ x = cc in ap (λ z. Some (f z)) same
-map_at f (y ∷ xs) (suc i) x here = map_at f xs i x here
-
 map_none : {X Y : Type 0} (f : X → Y) (xs : List X) (i : ℕ) → slice_get xs i ≡ None
     → slice_get (map f xs) i ≡ None
 map_none f [] i here = refl
@@ -67,10 +55,6 @@ map_none f (y ∷ xs) zero here = absurd cc
 map_none f (y ∷ xs) (suc i) here = map_none f xs i here
 
 -- ---- units
-
-left_and : (a b : Bool) → (a && b) ≡ true → a ≡ true
-left_and true b both = refl
-left_and false b both = absurd cc
 
 pub counts_at : (objects : List Object) (object : ℕ) (o : Object) → slice_get objects object ≡ Some o
     → units_at (units_of objects) object ≡ counts_of o
@@ -95,7 +79,7 @@ kept_within input object o number live here kept =
 
 new_at : (indices : List ℕ) (number index : ℕ) → slice_get indices number ≡ Some index
     → new_index (map kept_number indices) number ≡ kept_number index
-new_at indices number index here = ap flattened (map_at kept_number indices number index here)
+new_at indices number index here = ap flattened (mapped_at kept_number indices number index here)
 
 new_none : (indices : List ℕ) (number : ℕ) → slice_get indices number ≡ None
     → new_index (map kept_number indices) number ≡ None
@@ -141,12 +125,9 @@ has_number : SegmentsHaveLayouts → (input : Input) (g : Placing) (object : ℕ
 has_number law input g object o indices number placed room live here are kept =
     let space : List (ℕ × ℕ) = segment_space g in
     let lt : number < length o.segments = kept_within input object o number live here kept in
-    let at : slice_get (local_segments input object o) number ≡ Some (segment_entry input object (0 + number)) =
-    range_at (segment_entry input object) 0 (length o.segments) number lt in
-    let e : 0 + number ≡ number = omega arith in
     let entry : slice_get (local_segments input object o) number ≡ Some (Some (object, number)) =
-    at ∙ ap (λ (x : Option (ℕ × ℕ)). Some x)
-    (ap (segment_entry input object) e ∙ entry_kept input object number kept) in
+    of_range (segment_entry input object) (length o.segments) number lt
+    ∙ ap (λ (x : Option (ℕ × ℕ)). Some x) (entry_kept input object number kept) in
     let z = zip_left (IsIndexOf space) (local_segments input object o) indices number
     (Some (object, number)) are entry in
     let within : z.0 < length space = slice_get_within space z.0 (object, number) z.2 in
@@ -197,29 +178,6 @@ new_numbers law input g object o indices placed room live here are = record {
 
 -- ---- all objects
 
-rows_length : {X : Type 0} (IsRow : ℕ → Object → X → Type 0) (n : ℕ) (objects : List Object)
-    (rows : List X) → AreRows IsRow n objects rows → length rows ≡ length objects
-rows_length IsRow n [] [] h = refl
-rows_length IsRow n [] (r ∷ rows) h = absurd h
-rows_length IsRow n (o ∷ objects) [] h = absurd h
-rows_length IsRow n (o ∷ objects) (r ∷ rows) h =
-    let rest = rows_length IsRow (n + 1) objects rows h.1 in omega (arith, rest)
-
-pub row_of : {X : Type 0} (IsRow : ℕ → Object → X → Type 0) (n : ℕ) (objects : List Object)
-    (rows : List X) (i : ℕ) (row : X) → AreRows IsRow n objects rows → slice_get rows i ≡ Some row
-    → (o : Object) × (slice_get objects i ≡ Some o) × IsRow (n + i) o row
-row_of IsRow n [] [] i row h here = absurd cc
-row_of IsRow n [] (r ∷ rows) i row h here = absurd h
-row_of IsRow n (o ∷ objects) [] i row h here = absurd h
-row_of IsRow n (o ∷ objects) (r ∷ rows) zero row h here =
-    let same : r ≡ row = cc in
-    let e : n ≡ n + 0 = omega arith in
-    (o, refl, subst (λ m. IsRow m o row) e (subst (λ x. IsRow n o x) same h.0))
-row_of IsRow n (o ∷ objects) (r ∷ rows) (suc i) row h here =
-    let rest = row_of IsRow (n + 1) objects rows i row h.1 here in
-    let e : (n + 1) + i ≡ n + suc i = omega arith in
-    (rest.0, rest.1, subst (λ m. IsRow m rest.0 row) e rest.2)
-
 -- the numbers of an object, by its map
 abbrev pub numbers_of : WasmObjectIndexMap → List (Option ℕ)
 numbers_of m = map kept_number m.segment_indices
@@ -230,9 +188,9 @@ pub all_numbered : SegmentsHaveLayouts → (input : Input) (g : Placing)
     → length (segment_space g) ≤ max_entries → IsLiveOf input.link input.live
     → AreWholeMaps input g maps → AreAllNumbers input g (map numbers_of maps)
 all_numbered law input g maps placed room live are = record {
-  len = map_length numbers_of maps ∙ rows_length (IsWholeMap input g) 0 input.link.objects maps are;
+  len = length-map maps numbers_of ∙ rows_length (IsWholeMap input g) 0 input.link.objects maps are;
   each = λ object row here.
-      let m = from_map numbers_of maps object row here in
+      let m = came_at numbers_of maps object row here in
       let r = row_of (IsWholeMap input g) 0 input.link.objects maps object m.0 are m.1 in
       let e : 0 + object ≡ object = omega arith in
       let map_is : IsWholeMap input g object r.0 m.0 =

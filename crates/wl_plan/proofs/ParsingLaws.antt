@@ -3,21 +3,13 @@ use Rattle.std.proofs.Common.{◌≡◌, ◌+◌, ℕ, zero, suc, List, [], ◌�
 use Rattle.wl_linking.specs.Fitting.{IsObject, ObjectFault}
 use Rattle.wl_linking.specs.Object.{Object}
 use Rattle.wl_linking.specs.Steps.{Refuses}
-use Rattle.wl_linking.specs.declared.error.LinkError.{LinkError}
 use Rattle.wl_linking.specs.declared.error.LinkError.TheVariants.{OutOfMemory, Malformed, Unsupported}
 use Rattle.wl_module.specs.Outcome.{HasCause}
 use Rattle.wl_module.specs.declared.error.ReadError.{ReadError}
 use Rattle.wl_module.specs.declared.error.ReadError.TheVariants as read
 use Rattle.wl_plan.specs.Objects.{AreObjects, IsBadObject}
 use Rattle.wl_plan.specs.Parsing.{link_error_of}
-
--- ---- refusals
-
-refuses_for : (cause : LinkError → Type 0) (e : LinkError) → cause e → Refuses cause e
-refuses_for cause e h = record { cause_is = λ not. h }
-
-refuses_memory : (cause : LinkError → Type 0) (e : LinkError) → e ≡ OutOfMemory → Refuses cause e
-refuses_memory cause e is = record { cause_is = λ not. absurd (not is) }
+use Rattle.wl_plan.proofs.StepLaws.{refuses_for, refuses_memory}
 
 -- ---- objects in turn
 

@@ -3,7 +3,7 @@ use Rattle.std.proofs.Common.{◌≡◌, ◌∙◌, ℕ, suc, ◌+◌, ◌*◌, 
 use Rattle.std.specs.List.{AllByRecursion, AllZip, cons_option, flat_map, list_any}
 use Rattle.std.specs.Option.{option_map_or}
 use Rattle.std.proofs.lemmas.Bool.{cases_lt, ne_eqb}
-use Rattle.std.proofs.lemmas.List.{drop_all}
+use Rattle.std.proofs.lemmas.List.{drop_all, length-map, map-append}
 use Rattle.wl_module.specs.Imports.{Imported}
 use Rattle.wl_module.specs.declared.limits.MemoryType.{MemoryType}
 use Rattle.wl_linking.specs.Fitting.{IsWhole}
@@ -28,18 +28,16 @@ use Rattle.wl_plan.specs.Placing.{AreTooManySegments, IsHeapTooHigh, IsMemoryFau
 use Rattle.wl_plan.specs.PlacingSteps.{import_pages, imported_memories, is_memory_import, most_pages}
 use Rattle.wl_plan.specs.declared.placing.Placing.{Placing}
 use Rattle.wl_plan.proofs.KeptDataLaws.{split_at}
+use Rattle.wl_plan.proofs.ListLaws.{zip_length}
+use Rattle.wl_plan.proofs.StepLaws.{clear_end, clear_step, refuses_here, refuses_behind}
 use Rattle.wl_plan.proofs.WholeLaws.{IsSmallMemory, memories_are_small}
 
 -- ---- the greatest of numbers
 
 -- of those of two lists
-greatest-append : (ms ns : List ℕ) → greatest (ms ++ ns) ≡ max (greatest ms) (greatest ns)
+pub greatest-append : (ms ns : List ℕ) → greatest (ms ++ ns) ≡ max (greatest ms) (greatest ns)
 greatest-append [] ns = omega arith
 greatest-append (m ∷ ms) ns = omega (arith, greatest-append ms ns)
-
-map-append : {X Y : Type 0} (f : X → Y) (xs ys : List X) → map f (xs ++ ys) ≡ map f xs ++ map f ys
-map-append f [] ys = refl
-map-append f (x ∷ xs) ys = ap (λ zs. f x ∷ zs) (map-append f xs ys)
 
 pages_one : (o : Option MemoryType) (ms : List MemoryType) → most_pages (cons_option o ms) ≡ max (option_map_or (λ (m : MemoryType). m.initial) o 0) (most_pages ms)
 pages_one None ms = omega arith
@@ -106,21 +104,16 @@ total_from : {X : Type 0} (a : ℕ) (rows : List (List X)) → fold (λ (n : ℕ
 total_from a [] = omega arith
 total_from a (row ∷ rows) = total_from (a + length row) rows ∙ omega arith
 
-length_map : {X Y : Type 0} (f : X → Y) (xs : List X) → length (map f xs) ≡ length xs
-length_map f [] = refl
-length_map f (x ∷ xs) = ap suc (length_map f xs)
-
 numbers_total : (k : ℕ) (rows : List (List SegmentLayout)) → length (numbers_from k rows) ≡ total rows
 numbers_total k [] = refl
 numbers_total k (row ∷ rows) =
     let f : SegmentLayout → ℕ × ℕ = λ l. (k, l.segment_index) in
-    omega (arith, length-append (map f row) (numbers_from (k + 1) rows), length_map f row, numbers_total (k + 1) rows)
-
-zip_length : {X Y : Type 0} (R : X → Y → Type 0) (xs : List X) (ys : List Y) → AllZip R xs ys → length xs ≡ length ys
-zip_length R [] [] h = refl
-zip_length R [] (y ∷ ys) h = absurd h
-zip_length R (x ∷ xs) [] h = absurd h
-zip_length R (x ∷ xs) (y ∷ ys) h = ap suc (zip_length R xs ys h.1)
+    omega (
+      arith,
+      length-append (map f row) (numbers_from (k + 1) rows),
+      length-map row f,
+      numbers_total (k + 1) rows,
+    )
 
 one_splits : (b : Bool) (s : KeptData) (xs ys : List KeptData) (n : ℕ) → length xs + length ys ≡ n → length (cond (not b) (s ∷ xs) xs) + length (cond b (s ∷ ys) ys) ≡ suc n
 one_splits true s xs ys n h = omega (arith, h)
@@ -147,29 +140,6 @@ numbers_few input o laid clear h =
       | inl many ↦ absurd (clear.none (TooLarge Space) (refl, many))
       | inr few ↦ omega (arith, few, total_from 0 (all_segments input), numbers_total 0 laid, layouts_total o (all_segments input) laid h)
     ]
-
--- ---- steps
-
-pub clear_end : Clear NoStep
-clear_end = record { none = λ e h. h }
-
-none_of : (cause rest : LinkError → Type 0) → Clear cause → Clear rest → (e : LinkError) → Step cause rest e → ⊥
-none_of cause rest first others e (here h) = first.none e h
-none_of cause rest first others e (behind clear h) = others.none e h
-
--- both are clear
-pub clear_step : (cause rest : LinkError → Type 0) → Clear cause → Clear rest → Clear (Step cause rest)
-clear_step cause rest first others = record { none = none_of cause rest first others }
-
--- the first one refuses, or one behind it
-pub refuses_here : (cause rest : LinkError → Type 0) (e : LinkError) → Refuses cause e → Refuses (Step cause rest) e
-refuses_here cause rest e h = record { cause_is = λ other. here (h.cause_is other) }
-
-pub refuses_behind : (cause rest : LinkError → Type 0) (e : LinkError) → Clear cause → Refuses rest e → Refuses (Step cause rest) e
-refuses_behind cause rest e clear h = record { cause_is = λ other. behind clear (h.cause_is other) }
-
-pub refuses_for : (cause : LinkError → Type 0) (e : LinkError) → cause e → Refuses cause e
-refuses_for cause e h = record { cause_is = λ other. h }
 
 -- ---- the memory
 

@@ -1,6 +1,5 @@
 -- The plan of a link, part by part: its steps, and how many things there are.
-use Rattle.std.proofs.Common.{◌≡◌, ◌∙◌, ◌⊎◌, ◌<◌, ◌≤◌, ◌^◌, ℕ, suc, ◌+◌, List, [], ◌∷◌, ◌++◌, length, map, refl, sym, ap, subst, arith, inl, inr, length-append, length-drop}
-use Rattle.std.specs.List.{AllZip}
+use Rattle.std.proofs.Common.{◌≡◌, ◌∙◌, ◌⊎◌, ◌<◌, ◌≤◌, ◌^◌, ℕ, ◌+◌, List, [], ◌∷◌, ◌++◌, length, map, refl, sym, ap, subst, arith, inl, inr, length-append, length-drop}
 use Rattle.std.proofs.lemmas.Bool.{cases_lt}
 use Rattle.std.proofs.lemmas.List.{length-map}
 use Rattle.std.proofs.lemmas.List.Sums.{sum_by-cons}
@@ -44,6 +43,7 @@ use Rattle.wl_plan.specs.Outline.{AreFew, HasWrapperRoom}
 use Rattle.wl_plan.specs.Placing.{IsPlacing, AreTooManySegments, IsMemoryFault, data_input, place_steps}
 use Rattle.wl_plan.specs.SizeSteps.{IsTooBig}
 use Rattle.wl_plan.specs.declared.placing.Placing.{Placing}
+use Rattle.wl_plan.proofs.ListLaws.{zip_length}
 use Rattle.wl_plan.proofs.StepLaws.{IsRow, row_end, row_more, first_clear, rest_clear}
 use Rattle.wl_plan.proofs.UniqueBodies.{FormsAreOne, bodies_one}
 
@@ -122,13 +122,6 @@ placed_refuses input g e placed h = record {
 }
 
 -- ---- how many functions there are
-
-zip_length : {X Y : Type 0} (R : X → Y → Type 0) (xs : List X) (ys : List Y) → AllZip R xs ys
-    → length ys ≡ length xs
-zip_length R [] [] h = refl
-zip_length R [] (y ∷ ys) h = absurd h
-zip_length R (x ∷ xs) [] h = absurd h
-zip_length R (x ∷ xs) (y ∷ ys) h = ap suc (zip_length R xs ys h.1)
 
 pub hosts_length : (input : Input) → length (function_imports input) ≡ length (host_function_part input)
 hosts_length input =

@@ -1,8 +1,9 @@
 -- Where the fields of kept relocations stand.
-use Rattle.std.proofs.Common.{◌≡◌, ◌∙◌, ◌≤◌, ◌<◌, ℕ, zero, suc, ◌+◌, Bool, true, false, ◌&&◌, ◌==◌, List, [], ◌∷◌, ◌++◌, length, map, take, drop, refl, sym, ap, subst, arith, inl, inr, Option, Some, slice_get, get_or, Result, Ok, Err, IfOk, if◌then◌else◌, eqb-true, Contains}
+use Rattle.std.proofs.Common.{◌≡◌, ◌∙◌, ◌≤◌, ◌<◌, ℕ, zero, suc, ◌+◌, Bool, true, false, ◌&&◌, ◌==◌, List, [], ◌∷◌, ◌++◌, length, map, take, drop, refl, sym, ap, subst, arith, inl, inr, Option, Some, slice_get, Result, Ok, Err, IfOk, if◌then◌else◌, eqb-true, Contains}
 use Rattle.std.specs.List.{AllByRecursion, AllZip}
 use Rattle.std.proofs.lemmas.Bool.{cases_lt}
-use Rattle.std.proofs.lemmas.Option.{slice_get_within, slice_get-get_or}
+use Rattle.std.proofs.lemmas.List.{drop_all, take-append-drop}
+use Rattle.std.proofs.lemmas.Option.{slice_get_within}
 use Rattle.std.proofs.lemmas.List.Elements.{Contains-append_left, Contains-append_right}
 use Rattle.wl_module.specs.Bodies.{Body}
 use Rattle.wl_linking.specs.Fitting.{IsWhole, IsFitting, code_pieces}
@@ -28,8 +29,9 @@ use Rattle.wl_plan.specs.Bodies.{body_in, new_number, IsMovedBy, IsMovedAt, IsMo
 use Rattle.wl_plan.specs.BodySteps.{AreNewNumbers, AreSoundBodies, HasSoundBody}
 use Rattle.wl_plan.specs.PositionSteps.{is_code, share_body, AreOfOneBody, AreKept, IsThere}
 use Rattle.wl_plan.specs.declared.placing.Placing.{Placing}
-use Rattle.wl_plan.proofs.SegmentLaws.{append_split, from_map}
-use Rattle.wl_plan.proofs.BodyLaws.{all_at, body_at}
+use Rattle.wl_plan.proofs.ListLaws.{came_at, left_and, right_and, at_is_in, all_at}
+use Rattle.wl_plan.proofs.SegmentLaws.{append_split}
+use Rattle.wl_plan.proofs.BodyLaws.{body_at}
 
 -- ---- where a kept relocation is from
 
@@ -177,12 +179,6 @@ site_at pieces (q ∷ rs) (t ∷ ss) zero r s are at_r at_s =
     subst (λ x. IsSite pieces r x) same_s (subst (λ x. IsSite pieces x t) same_r are.0)
 site_at pieces (q ∷ rs) (t ∷ ss) (suc k) r s are at_r at_s = site_at pieces rs ss k r s are.1 at_r at_s
 
-drop_past : (n : ℕ) (xs : List ℕ) → length xs ≤ n → drop n xs ≡ []
-drop_past zero [] le = refl
-drop_past (suc n) [] le = refl
-drop_past zero (x ∷ xs) le = absurd (omega (arith, le))
-drop_past (suc n) (x ∷ xs) le = drop_past n xs (omega (arith, le))
-
 never_empty : (form : FieldForm) → has_form form (take (field_len form) []) ≡ true → ⊥
 never_empty PaddedUnsigned e = absurd cc
 never_empty PaddedSigned e = absurd cc
@@ -192,7 +188,7 @@ position_within : (form : FieldForm) (n : ℕ) (bytes : List ℕ)
     → has_form form (take (field_len form) (drop n bytes)) ≡ true → n ≤ length bytes
 position_within form n bytes e = elim (cases_lt (length bytes) n) [
   | inl past ↦
-      let none : drop n bytes ≡ [] = drop_past n bytes (omega (arith, past)) in
+      let none : drop n bytes ≡ [] = drop_all n bytes (omega (arith, past)) in
       absurd (never_empty form
       (subst (λ (text : List ℕ). has_form form (take (field_len form) text) ≡ true) none e))
   | inr le ↦ le
@@ -218,7 +214,7 @@ in_body law input r sound listed is =
     let site : IsSite (code_pieces f.o) r.relocation r.site =
     site_at (code_pieces f.o) (f.o).code_relocations (f.o).code_sites l.place r.relocation r.site
     (law f.o whole).code.sited l.relocation l.site in
-    let b = from_map body_piece (f.o).bodies r.site.unit site.piece site.here in
+    let b = came_at body_piece (f.o).bodies r.site.unit site.piece site.here in
     let bytes : (b.0).bytes ≡ (site.piece).bytes = ap (λ (p : PieceOf). p.bytes) b.2 in
     let within : r.site.position ≤ length (site.piece).bytes =
     position_within (field_form r.relocation.ty) r.site.position (site.piece).bytes site.field in
@@ -237,21 +233,13 @@ codes : (p : FixupPlace) → is_code p ≡ true → p ≡ Code
 codes Code e = refl
 codes Segment e = absurd cc
 
-and_left : (a b : Bool) → (a && b) ≡ true → a ≡ true
-and_left true b e = refl
-and_left false b e = absurd cc
-
-and_right : (a b : Bool) → (a && b) ≡ true → b ≡ true
-and_right true b e = e
-and_right false b e = absurd cc
-
 first_code : (first other : Relocated) → share_body first other ≡ true → is_code first.place ≡ true
 first_code first other e =
     let same_unit : Bool = first.site.unit == other.site.unit in
     let same_object : Bool = first.object == other.object in
     let both : Bool = is_code first.place && is_code other.place in
-    and_left (is_code first.place) (is_code other.place)
-    (and_left both same_object (and_left (both && same_object) same_unit e))
+    left_and (is_code first.place) (is_code other.place)
+    (left_and both same_object (left_and (both && same_object) same_unit e))
 
 -- what two fields of one body have in common
 pub record AreShared (first other : Relocated) : Type 0 where
@@ -264,12 +252,13 @@ shared first other e =
     let same_unit : Bool = first.site.unit == other.site.unit in
     let same_object : Bool = first.object == other.object in
     let both : Bool = is_code first.place && is_code other.place in
-    let a = and_left (both && same_object) same_unit e in
-    let b = and_left both same_object a in
+    let a = left_and (both && same_object) same_unit e in
+    let b = left_and both same_object a in
     record {
-      place = codes other.place (and_right (is_code first.place) (is_code other.place) b);
-      object = sym (eqb-true first.object other.object (and_right both same_object a));
-      unit = sym (eqb-true first.site.unit other.site.unit (and_right (both && same_object) same_unit e));
+      place = codes other.place (right_and (is_code first.place) (is_code other.place) b);
+      object = sym (eqb-true first.object other.object (right_and both same_object a));
+      unit = sym (eqb-true first.site.unit other.site.unit
+          (right_and (both && same_object) same_unit e));
     }
 
 -- ---- how they move
@@ -452,29 +441,17 @@ moved_more input g (r ∷ done) run [] new zip more = absurd zip
 moved_more input g (r ∷ done) run (p ∷ old) new zip more =
     (zip.0, moved_more input g done run old new zip.1 more)
 
-pub take_drop : {X : Type 0} (n : ℕ) (xs : List X) → take n xs ++ drop n xs ≡ xs
-take_drop zero [] = refl
-take_drop (suc n) [] = refl
-take_drop zero (x ∷ xs) = refl
-take_drop {X} (suc n) (x ∷ xs) = ap (λ (ys : List X). x ∷ ys) (take_drop n xs)
-
 -- what is done, and what is left of the list
 pub done_more : (all done rest : List Relocated) (n : ℕ) → done ++ rest ≡ all
     → done ++ (take n rest ++ drop n rest) ≡ all
 done_more all done rest n is =
-    ap (λ (rs : List Relocated). done ++ rs) (take_drop n rest) ∙ is
+    ap (λ (rs : List Relocated). done ++ rs) (take-append-drop n rest) ∙ is
 
 pub none_left : (rest : List Relocated) → length rest ≡ 0 → rest ≡ []
 none_left [] e = refl
 none_left (r ∷ rest) e = absurd (omega (arith, e))
 
 -- ---- the first field of a run
-
-at_is_in : {X : Type 0} (xs : List X) (k : ℕ) (x : X) → slice_get xs k ≡ Some x → Contains xs x
-at_is_in [] k x here = absurd cc
-at_is_in (y ∷ xs) zero x here = let is : y ≡ x = cc (here) in (zero, omega arith, is)
-at_is_in (y ∷ xs) (suc k) x here =
-    let rest = at_is_in xs k x here in (suc rest.0, omega (arith, rest.1), rest.2)
 
 -- it lies in its body
 pub first_there : WholeFit → (input : Input) (first : Relocated) (run : List Relocated)
@@ -515,11 +492,6 @@ first_sound law input first run o body sound kept at code here there =
       here = body_at input first.object first.site.unit o body here there;
       is_kept = b.is_kept;
     }
-
--- what stands at a place below the length
-pub item_at : {X : Type 0} (xs : List X) (i : ℕ) (x : X) → i < length xs → x ≡ get_or xs i x
-    → slice_get xs i ≡ Some x
-item_at xs i x lt is = slice_get-get_or xs i x lt ∙ ap (λ y. Some y) (sym is)
 
 -- the positions of one run, moved on in a vector
 pub vector_is : {X : Type 0} (new old : List X) (n : ℕ) → length new ≡ length old

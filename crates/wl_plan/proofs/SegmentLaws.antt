@@ -2,6 +2,7 @@
 use Rattle.std.proofs.Common.{◌≡◌, ◌∙◌, ◌⊎◌, ◌≤◌, ◌<◌, ℕ, zero, suc, ◌+◌, Bool, true, false, not, ◌&&◌, ◌==◌, List, [], ◌∷◌, ◌++◌, length, map, filter, refl, sym, ap, subst, arith, inl, inr, Some, slice_get, position, if◌then◌else◌, eqb-true, eq-eqb, eqb, lt-ltb}
 use Rattle.std.specs.List.{AllZip, position_or_len}
 use Rattle.std.proofs.lemmas.Bool.{cases_Bool}
+use Rattle.std.proofs.lemmas.List.{length-map}
 use Rattle.std.proofs.lemmas.Option.{slice_get_within}
 use Rattle.wl_data.specs.DataPlaces.{DataInput, IsDataPlaces, HasLayout, HaveLayouts, in_output_order, is_thread_local}
 use Rattle.wl_data.specs.Segments.{KeptData, SegmentLayout}
@@ -16,6 +17,7 @@ use Rattle.wl_plan.specs.Bodies.{same_segment}
 use Rattle.wl_plan.specs.KeptData.{kept_data, kept_from, kept_segments, segments_from, all_segments}
 use Rattle.wl_plan.specs.Placing.{IsPlacing, data_input}
 use Rattle.wl_plan.specs.declared.placing.Placing.{Placing}
+use Rattle.wl_plan.proofs.ListLaws.{came_at, zip_right}
 
 -- ---- lists
 
@@ -28,17 +30,6 @@ append_split (y ∷ xs) ys (suc i) x here = elim (append_split xs ys i x here) [
   | inl front ↦ inl front
   | inr behind ↦ inr (behind.0, omega (arith, behind.1), behind.2)
 ]
-
-pub map_length : {X Y : Type 0} (f : X → Y) (xs : List X) → length (map f xs) ≡ length xs
-map_length f [] = refl
-map_length f (x ∷ xs) = let rest = map_length f xs in omega (arith, rest)
-
--- what stands in a list that was made item by item
-pub from_map : {X Y : Type 0} (f : X → Y) (xs : List X) (i : ℕ) (y : Y)
-    → slice_get (map f xs) i ≡ Some y → (x : X) × (slice_get xs i ≡ Some x) × (f x ≡ y)
-from_map f [] i y here = absurd cc
-from_map f (x ∷ xs) zero y here = let same : f x ≡ y = cc in (x, refl, same)
-from_map f (x ∷ xs) (suc i) y here = from_map f xs i y here
 
 -- what passed a test
 pub from_filter : {X : Type 0} (test : X → Bool) (xs : List X) (i : ℕ) (x : X)
@@ -56,23 +47,6 @@ from_filter test (y ∷ xs) (suc i) x here = elim (cases_Bool (test y)) [
   | inl passed ↦ let rest = from_filter test xs i x (rw passed at here) in (suc rest.0, rest.1, rest.2)
   | inr failed ↦ let rest = from_filter test xs (suc i) x (rw failed at here) in (suc rest.0, rest.1, rest.2)
 ]
-
-pub zip_right : {A B : Type 0} (R : A → B → Type 0) (xs : List A) (ys : List B) (i : ℕ) (y : B)
-    → AllZip R xs ys → slice_get ys i ≡ Some y → (x : A) × (slice_get xs i ≡ Some x) × R x y
-zip_right R [] [] i y zip here = absurd cc
-zip_right R [] (z ∷ ys) i y zip here = absurd zip
-zip_right R (x ∷ xs) [] i y zip here = absurd zip
-zip_right R (x ∷ xs) (z ∷ ys) zero y zip here =
-    let same : z ≡ y = cc in (x, refl, subst (λ b. R x b) same zip.0)
-zip_right R (x ∷ xs) (z ∷ ys) (suc i) y zip here = zip_right R xs ys i y zip.1 here
-
-pub zip_left : {A B : Type 0} (R : A → B → Type 0) (xs : List A) (ys : List B) (i : ℕ) (x : A)
-    → AllZip R xs ys → slice_get xs i ≡ Some x → (y : B) × (slice_get ys i ≡ Some y) × R x y
-zip_left R [] ys i x zip here = absurd cc
-zip_left R (z ∷ xs) [] i x zip here = absurd zip
-zip_left R (z ∷ xs) (y ∷ ys) zero x zip here =
-    let same : z ≡ x = cc in (y, refl, subst (λ a. R a y) same zip.0)
-zip_left R (z ∷ xs) (y ∷ ys) (suc i) x zip here = zip_left R xs ys i x zip.1 here
 
 first_passes : {X : Type 0} (test : X → Bool) (xs : List X) (i : ℕ) (x : X)
     → slice_get xs i ≡ Some x → test x ≡ true
@@ -247,7 +221,7 @@ segment_from object (list ∷ layouts) i p here =
     let f : SegmentLayout → ℕ × ℕ = λ l. (object, l.segment_index) in
     elim (append_split (map f list) (numbers_from (object + 1) layouts) i p here) [
       | inl front ↦
-          let m = from_map f list i p front in
+          let m = came_at f list i p front in
           let first : object ≡ p.0 = ap (λ (q : ℕ × ℕ). q.0) m.2 in
           let second : (m.0).segment_index ≡ p.1 = ap (λ (q : ℕ × ℕ). q.1) m.2 in
           record {
@@ -263,7 +237,7 @@ segment_from object (list ∷ layouts) i p here =
           }
       | inr behind ↦
           let rest = segment_from (object + 1) layouts behind.0 p behind.2 in
-          let long : length (map f list) ≡ length list = map_length f list in
+          let long : length (map f list) ≡ length list = length-map list f in
           let object_is : p.0 ≡ (object + 1) + rest.row = rest.object_is in
           let index_is : behind.0 ≡ start_behind rest.row layouts + rest.place = rest.index_is in
           record {

@@ -3,7 +3,7 @@ use Rattle.std.proofs.Common.{◌≡◌, ◌∙◌, ℕ, zero, suc, ◌+◌, ◌
 use Rattle.std.specs.List.{AllZip, list_any, range_with_len}
 use Rattle.std.specs.Option.{option_map, option_map_or, option_and_then, option_or, is_none}
 use Rattle.std.proofs.lemmas.Bool.{cases_Bool}
-use Rattle.std.proofs.lemmas.List.{take_all}
+use Rattle.std.proofs.lemmas.List.{take_all, length-map, drop_all}
 use Rattle.std.proofs.lemmas.List.Quantifiers.{position-Some}
 use Rattle.std.proofs.lemmas.Option.{get_or_from_slice_get, slice_get-get_or}
 use Rattle.std.proofs.lemmas.Slice.Eq.{bytes_eq-Decides}
@@ -29,7 +29,7 @@ use Rattle.wl_bind.specs.Input.{Input}
 use Rattle.wl_bind.specs.KeptSlots.{slots_from, is_kept_slot, kept_slots}
 use Rattle.wl_bind.specs.Made.{is_made, table_minimum, greatest}
 use Rattle.wl_bind.specs.MadeIndices.{StandsAt, IsMadeIndex}
-use Rattle.wl_bind.specs.Parts.{AreRows, IsIndexOf, IsPlaceOf}
+use Rattle.wl_bind.specs.Parts.{IsIndexOf, IsPlaceOf}
 use Rattle.wl_bind.specs.References.{IsBoundTo, IsInOutput, IsKeptFunction, IsMadeFunction}
 use Rattle.wl_bind.specs.Sameness.{same_target}
 use Rattle.wl_bind.specs.Scan.{table_functions}
@@ -39,68 +39,10 @@ use Rattle.wl_plan.specs.IndexedMaps.{IsWholeMap, AreWholeMaps}
 use Rattle.wl_plan.specs.Table.{IsElement}
 use Rattle.wl_plan.specs.TableSteps.{index_at, table_minimums}
 use Rattle.wl_plan.specs.declared.placing.Placing.{Placing}
-use Rattle.wl_plan.proofs.FunctionLaws.{IsIn, came_at, ctors_stand, host_stands, if_in, in_at, in_back, in_front, in_list, in_map, in_split, kept_in, kept_stands, length_mapped, map_in, mapped_at, take_next, tls_stands, zip_joined}
-
--- ---- rows
-
-pub record RowAt {X : Type 0} (R : ℕ → Object → X → Type 0) (m i : ℕ) (o : Object) (rows : List X) : Type 0 where
-  pub row : X
-  pub here : slice_get rows i ≡ Some row
-  pub is : R m o row
-
-row_at : {X : Type 0} (R : ℕ → Object → X → Type 0) (n i m : ℕ) (objects : List Object) (rows : List X) (o : Object)
-    → n + i ≡ m → AreRows R n objects rows → slice_get objects i ≡ Some o → RowAt R m i o rows
-row_at R n i m [] rows o same all at = absurd cc
-row_at R n i m (p ∷ objects) [] o same all at = absurd all
-row_at R n zero m (p ∷ objects) (row ∷ rows) o same all at =
-    let is : p ≡ o = cc in
-    let number : n ≡ m = omega (arith, same) in
-    let P : Object → Type 0 = λ q. R m q row in
-    let Q : ℕ → Type 0 = λ k. R k p row in
-    record { row = row; here = refl; is = subst P is (subst Q number all.0) }
-row_at R n (suc i) m (p ∷ objects) (row ∷ rows) o same all at =
-    let r = row_at R (n + 1) i m objects rows o (omega (arith, same)) all.1 at in
-    record { row = r.row; here = r.here; is = r.is }
-
-pub record ZipAt {A B : Type 0} (R : A → B → Type 0) (x : A) (ys : List B) (k : ℕ) : Type 0 where
-  pub other : B
-  pub here : slice_get ys k ≡ Some other
-  pub is : R x other
-
-pub zip_at : {A B : Type 0} (R : A → B → Type 0) (xs : List A) (ys : List B) (k : ℕ) (x : A) → AllZip R xs ys
-    → slice_get xs k ≡ Some x → ZipAt R x ys k
-zip_at R [] ys k x zip at = absurd cc
-zip_at R (z ∷ xs) [] k x zip at = absurd zip
-zip_at {A} R (z ∷ xs) (y ∷ ys) zero x zip at =
-    let same : z ≡ x = cc in
-    let P : A → Type 0 = λ w. R w y in
-    record { other = y; here = refl; is = subst P same zip.0 }
-zip_at R (z ∷ xs) (y ∷ ys) (suc k) x zip at =
-    let r = zip_at R xs ys k x zip.1 at in
-    record { other = r.other; here = r.here; is = r.is }
-
-get_in_front : {X : Type 0} (xs ys : List X) (k : ℕ) (x : X) → slice_get xs k ≡ Some x
-    → slice_get (xs ++ ys) k ≡ Some x
-get_in_front [] ys k x e = absurd (cc)
-get_in_front (y ∷ xs) ys zero x e = e
-get_in_front (y ∷ xs) ys (suc k) x e = get_in_front xs ys k x e
-
-get_behind : {X : Type 0} (xs ys : List X) (k n : ℕ) → length xs + k ≡ n
-    → slice_get (xs ++ ys) n ≡ slice_get ys k
-get_behind [] ys k n e = let e' : n ≡ k = omega (arith, e) in rw e'
-get_behind (x ∷ xs) ys k zero e = absurd (omega (arith, e))
-get_behind (x ∷ xs) ys k (suc n) e = get_behind xs ys k n (omega (arith, e))
-
-numbered_at : {X : Type 0} (f : ℕ → X) (a n k m : ℕ) → a + k ≡ m → k < n
-    → slice_get (map f (range_with_len a n)) k ≡ Some (f m)
-numbered_at f a zero k m same lt = absurd (omega (arith, lt))
-numbered_at f a (suc n) zero m same lt = let e : a ≡ m = omega (arith, same) in ap (λ (j : ℕ). Some (f j)) e
-numbered_at f a (suc n) (suc k) m same lt = numbered_at f (a + 1) n k m (omega (arith, same)) (omega (arith, lt))
-
-pub within : {X : Type 0} (xs : List X) (k : ℕ) (x : X) → slice_get xs k ≡ Some x → k < length xs
-within [] k x e = absurd cc
-within (y ∷ xs) zero x e = omega arith
-within (y ∷ xs) (suc k) x e = let rest : k < length xs = within xs k x e in omega (arith, rest)
+use Rattle.wl_plan.proofs.FunctionLaws.{ctors_stand, host_stands, if_in, kept_in, kept_stands, take_next, tls_stands}
+use Rattle.wl_plan.proofs.ListLaws.{IsIn, in_at, in_list, in_split, in_front, in_back, in_map, map_in, mapped_at, came_at, zip_joined, get_in_front, get_behind, Distinct, zip_left, of_range}
+use Rattle.wl_plan.proofs.PlacingLaws.{greatest-append}
+use Rattle.wl_plan.proofs.RowLaws.{row_of_object}
 
 -- ---- a function in the map of an object
 
@@ -118,10 +60,11 @@ indexed : (input : Input) (g : Placing) (maps : List WasmObjectIndexMap) (object
     → slice_get (local_functions input object o) place ≡ Some (Some (FunctionOf target))
     → Indexed input maps object place target
 indexed input g maps object place o target all at here =
-    let r = row_at (IsWholeMap input g) 0 object object input.link.objects maps o (omega arith) all at in
-    let z = zip_at (IsIndexOf (function_space input)) (local_functions input object o) r.row.function_indices place
-    (Some (FunctionOf target)) r.is.functions here in
-    record { map_is = r.row; at = r.here; index = z.other; here = z.here; stands = z.is }
+    let r = row_of_object (IsWholeMap input g) 0 input.link.objects maps object object o all at
+    (omega arith) in
+    let z = zip_left (IsIndexOf (function_space input)) (local_functions input object o)
+    r.row.function_indices place (Some (FunctionOf target)) r.is.functions here in
+    record { map_is = r.row; at = r.here; index = z.0; here = z.1; stands = z.2 }
 
 pub defined_indexed : (input : Input) (g : Placing) (maps : List WasmObjectIndexMap) (object function : ℕ)
     → ((object : ℕ) (o : Object) → length (object_slots object Func o) ≡ count_imports external.Func o.imports)
@@ -133,12 +76,12 @@ defined_indexed input g maps object function numbered all is =
     let own : List (Option FunctionEntry) = map (own_function_entry input object) (range_with_len 0 (length o.functions)) in
     let place : ℕ = count_imports external.Func o.imports + function in
     let len : length slots ≡ count_imports external.Func o.imports =
-    length_mapped (function_slot_entry input) (object_slots object Func o) ∙ numbered object o in
+    length-map (object_slots object Func o) (function_slot_entry input) ∙ numbered object o in
     let entry : own_function_entry input object function ≡ Some (FunctionOf (Defined object function)) =
     ap (λ (b : Bool). if b then Some (FunctionOf (Defined object function)) else None) is.kept in
     indexed input g maps object place o (Defined object function) all is.here
     (get_behind slots own function place (ap (λ (n : ℕ). n + function) len)
-    ∙ (numbered_at (own_function_entry input object) 0 (length o.functions) function function (omega arith) is.within
+    ∙ (of_range (own_function_entry input object) (length o.functions) function is.within
     ∙ ap (λ (e : Option FunctionEntry). Some e) entry))
 
 -- the object that has a slot
@@ -285,16 +228,6 @@ drop_next [] k x e = absurd cc
 drop_next {X} (y ∷ xs) zero x e = let same : y ≡ x = cc in ap (λ (z : X). z ∷ xs) same
 drop_next (y ∷ xs) (suc k) x e = drop_next xs k x e
 
-drop_past : {X : Type 0} (xs : List X) (k : ℕ) → length xs ≤ k → drop k xs ≡ []
-drop_past [] zero le = refl
-drop_past [] (suc k) le = refl
-drop_past (x ∷ xs) zero le = absurd (omega (arith, le))
-drop_past (x ∷ xs) (suc k) le = drop_past xs k (omega (arith, le))
-
-greatest_append : (xs ys : List ℕ) → greatest (xs ++ ys) ≡ max (greatest xs) (greatest ys)
-greatest_append [] ys = omega arith
-greatest_append (x ∷ xs) ys = let e = greatest_append xs ys in omega (arith, e)
-
 -- one more import
 pub minimum_more : (imports : List Imported) (k : ℕ) (i : Imported) (old new all : ℕ) → slice_get imports k ≡ Some i
     → new ≡ max (table_minimum i.entity) old
@@ -311,7 +244,8 @@ pub minimum_done : (imports : List Imported) (k size all : ℕ) → length impor
     → max (greatest (map (λ (j : Imported). table_minimum j.entity) (drop k imports))) size ≡ all → size ≡ all
 minimum_done imports k size all le so_far =
     let none : greatest (map (λ (j : Imported). table_minimum j.entity) (drop k imports)) ≡ 0 =
-    ap (λ (js : List Imported). greatest (map (λ (j : Imported). table_minimum j.entity) js)) (drop_past imports k le) in
+    ap (λ (js : List Imported). greatest (map (λ (j : Imported). table_minimum j.entity) js))
+    (drop_all k imports le) in
     omega (arith, none, so_far)
 
 -- one more object
@@ -324,21 +258,17 @@ size_more objects k o old new all at is so_far =
     let split : greatest (flat_map table_minimums (drop k objects))
     ≡ max (greatest (table_minimums o)) (greatest (flat_map table_minimums (drop (suc k) objects))) =
     ap (λ (os : List Object). greatest (flat_map table_minimums os)) (drop_next objects k o at)
-    ∙ greatest_append (table_minimums o) (flat_map table_minimums (drop (suc k) objects)) in
+    ∙ greatest-append (table_minimums o) (flat_map table_minimums (drop (suc k) objects)) in
     rw next (omega (arith, split, is, so_far))
 
 pub size_done : (objects : List Object) (k size all : ℕ) → length objects ≤ k
     → max size (greatest (flat_map table_minimums (drop k objects))) ≡ all → size ≡ all
 size_done objects k size all le so_far =
     let none : greatest (flat_map table_minimums (drop k objects)) ≡ 0 =
-    ap (λ (os : List Object). greatest (flat_map table_minimums os)) (drop_past objects k le) in
+    ap (λ (os : List Object). greatest (flat_map table_minimums os)) (drop_all k objects le) in
     omega (arith, none, so_far)
 
 -- ---- how many functions the table has
-
-abbrev Distinct : {X : Type 0} → List X → Type 0
-Distinct [] = Unit {0}
-Distinct (x ∷ xs) = (IsIn xs x → ⊥) × Distinct xs
 
 place_in : {X : Type 0} (xs : List X) (x : X) → IsIn xs x → (k : ℕ) × (slice_get xs k ≡ Some x)
 place_in [] x h = absurd h
@@ -572,7 +502,7 @@ table_is_few input is =
     (in_space input c.from (is.kept c.from (in_list table c.from c.there))
     (λ o s e. is.stubs p.0 o s (p.1 ∙ ap (λ (t : FunctionTarget). Some t) e))) in
     let few-entries = few entries (function_space input) (distinct_from entries once) inside in
-    let len = length_mapped FunctionOf table in
+    let len = length-map table FunctionOf in
     omega (arith, few-entries, len)
 
 -- the slot of one of them is a number of 32 bits

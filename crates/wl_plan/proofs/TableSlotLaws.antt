@@ -1,12 +1,12 @@
 -- The slots of functions by their indices, set one by one.
-use Rattle.std.proofs.Common.{◌≡◌, ◌∙◌, ℕ, zero, suc, ◌+◌, ◌<◌, ◌≤◌, ◌==◌, ◌&&◌, ◌||◌, Bool, true, false, List, [], ◌∷◌, ◌++◌, length, refl, sym, ap, subst, arith, inl, inr, Option, Some, None, slice_get, map, take, get_or, set, replicate, position, unwrap_or, if◌then◌else◌}
+use Rattle.std.proofs.Common.{◌≡◌, ◌∙◌, ℕ, zero, suc, ◌+◌, ◌<◌, ◌≤◌, ◌==◌, ◌||◌, Bool, true, false, List, [], ◌∷◌, ◌++◌, length, refl, sym, ap, subst, arith, inl, inr, Option, Some, None, slice_get, map, take, get_or, set, replicate, position, unwrap_or, if◌then◌else◌}
 use Rattle.std.specs.List.{AllZip, list_any, position_from}
 use Rattle.std.specs.Option.{option_map, option_or}
 use Rattle.std.proofs.lemmas.Bool.{cases_Bool, eq-eqb, eqb-true}
 use Rattle.std.proofs.lemmas.Iterator.Adapters.{position_from-zero}
-use Rattle.std.proofs.lemmas.List.{take_all}
+use Rattle.std.proofs.lemmas.List.{take_all, length-map}
 use Rattle.std.proofs.lemmas.List.Quantifiers.{position-Some}
-use Rattle.std.proofs.lemmas.Option.{slice_get-get_or}
+use Rattle.std.proofs.lemmas.Option.{slice_get-get_or, slice_get_within}
 use Rattle.wl_slots.specs.ImportSlots.{ImportSlot}
 use Rattle.wl_slots.specs.Left.{first_imports}
 use Rattle.wl_symbols.specs.declared.linker_symbol.WasmLinkerSymbol.TheVariants.{CallCtors, InitTls}
@@ -26,8 +26,9 @@ use Rattle.wl_bind.specs.declared.indices.LinkerDefinedIndices.{LinkerDefinedInd
 use Rattle.wl_bind.specs.declared.parts.PartStarts.{PartStarts}
 use Rattle.wl_plan.specs.Table.{space_slots, slot_of_entry, IsElement}
 use Rattle.wl_plan.specs.TableSteps.{is_stub_of, place_slot, slot_among, stub_slot}
-use Rattle.wl_plan.proofs.FunctionLaws.{IsIn, in_at, in_if, in_map, in_object, in_split, length_mapped, mapped_at, take_next, there_is}
-use Rattle.wl_plan.proofs.TableLaws.{TableIs, table_is_few, within}
+use Rattle.wl_plan.proofs.FunctionLaws.{in_if, in_object, take_next}
+use Rattle.wl_plan.proofs.ListLaws.{IsIn, in_at, in_split, in_map, there_is, mapped_at, left_and, right_and, zip_length}
+use Rattle.wl_plan.proofs.TableLaws.{TableIs, table_is_few}
 
 -- ---- what is made of each, one by one
 
@@ -66,15 +67,12 @@ any_push test (y ∷ xs) x = elim (cases_Bool (test y)) [ inl t ↦ rw t refl | 
 stub_of_itself : (t : ImportSlot) → is_stub_of (FunctionOf (Stub t.object t.number)) t ≡ true
 stub_of_itself t = rw (eq-eqb t.object t.object refl, eq-eqb t.number t.number refl) refl
 
-and_both : (a b : Bool) → (a && b) ≡ true → (a ≡ true) × (b ≡ true)
-and_both true b e = (refl, e)
-and_both false b e = absurd cc
-
 is_the_stub : (e : FunctionEntry) (t : ImportSlot) → is_stub_of e t ≡ true → e ≡ FunctionOf (Stub t.object t.number)
 is_the_stub (FunctionOf (Stub object slot)) t is =
-    let both = and_both (object == t.object) (slot == t.number) is in
-    let a : object ≡ t.object = eqb-true object t.object both.0 in
-    let b : slot ≡ t.number = eqb-true slot t.number both.1 in
+    let first = object == t.object in
+    let second = slot == t.number in
+    let a : object ≡ t.object = eqb-true object t.object (left_and first second is) in
+    let b : slot ≡ t.number = eqb-true slot t.number (right_and first second is) in
     ap (λ (o : ℕ). FunctionOf (Stub o slot)) a ∙ ap (λ (s : ℕ). FunctionOf (Stub t.object s)) b
 is_the_stub (FunctionOf (Defined object function)) t is = absurd cc
 is_the_stub (FunctionOf (Made m)) t is = absurd cc
@@ -368,7 +366,8 @@ has_entry parts s k next place len are is at lt =
 pub stub_has_entry : (input : Input) (i : LinkerDefinedIndices) (k : ℕ) → AreMadeIndices input i
     → k < length (link_stubs input) → HasEntry i.functions 4 k
 stub_has_entry input i k are lt =
-    let len = length_mapped (λ (t : ImportSlot). FunctionOf (Stub t.object t.number)) (link_stubs input) in
+    let len = length-map (link_stubs input)
+    (λ (t : ImportSlot). FunctionOf (Stub t.object t.number)) in
     let inside : k < length (stub_part input) = omega (arith, lt, len) in
     has_entry (function_parts input) i.functions 4 5 k (length (stub_part input)) are.functions refl refl inside
 
@@ -391,8 +390,8 @@ stub_stands_at input k index lt told =
 pub index_within : {E : Type 0} (f : E → ℕ) (space : List E) (index : ℕ) (e : E) (slots : List ℕ)
     → slots ≡ map f space → slice_get space index ≡ Some e → index < length slots
 index_within f space index e slots are at =
-    let lt = within space index e at in
-    let len = ap (λ (ns : List ℕ). length ns) are ∙ length_mapped f space in
+    let lt = slice_get_within space index e at in
+    let len = ap (λ (ns : List ℕ). length ns) are ∙ length-map space f in
     omega (arith, lt, len)
 
 -- the function of the table of a place, and its index
@@ -416,12 +415,6 @@ pub element_is : (input : Input) (elements : List ℕ) (k d : ℕ) → AllZip (I
 element_is input elements k d zip lt =
     let e = element_in input (table_functions input) elements k d zip lt in
     record { target = e.0; at = e.1; stands = e.2 }
-
-zip_length : {A B : Type 0} (R : A → B → Type 0) (xs : List A) (ys : List B) → AllZip R xs ys → length xs ≡ length ys
-zip_length R [] [] zip = refl
-zip_length R [] (y ∷ ys) zip = absurd zip
-zip_length R (x ∷ xs) [] zip = absurd zip
-zip_length R (x ∷ xs) (y ∷ ys) zip = ap suc (zip_length R xs ys zip.1)
 
 pub elements_length : (input : Input) (elements : List ℕ) → AllZip (IsElement input) (table_functions input) elements
     → length (table_functions input) ≡ length elements

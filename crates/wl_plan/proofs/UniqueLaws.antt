@@ -31,10 +31,11 @@ use Rattle.wl_plan.specs.declared.layout.LinkPlan.{LinkPlan}
 use Rattle.wl_plan.specs.declared.layout.PlannedGlobal.{PlannedGlobal}
 use Rattle.wl_plan.specs.declared.layout.WasmLayout.{WasmLayout}
 use Rattle.wl_plan.specs.declared.placing.Placing.{Placing}
+use Rattle.wl_plan.proofs.SegmentLaws.{SegmentsHaveLayouts}
 use Rattle.wl_plan.proofs.UniqueBodies.{FormsAreOne, bodies_one, section_one, text_one, fixups_one}
 use Rattle.wl_plan.proofs.UniqueEntities.{functions_one, imports_one, elements_one, start_one, globals_one}
 use Rattle.wl_plan.proofs.UniqueParts.{AreOnce, maps_one}
-use Rattle.wl_plan.proofs.UniqueSegments.{SegmentsHaveLayouts, segments_once}
+use Rattle.wl_plan.proofs.UniqueSegments.{segments_once}
 
 -- ---- what laws of lower crates say
 

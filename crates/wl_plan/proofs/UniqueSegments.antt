@@ -1,14 +1,13 @@
 -- No segment stands twice among those of the output.
-use Rattle.std.proofs.Common.{◌≡◌, ◌⊎◌, ◌∙◌, ℕ, zero, suc, ◌+◌, ◌≤◌, Bool, not, List, [], ◌∷◌, ◌++◌, refl, sym, ap, subst, arith, inl, inr, Some, slice_get, filter, map}
+use Rattle.std.proofs.Common.{◌≡◌, ◌⊎◌, ◌∙◌, ℕ, zero, suc, ◌+◌, ◌≤◌, Bool, not, List, [], ◌∷◌, ◌++◌, refl, sym, ap, subst, arith, inl, inr, filter, map}
 use Rattle.std.specs.List.{AllZip}
 use Rattle.std.proofs.lemmas.Bool.{cases_Bool}
 use Rattle.std.proofs.lemmas.List.{map-append}
 use Rattle.wl_module.specs.Segments.{Segment}
 use Rattle.wl_linking.specs.Object.{Object}
-use Rattle.wl_data.specs.DataPlaces.{HasLayout, HaveLayouts, in_output_order, is_thread_local, IsDataPlaces, DataInput}
+use Rattle.wl_data.specs.DataPlaces.{HasLayout, HaveLayouts, in_output_order, is_thread_local}
 use Rattle.wl_data.specs.Segments.{KeptData, SegmentLayout}
 use Rattle.wl_data.specs.declared.options.DataOptions.{DataOptions}
-use Rattle.wl_data.specs.declared.places.DataPlaces.{DataPlaces}
 use Rattle.wl_live.specs.declared.units.WasmGcUnit.TheVariants.{DataSegment}
 use Rattle.wl_bind.specs.Input.{Input, keeps}
 use Rattle.wl_bind.specs.Parts.{StandOnce}
@@ -16,24 +15,11 @@ use Rattle.wl_plan.specs.Addresses.{numbers_from, segment_space}
 use Rattle.wl_plan.specs.KeptData.{kept_from, kept_segments, segments_from}
 use Rattle.wl_plan.specs.Placing.{data_input, data_options, IsPlacing}
 use Rattle.wl_plan.specs.declared.placing.Placing.{Placing}
+use Rattle.wl_plan.proofs.AddressLaws.{index_of, original_of}
+use Rattle.wl_plan.proofs.ListLaws.{IsIn, in_at, in_split, Distinct}
+use Rattle.wl_plan.proofs.SegmentLaws.{SegmentsHaveLayouts}
 
 -- ---- what stands in a list
-
-abbrev pub IsIn : {X : Type 0} → List X → X → Type 0
-IsIn [] z = ⊥
-IsIn (x ∷ xs) z = (x ≡ z) ⊎ IsIn xs z
-
-pub in_at : {X : Type 0} (xs : List X) (k : ℕ) (z : X) → slice_get xs k ≡ Some z → IsIn xs z
-in_at [] k z e = absurd (cc)
-in_at (x ∷ xs) zero z e = let h : x ≡ z = cc in inl h
-in_at (x ∷ xs) (suc k) z e = inr (in_at xs k z e)
-
-pub in_split : {X : Type 0} (xs ys : List X) (z : X) → IsIn (xs ++ ys) z → IsIn xs z ⊎ IsIn ys z
-in_split [] ys z h = inr h
-in_split (x ∷ xs) ys z h = elim h [
-  | inl e ↦ inl (inl e)
-  | inr r ↦ elim (in_split xs ys z r) [ inl a ↦ inl (inr a) | inr b ↦ inr b ]
-]
 
 in_map_filter : {X Y : Type 0} (f : X → Y) (p : X → Bool) (xs : List X) (z : Y)
     → IsIn (map f (filter p xs)) z → IsIn (map f xs) z
@@ -44,10 +30,6 @@ in_map_filter f p (x ∷ xs) z h = elim (cases_Bool (p x)) [
 ]
 
 -- ---- lists in which nothing stands twice
-
-abbrev pub Distinct : {X : Type 0} → List X → Type 0
-Distinct [] = Unit {0}
-Distinct (x ∷ xs) = (IsIn xs x → ⊥) × Distinct xs
 
 pub once_from : {X : Type 0} (xs : List X) → Distinct xs → StandOnce xs
 once_from [] d i k z a b = absurd (cc)
@@ -97,29 +79,24 @@ split_apart {X} {Y} f p (x ∷ xs) z d a b =
 
 -- ---- the segments of an object that are kept
 
-abbrev number_of : KeptData → ℕ
-number_of s = s.original
-
-abbrev index_of : SegmentLayout → ℕ
-index_of l = l.segment_index
-
 kept_least : (input : Input) (i : ℕ) (o : Object) (n : ℕ) (segments : List Segment) (z : ℕ)
-    → IsIn (map number_of (kept_from input i o n segments)) z → n ≤ z
+    → IsIn (map original_of (kept_from input i o n segments)) z → n ≤ z
 kept_least input i o n [] z h = absurd h
 kept_least input i o n (s ∷ segments) z h = elim (cases_Bool (keeps input i (DataSegment n))) [
   | inl t ↦
-      let h' : (n ≡ z) ⊎ IsIn (map number_of (kept_from input i o (n + 1) segments)) z = rw t at h in
+      let h' : (n ≡ z) ⊎ IsIn (map original_of (kept_from input i o (n + 1) segments)) z =
+      rw t at h in
       elim h' [
         | inl e ↦ omega (arith, e)
         | inr r ↦ let m : n + 1 ≤ z = kept_least input i o (n + 1) segments z r in omega (arith, m)
       ]
   | inr f ↦
-      let h' : IsIn (map number_of (kept_from input i o (n + 1) segments)) z = rw f at h in
+      let h' : IsIn (map original_of (kept_from input i o (n + 1) segments)) z = rw f at h in
       let m : n + 1 ≤ z = kept_least input i o (n + 1) segments z h' in omega (arith, m)
 ]
 
 distinct-kept : (input : Input) (i : ℕ) (o : Object) (n : ℕ) (segments : List Segment)
-    → Distinct (map number_of (kept_from input i o n segments))
+    → Distinct (map original_of (kept_from input i o n segments))
 distinct-kept input i o n [] = tt
 distinct-kept input i o n (s ∷ segments) = elim (cases_Bool (keeps input i (DataSegment n))) [
   | inl t ↦ rw t (
@@ -129,26 +106,27 @@ distinct-kept input i o n (s ∷ segments) = elim (cases_Bool (keeps input i (Da
   | inr f ↦ rw f (distinct-kept input i o (n + 1) segments)
 ]
 
-distinct-ordered : (segments : List KeptData) → Distinct (map number_of segments)
-    → Distinct (map number_of (in_output_order segments))
+distinct-ordered : (segments : List KeptData) → Distinct (map original_of segments)
+    → Distinct (map original_of (in_output_order segments))
 distinct-ordered segments d =
     subst (λ (ns : List ℕ). Distinct ns)
-    (sym (map-append number_of (filter (λ (s : KeptData). not s.tls) segments) (filter is_thread_local segments)))
-    (distinct-append (map number_of (filter (λ (s : KeptData). not s.tls) segments))
-    (map number_of (filter is_thread_local segments))
-    (distinct-map_filter number_of (λ (s : KeptData). not s.tls) segments d)
-    (distinct-map_filter number_of is_thread_local segments d)
-    (λ z a b. split_apart number_of is_thread_local segments z d a b))
+    (sym (map-append original_of (filter (λ (s : KeptData). not s.tls) segments)
+    (filter is_thread_local segments)))
+    (distinct-append (map original_of (filter (λ (s : KeptData). not s.tls) segments))
+    (map original_of (filter is_thread_local segments))
+    (distinct-map_filter original_of (λ (s : KeptData). not s.tls) segments d)
+    (distinct-map_filter original_of is_thread_local segments d)
+    (λ z a b. split_apart original_of is_thread_local segments z d a b))
 
 -- ---- their layouts
 
 same_numbers : (o : DataOptions) (segments : List KeptData) (layouts : List SegmentLayout)
-    → AllZip (HasLayout o) segments layouts → map number_of segments ≡ map index_of layouts
+    → AllZip (HasLayout o) segments layouts → map original_of segments ≡ map index_of layouts
 same_numbers o [] [] p = refl
 same_numbers o [] (l ∷ layouts) p = absurd p
 same_numbers o (s ∷ segments) [] p = absurd p
 same_numbers o (s ∷ segments) (l ∷ layouts) p =
-    ap (λ (n : ℕ). n ∷ map number_of segments) (sym p.0.segment_index)
+    ap (λ (n : ℕ). n ∷ map original_of segments) (sym p.0.segment_index)
     ∙ ap (λ (ns : List ℕ). l.segment_index ∷ ns) (same_numbers o segments layouts p.1)
 
 in_object : (i : ℕ) (layouts : List SegmentLayout) (z : ℕ × ℕ)
@@ -194,11 +172,6 @@ distinct-numbers input o i (x ∷ objects) (ls ∷ layouts) p =
     (distinct-numbers input o (i + 1) objects layouts p.1)
     (λ z a b. let e : z.0 ≡ i = (in_object i ls z a).0 in
     let m : i + 1 ≤ z.0 = numbers_least (i + 1) layouts z b in absurd (omega (arith, e, m)))
-
--- each segment of each object has its layout
-abbrev pub SegmentsHaveLayouts : Type 0
-SegmentsHaveLayouts = (d : DataInput) (places : DataPlaces) → IsDataPlaces d places
-    → AllZip (HaveLayouts d.options) d.objects places.layouts
 
 pub segments_once : SegmentsHaveLayouts → (input : Input) (g : Placing) → IsPlacing input g
     → StandOnce (segment_space g)

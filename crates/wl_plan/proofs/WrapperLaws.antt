@@ -1,5 +1,5 @@
 -- The functions of wrappers, their bodies, and their slots.
-use Rattle.std.proofs.Common.{◌≡◌, ◌∙◌, ◌≤◌, ◌<◌, ◌^◌, ℕ, zero, suc, ◌+◌, ◌-◌, true, false, List, [], ◌∷◌, ◌++◌, length, map, take, drop, refl, sym, ap, subst, arith, Option, Some, None, slice_get, append_assoc, append-nil}
+use Rattle.std.proofs.Common.{◌≡◌, ◌∙◌, ◌≤◌, ◌<◌, ◌^◌, ℕ, zero, suc, ◌+◌, ◌-◌, true, false, List, [], ◌∷◌, ◌++◌, length, map, take, drop, refl, sym, ap, subst, arith, Option, Some, None, slice_get, append_assoc, append-nil, get_or}
 use Rattle.std.specs.List.{AllZip, AllByRecursion}
 use Rattle.std.specs.Option.{option_and_then}
 use Rattle.std.proofs.lemmas.List.{map-append, take_all}
@@ -13,6 +13,7 @@ use Rattle.wl_symbols.specs.declared.linker_symbol.WasmLinkerSymbol.TheVariants.
 use Rattle.wl_synth.specs.Bodies.{wrapper_ops}
 use Rattle.wl_synth.specs.Encoding.{IsEncoded}
 use Rattle.wl_slots.specs.ImportSlots.{ImportSlot}
+use Rattle.wl_slots.specs.Left.{HostImport}
 use Rattle.wl_types.specs.declared.types.TheConstants.{WASM_DEAD_INDEX}
 use Rattle.wl_bind.specs.EntryTypes.{function_slot, type_of_entry}
 use Rattle.wl_bind.specs.FunctionSpace.{FunctionEntry, FunctionOf, InitMemory, function_space, host_function_part}
@@ -21,6 +22,7 @@ use Rattle.wl_bind.specs.Input.{Input}
 use Rattle.wl_bind.specs.Made.{is_made}
 use Rattle.wl_bind.specs.OutputTypes.{output_types}
 use Rattle.wl_bind.specs.declared.binding.FunctionTarget.TheVariants.{Defined, Made, Host, Stub}
+use Rattle.wl_bind.specs.Shared.{function_imports}
 use Rattle.wl_exports.specs.Exports.{ExportEntry}
 use Rattle.wl_exports.specs.Wrapped.{WrapperEntry, IsWrapper, AreWrappers}
 use Rattle.wl_exports.specs.Wrappers.{wrapped}
@@ -30,9 +32,9 @@ use Rattle.wl_plan.specs.Functions.{own_functions, IsTypeNumber, IsOutputFunctio
 use Rattle.wl_plan.specs.Origins.{PlannedFunction, OfWrapper}
 use Rattle.wl_plan.specs.Table.{wrapper_slots}
 use Rattle.wl_plan.specs.declared.placing.Placing.{Placing}
-use Rattle.wl_plan.proofs.BodyLaws.{all_at}
-use Rattle.wl_plan.proofs.FunctionLaws.{take_next, zip_joined}
-use Rattle.wl_plan.proofs.SegmentLaws.{zip_left, zip_right}
+use Rattle.wl_plan.proofs.FunctionLaws.{take_next}
+use Rattle.wl_plan.proofs.ListLaws.{zip_joined, zip_left, zip_right, get_in_front, zip_length, all_at, item_at}
+use Rattle.wl_plan.proofs.PlanLaws.{hosts_length}
 
 -- ---- lists
 
@@ -47,19 +49,6 @@ take_plus : {X : Type 0} (xs : List X) (k : ℕ) (x : X) → slice_get xs k ≡ 
     → take (k + 1) xs ≡ take k xs ++ x ∷ []
 take_plus xs k x at =
     let same : k + 1 ≡ suc k = omega arith in ap (λ (n : ℕ). take n xs) same ∙ take_next xs k x at
-
-get_in_front : {X : Type 0} (xs ys : List X) (i : ℕ) (x : X) → slice_get xs i ≡ Some x
-    → slice_get (xs ++ ys) i ≡ Some x
-get_in_front [] ys i x at = absurd cc
-get_in_front (z ∷ xs) ys zero x at = at
-get_in_front (z ∷ xs) ys (suc i) x at = get_in_front xs ys i x at
-
-pub zip_len : {A B : Type 0} (R : A → B → Type 0) (xs : List A) (ys : List B) → AllZip R xs ys
-    → length xs ≡ length ys
-zip_len R [] [] zip = refl
-zip_len R [] (y ∷ ys) zip = absurd zip
-zip_len R (x ∷ xs) [] zip = absurd zip
-zip_len R (x ∷ xs) (y ∷ ys) zip = ap suc (zip_len R xs ys zip.1)
 
 -- one more pair
 pub zip_next : {A B : Type 0} (R : A → B → Type 0) (xs : List A) (ys : List B) (k : ℕ) (x : A) (y : B)
@@ -172,7 +161,7 @@ pub wrappers_done : (input : Input) (k : ℕ) (own functions : List PlannedFunct
     → AreOwnFunctions input (output_types input) own → AreWrappers input ws → length ws ≤ k
     → HasWrappers input k own functions → AreOutputFunctions input (output_types input) functions
 wrappers_done input k own functions ws are zip past so_far =
-    let len = zip_len (IsWrapper input) (wrapped input) ws zip in
+    let len = zip_length (IsWrapper input) (wrapped input) ws zip in
     let whole : take k (wrapped input) ≡ wrapped input =
     take_all k (wrapped input) (omega (arith, len, past)) in
     record {
@@ -182,6 +171,53 @@ wrappers_done input k own functions ws are zip past so_far =
       are_own = are;
       are_wrappers = subst (λ (es : List ExportEntry).
           AllZip (IsWrapperFunction input (output_types input)) es so_far.more) whole so_far.are;
+    }
+
+-- ---- the type of what a wrapper calls
+
+-- a wrapper calls none of the functions that are imported
+abbrev pub CallOwn : Type 0
+CallOwn = (input : Input) (ws : List WrapperEntry) (i : ℕ) (w : WrapperEntry) → AreWrappers input ws
+    → slice_get ws i ≡ Some w → length (host_function_part input) ≤ w.original
+
+pub behind_hosts : CallOwn → (input : Input) (hosts : List HostImport) (ws : List WrapperEntry)
+    (k : ℕ) (w : WrapperEntry) → hosts ≡ function_imports input → AreWrappers input ws
+    → k < length ws → w ≡ get_or ws k w → length hosts ≤ w.original
+behind_hosts own input hosts ws k w are zip lt is =
+    let le = own input ws k w zip (item_at ws k w lt is) in
+    omega (arith, le, ap length are, hosts_length input)
+
+-- the number that is told is that of the type
+pub record HasCalledType (input : Input) (functions : List PlannedFunction) (hosts k number : ℕ)
+    (types : List FunctionType) (w : WrapperEntry) : Type 0 where
+  pub entry : ExportEntry
+  pub at : slice_get (wrapped input) k ≡ Some entry
+  pub called : IsCalled input functions hosts entry w
+  pub there : slice_get types number ≡ Some called.typed.0
+
+pub called_type_in : CallOwn → (input : Input) (functions : List PlannedFunction)
+    (hosts : List HostImport) (ws : List WrapperEntry) (k : ℕ) (w : WrapperEntry) (number : ℕ)
+    (types : List FunctionType) → AreOutputFunctions input (output_types input) functions
+    → hosts ≡ function_imports input → AreWrappers input ws → k < length ws → w ≡ get_or ws k w
+    → types ≡ output_types input
+    → ((f : PlannedFunction) → slice_get functions (w.original - length hosts) ≡ Some f
+    → number ≡ f.type_index)
+    → HasCalledType input functions (length hosts) k number types w
+called_type_in own input functions hosts ws k w number types outputs are zip lt is same told =
+    let at = item_at ws k w lt is in
+    let count : length hosts ≡ length (host_function_part input) =
+    ap length are ∙ hosts_length input in
+    let found = called_in input functions (length hosts) k ws w outputs count
+    (own input ws k w zip at) zip at in
+    let ty : FunctionType = found.2.typed.0 in
+    let number_is : number ≡ found.2.called.type_index = told found.2.called found.2.at in
+    record {
+      entry = found.0;
+      at = found.1;
+      called = found.2;
+      there = subst (λ (ts : List FunctionType). slice_get ts number ≡ Some ty) (sym same)
+          (subst (λ (n : ℕ). slice_get (output_types input) n ≡ Some ty) (sym number_is)
+          found.2.typed.2);
     }
 
 -- ---- types have few parameters
@@ -279,7 +315,7 @@ pub bodies_done : (input : Input) (g : Placing) (k : ℕ) (own bodies : List Bod
     → AreOwnBodies input g own → AreWrappers input ws → length ws ≤ k
     → HasWrapperBodies input k own bodies → AreBodies input g bodies
 bodies_done input g k own bodies ws are zip past so_far =
-    let len = zip_len (IsWrapper input) (wrapped input) ws zip in
+    let len = zip_length (IsWrapper input) (wrapped input) ws zip in
     let whole : take k (wrapped input) ≡ wrapped input =
     take_all k (wrapped input) (omega (arith, len, past)) in
     record {
@@ -331,4 +367,5 @@ same_dead (e ∷ es) (w ∷ ws) len =
 
 pub dead_are : (input : Input) (ws : List WrapperEntry) → AreWrappers input ws
     → map (λ (w : WrapperEntry). WASM_DEAD_INDEX) ws ≡ wrapper_slots input
-dead_are input ws zip = same_dead (wrapped input) ws (zip_len (IsWrapper input) (wrapped input) ws zip)
+dead_are input ws zip =
+    same_dead (wrapped input) ws (zip_length (IsWrapper input) (wrapped input) ws zip)

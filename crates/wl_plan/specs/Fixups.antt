@@ -1,5 +1,5 @@
 -- What the kept relocations become (object file linking, version 2, "Relocation Sections").
-use Rattle.std.specs.Prelude.{◌≡◌, ℕ, ℤ, pos, ◌+ℤ◌, ◌-ℤ◌, ◌-◌, List, option_map, Option, Some, None, Result, Ok, Err, Contains, slice_get}
+use Rattle.std.specs.Prelude.{◌≡◌, ◌⊎◌, ℕ, ℤ, pos, ◌+ℤ◌, ◌-ℤ◌, ◌-◌, List, option_map, Option, Some, None, Result, Ok, Err, Contains, slice_get}
 use Rattle.std.specs.List.{AllZip}
 use Rattle.std.specs.Option.{option_and_then}
 use Rattle.wl_module.specs.Types.{FunctionType}
@@ -146,7 +146,12 @@ address_refusal g r base address reloc.Range =
     (number_taken base (bases_of g) address r.relocation.addend)
 address_refusal g r base address e = no_address r.object address
 
--- a kept relocation can't take the address of the data that it names
+-- the reasons that there are: such an address has no value in the field, or one that doesn't fit
+abbrev pub IsAddressReason : RelocError → Type 0
+IsAddressReason why = (why ≡ reloc.Unsupported) ⊎ (why ≡ reloc.Range)
+
+-- a kept relocation can't take the address of the data that it names; one that names something
+-- else has its value
 pub record IsFixupFault (input : Input) (g : Placing) (e : LinkError) : Type 0 where
   pub relocated : Relocated
   pub kept : Contains (relocations input) relocated
@@ -154,4 +159,5 @@ pub record IsFixupFault (input : Input) (g : Placing) (e : LinkError) : Type 0 w
   pub takes : taking_of relocated.relocation.ty ≡ Some (Address base)
   pub why : RelocError
   pub fault : address_taken input g relocated base ≡ Err why
+  pub reason : IsAddressReason why
   pub told : e ≡ address_refusal g relocated base (address_named input g relocated) why

@@ -22,6 +22,7 @@ pub mod BodySteps
 pub mod PositionSteps
 pub mod Fixups
 pub mod FixupSteps
+pub mod Resolved
 pub mod SizeSteps
 pub mod Extras
 pub mod Planned

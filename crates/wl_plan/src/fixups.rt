@@ -19,7 +19,7 @@ use wl_bind::{
     table_functions_stand_once,
 };
 use wl_data::WasmDataAddress;
-use wl_linking::{File, ItemList, LinkError, RelocationType, whole_objects};
+use wl_linking::{File, ItemList, LinkError, RelocationType};
 use wl_module::Form;
 use wl_reloc::{RelocError, resolve_reloc};
 
@@ -197,7 +197,6 @@ impl<'s, 'i, 'a> FixupSources<'s, 'i, 'a> {
         references_are_kept();
         same_targets_are_one();
         table_functions_stand_once();
-        whole_objects();
         let file = file_at(self.input.files().as_slice(), relocated.object);
         let symbols = file.symbols();
         let value = match resolve_reloc(
@@ -214,7 +213,7 @@ impl<'s, 'i, 'a> FixupSources<'s, 'i, 'a> {
         Ok(Fixup {
             object: relocated.object,
             place: relocated.place,
-            unit: relocated.site.unit as u32,
+            unit: relocated.site.unit,
             position,
             ty: relocated.relocation.ty,
             to: FixupTo::Value {

@@ -1,14 +1,25 @@
 //! What callers may count on: functions with an empty body, each of which states a law of plans.
 
-ghost use Rattle.std.specs.Prelude.{◌≡◌, ℕ, List};
+ghost use Rattle.std.specs.Prelude.{◌≡◌, ℕ, List, Err};
+ghost use Rattle.wl_linking.specs.Object.{Object as SpecObject};
 ghost use Rattle.wl_linking.specs.declared.error.LinkError.{LinkError as SpecError};
+ghost use Rattle.wl_reloc.specs.declared.error.RelocError.{RelocError as Why};
+ghost use Rattle.wl_reloc.specs.declared.index_map.WasmObjectIndexMap.{WasmObjectIndexMap as Map};
 ghost use Rattle.wl_symbols.specs.Link.{Link};
 ghost use Rattle.wl_symbols.specs.declared.args.WasmArgs.{WasmArgs as SpecArgs};
+ghost use Rattle.wl_bind.specs.Input.{Input};
+ghost use Rattle.wl_bind.specs.declared.relocated.Relocated.{Relocated as KeptRelocation};
 ghost use Rattle.wl_plan.specs.Faults.{link_fault};
+ghost use Rattle.wl_plan.specs.IndexedMaps.{AreWholeMaps};
 ghost use Rattle.wl_plan.specs.LinkPlan.{IsPlanOf, IsLinkPlan, HasLinkFault};
+ghost use Rattle.wl_plan.specs.Resolved.{IsNumbered, IsOf, answer_for, HasNoAddress};
 ghost use Rattle.wl_plan.specs.declared.layout.LinkPlan.{LinkPlan as SpecPlan};
+ghost use Rattle.wl_plan.specs.declared.placing.Placing.{Placing as Places};
 
-use wl_bind::entries_stand_once;
+use wl_bind::{
+    entries_stand_once, references_are_kept, same_targets_are_one, stubs_have_no_slot,
+    table_functions_are_kept, table_functions_stand_once,
+};
 use wl_bytes::shortest_form_is_one;
 use wl_ctors::init_calls_are_one;
 use wl_data::{places_are_one, segments_have_layouts};
@@ -46,4 +57,19 @@ pub fn link_plan_or_fault()
 {
     object_or_fault();
     plan_or_fault();
+}
+
+/// What kept relocations name has its index, its slot and its global: where references are bound
+/// and things are numbered, `resolve_reloc` refuses none of them but for an address of data, which
+/// has no value in its field, or one that doesn't fit.
+pub fn only_addresses_are_refused()
+    ensures { (input : Input) (g : Places) (maps : List Map) (r : KeptRelocation) (o : SpecObject)
+        (m : Map) (why : Why) → IsNumbered input → AreWholeMaps input g maps → IsOf input maps r o m
+        → answer_for input g o m r ≡ Err why → HasNoAddress input g r why }
+{
+    references_are_kept();
+    table_functions_are_kept();
+    table_functions_stand_once();
+    stubs_have_no_slot();
+    same_targets_are_one();
 }

@@ -27,7 +27,7 @@ mod sizes;
 mod table;
 mod wrappers;
 
-pub use laws::{link_plan_or_fault, plan_or_fault};
+pub use laws::{link_plan_or_fault, only_addresses_are_refused, plan_or_fault};
 pub use layout::{
     Fixup, FixupTo, FunctionOrigin, GlobalOrigin, LinkPlan, MadeGlobal, OutputFunction,
     OutputImport, OutputImportEntity, PlannedGlobal, WasmLayout, count_output_imports,

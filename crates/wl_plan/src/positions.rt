@@ -131,7 +131,7 @@ fn moved_file(
     ensures err { IfErr result (λ e. e ≡ OutOfMemory) }
 {
     whole_objects();
-    let unit = first.site.unit;
+    let unit = first.site.unit as usize;
     let body = &file.bodies()[unit];
     moved_in(alloc, input, placing, first.object, body, row, run)
 }

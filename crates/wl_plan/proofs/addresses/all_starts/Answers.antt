@@ -1,7 +1,9 @@
 use Rattle.std.proofs.Common.{◌∙◌, ◌<◌, List, length, subst, arith}
 use Rattle.wl_linking.specs.Object.{Object}
 use Rattle.wl_plan.specs.AddressSteps.{AreObjectStarts}
-use Rattle.wl_plan.proofs.AddressLaws.{AreLaid, all_laid, rows_length, splits, same_object, once_for, starts_for, row_more}
+use Rattle.wl_plan.proofs.AddressLaws.{AreLaid, all_laid, same_object, once_for, starts_for}
+use Rattle.wl_plan.proofs.ListLaws.{there_is}
+use Rattle.wl_plan.proofs.RowLaws.{rows_length, row_more}
 use Rattle.wl_plan.proofs.addresses.all_starts.Goals as goal
 
 pub layouts_of-layouts-requires : goal.layouts_of-layouts-requires
@@ -22,13 +24,13 @@ object_starts-requires c =
     let files = c.as_slice-file-items.ensures.objects ∙ c.files.ensures.objects in
     let lt : c.loop-object.object < length objects =
     subst (λ (os : List Object). c.loop-object.object < length os) files c.loop-object-test.true in
-    let o = splits objects c.loop-object.object lt in
-    once_for input c.args.placing.now c.loop-object.object c.num_data_segments.result o.x
+    let o = there_is objects c.loop-object.object lt in
+    once_for input c.args.placing.now c.loop-object.object c.num_data_segments.result o.0
     c.file-item.result c.layouts_of-layouts.result.now
     (all_laid input c.args.placing.now c.segments_have_layouts.ensures c.requires)
-    o.here c.layouts_of-layouts.ensures
-    (same_object objects c.as_slice-file-items.result.now c.loop-object.object o.x
-    c.file-item.result files c.file-item.is o.here)
+    o.1 c.layouts_of-layouts.ensures
+    (same_object objects c.as_slice-file-items.result.now c.loop-object.object o.0
+    c.file-item.result files c.file-item.is o.1)
     c.num_data_segments.ensures
 
 pub loop-object-preserved : goal.loop-object-preserved

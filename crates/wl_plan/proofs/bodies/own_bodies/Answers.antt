@@ -1,5 +1,6 @@
 use Rattle.std.proofs.Common.{◌∙◌, []}
-use Rattle.wl_plan.proofs.GrowLaws.{object_here, objects_more}
+use Rattle.wl_plan.proofs.GrowLaws.{objects_more}
+use Rattle.wl_plan.proofs.RowLaws.{object_here}
 use Rattle.wl_plan.proofs.bodies.own_bodies.Goals as goal
 
 pub loop-object-preserved : goal.loop-object-preserved

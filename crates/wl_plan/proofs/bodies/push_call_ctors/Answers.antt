@@ -1,7 +1,8 @@
 use Rattle.wl_symbols.specs.declared.linker_symbol.WasmLinkerSymbol.TheVariants.{CallCtors}
 use Rattle.wl_bind.specs.FunctionSpace.{made_function_part}
 use Rattle.wl_plan.specs.BodySteps.{AddsMadeBody, AddsBodies}
-use Rattle.wl_plan.proofs.GrowLaws.{adds_ctors, ctors_encoded, is_made_at, on_ok_then}
+use Rattle.wl_plan.proofs.FunctionLaws.{ok_then}
+use Rattle.wl_plan.proofs.GrowLaws.{adds_ctors, ctors_encoded, is_made_at}
 use Rattle.wl_plan.proofs.bodies.push_call_ctors.Goals as goal
 
 pub returns-in_ok-body-in-Some : goal.returns-in_ok-body-in-Some
@@ -12,7 +13,7 @@ returns-in_ok-body-in-Some c =
     let bytes = c.in_ok-body-in-Some.body.items in
     let old = c.args.bodies.now.items in
     let new = c.push_made.new.bodies.items in
-    on_ok_then c.push_made.result (AddsMadeBody bytes old new)
+    ok_then c.push_made.result (AddsMadeBody bytes old new)
     (AddsBodies input g (made_function_part input CallCtors) old new)
     (λ (a : AddsMadeBody bytes old new).
     adds_ctors input g calls bytes old new

@@ -1,12 +1,11 @@
 use Rattle.std.proofs.Common.{◌≡◌, ◌∙◌, ◌≤◌, ◌<◌, ℕ, List, length, map, take, ap, arith, subst}
-use Rattle.std.proofs.lemmas.List.{take_all}
+use Rattle.std.proofs.lemmas.List.{take_all, length-map}
 use Rattle.wl_slots.specs.ImportSlots.{ImportSlot}
 use Rattle.wl_slots.specs.Left.{first_slot}
 use Rattle.wl_bind.specs.FunctionBinding.{link_stubs}
 use Rattle.wl_bind.specs.FunctionSpace.{stub_part}
 use Rattle.wl_plan.specs.BodySteps.{AddsMadeBody}
 use Rattle.wl_plan.proofs.GrowLaws.{stub_entry, stubs_more, adds_same}
-use Rattle.wl_plan.proofs.SegmentLaws.{map_length}
 use Rattle.wl_plan.proofs.bodies.push_stubs.Goals as goal
 
 pub loop-made-preserved : goal.loop-made-preserved
@@ -17,7 +16,7 @@ loop-made-preserved c =
     let all = c.as_slice-list.ensures ∙ c.in_ok-stubs.ensures in
     let listed : length c.as_slice-list.result.now ≡ length (map first_slot stubs) =
     ap (λ hosts. length hosts) all in
-    let long : length (map first_slot stubs) ≡ length stubs = map_length first_slot stubs in
+    let long : length (map first_slot stubs) ≡ length stubs = length-map stubs first_slot in
     let lt : made < length stubs = omega (arith, listed, long, c.loop-made-test.true) in
     let old = c.loop-made.bodies.items in
     let new = c.push_made.new.bodies.items in (
@@ -36,7 +35,7 @@ returns c =
     let all = c.as_slice-list.ensures ∙ c.in_ok-stubs.ensures in
     let listed : length c.as_slice-list.result.now ≡ length (map first_slot stubs) =
     ap (λ hosts. length hosts) all in
-    let long : length (map first_slot stubs) ≡ length stubs = map_length first_slot stubs in
+    let long : length (map first_slot stubs) ≡ length stubs = length-map stubs first_slot in
     let le : length stubs ≤ made = omega (arith, listed, long, c.loop-made-test.false) in
     adds_same input c.args.placing.now (map stub_entry (take made stubs)) (stub_part input)
     c.args.bodies.now.items c.loop-made.bodies.items

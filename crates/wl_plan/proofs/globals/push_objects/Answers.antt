@@ -1,7 +1,7 @@
 use Rattle.std.proofs.Common.{◌∙◌, ◌≤◌, List, length, subst}
 use Rattle.wl_linking.specs.Object.{Object}
-use Rattle.wl_plan.proofs.GlobalLaws.{object_at}
 use Rattle.wl_plan.proofs.GlobalParts.{adds_none, adds_object, all_objects}
+use Rattle.wl_plan.proofs.RowLaws.{object_here}
 use Rattle.wl_plan.proofs.globals.push_objects.Goals as goal
 
 pub loop-object-init : goal.loop-object-init
@@ -9,7 +9,7 @@ loop-object-init c = adds_none c.args.sources.now c.args.globals.now.items
 
 pub push_globals-requires : goal.push_globals-requires
 push_globals-requires c =
-    object_at c.args.sources.now.book.now.input.now.link.objects c.as_slice-file-items.result.now
+    object_here c.args.sources.now.book.now.input.now.link.objects c.as_slice-file-items.result.now
     c.loop-object.object c.file-item.result
     (c.as_slice-file-items.ensures.objects ∙ c.files.ensures.objects) c.loop-object-test.true
     c.file-item.is
@@ -17,7 +17,7 @@ push_globals-requires c =
 pub loop-object-preserved : goal.loop-object-preserved
 loop-object-preserved c =
     adds_object c.args.sources.now c.loop-object.object c.file-item.result _ _ _
-    (object_at c.args.sources.now.book.now.input.now.link.objects c.as_slice-file-items.result.now
+    (object_here c.args.sources.now.book.now.input.now.link.objects c.as_slice-file-items.result.now
     c.loop-object.object c.file-item.result
     (c.as_slice-file-items.ensures.objects ∙ c.files.ensures.objects) c.loop-object-test.true
     c.file-item.is) c.loop-object.invariant c.in_ok-push_globals.ensures

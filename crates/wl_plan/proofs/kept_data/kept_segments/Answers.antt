@@ -1,7 +1,7 @@
 use Rattle.std.proofs.Common.{◌≡◌, ◌∙◌, ◌+◌, ◌<◌, Bool, List, length, rules, ap, arith, get_or}
 use Rattle.std.proofs.lemmas.List.FromFn.{get_or-map-range_with_len, length-map-range_with_len}
 use Rattle.wl_bind.specs.ThreadData.{is_thread_data}
-use Rattle.wl_plan.proofs.KeptDataLaws.{here_at}
+use Rattle.wl_plan.proofs.ListLaws.{item_at}
 use Rattle.wl_plan.proofs.kept_data.kept_segments.Goals as goal
 
 pub index-tls-requires : goal.index-tls-requires
@@ -16,7 +16,7 @@ pub push_kept-requires-clause-here : goal.push_kept-requires-clause-here
 push_kept-requires-clause-here c =
     let within : c.loop-number.number < length c.args.file.now.segments = search rules in
     let at : c.segment-item.result ≡ get_or c.args.file.now.segments c.loop-number.number c.segment-item.result = search rules in
-    here_at c.args.file.now.segments c.loop-number.number c.segment-item.result within at
+    item_at c.args.file.now.segments c.loop-number.number c.segment-item.result within at
 
 pub push_kept-requires-clause-tls : goal.push_kept-requires-clause-tls
 push_kept-requires-clause-tls c =

@@ -2,7 +2,8 @@ use Rattle.std.proofs.Common.{◌≡◌, ◌^◌, ◌-◌, arith, true, w32}
 use Rattle.std.specs.Prelude.{ℤ, pos, ◌-ℤ◌, int_le, FitsSigned}
 use Rattle.std.proofs.lemmas.Int.{ints}
 use Rattle.wl_linking.specs.Fitting.{IsWhole}
-use Rattle.wl_plan.proofs.FieldLaws.{among_those, object_of, one_at}
+use Rattle.wl_plan.proofs.FieldLaws.{among_those, object_of}
+use Rattle.wl_plan.proofs.ListLaws.{all_at}
 use Rattle.wl_plan.proofs.WholeLaws.{addends_are_words}
 use Rattle.wl_plan.proofs.fixups.FixupSources.addend.Goals as goal
 
@@ -15,8 +16,8 @@ overflow_cast-result c =
     let input = c.args.self.now.input.now in
     let r = c.args.relocated.now in
     let from = object_of input r c.requires.kept in
-    let whole = one_at IsWhole input.link.objects r.object from.object c.requires.sources.settled.whole
-    from.here in
+    let whole = all_at IsWhole input.link.objects r.object from.object
+    c.requires.sources.settled.whole from.here in
     let word = addends_are_words from.object r.relocation whole (among_those input r from) in
     let fits : FitsSigned w32 r.relocation.addend = word_fits r.relocation.addend word.0 word.1 in
     omega (arith, ints)
@@ -26,8 +27,8 @@ returns c =
     let input = c.args.self.now.input.now in
     let r = c.args.relocated.now in
     let from = object_of input r c.requires.kept in
-    let whole = one_at IsWhole input.link.objects r.object from.object c.requires.sources.settled.whole
-    from.here in
+    let whole = all_at IsWhole input.link.objects r.object from.object
+    c.requires.sources.settled.whole from.here in
     let word = addends_are_words from.object r.relocation whole (among_those input r from) in
     let fits : FitsSigned w32 r.relocation.addend = word_fits r.relocation.addend word.0 word.1 in
     omega (arith, ints)

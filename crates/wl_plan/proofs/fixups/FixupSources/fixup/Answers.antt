@@ -5,7 +5,7 @@ use Rattle.wl_linking.specs.Object.{Object}
 use Rattle.wl_reloc.specs.Takings.{taking_of}
 use Rattle.wl_plan.specs.FixupSteps.{left_of}
 use Rattle.wl_plan.specs.Fixups.{address_named, IsTaken}
-use Rattle.wl_plan.proofs.FieldLaws.{WholeLaws, object_within, small_unit}
+use Rattle.wl_plan.proofs.FieldLaws.{object_within}
 use Rattle.wl_plan.proofs.FixupLaws.{Laws, answers_of, clear_of, maps_within}
 use Rattle.wl_plan.proofs.SlotLaws.{TableLaws}
 use Rattle.wl_plan.proofs.fixups.FixupSources.fixup.Goals as goal
@@ -22,17 +22,6 @@ map_at-requires c =
     maps_within s.input.now s.placing.now s.maps.now c.args.relocated.now.object
     c.requires.sources.maps
     (object_within s.input.now c.args.relocated.now c.requires.kept)
-
-pub overflow_cast-result : goal.overflow_cast-result
-overflow_cast-result c =
-    let laws : WholeLaws = record {
-      few = c.whole_objects.ensures.few;
-      code_units = c.whole_objects.ensures.code_units;
-      data_units = c.whole_objects.ensures.data_units;
-    } in
-    let small = small_unit laws c.args.self.now.input.now c.args.relocated.now
-    c.requires.sources.settled.whole c.requires.kept in
-    omega (arith, small)
 
 pub returns-in-Err-clause-err : goal.returns-in-Err-clause-err
 returns-in-Err-clause-err c =

@@ -1,8 +1,8 @@
 use Rattle.std.proofs.Common.{◌∙◌, ◌<◌, length, sym, ap, Some}
 use Rattle.std.proofs.lemmas.Bool.{ltb-true, ltb-false}
-use Rattle.std.proofs.lemmas.Option.{slice_get-get_or}
+use Rattle.std.proofs.lemmas.Option.{slice_get-get_or, slice_get_past}
 use Rattle.wl_reloc.specs.declared.index_map.WasmObjectIndexMap.{WasmObjectIndexMap}
-use Rattle.wl_plan.proofs.GlobalLaws.{nothing_past, address_in, address_nowhere}
+use Rattle.wl_plan.proofs.GlobalLaws.{address_in, address_nowhere}
 use Rattle.wl_plan.proofs.global_starts.GlobalSources.symbol_address.Goals as goal
 
 pub returns-in-Some : goal.returns-in-Some
@@ -23,5 +23,5 @@ returns-in-None c =
     let i = c.args.datum.object in
     address_nowhere s.book.now.input.now s.book.now.placing.now s.maps.now
     i c.args.datum.symbol c.requires.maps
-    (nothing_past s.maps.now i
+    (slice_get_past s.maps.now i
     (ltb-false i (length s.maps.now) (sym c.in-None.ensures.lookup.0)))
