@@ -1,5 +1,5 @@
 -- What a kept slot is bound to is kept.
-use Rattle.std.proofs.Common.{◌≡◌, ◌∙◌, ◌<◌, ℕ, zero, suc, ◌+◌, Bool, true, false, not, ◌&&◌, ◌==◌, ◌≤◌, List, [], ◌∷◌, length, map, refl, sym, ap, subst, arith, inl, inr, Option, Some, None, slice_get, slice_index_or, Contains, nat_lt, if◌then◌else◌, MatchOption, eqb-true}
+use Rattle.std.proofs.Common.{◌≡◌, ◌∙◌, ◌<◌, ℕ, zero, suc, ◌+◌, Bool, true, false, not, ◌&&◌, ◌==◌, ◌≤◌, List, [], ◌∷◌, length, refl, sym, ap, subst, arith, inl, inr, Option, Some, None, slice_get, Contains, nat_lt, if◌then◌else◌, MatchOption, eqb-true}
 use Rattle.std.specs.Option.{option_map, option_map_or, option_and_then}
 use Rattle.std.proofs.lemmas.Bool.{cases_Bool}
 use Rattle.std.proofs.lemmas.List.Sums.{length-filter}
@@ -15,12 +15,12 @@ use Rattle.wl_symbols.specs.Entries.{symbol_in}
 use Rattle.wl_symbols.specs.LinkerNames.{is_imported_as, matches_kind}
 use Rattle.wl_symbols.specs.Names.{def, def_for}
 use Rattle.wl_symbols.specs.declared.entry.Definition.{Definition}
-use Rattle.wl_symbols.specs.declared.entry.Definition.TheVariants.{Symbol, Made as MadeName}
+use Rattle.wl_symbols.specs.declared.entry.Definition.TheVariants.{Symbol}
 use Rattle.wl_symbols.specs.declared.linker_symbol.WasmLinkerSymbol.{WasmLinkerSymbol}
-use Rattle.wl_live.specs.Definitions.{definition_unit, definition_at, other_unit, defined_unit, unit_at}
+use Rattle.wl_live.specs.Definitions.{definition_unit, other_unit, defined_unit, unit_at}
 use Rattle.wl_live.specs.Live.{Live, is_live, IsLiveOf}
 use Rattle.wl_live.specs.References.{RefersBySlot}
-use Rattle.wl_live.specs.Units.{units_of, counts_of, units_at, unit_in, unit_of, no_units}
+use Rattle.wl_live.specs.Units.{units_of, counts_of, units_at, unit_in, unit_of}
 use Rattle.wl_live.specs.declared.units.LinkUnit.{LinkUnit}
 use Rattle.wl_live.specs.declared.units.UnitCounts.{UnitCounts}
 use Rattle.wl_live.specs.declared.units.WasmGcUnit.{WasmGcUnit}
@@ -30,7 +30,8 @@ use Rattle.wl_slots.specs.SlotCases.{IsLeft, IsBoundTo, HasDefinition}
 use Rattle.wl_slots.specs.SlotTargets.{own_number, is_definition_of, slot_target}
 use Rattle.wl_slots.specs.declared.targets.SlotTarget.{SlotTarget}
 use Rattle.wl_slots.specs.declared.targets.SlotTarget.TheVariants as slot
-use Rattle.wl_bind.proofs.HostLaws.{IsAt, placed}
+use Rattle.wl_bind.proofs.HostLaws.{IsAt}
+use Rattle.wl_bind.proofs.ListLaws.{both, is_not}
 use Rattle.wl_bind.proofs.MemberLaws.{first_or_behind}
 
 -- ---- what is told of slots
@@ -120,14 +121,6 @@ symbols_at object kind ss n (i ∷ is) (suc k) t at =
 
 -- ---- the units of symbols
 
-both : (a b : Bool) → (a && b) ≡ true → (a ≡ true) × (b ≡ true)
-both true b h = (refl, h)
-both false b h = absurd cc
-
-not_true : (a : Bool) → not a ≡ true → a ≡ false
-not_true true h = absurd cc
-not_true false h = refl
-
 below : (a b : ℕ) → a < b → nat_lt a b ≡ true
 below a b lt = elim (cases_Bool (nat_lt a b)) [
   | inl y ↦ y
@@ -142,7 +135,7 @@ is_function Section e = absurd cc
 is_function Event e = absurd cc
 is_function Table e = absurd cc
 
-is_global : (kind : WasmSymbolKind) → is_imported_as Global kind ≡ true → kind ≡ Global
+pub is_global : (kind : WasmSymbolKind) → is_imported_as Global kind ≡ true → kind ≡ Global
 is_global Func e = absurd cc
 is_global Data e = absurd cc
 is_global Global e = refl
@@ -170,7 +163,7 @@ function_units = record {
   defined = λ o s j defines number.
       let parts = both (not (is_undefined s)) (is_imported_as Func s.kind) defines in
       let is : s.kind ≡ Func = is_function s.kind parts.1 in
-      let so : is_undefined s ≡ false = not_true (is_undefined s) parts.0 in
+      let so : is_undefined s ≡ false = is_not (is_undefined s) parts.0 in
       rw (is, so) (ap (λ (n : Option ℕ). option_map DefinedFunction n) number);
 }
 
@@ -187,7 +180,7 @@ global_units = record {
   defined = λ o s j defines number.
       let parts = both (not (is_undefined s)) (is_imported_as Global s.kind) defines in
       let is : s.kind ≡ Global = is_global s.kind parts.1 in
-      let so : is_undefined s ≡ false = not_true (is_undefined s) parts.0 in
+      let so : is_undefined s ≡ false = is_not (is_undefined s) parts.0 in
       rw (is, so) (ap (λ (n : Option ℕ). option_map DefinedGlobal n) number);
 }
 
@@ -265,7 +258,7 @@ kept_definition laws link live of kind slot_unit own units object k o t i j here
     subst (λ (of : WasmSymbolKind). is_definition_of of d.s ≡ true) is_at.kind_is d.defines in
     let number : own_number kind d.o (d.s).index ≡ Some j =
     subst (λ (of : WasmSymbolKind). own_number of d.o (d.s).index ≡ Some j) is_at.kind_is d.number_is in
-    let so : is_undefined d.s ≡ false = not_true (is_undefined d.s) (both (not (is_undefined d.s)) (is_imported_as kind (d.s).kind) defines).0 in
+    let so : is_undefined d.s ≡ false = is_not (is_undefined d.s) (both (not (is_undefined d.s)) (is_imported_as kind (d.s).kind) defines).0 in
     laws.closed link live (record { object = object; unit = slot_unit k })
     (record { object = i; unit = own j }) of kept
     (record {

@@ -21,6 +21,7 @@ use Rattle.wl_bind.specs.Conflicts.{same_function_type, global_type, same_global
 use Rattle.wl_bind.specs.ConflictSteps.{SlotPair, slot_at, conflicting, with_first, conflict_from, conflict_of}
 use Rattle.wl_bind.specs.FunctionTypes.{slot_type}
 use Rattle.wl_bind.proofs.FindLaws.{find_some, or_none, or_some}
+use Rattle.wl_bind.proofs.ListLaws.{find_in_front, length_mapped, none_found}
 use Rattle.wl_bind.proofs.MemberLaws.{nowhere}
 
 -- ---- slots of one import, and types that are the same
@@ -51,9 +52,6 @@ type_self objects t = rw (function_self (slot_type objects t)) (global_self (glo
 find_agree : {X : Type 0} (p q : X → Bool) → ((x : X) → p x ≡ q x) → (xs : List X) → find p xs ≡ find q xs
 find_agree p q h [] = refl
 find_agree p q h (x ∷ xs) = rw (h x, find_agree p q h xs) refl
-
-find_in_front : {X : Type 0} (test : X → Bool) (xs more : List X) (x : X) → find test xs ≡ Some x → find test (xs ++ more) ≡ Some x
-find_in_front test xs more x e = find-append test xs more ∙ ap (λ o. option_or o (find test more)) e
 
 find_behind : {X : Type 0} (test : X → Bool) (xs more : List X) → find test xs ≡ None → find test (xs ++ more) ≡ find test more
 find_behind test xs more e = find-append test xs more ∙ ap (λ o. option_or o (find test more)) e
@@ -89,14 +87,10 @@ or_len_map f test (x ∷ xs) = elim (cases_Bool (test (f x))) [
   | inr g ↦ rw g (ap (λ n. 1 + n) (or_len_map f test xs))
 ]
 
-length_map : {X Y : Type 0} (f : X → Y) (xs : List X) → length (map f xs) ≡ length xs
-length_map f [] = refl
-length_map f (x ∷ xs) = ap suc (length_map f xs)
-
 position_map : {X Y : Type 0} (f : X → Y) (test : Y → Bool) (xs : List X) → position test (map f xs) ≡ position (λ x. test (f x)) xs
 position_map f test xs =
     ap (λ n. cond (nat_lt n (length (map f xs))) (Some n) None) (or_len_map f test xs)
-    ∙ ap (λ len. cond (nat_lt (position_or_len (λ x. test (f x)) xs) len) (Some (position_or_len (λ x. test (f x)) xs)) None) (length_map f xs)
+    ∙ ap (λ len. cond (nat_lt (position_or_len (λ x. test (f x)) xs) len) (Some (position_or_len (λ x. test (f x)) xs)) None) (length_mapped f xs)
 
 -- ---- first occurrences
 
@@ -105,13 +99,6 @@ any_found test [] x e = absurd (cc)
 any_found test (y ∷ xs) x e = elim (cases_Bool (test y)) [
   | inl t ↦ rw t refl
   | inr f ↦ rw f (any_found test xs x (rw f at e))
-]
-
-none_found : {X : Type 0} (test : X → Bool) (xs : List X) → find test xs ≡ None → list_any test xs ≡ false
-none_found test [] e = refl
-none_found test (y ∷ xs) e = elim (cases_Bool (test y)) [
-  | inl t ↦ absurd (let h : Some y ≡ None = rw t at e in cc)
-  | inr f ↦ rw f (none_found test xs (rw f at e))
 ]
 
 insert_there : (same : ImportSlot → ImportSlot → Bool) (firsts : List ImportSlot) (t f : ImportSlot) → find (same t) firsts ≡ Some f → insert_key same firsts t ≡ firsts

@@ -29,24 +29,16 @@ use Rattle.wl_bind.specs.Relocations.{object_relocations}
 use Rattle.wl_bind.specs.Undefined.{is_host_function, is_host_slot}
 use Rattle.wl_bind.specs.declared.binding.FunctionTarget.TheVariants.{Defined, Made, Host, Stub}
 use Rattle.wl_bind.proofs.FirstSlotLaws.{LeftSlot, IsFirst, stub_itself, host_itself}
-use Rattle.wl_bind.proofs.ListedLaws.{or_left, or_right, and_both, as_in, as_listed, any_in, made_of_one, still_in}
+use Rattle.wl_bind.proofs.ListLaws.{all_at, and_both, in_back, in_front, made_of_one, or_left, or_right}
+use Rattle.wl_bind.proofs.ListedLaws.{as_in, as_listed, any_in, still_in}
 use Rattle.wl_bind.proofs.OnceParts.{IsIn, in_at, in_split, in_filter, Came, in_map, Given, given_by}
 use Rattle.wl_bind.proofs.RedirectLaws.{test_at}
 use Rattle.wl_bind.proofs.ReferenceLaws.{live_there}
 use Rattle.wl_bind.proofs.SameLaws.{eqb_self}
 use Rattle.wl_bind.proofs.StartLaws.{there_is}
-use Rattle.wl_bind.proofs.StubTypeLaws.{whole_at, slot_typed}
+use Rattle.wl_bind.proofs.StubTypeLaws.{slot_typed}
 
 -- ---- lists
-
-in_left : {X : Type 0} (xs ys : List X) (x : X) → IsIn xs x → IsIn (xs ++ ys) x
-in_left [] ys x h = absurd h
-in_left (y ∷ xs) ys x (inl e) = inl e
-in_left (y ∷ xs) ys x (inr r) = inr (in_left xs ys x r)
-
-in_right : {X : Type 0} (xs ys : List X) (x : X) → IsIn ys x → IsIn (xs ++ ys) x
-in_right [] ys x h = h
-in_right (y ∷ xs) ys x h = inr (in_right xs ys x h)
 
 -- what an object gives is among what all give
 given_in : {X : Type 0} (f : ℕ → Object → List X) (n : ℕ) (objects : List Object) (k m : ℕ) (o : Object) (x : X) → m ≡ n + k
@@ -55,10 +47,10 @@ given_in f n [] k m o x is at h = absurd cc
 given_in {X} f n (p ∷ objects) zero m o x is at h =
     let same : o ≡ p = cc in
     let here : m ≡ n = omega (arith, is) in
-    in_left (f n p) (by_object f (n + 1) objects) x
+    in_front (f n p) (by_object f (n + 1) objects) x
     (subst (λ (q : Object). IsIn (f n q) x) same (subst (λ (i : ℕ). IsIn (f i o) x) here h))
 given_in f n (p ∷ objects) (suc k) m o x is at h =
-    in_right (f n p) (by_object f (n + 1) objects) x (given_in f (n + 1) objects k m o x (omega (arith, is)) at h)
+    in_back (f n p) (by_object f (n + 1) objects) x (given_in f (n + 1) objects k m o x (omega (arith, is)) at h)
 
 range_below : (a n z : ℕ) → IsIn (range_with_len a n) z → z < a + n
 range_below a zero z h = absurd h
@@ -101,12 +93,12 @@ live_in_output one input i o number ty here at live =
     made_of_one (λ (x : Option FunctionType). x) list (Some ty) ty
     (in_at list number (Some ty) (live_there input i o number ty at live)) refl in
     in_output one input ty
-    (in_left (by_object (live_types input) 0 input.link.objects) (made_types input) ty
+    (in_front (by_object (live_types input) 0 input.link.objects) (made_types input) ty
     (given_in (live_types input) 0 input.link.objects i i o ty (omega arith) here there))
 
 made_in_output : AreOne → (input : Input) (ty : FunctionType) → IsIn (made_types input) ty → Contains (output_types input) ty
 made_in_output one input ty h =
-    in_output one input ty (in_right (by_object (live_types input) 0 input.link.objects) (made_types input) ty h)
+    in_output one input ty (in_back (by_object (live_types input) 0 input.link.objects) (made_types input) ty h)
 
 -- ---- what is imported
 
@@ -153,7 +145,7 @@ stub_typed one fitting input settled t h =
       ty = typed.0;
       has = slot_has input t typed.0 left typed.1;
       one = made_in_output one input typed.0
-          (in_right (made_type input CallCtors ++ made_type input InitTls ++ init_memory_type input) (stub_types input) typed.0 there);
+          (in_back (made_type input CallCtors ++ made_type input InitTls ++ init_memory_type input) (stub_types input) typed.0 there);
     }
 
 -- ---- what the linker makes
@@ -171,9 +163,9 @@ ctors_typed one input so =
       ty = ty;
       has = refl;
       one = made_in_output one input ty
-          (in_left (made_type input CallCtors ++ made_type input InitTls ++ init_memory_type input) (stub_types input) ty
-          (in_left (made_type input CallCtors ++ made_type input InitTls) (init_memory_type input) ty
-          (in_left (made_type input CallCtors) (made_type input InitTls) ty (made_there input CallCtors ty so refl))));
+          (in_front (made_type input CallCtors ++ made_type input InitTls ++ init_memory_type input) (stub_types input) ty
+          (in_front (made_type input CallCtors ++ made_type input InitTls) (init_memory_type input) ty
+          (in_front (made_type input CallCtors) (made_type input InitTls) ty (made_there input CallCtors ty so refl))));
     }
 
 tls_typed : AreOne → (input : Input) → is_made input InitTls ≡ true → HasOutputType input (FunctionOf (Made InitTls))
@@ -183,9 +175,9 @@ tls_typed one input so =
       ty = typed.0;
       has = typed.1;
       one = made_in_output one input typed.0
-          (in_left (made_type input CallCtors ++ made_type input InitTls ++ init_memory_type input) (stub_types input) typed.0
-          (in_left (made_type input CallCtors ++ made_type input InitTls) (init_memory_type input) typed.0
-          (in_right (made_type input CallCtors) (made_type input InitTls) typed.0
+          (in_front (made_type input CallCtors ++ made_type input InitTls ++ init_memory_type input) (stub_types input) typed.0
+          (in_front (made_type input CallCtors ++ made_type input InitTls) (init_memory_type input) typed.0
+          (in_back (made_type input CallCtors) (made_type input InitTls) typed.0
           (made_there input InitTls typed.0 so typed.1))));
     }
 
@@ -197,8 +189,8 @@ memory_typed one input so =
       ty = ty;
       has = refl;
       one = made_in_output one input ty
-          (in_left (made_type input CallCtors ++ made_type input InitTls ++ init_memory_type input) (stub_types input) ty
-          (in_right (made_type input CallCtors ++ made_type input InitTls) (init_memory_type input) ty there));
+          (in_front (made_type input CallCtors ++ made_type input InitTls ++ init_memory_type input) (stub_types input) ty
+          (in_back (made_type input CallCtors ++ made_type input InitTls) (init_memory_type input) ty there));
     }
 
 -- ---- what objects define
@@ -206,7 +198,7 @@ memory_typed one input so =
 defined_typed : AreOne → AreFitting → (input : Input) → IsSettled input → (i : ℕ) (o : Object) (k : ℕ)
     → slice_get input.link.objects i ≡ Some o → IsIn (kept_functions input i o) k → HasOutputType input (FunctionOf (Defined i k))
 defined_typed one fitting input settled i o k here h =
-    let fit : IsFitting o = fitting o (whole_at IsWhole input.link.objects i o settled.whole here) in
+    let fit : IsFitting o = fitting o (all_at IsWhole input.link.objects i o settled.whole here) in
     let among : IsIn (range_with_len 0 (length o.functions)) k =
     in_filter (λ n. keeps input i (DefinedFunction n)) (range_with_len 0 (length o.functions)) k h in
     let below = range_below 0 (length o.functions) k among in

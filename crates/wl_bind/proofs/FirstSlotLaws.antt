@@ -26,13 +26,14 @@ use Rattle.wl_bind.specs.declared.binding.FunctionTarget.TheVariants as function
 use Rattle.wl_bind.proofs.ClosedLaws.{counts_at, is_function, bound_of_kind, kept_function}
 use Rattle.wl_bind.proofs.FindLaws.{find_some}
 use Rattle.wl_bind.proofs.HostLaws.{IsAt, placed, kept_at}
-use Rattle.wl_bind.proofs.LeftLaws.{cases_option, none_found, itself, left_of, stub_found, no_stub, rules_join, named_binds}
+use Rattle.wl_bind.proofs.LeftLaws.{cases_option, itself, stub_found, no_stub, rules_join, named_binds}
+use Rattle.wl_bind.proofs.ListLaws.{is_not, left_and, none_found}
 use Rattle.wl_bind.proofs.MadeLaws.{BindingLaws, bound_is_made_function}
 use Rattle.wl_bind.proofs.NumberingLaws.{slots_here}
 use Rattle.wl_bind.proofs.OnceParts.{IsIn, in_filter, passes, in_firsts, Given, given_by}
 use Rattle.wl_bind.proofs.OneRuleLaws.{own_import}
 use Rattle.wl_bind.proofs.RowLaws.{passes as stays}
-use Rattle.wl_bind.proofs.ListedLaws.{as_in, finds_itself, found_at, is_not, is_nothing, same_listed}
+use Rattle.wl_bind.proofs.ListedLaws.{as_in, finds_itself, found_at, is_nothing, same_listed}
 
 -- ---- where a slot stands
 
@@ -162,7 +163,7 @@ pub kept_is_there : (input : Input) → IsLiveOf input.link input.live → (i j 
 kept_is_there input live i j kept =
     let u : LinkUnit = record { object = i; unit = DefinedFunction j } in
     let there : exists input.live.units u ≡ true =
-    left_of (exists input.live.units u) (slice_index_or input.live.marks (unit_number input.live.units u) false) kept in
+    left_and (exists input.live.units u) (slice_index_or input.live.marks (unit_number input.live.units u) false) kept in
     let lt : nat_lt j (units_at (units_of input.link.objects) i).functions ≡ true =
     subst (λ (ns : List UnitCounts). nat_lt j (units_at ns i).functions ≡ true) live.units there in
     elim (cases_option (slice_get input.link.objects i)) [

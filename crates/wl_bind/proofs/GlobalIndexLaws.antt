@@ -1,38 +1,34 @@
 -- What global slots are resolved to has its entry.
-use Rattle.std.proofs.Common.{◌≡◌, ◌∙◌, ◌≤◌, ◌<◌, ◌⊎◌, ℕ, zero, suc, ◌+◌, Bool, true, false, not, nat_lt, codes, List, [], ◌∷◌, ◌++◌, length, map, find, position, refl, sym, ap, subst, arith, inl, inr, Option, Some, None, unwrap_or, slice_get, Contains, if◌then◌else◌}
-use Rattle.std.specs.List.{AllZip, range_with_len, position_or_len}
+use Rattle.std.proofs.Common.{◌≡◌, ◌∙◌, ◌<◌, ℕ, ◌+◌, Bool, true, false, codes, List, [], ◌∷◌, ◌++◌, length, map, position, refl, sym, ap, subst, arith, inl, inr, Option, Some, None, unwrap_or, slice_get, Contains, if◌then◌else◌}
+use Rattle.std.specs.List.{AllZip, range_with_len}
 use Rattle.std.proofs.lemmas.List.FromFn.{length-map-range_with_len}
-use Rattle.std.specs.Option.{option_map, option_map_or, option_and_then, is_none, option_or}
-use Rattle.std.proofs.lemmas.Bool.{cases_Bool}
+use Rattle.std.specs.Option.{option_map, is_none}
 use Rattle.std.proofs.lemmas.Option.{slice_get_within}
 use Rattle.wl_linking.specs.Object.{Object}
 use Rattle.wl_linking.specs.declared.symbols.WasmSymbolKind.{WasmSymbolKind}
-use Rattle.wl_linking.specs.declared.symbols.WasmSymbolKind.TheVariants.{Func, Data, Global, Section, Event, Table}
-use Rattle.wl_symbols.specs.LinkerNames.{row_of, is_imported_as, matches_kind}
+use Rattle.wl_linking.specs.declared.symbols.WasmSymbolKind.TheVariants.{Global}
+use Rattle.wl_symbols.specs.LinkerNames.{row_of, matches_kind}
 use Rattle.wl_symbols.specs.declared.linker_symbol.WasmLinkerSymbol.{WasmLinkerSymbol}
 use Rattle.wl_symbols.specs.declared.linker_symbol.WasmLinkerSymbol.TheVariants.{MemoryBase, TableBase, StackPointer, TlsBase, TlsSize, TlsAlign}
 use Rattle.wl_live.specs.Live.{is_live, live_below, ordinal_of, IsLiveOf}
-use Rattle.wl_live.specs.Units.{unit_index}
 use Rattle.wl_live.specs.declared.units.LinkUnit.{LinkUnit}
-use Rattle.wl_live.specs.declared.units.WasmGcUnit.TheVariants.{DefinedFunction, DefinedGlobal}
+use Rattle.wl_live.specs.declared.units.WasmGcUnit.TheVariants.{DefinedGlobal}
 use Rattle.wl_slots.specs.ImportSlots.{ImportSlot, object_slots, import_slots}
-use Rattle.wl_slots.specs.Left.{HostImport, same_field, same_import, is_stub, first_imports, first_slot, first_like, place_of_import}
+use Rattle.wl_slots.specs.Left.{HostImport, same_import, first_imports, first_slot, first_like}
 use Rattle.wl_slots.specs.SlotTargets.{slot_target}
 use Rattle.wl_slots.specs.declared.targets.SlotTarget.{SlotTarget}
 use Rattle.wl_slots.specs.declared.targets.SlotTarget.TheVariants as slot
-use Rattle.wl_types.specs.Types.{max_entries}
 use Rattle.wl_types.specs.declared.types.TheConstants.{WASM_DEAD_INDEX}
 use Rattle.wl_bind.specs.GlobalBinding.{left_globals, host_globals, is_from, is_called, by_got, by_host, binds_global, named_global}
 use Rattle.wl_bind.specs.GlobalSpace.{GlobalEntry, GlobalOf, host_global_part, made_global_part, address_part, got_mem_part, got_func_part, dynamic_part, forced_part, object_globals, global_parts, global_space, global_slot_entry, own_global_entry, local_globals}
 use Rattle.wl_symbols.specs.declared.entry.Definition.{Definition}
 use Rattle.wl_bind.specs.Scan.{got_mem, got_func}
 use Rattle.wl_bind.specs.Input.{Input, keeps_slot}
-use Rattle.wl_bind.specs.KeptSlots.{is_kept_slot, kept_slots, slots_from, left_slots}
-use Rattle.wl_bind.specs.Made.{is_made}
+use Rattle.wl_bind.specs.KeptSlots.{is_kept_slot, kept_slots, slots_from}
 use Rattle.wl_bind.specs.MadeIndices.{StandsAt}
 use Rattle.wl_bind.specs.Numbering.{IsNumbering}
-use Rattle.wl_bind.specs.NumberingSteps.{FitsPlace, HasIndex, IsResolvedIndex, behind_first, resolution_of, own_indices_of, HaveSlotIndices, IsSlotIndex}
-use Rattle.wl_bind.specs.Parts.{AreStarts, starts_from, total, lengths_of, start_of, HasEntry, joined, IsIndexOf, AreIndicesOf}
+use Rattle.wl_bind.specs.NumberingSteps.{FitsPlace, resolution_of, own_indices_of, HaveSlotIndices, IsSlotIndex}
+use Rattle.wl_bind.specs.Parts.{IsIndexOf, AreIndicesOf}
 use Rattle.wl_bind.specs.Resolutions.{kept_number, resolved_global, as_global, global_resolution}
 use Rattle.wl_bind.specs.Shared.{global_imports, import_place, places_from, place_in, place_at, shared_of, Shared}
 use Rattle.wl_bind.specs.Undefined.{is_host_slot, is_host_global}
@@ -41,18 +37,17 @@ use Rattle.wl_bind.specs.declared.binding.FunctionTarget.TheVariants as function
 use Rattle.wl_bind.specs.declared.binding.GlobalTarget.{GlobalTarget}
 use Rattle.wl_bind.specs.declared.binding.GlobalTarget.TheVariants as global
 use Rattle.wl_bind.specs.declared.numbering.Numbering.{Numbering}
-use Rattle.wl_bind.specs.declared.own_indices.Own.TheVariants.{Functions, Globals}
-use Rattle.wl_bind.specs.declared.parts.PartStarts.{PartStarts}
+use Rattle.wl_bind.specs.declared.own_indices.Own.TheVariants.{Globals}
 use Rattle.wl_bind.specs.declared.resolution.ImportResolution.{ImportResolution}
-use Rattle.wl_bind.specs.declared.resolution.ImportResolution.TheVariants.{Unresolved, ResolvedFunction, ResolvedGlobal, LinkerDefined, WeakUndefStub, GotMemSlot, GotFuncSlot}
-use Rattle.wl_bind.proofs.ClosedLaws.{kept_global, bound_of_kind}
+use Rattle.wl_bind.specs.declared.resolution.ImportResolution.TheVariants.{Unresolved, ResolvedGlobal, LinkerDefined}
+use Rattle.wl_bind.proofs.ClosedLaws.{bound_of_kind, is_global, kept_global}
 use Rattle.wl_bind.proofs.HostLaws.{IsAt, placed}
 use Rattle.wl_bind.proofs.LeftLaws.{cases_option}
 use Rattle.wl_bind.proofs.GlobalLaws.{binds as binds_by}
+use Rattle.wl_bind.proofs.ListLaws.{place_lt}
 use Rattle.wl_bind.proofs.SlotIndexLaws.{ImportLaws, Leads, has_entry, get_via, in_front, places_in, entry_stands}
 use Rattle.wl_bind.proofs.MadeLaws.{bound_is_made_global}
-use Rattle.wl_bind.proofs.NumberingLaws.{zip_map, zip_joined, slots_here, OwnAt, fits, global_at, has_ordinal, own_globals}
-use Rattle.wl_bind.proofs.PlaceLaws.{get_in_front}
+use Rattle.wl_bind.proofs.NumberingLaws.{zip_map, zip_joined, slots_here, fits, global_at, has_ordinal, own_globals}
 use Rattle.wl_bind.proofs.RowLaws.{passes, at_is_in, slot_is_one}
 
 -- ---- what a slot is resolved to leads to its entry
@@ -85,14 +80,6 @@ own_leads n is live t i j kept =
           subst (λ (x : ℕ). slice_get (global_space input) x ≡ Some (GlobalOf (global.Defined i j))) (sym sum) at.stands;
     })
 
-is_global_kind : (kind : WasmSymbolKind) → is_imported_as Global kind ≡ true → kind ≡ Global
-is_global_kind Func e = absurd cc
-is_global_kind Data e = absurd cc
-is_global_kind Global e = refl
-is_global_kind Section e = absurd cc
-is_global_kind Event e = absurd cc
-is_global_kind Table e = absurd cc
-
 made_leads : ImportLaws → (n : Numbering) (t : ImportSlot) (m : WasmLinkerSymbol)
     → Contains (kept_slots n.input.now Global) t
     → binds_global n.input.now t ≡ global.Made m → matches_kind Global m ≡ true
@@ -101,7 +88,7 @@ made_leads laws n t m kept bound of_kind =
     record {
       has = tt;
       stands = λ index made.
-          subst (λ (kind : WasmSymbolKind). StandsAt n.input.now m kind index) (is_global_kind (row_of m).kind of_kind)
+          subst (λ (kind : WasmSymbolKind). StandsAt n.input.now m kind index) (is_global (row_of m).kind of_kind)
           (made (bound_is_made_global laws.binding n.input.now t m kept bound));
     }
 
@@ -187,15 +174,6 @@ named_leads laws n is live object k t here kept listed (slot.Made m) bound =
     (named_is_of_kind laws n.input.now object k t m here bound)
 
 -- ---- entries of the GOT lists
-
-place_lt : {X : Type 0} (test : X → Bool) (xs : List X) (p : ℕ) → position test xs ≡ Some p → p < length xs
-place_lt test xs p is = elim (cases_Bool (nat_lt (position_or_len test xs) (length xs))) [
-  | inl y ↦ (let some : Some (position_or_len test xs) ≡ Some p = rw y at is in
-      let at : position_or_len test xs ≡ p = cc in
-      let lt : position_or_len test xs < length xs = grind (arith, y) in
-      omega (arith, at, lt))
-  | inr none ↦ absurd (let nothing : None ≡ Some p = rw none at is in cc)
-]
 
 abbrev IsGot : ℕ → ℕ → GlobalTarget → Type 0
 IsGot mems funcs (global.GotMem p) = p < mems

@@ -17,7 +17,7 @@ use Rattle.wl_bind.specs.Scan.{GotMemEntry, GotFuncEntry, got_mem, got_func, got
 use Rattle.wl_bind.specs.GlobalBinding.{named_global, is_called, by_got, by_host, binds_global}
 use Rattle.wl_bind.specs.Resolutions.{resolved, named_resolution, as_global, global_resolution, rows_from, by_names, by_names_and_got, resolutions}
 use Rattle.wl_bind.specs.Stepped.{stepped}
-use Rattle.wl_bind.specs.Later.{later_by_got, has_that_name, is_unresolved, walk_of, walked_at, walked, globals_walked}
+use Rattle.wl_bind.specs.Later.{later_by_got, has_that_name, is_unresolved, walk_of, walked_at, globals_walked}
 use Rattle.wl_bind.specs.declared.binding.FunctionTarget.{FunctionTarget}
 use Rattle.wl_bind.specs.declared.binding.GlobalTarget.{GlobalTarget}
 use Rattle.wl_bind.specs.declared.binding.GlobalTarget.TheVariants as global

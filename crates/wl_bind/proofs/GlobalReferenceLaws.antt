@@ -36,12 +36,13 @@ use Rattle.wl_bind.specs.declared.binding.GlobalTarget.TheVariants as global
 use Rattle.wl_bind.specs.declared.relocated.Relocated.{Relocated}
 use Rattle.wl_bind.proofs.ClosedLaws.{global_units}
 use Rattle.wl_bind.proofs.HostLaws.{IsAt, placed, kept_at}
+use Rattle.wl_bind.proofs.ListLaws.{and_both, get_in_front, made_of_one, or_right}
 use Rattle.wl_bind.proofs.NumberingLaws.{slots_here}
-use Rattle.wl_bind.proofs.PlaceLaws.{get_behind, get_in_front}
+use Rattle.wl_bind.proofs.PlaceLaws.{get_behind}
 use Rattle.wl_bind.proofs.RedirectLaws.{under, range_at}
 use Rattle.wl_bind.proofs.SameLaws.{eqb_self, definition_self, target_self}
 use Rattle.wl_bind.proofs.StartLaws.{there_is}
-use Rattle.wl_bind.proofs.ListedLaws.{and_both, any_in, as_in, made_of_one, or_right, same_listed, some_place_of}
+use Rattle.wl_bind.proofs.ListedLaws.{any_in, as_in, same_listed, some_place_of}
 use Rattle.wl_bind.proofs.ReferenceLaws.{Laws, Names, as_named, fun_leads, named_unit_kept, names_one, no_type}
 
 -- ---- globals

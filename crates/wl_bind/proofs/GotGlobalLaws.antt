@@ -1,10 +1,9 @@
 -- The globals of the symbols of an object.
-use Rattle.std.proofs.Common.{◌≡◌, ◌∙◌, ◌<◌, ◌≤◌, ◌^◌, ℕ, zero, suc, ◌+◌, Bool, List, [], ◌∷◌, ◌++◌, length, map, get_or, take, position, refl, sym, ap, subst, arith, inl, inr, nat_lt, Option, Some, None, slice_get, unwrap_or}
-use Rattle.std.specs.List.{list_any, range_with_len, position_or_len}
+use Rattle.std.proofs.Common.{◌≡◌, ◌∙◌, ◌||◌, ◌<◌, ◌≤◌, ◌^◌, ℕ, ◌+◌, Bool, List, [], ◌∷◌, ◌++◌, length, map, get_or, take, position, refl, sym, ap, subst, arith, Option, Some, None, slice_get}
+use Rattle.std.specs.List.{list_any, range_with_len}
 use Rattle.std.specs.Option.{IsSome, option_and_then}
-use Rattle.std.proofs.lemmas.Bool.{cases_Bool}
 use Rattle.std.proofs.lemmas.List.{take_more}
-use Rattle.std.proofs.lemmas.List.Folds.{list_any_more}
+use Rattle.std.proofs.lemmas.List.Folds.{list_any-append}
 use Rattle.std.proofs.lemmas.List.FromFn.{length-map-range_with_len, get_or-map-range_with_len}
 use Rattle.std.proofs.lemmas.Option.{get_or_from_slice_get}
 use Rattle.indexmap.proofs.SetLemmas.{AllZip-push}
@@ -19,15 +18,15 @@ use Rattle.wl_bind.specs.GlobalSteps.{marked}
 use Rattle.wl_bind.specs.IndexMaps.{is_global_of, mem_place, func_place}
 use Rattle.wl_bind.specs.Input.{Input}
 use Rattle.wl_bind.specs.Numbering.{IsNumbering}
-use Rattle.wl_bind.specs.Parts.{AreStarts, starts_from, total, lengths_of, IsPlaceOf, ArePlacesOf, HasEntry}
+use Rattle.wl_bind.specs.Parts.{IsPlaceOf, ArePlacesOf, HasEntry}
 use Rattle.wl_bind.specs.Sameness.{same_definition, same_pair}
 use Rattle.wl_bind.specs.Scan.{is_global_index, got_mem, got_func, got_mem_entry, got_func_entry, GotMemEntry, GotFuncEntry}
 use Rattle.wl_bind.specs.declared.binding.FunctionTarget.{FunctionTarget}
 use Rattle.wl_bind.specs.declared.binding.GlobalTarget.TheVariants.{GotMem, GotFunc}
 use Rattle.wl_bind.specs.declared.numbering.Numbering.{Numbering}
-use Rattle.wl_bind.specs.declared.parts.PartStarts.{PartStarts}
 use Rattle.wl_bind.specs.declared.relocated.Relocated.{Relocated}
 use Rattle.wl_bind.proofs.GotLaws.{position_map}
+use Rattle.wl_bind.proofs.ListLaws.{or_false, place_lt}
 use Rattle.wl_bind.proofs.MarkLaws.{one_more}
 use Rattle.wl_bind.proofs.RowLaws.{splits}
 use Rattle.wl_bind.proofs.SlotIndexLaws.{has_entry}
@@ -35,17 +34,17 @@ use Rattle.wl_bind.proofs.SlotIndexLaws.{has_entry}
 -- ---- marks of symbols
 
 -- one relocation more
-pub relocation_more : (n : ℕ) (rs : List Relocated) (i : ℕ) (d : Relocated) (old new : List Bool)
-    → i < length rs → new ≡ marked old (get_or rs i d)
-    → old ≡ map (λ k. list_any (is_global_of k) (take i rs)) (range_with_len 0 n)
-    → new ≡ map (λ k. list_any (is_global_of k) (take (i + 1) rs)) (range_with_len 0 n)
-relocation_more n rs i d old new lt is so_far =
-    let r : Relocated = get_or rs i d in
-    let f = λ (k : ℕ). list_any (is_global_of k) (take i rs) in
-    let g = λ (k : ℕ). list_any (is_global_of k) (take (i + 1) rs) in
+pub relocation_more : (n : ℕ) (seen : List Relocated) (r : Relocated) (old new : List Bool)
+    → new ≡ marked old r
+    → old ≡ map (λ k. list_any (is_global_of k) seen) (range_with_len 0 n)
+    → new ≡ map (λ k. list_any (is_global_of k) (seen ++ r ∷ [])) (range_with_len 0 n)
+relocation_more n seen r old new is so_far =
+    let f = λ (k : ℕ). list_any (is_global_of k) seen in
+    let g = λ (k : ℕ). list_any (is_global_of k) (seen ++ r ∷ []) in
     is ∙ (ap (λ (bs : List Bool). marked bs r) so_far
     ∙ one_more f g n r.relocation.index (is_global_index r.relocation.ty)
-    (λ k. list_any_more (is_global_of k) rs i d lt))
+    (λ k. list_any-append (is_global_of k) seen (r ∷ [])
+    ∙ ap (λ (b : Bool). list_any (is_global_of k) seen || b) (or_false (is_global_of k r))))
 
 -- ---- places in the GOT lists
 
@@ -69,16 +68,6 @@ func_placed input funcs d f are =
 -- ---- entries of parts
 
 -- ---- entries of the GOT lists
-
-place_lt : {X : Type 0} (test : X → Bool) (xs : List X) (p : ℕ) → position test xs ≡ Some p
-    → p < length xs
-place_lt test xs p is = elim (cases_Bool (nat_lt (position_or_len test xs) (length xs))) [
-  | inl y ↦ (let some : Some (position_or_len test xs) ≡ Some p = rw y at is in
-      let at : position_or_len test xs ≡ p = cc in
-      let lt : position_or_len test xs < length xs = grind (arith, y) in
-      omega (arith, at, lt))
-  | inr none ↦ absurd (let nothing : None ≡ Some p = rw none at is in cc)
-]
 
 then_lt : {F X : Type 0} (test : F → X → Bool) (xs : List X) (o : Option F) (p : ℕ)
     → option_and_then (λ f. position (test f) xs) o ≡ Some p → p < length xs

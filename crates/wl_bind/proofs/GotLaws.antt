@@ -1,5 +1,5 @@
 -- Keys with names: places in lists, and maps of places.
-use Rattle.std.proofs.Common.{◌≡◌, ◌==◌, ◌&&◌, ◌||◌, ◌⊎◌, ◌+◌, ◌<◌, ◌≤◌, ℕ, zero, suc, Bool, true, false, not, cond, List, [], ◌∷◌, ◌++◌, map, length, position, Option, Some, None, Result, Ok, Err, OnOk, is_some, refl, sym, ap, ◌∙◌, arith, inl, inr, if◌then◌else◌, nat_lt, true≢false, subst}
+use Rattle.std.proofs.Common.{◌≡◌, ◌==◌, ◌||◌, ◌⊎◌, ◌+◌, ℕ, suc, Bool, true, false, not, cond, List, [], ◌∷◌, ◌++◌, map, length, position, Option, Some, None, Result, Ok, Err, OnOk, is_some, refl, sym, ap, ◌∙◌, arith, inl, inr, if◌then◌else◌, nat_lt, true≢false, subst}
 use Rattle.std.specs.HashMap.{HashMap, get_by, UpdatesBy}
 use Rattle.std.specs.List.{list_any, position_or_len}
 use Rattle.std.specs.Option.{option_or, option_map}
@@ -12,7 +12,7 @@ use Rattle.indexmap.specs.IndexMap.{insert_entry}
 use Rattle.std.proofs.lemmas.List.{length-map, map-append}
 use Rattle.std.proofs.lemmas.Map.Text.{hash_map_updates_str}
 use denote.Ref.{Bor}
-use Rattle.wl_bind.specs.GotSteps.{is_name, place_named, ArePlaces, insert_named, insert_as, insert_all_as}
+use Rattle.wl_bind.specs.GotSteps.{is_name, ArePlaces, insert_named, insert_as, insert_all_as}
 use Rattle.indexmap.specs.IndexSet.{insert_key, insert_all}
 
 -- ---- places in lists

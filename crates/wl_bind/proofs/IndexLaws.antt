@@ -1,6 +1,6 @@
 -- The lengths of the parts of spaces, and the addresses of the linker's that are exported.
 use Rattle.std.proofs.Common.{◌≡◌, ◌∙◌, ◌⊎◌, ℕ, zero, suc, ◌+◌, ◌<◌, ◌≤◌, Bool, true, false, List, [], ◌∷◌, ◌++◌, length, map, refl, sym, ap, subst, arith, inl, inr, Option, Some, None, Result, Ok, Err, IfOk, IfErr, slice_get, get_or, position, filter_map, if◌then◌else◌, MatchOption, length-append}
-use Rattle.std.specs.List.{list_any, range_with_len, cons_option}
+use Rattle.std.specs.List.{list_any, range_with_len}
 use Rattle.std.specs.Str.{bytes_eq}
 use Rattle.std.proofs.lemmas.Bool.{cases_Bool}
 use Rattle.std.proofs.lemmas.List.Quantifiers.{position-Some}
@@ -29,9 +29,9 @@ use Rattle.wl_bind.specs.Sameness.{same_made}
 use Rattle.wl_bind.specs.SpaceFaults.{AreTooMany, IsSpaceOver}
 use Rattle.wl_bind.specs.declared.indices.LinkerDefinedIndices.{LinkerDefinedIndices}
 use Rattle.wl_bind.specs.declared.parts.PartStarts.{PartStarts}
+use Rattle.wl_bind.proofs.ListLaws.{in_back, in_front, length_mapped, made_of_one, mapped_at}
 use Rattle.wl_bind.proofs.ListedLaws.{any_in, some_place_of}
-use Rattle.wl_bind.proofs.OnceParts.{IsIn, in_split}
-use Rattle.wl_bind.proofs.OwnLaws.{mapped_at}
+use Rattle.wl_bind.proofs.OnceParts.{IsIn}
 use Rattle.wl_bind.proofs.PlaceLaws.{joined_length}
 use Rattle.wl_bind.proofs.SameLaws.{made_one, made_self}
 use Rattle.wl_bind.proofs.StartLaws.{entry_found}
@@ -41,10 +41,6 @@ use Rattle.wl_bind.proofs.StartLaws.{entry_found}
 pub length_if : {X : Type 0} (b : Bool) (x : X) → length (if b then x ∷ [] else []) ≡ (if b then 1 else 0)
 length_if true x = refl
 length_if false x = refl
-
-pub length_mapped : {X Y : Type 0} (f : X → Y) (xs : List X) → length (map f xs) ≡ length xs
-length_mapped f [] = refl
-length_mapped f (x ∷ xs) = ap suc (length_mapped f xs)
 
 pub lengths_mapped : {X Y Z : Type 0} (f : X → Y) (g : X → Z) (xs : List X) → length (map f xs) ≡ length (map g xs)
 lengths_mapped f g xs = length_mapped f xs ∙ sym (length_mapped g xs)
@@ -77,27 +73,11 @@ longer parts rest lt =
     let front = joined_length parts in
     omega (arith, lt, all, front)
 
-over_as : (input : Input) (count : ℕ) (e : LinkError) → (max_entries < count → AreTooMany input) → IsOver count e
+pub over_as : (input : Input) (count : ℕ) (e : LinkError) → (max_entries < count → AreTooMany input) → IsOver count e
     → IsSpaceOver input e
 over_as input count fault.OutOfMemory many over = tt
 over_as input count (fault.TooLarge what) many over = (over.0, many over.1)
-over_as input count (fault.Malformed a b) many over = absurd over
-over_as input count (fault.Unsupported a b) many over = absurd over
-over_as input count (fault.DuplicateSymbol a b c d e) many over = absurd over
-over_as input count (fault.BadFeature a b) many over = absurd over
-over_as input count (fault.SharedMemoryFeature a) many over = absurd over
-over_as input count (fault.FeatureConflict a b) many over = absurd over
-over_as input count (fault.EntryNotDefined a) many over = absurd over
-over_as input count (fault.WrongKind a b) many over = absurd over
-over_as input count (fault.SignatureMismatch a b) many over = absurd over
-over_as input count (fault.UndefinedSymbols a) many over = absurd over
-over_as input count (fault.ConflictingTypes a b c d e) many over = absurd over
-over_as input count (fault.BadStackSize a) many over = absurd over
-over_as input count (fault.BadMemorySize a b c) many over = absurd over
-over_as input count (fault.RelocationRange a b c) many over = absurd over
-over_as input count (fault.ConstantRange a) many over = absurd over
-over_as input count (fault.ExportNotFound a) many over = absurd over
-over_as input count (fault.DuplicateExport a) many over = absurd over
+over_as input count _ many over = absurd over
 
 pub functions_over : (input : Input) (e : LinkError) → IsOver (total (lengths_of (function_parts input))) e → IsSpaceOver input e
 functions_over input e over =
@@ -110,14 +90,6 @@ globals_over input e over =
     (λ lt. inr (longer (global_parts input) (object_globals input) lt)) over
 
 -- ---- first occurrences keep each
-
-in_front : {X : Type 0} (xs ys : List X) (z : X) → IsIn xs z → IsIn (xs ++ ys) z
-in_front [] ys z h = absurd h
-in_front (x ∷ xs) ys z h = elim h [ inl e ↦ inl e | inr r ↦ inr (in_front xs ys z r) ]
-
-in_back : {X : Type 0} (xs ys : List X) (z : X) → IsIn ys z → IsIn (xs ++ ys) z
-in_back [] ys z h = h
-in_back (x ∷ xs) ys z h = inr (in_back xs ys z h)
 
 found_any : {X : Type 0} (same : X → X → Bool) → ((a b : X) → same a b ≡ true → a ≡ b) → (xs : List X) (x : X)
     → list_any (same x) xs ≡ true → IsIn xs x
@@ -146,17 +118,6 @@ kept_firsts {X} same one seen (x ∷ xs) z h = elim (cases_Bool (list_any (same 
     ]
   ]))
 ]
-
-in_filter_map : {X Y : Type 0} (f : X → Option Y) (xs : List X) (x : X) (y : Y) → IsIn xs x → f x ≡ Some y → IsIn (filter_map f xs) y
-in_filter_map f [] x y h is = absurd h
-in_filter_map {X} f (a ∷ xs) x y h is = elim h [
-  | inl e ↦ (let here : f a ≡ Some y = ap f e ∙ is in rw here (inl refl))
-  | inr r ↦ by (f a) (in_filter_map f xs x y r is)
-]
-  where
-    by : (o : Option _) → IsIn (filter_map f xs) y → IsIn (cons_option o (filter_map f xs)) y
-    by None rest = rest
-    by (Some b) rest = inr rest
 
 -- ---- places of exported addresses
 
@@ -216,7 +177,7 @@ not_listed : (args : WasmArgs) (m : WasmLinkerSymbol) → is_data (row_of m).kin
 not_listed args m is_data_of none (inr f) = f
 not_listed args m is_data_of none (inl t) =
     let named = any_named (name_of m) args.export_symbols t in
-    let among = in_filter_map data_named args.export_symbols (name_of m) m named (data_by_name m is_data_of) in
+    let among = made_of_one data_named args.export_symbols (name_of m) m named (data_by_name m is_data_of) in
     let first = kept_firsts same_made made_one [] (filter_map data_named args.export_symbols) m (inr among) in
     absurd (placed_one (λ a. same_made a m) (exported_addresses args) m first (made_self m) none)
 

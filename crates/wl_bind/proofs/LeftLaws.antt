@@ -16,6 +16,7 @@ use Rattle.wl_bind.specs.Input.{Input}
 use Rattle.wl_bind.specs.KeptSlots.{slots_from, is_kept_slot, kept_slots}
 use Rattle.wl_bind.specs.FunctionBinding.{left_functions, link_stubs, host_functions, named_function, by_stub, by_host, binds_function}
 use Rattle.wl_bind.specs.BindingSteps.{stub_named, host_target, left_target}
+use Rattle.wl_bind.proofs.ListLaws.{none_found, right_and}
 use Rattle.wl_bind.proofs.RowLaws.{passes}
 
 pub cases_option : {X : Type 0} (o : Option X) → (o ≡ None) ⊎ ((x : X) × (o ≡ Some x))
@@ -116,13 +117,6 @@ found test all (y ∷ xs) x every is = elim (cases_Bool (all y)) [
   ]
 ]
 
-pub none_found : {X : Type 0} (test : X → Bool) (xs : List X) → find test xs ≡ None → list_any test xs ≡ false
-none_found test [] none = refl
-none_found test (x ∷ xs) none = elim (cases_Bool (test x)) [
-  | inl y ↦ absurd (let told : Some x ≡ None = rw y at none in cc)
-  | inr n ↦ rw n (none_found test xs (rw n at none))
-]
-
 head_passes : {X : Type 0} (test : X → Bool) (x : X) (xs : List X) → list_all test (x ∷ xs) ≡ true → test x ≡ true
 head_passes test x xs every = elim (cases_Bool (test x)) [ inl y ↦ y | inr n ↦ absurd (let none : false ≡ true = rw n at every in cc) ]
 
@@ -146,21 +140,12 @@ weak_of objects slots t listed name =
     let so : (not (bytes_eq t.item.name t.item.name) || is_weak_slot objects t) ≡ true = all_at test slots t listed.0 listed.1 listed.2 name in
     rw (itself t) at so
 
--- both tests hold
-pub left_of : (a b : Bool) → (a && b) ≡ true → a ≡ true
-left_of true b both = refl
-left_of false b both = absurd cc
-
-pub right_of : (a b : Bool) → (a && b) ≡ true → b ≡ true
-right_of true b both = both
-right_of false b both = absurd cc
-
 -- what is found among the stubs has the slot's name
 pub stub_found : (objects : List Object) (slots : List ImportSlot) (t s : ImportSlot) → Contains slots t → find (same_field t) (stubs objects slots) ≡ Some s → is_stub objects slots t ≡ true
 stub_found objects slots t s listed is =
     let f = found (same_field t) (is_stub objects slots) (stubs objects slots) s (all_inserted same_field (is_stub objects slots) [] slots refl) is in
     let same : t.item.name ≡ s.item.name = (bytes_eq-Decides t.item.name s.item.name).0 f.passed in
-    let other : is_stub_name objects slots s.item.name ≡ true = right_of (is_weak_slot objects s) (is_stub_name objects slots s.item.name) f.also in
+    let other : is_stub_name objects slots s.item.name ≡ true = right_and (is_weak_slot objects s) (is_stub_name objects slots s.item.name) f.also in
     let name : is_stub_name objects slots t.item.name ≡ true = ap (is_stub_name objects slots) same ∙ other in
     let weak : is_weak_slot objects t ≡ true = weak_of objects slots t listed name in
     rw (weak, name) refl

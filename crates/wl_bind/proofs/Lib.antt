@@ -5,6 +5,7 @@ pub mod GotLaws
 pub mod HostLaws
 pub mod KindLaws
 pub mod LeftLaws
+pub mod ListLaws
 pub mod MapLaws
 pub mod MemberLaws
 pub mod MismatchLaws

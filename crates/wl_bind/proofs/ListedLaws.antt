@@ -1,29 +1,14 @@
 -- What stands in lists, and what is found in them.
-use Rattle.std.proofs.Common.{◌≡◌, ◌∙◌, ◌||◌, ◌&&◌, not, ℕ, zero, suc, Bool, true, false, List, [], ◌∷◌, ◌++◌, filter_map, find, position, refl, sym, ap, subst, arith, inl, inr, Option, Some, None, slice_get, Contains}
+use Rattle.std.proofs.Common.{◌≡◌, ◌∙◌, ℕ, zero, suc, Bool, true, false, List, [], ◌∷◌, ◌++◌, filter_map, find, position, refl, sym, ap, subst, arith, inl, inr, Option, Some, None, slice_get, Contains}
 use Rattle.std.specs.List.{cons_option, list_any}
 use Rattle.std.specs.Option.{is_none}
 use Rattle.std.proofs.lemmas.Bool.{cases_Bool}
 use Rattle.indexmap.specs.IndexSet.{insert_key, insert_all}
-use Rattle.wl_bind.proofs.LeftLaws.{cases_option, no_place, any_at, none_found, itself}
+use Rattle.wl_bind.proofs.LeftLaws.{cases_option, no_place, any_at, itself}
+use Rattle.wl_bind.proofs.ListLaws.{find_in_front, none_found, or_left, or_right}
 use Rattle.wl_bind.proofs.OnceParts.{IsIn, in_split, passes}
 
 -- ---- tests
-
-pub or_left : (a b : Bool) → a ≡ true → (a || b) ≡ true
-or_left true b e = refl
-or_left false b e = absurd cc
-
-pub or_right : (a b : Bool) → b ≡ true → (a || b) ≡ true
-or_right true b e = refl
-or_right false b e = e
-
-pub and_both : (a b : Bool) → a ≡ true → b ≡ true → (a && b) ≡ true
-and_both true b x y = y
-and_both false b x y = absurd cc
-
-pub is_not : (a : Bool) → not a ≡ true → a ≡ false
-is_not true e = absurd cc
-is_not false e = refl
 
 pub is_nothing : {X : Type 0} (o : Option X) → is_none o ≡ true → o ≡ None
 is_nothing None e = refl
@@ -65,18 +50,6 @@ any_of test (y ∷ xs) any = elim (cases_Bool (test y)) [
       record { x = rest.x; there = inr rest.there; passed = rest.passed })
 ]
 
--- what is made of one is among what is made of all
-pub made_of_one : {X Y : Type 0} (f : X → Option Y) (xs : List X) (x : X) (y : Y) → IsIn xs x → f x ≡ Some y → IsIn (filter_map f xs) y
-made_of_one f [] x y h is = absurd h
-made_of_one {X} {Y} f (z ∷ xs) x y (inl e) is =
-    let here : f z ≡ Some y = ap f e ∙ is in
-    subst (λ (o : Option Y). IsIn (cons_option o (filter_map f xs)) y) (sym here) (inl refl)
-made_of_one {X} {Y} f (z ∷ xs) x y (inr r) is = behind_it (f z) (made_of_one f xs x y r is)
-  where
-    behind_it : (o : Option Y) → IsIn (filter_map f xs) y → IsIn (cons_option o (filter_map f xs)) y
-    behind_it None h = h
-    behind_it (Some w) h = inr h
-
 pub record MadeOf {X Y : Type 0} (f : X → Option Y) (xs : List X) (y : Y) : Type 0 where
   pub x : X
   pub there : IsIn xs x
@@ -117,13 +90,6 @@ some_place_of test xs any = elim (cases_option (position test xs)) [
 
 -- ---- the first of a list without repeats is found by itself
 
-find_more : {X : Type 0} (test : X → Bool) (xs ys : List X) (x : X) → find test xs ≡ Some x → find test (xs ++ ys) ≡ Some x
-find_more test [] ys x is = absurd cc
-find_more test (y ∷ xs) ys x is = elim (cases_Bool (test y)) [
-  | inl so ↦ rw so (rw so at is)
-  | inr fails ↦ rw fails (find_more test xs ys x (rw fails at is))
-]
-
 find_last : {X : Type 0} (test : X → Bool) (xs : List X) (x : X) → list_any test xs ≡ false → test x ≡ true
     → find test (xs ++ x ∷ []) ≡ Some x
 find_last test [] x none so = rw so refl
@@ -140,7 +106,7 @@ one_finds_itself : {X : Type 0} (same : X → X → Bool) → ((x : X) → same 
 one_finds_itself {X} same self keys y all = elim (cases_Bool (list_any (same y) keys)) [
   | inl so ↦ rw so all
   | inr new ↦ rw new (λ x h. elim (in_split keys (y ∷ []) x h) [
-    | inl before ↦ find_more (same x) keys (y ∷ []) x (all x before)
+    | inl before ↦ find_in_front (same x) keys (y ∷ []) x (all x before)
     | inr last ↦ elim last [
       | inl e ↦ subst (λ (z : X). find (same z) (keys ++ y ∷ []) ≡ Some z) e (find_last (same y) keys y new (self y))
       | inr none ↦ absurd none

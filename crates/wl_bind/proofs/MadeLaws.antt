@@ -1,5 +1,5 @@
 -- What a kept slot is bound to of the linker's exists.
-use Rattle.std.proofs.Common.{◌≡◌, ◌∙◌, ◌&&◌, ◌||◌, ℕ, zero, suc, ◌+◌, Bool, true, false, List, [], ◌∷◌, filter, refl, sym, ap, subst, inl, inr, arith, Option, Some, None, MatchOption, Contains, codes, if◌then◌else◌}
+use Rattle.std.proofs.Common.{◌≡◌, ◌∙◌, ◌&&◌, ◌||◌, ℕ, ◌+◌, Bool, true, false, List, [], ◌∷◌, refl, sym, ap, subst, inl, inr, arith, Option, Some, None, MatchOption, Contains, codes, if◌then◌else◌}
 use Rattle.std.specs.List.{list_any, position}
 use Rattle.std.specs.Option.{option_map, unwrap_or}
 use Rattle.std.proofs.lemmas.Bool.{cases_Bool}
@@ -40,8 +40,9 @@ use Rattle.wl_bind.specs.declared.binding.GlobalTarget.TheVariants as global
 use Rattle.wl_bind.proofs.ClosedLaws.{SlotLaws}
 use Rattle.wl_bind.proofs.GlobalLaws.{binds}
 use Rattle.wl_bind.proofs.LeftLaws.{cases_option}
+use Rattle.wl_bind.proofs.ListLaws.{or_left, or_right}
 use Rattle.wl_bind.proofs.MemberLaws.{nowhere, first_or_behind}
-use Rattle.wl_bind.proofs.OneRuleLaws.{bound_as}
+use Rattle.wl_bind.proofs.OneRuleLaws.{bound_as, taken_of}
 
 -- ---- what is told of slots and of names
 
@@ -61,23 +62,6 @@ any_of : {X : Type 0} (test : X → Bool) (xs : List X) (x : X) → Contains xs 
     → list_any test xs ≡ true
 any_of test xs x listed passed =
     list_any_at test xs listed.0 x listed.1 (ap test listed.2 ∙ passed)
-
-front_or_behind : {X : Type 0} (y : X) (kept xs : List X) (x : X)
-    → (Contains kept x → Contains xs x) → Contains (y ∷ kept) x → Contains (y ∷ xs) x
-front_or_behind y kept xs x rest (zero, lt, is) = (zero, omega arith, is)
-front_or_behind y kept xs x rest (suc k, lt, is) =
-    let among = rest (k, omega (arith, lt), is) in
-    (suc among.0, omega (arith, among.1), among.2)
-
--- what passes a test stands in the list
-sifted_of : {X : Type 0} (test : X → Bool) (xs : List X) (x : X) → Contains (filter test xs) x
-    → Contains xs x
-sifted_of test [] x listed = listed
-sifted_of test (y ∷ xs) x listed = elim (cases_Bool (test y)) [
-  | inl t ↦ front_or_behind y (filter test xs) xs x (sifted_of test xs x) (rw t at listed)
-  | inr f ↦ (let among = sifted_of test xs x (rw f at listed) in
-      (suc among.0, omega (arith, among.1), among.2))
-]
 
 -- ---- the kind of a kept slot
 
@@ -105,7 +89,7 @@ kept_kind : (input : Input) (kind : WasmSymbolKind) (t : ImportSlot)
     → Contains (kept_slots input kind) t → t.kind ≡ kind
 kept_kind input kind t listed =
     slots_kind kind 0 input.link.objects t
-    (sifted_of (is_kept_slot input) (slots_from kind 0 input.link.objects) t listed)
+    (taken_of (is_kept_slot input) (slots_from kind 0 input.link.objects) t listed)
 
 -- ---- what names bind a slot to
 
@@ -229,14 +213,6 @@ global_there laws input t m is = elim (cases_option (slot_target input.link t)) 
 
 self_same : (m : WasmLinkerSymbol) → same_made m m ≡ true
 self_same m = true_same the_type m m refl
-
-or_left : (a b : Bool) → a ≡ true → (a || b) ≡ true
-or_left true b e = refl
-or_left false b e = absurd cc
-
-or_right : (a b : Bool) → b ≡ true → (a || b) ≡ true
-or_right true b e = refl
-or_right false b e = e
 
 function_bound : (input : Input) (t : ImportSlot) (m : WasmLinkerSymbol)
     → Contains (kept_slots input Func) t

@@ -9,6 +9,7 @@ use Rattle.wl_linking.specs.Infos.{SegmentInfo, is_tls}
 use Rattle.wl_linking.specs.Symbols.{Symbol}
 use Rattle.wl_bind.specs.ThreadData.{is_thread_symbol_on, is_thread_data_by}
 use Rattle.wl_bind.specs.ThreadSteps.{is_thread_symbol, marked}
+use Rattle.wl_bind.proofs.ListLaws.{or_false, or_true}
 
 -- ---- a mark for each number
 
@@ -37,14 +38,6 @@ one_set f g n i mark here others =
           get_or-set_other marks i k mark false ne
           ∙ (get_or-map-range_with_len f 0 n k k false lt same ∙ sym (others k ne)))
     ])
-
-or_true : (b : Bool) → (b || true) ≡ true
-or_true true = refl
-or_true false = refl
-
-or_false : (b : Bool) → (b || false) ≡ b
-or_false true = refl
-or_false false = refl
 
 -- one is set beside those that are, or none
 pub one_more : (f g : ℕ → Bool) (n i : ℕ) (marks : Bool)

@@ -31,21 +31,10 @@ use Rattle.wl_module.specs.declared.types.ValType.TheVariants.{I32}
 use Rattle.wl_slots.specs.Left.{first_imports}
 use Rattle.wl_symbols.specs.declared.linker_symbol.WasmLinkerSymbol.{WasmLinkerSymbol}
 use Rattle.wl_symbols.specs.declared.linker_symbol.WasmLinkerSymbol.TheVariants.{CallCtors, InitTls}
+use Rattle.wl_bind.proofs.ListLaws.{get_in_front, or_assoc, or_false, or_true}
 use Rattle.wl_bind.proofs.SharedLaws.{host_here}
 
 -- ---- truth values
-
-or_true : (b : Bool) → (b || true) ≡ true
-or_true true = refl
-or_true false = refl
-
-or_false : (b : Bool) → (b || false) ≡ b
-or_false true = refl
-or_false false = refl
-
-or_assoc : (a b c : Bool) → ((a || b) || c) ≡ (a || (b || c))
-or_assoc true b c = refl
-or_assoc false b c = refl
 
 -- ---- marks
 
@@ -215,17 +204,11 @@ abbrev pub Grows : List FunctionType → List FunctionType → Type 0
 Grows before after = (k : ℕ) (ty : FunctionType) → slice_get before k ≡ Some ty
     → slice_get after k ≡ Some ty
 
-get_left : {X : Type 0} (xs ys : List X) (k : ℕ) (x : X) → slice_get xs k ≡ Some x
-    → slice_get (xs ++ ys) k ≡ Some x
-get_left [] ys k x here = absurd cc
-get_left (y ∷ xs) ys zero x here = here
-get_left (y ∷ xs) ys (suc k) x here = get_left xs ys k x here
-
 one_grows : (types : List FunctionType) (ty : FunctionType) → Grows types (add_type types ty)
 one_grows types ty k x here =
     elim (cases_Bool (list_any (same_type ty) types)) [
       | inl there ↦ rw there here
-      | inr new ↦ rw new (get_left types (ty ∷ []) k x here)
+      | inr new ↦ rw new (get_in_front types (ty ∷ []) k x here)
     ]
 
 grows : (types more : List FunctionType) → Grows types (insert_all same_type types more)

@@ -21,7 +21,8 @@ use Rattle.wl_bind.specs.Signatures.{NamedByRelocation, OnKeptSlot, NamedByInit,
 use Rattle.wl_bind.specs.BindingSteps.{is_other_type, differs, is_mismatch, names_mismatch, TellsMismatch, NamesMismatch, AreOwnClear}
 use Rattle.wl_bind.specs.declared.binding.FunctionTarget.{FunctionTarget}
 use Rattle.wl_bind.specs.declared.relocated.Relocated.{Relocated}
-use Rattle.wl_bind.proofs.LeftLaws.{cases_option, left_of, right_of}
+use Rattle.wl_bind.proofs.LeftLaws.{cases_option}
+use Rattle.wl_bind.proofs.ListLaws.{and_both, is_not, left_and, right_and, some_same}
 
 -- ---- what differs
 
@@ -35,16 +36,9 @@ there : {X : Type 0} (test : X → Bool) (o : Option X) → option_map_or test o
 there test None h = absurd cc
 there test (Some x) h = record { x = x; is = refl; so = h }
 
-not_true : (b : Bool) → not b ≡ true → b ≡ false
-not_true true h = absurd cc
-not_true false h = refl
-
 passing : {X : Type 0} (test : X → Bool) (o : Option X) (x : X) → o ≡ Some x → test x ≡ true → option_map_or test o false ≡ true
 passing test None x is so = absurd cc
 passing test (Some y) x is so = (let same : y ≡ x = cc in rw same so)
-
-both_true : (a b : Bool) → a ≡ true → b ≡ true → (a && b) ≡ true
-both_true a b x y = rw x y
 
 not_false : (b : Bool) → b ≡ false → not b ≡ true
 not_false b h = rw h refl
@@ -54,7 +48,7 @@ pub mismatch : (input : Input) (object number : ℕ) (e : LinkError) → IsLooke
 mismatch input object number e looked h =
     let leads : Symbol → Bool = λ (s : Symbol). option_map_or (differs input object s) (fun input object number) false in
     let s = there (λ (s : Symbol). is_function_kind s.kind && leads s) (symbol_in input.link.objects object number) h.so in
-    let f = there (differs input object s.x) (fun input object number) (right_of (is_function_kind s.x.kind) (leads s.x) s.so) in
+    let f = there (differs input object s.x) (fun input object number) (right_and (is_function_kind s.x.kind) (leads s.x) s.so) in
     let d = there (λ (t : FunctionType). is_other_type input.link.objects t f.x) (declared_type input.link.objects object s.x) f.so in
     let a = there (λ (t : FunctionType). not (same_type d.x t)) (target_type input.link.objects f.x) d.so in
     record {
@@ -63,14 +57,14 @@ mismatch input object number e looked h =
       looked_at = looked;
       symbol = s.x;
       is = s.is;
-      function = left_of (is_function_kind s.x.kind) (leads s.x) s.so;
+      function = left_and (is_function_kind s.x.kind) (leads s.x) s.so;
       target = f.x;
       leads = f.is;
       declared = d.x;
       declared_is = d.is;
       actual = a.x;
       actual_is = a.is;
-      differ = not_true (same_type d.x a.x) a.so;
+      differ = is_not (same_type d.x a.x) a.so;
       told = h.told;
     }
 
@@ -81,7 +75,7 @@ is_one input e m =
     let a = passing (λ (t : FunctionType). not (same_type m.declared t)) (target_type input.link.objects m.target) m.actual m.actual_is (not_false (same_type m.declared m.actual) m.differ) in
     let d = passing (λ (t : FunctionType). is_other_type input.link.objects t m.target) (declared_type input.link.objects m.object m.symbol) m.declared m.declared_is a in
     let f = passing (differs input m.object m.symbol) (fun input m.object m.number) m.target m.leads d in
-    passing (λ (s : Symbol). is_function_kind s.kind && leads s) (symbol_in input.link.objects m.object m.number) m.symbol m.is (both_true (is_function_kind m.symbol.kind) (leads m.symbol) m.function f)
+    passing (λ (s : Symbol). is_function_kind s.kind && leads s) (symbol_in input.link.objects m.object m.number) m.symbol m.is (and_both (is_function_kind m.symbol.kind) (leads m.symbol) m.function f)
 
 -- none of those that are looked at is one
 pub all_clear : (input : Input) → ((object number : ℕ) → IsLookedAt input object number → is_mismatch input object number ≡ false) → Clear (IsMismatch input)
@@ -157,9 +151,6 @@ pub relocation_more : (input : Input) (list : List Relocated) (k : ℕ) (d : Rel
     → (j : ℕ) (r : Relocated) → j < k + 1 → slice_index_or list j r ≡ r → names_mismatch input r ≡ false
 relocation_more input list k d lt so before =
     one_more (names_mismatch input) list k (slice_index_or list k d) lt (stands_there list k d lt) so before
-
-some_same : {X : Type 0} (x y : X) → Some x ≡ Some y → x ≡ y
-some_same x y e = cc
 
 -- a symbol that is defined is on no slot
 pub defined_clear : (input : Input) (object number : ℕ) (s : Symbol) → symbol_in input.link.objects object number ≡ Some s → is_undefined s ≡ false

@@ -23,12 +23,9 @@ use Rattle.wl_bind.specs.declared.binding.GlobalTarget.{GlobalTarget}
 use Rattle.wl_bind.specs.declared.binding.GlobalTarget.TheVariants as global
 use Rattle.wl_bind.specs.declared.resolution.ImportResolution.TheVariants.{Unresolved}
 use Rattle.wl_bind.specs.declared.resolution.ObjectImportResolutions.{ObjectImportResolutions}
+use Rattle.wl_bind.proofs.ListLaws.{or_assoc, or_false}
 
 -- ---- numbers one by one
-
-or_assoc : (a b c : Bool) → ((a || b) || c) ≡ (a || (b || c))
-or_assoc true b c = refl
-or_assoc false b c = refl
 
 -- one number more
 pub number_more : (test : ℕ → Bool) (n k : ℕ) (before here after all : Bool) → k < n
@@ -47,10 +44,6 @@ number_more test n k before here after all lt is joined so_far =
     ap (λ (b : Bool). b || rest) (joined ∙ ap (λ (b : Bool). before || b) is)
     ∙ (or_assoc before (test k) rest
     ∙ (ap (λ (ks : List ℕ). before || list_any test ks) (sym split) ∙ so_far))
-
-or_false : (b : Bool) → (b || false) ≡ b
-or_false true = refl
-or_false false = refl
 
 -- the last number
 pub number_end : (test : ℕ → Bool) (n k : ℕ) (so_far all : Bool) → n ≤ k

@@ -1,7 +1,6 @@
 -- The indices of what objects define, and of what their slots are resolved to.
-use Rattle.std.proofs.Common.{◌≡◌, ◌∙◌, ◌≤◌, ◌<◌, ◌⊎◌, ◌^◌, ℕ, zero, suc, ◌+◌, Bool, true, false, ◌&&◌, if◌then◌else◌, List, [], ◌∷◌, ◌++◌, length, map, take, get_or, refl, sym, ap, subst, arith, inl, inr, Option, Some, None, unwrap_or, slice_get, slice_index_or, Result, Ok, Err, IfOk, IfErr, length-append, length-take-le}
+use Rattle.std.proofs.Common.{◌≡◌, ◌∙◌, ◌≤◌, ◌<◌, ◌^◌, ℕ, zero, suc, ◌+◌, true, false, if◌then◌else◌, List, [], ◌∷◌, ◌++◌, length, map, take, get_or, refl, sym, ap, subst, arith, inl, inr, Some, None, slice_get, slice_index_or, Result, Ok, Err, IfOk, IfErr, length-append, length-take-le}
 use Rattle.std.specs.List.{AllZip, range_with_len}
-use Rattle.std.specs.Option.{option_map_or}
 use Rattle.std.proofs.lemmas.Bool.{cases_Bool}
 use Rattle.std.proofs.lemmas.List.{take_more, length-map}
 use Rattle.std.proofs.lemmas.Option.{slice_get_within, get_or_from_slice_get}
@@ -9,7 +8,6 @@ use Rattle.indexmap.proofs.SetLemmas.{AllZip-push}
 use Rattle.wl_bytes.specs.declared.reader.TheConstants.{MAX_LEN}
 use Rattle.wl_linking.specs.Object.{Object}
 use Rattle.wl_linking.specs.declared.error.LinkError.{LinkError}
-use Rattle.wl_linking.specs.declared.error.LinkError.TheVariants.{OutOfMemory, TooLarge}
 use Rattle.wl_linking.specs.declared.symbols.WasmSymbolKind.{WasmSymbolKind}
 use Rattle.wl_linking.specs.declared.symbols.WasmSymbolKind.TheVariants.{Func, Global}
 use Rattle.wl_live.specs.Live.{Live, is_live, ordinal_of, live_below, IsLiveOf}
@@ -21,16 +19,15 @@ use Rattle.wl_live.specs.declared.units.WasmGcUnit.TheVariants.{DefinedFunction,
 use Rattle.wl_slots.specs.ImportSlots.{ImportSlot, object_slots, import_slots}
 use Rattle.wl_types.specs.Types.{max_entries}
 use Rattle.wl_types.specs.declared.types.TheConstants.{WASM_DEAD_INDEX}
-use Rattle.wl_bind.specs.FunctionSpace.{FunctionEntry, FunctionOf, function_parts, function_space, own_function_entry}
-use Rattle.wl_bind.specs.GlobalSpace.{GlobalEntry, GlobalOf, global_parts, global_space, own_global_entry}
+use Rattle.wl_bind.specs.FunctionSpace.{FunctionOf, function_parts, function_space, own_function_entry}
+use Rattle.wl_bind.specs.GlobalSpace.{GlobalOf, global_parts, global_space, own_global_entry}
 use Rattle.wl_bind.specs.Input.{Input, keeps, keeps_slot}
-use Rattle.wl_bind.specs.KeptSlots.{is_kept_slot}
 use Rattle.wl_bind.specs.Numbering.{IsNumbering}
-use Rattle.wl_bind.specs.NumberingSteps.{HasRoom, FitsOwn, own_indices_of, HasIndex, IsResolvedIndex, resolution_of, HasSlotIndex, HaveSlotIndices, IsSlotIndex}
-use Rattle.wl_bind.specs.OwnIndices.{own_unit, own_count, kept_own, firsts_from, function_firsts, global_firsts, own_index, kept_count}
+use Rattle.wl_bind.specs.NumberingSteps.{HasRoom, FitsOwn, own_indices_of, HasIndex, IsResolvedIndex, resolution_of, HaveSlotIndices, IsSlotIndex}
+use Rattle.wl_bind.specs.OwnIndices.{own_unit, kept_own, firsts_from, function_firsts, global_firsts, own_index, kept_count}
 use Rattle.wl_bind.specs.Parts.{joined, lengths_of, total, by_object, IsIndexOf, AreIndicesOf, AreRows, IsOver}
 use Rattle.wl_bind.specs.Resolutions.{Resolving, rows_from, resolutions, by_all_rules}
-use Rattle.wl_bind.specs.SpaceFaults.{AreTooMany, IsSpaceOver}
+use Rattle.wl_bind.specs.SpaceFaults.{IsSpaceOver}
 use Rattle.wl_bind.specs.declared.binding.FunctionTarget.TheVariants as function
 use Rattle.wl_bind.specs.declared.binding.GlobalTarget.TheVariants as global
 use Rattle.wl_bind.specs.declared.numbering.Numbering.{Numbering}
@@ -39,6 +36,8 @@ use Rattle.wl_bind.specs.declared.own_indices.Own.TheVariants.{Functions, Global
 use Rattle.wl_bind.specs.declared.resolution.ImportResolution.{ImportResolution}
 use Rattle.wl_bind.specs.declared.resolution.ObjectImportResolutions.{ObjectImportResolutions}
 use Rattle.wl_bind.proofs.HostLaws.{IsAt, placed}
+use Rattle.wl_bind.proofs.IndexLaws.{over_as}
+use Rattle.wl_bind.proofs.ListLaws.{left_and}
 use Rattle.wl_bind.proofs.OwnLaws.{own_stands, firsts_length}
 use Rattle.wl_bind.proofs.PlaceLaws.{joined_length}
 use Rattle.wl_bind.proofs.RowLaws.{splits}
@@ -96,10 +95,6 @@ within [] object (FunctionImport k) is = absurd (grind (arith, is))
 within [] object (GlobalImport k) is = absurd (grind (arith, is))
 within (o ∷ objects) zero unit is = omega arith
 within (o ∷ objects) (suc object) unit is = let lt = within objects object unit is in omega (arith, lt)
-
-left_and : (a b : Bool) → (a && b) ≡ true → a ≡ true
-left_and true b both = refl
-left_and false b both = absurd cc
 
 live_within : (input : Input) (u : LinkUnit) → IsLiveOf input.link input.live → is_live input.live u ≡ true
     → u.object < length input.link.objects
@@ -343,11 +338,6 @@ globals_long : (input : Input) → length (global_space input)
     ≡ total (lengths_of (global_parts input)) + kept_count input Globals 0 input.link.objects
 globals_long input = space_length input Globals (λ i k. GlobalOf (global.Defined i k)) (global_parts input)
 
-too_many : (input : Input) (n : ℕ) (e : LinkError) → (max_entries < n → AreTooMany input) → IsOver n e → IsSpaceOver input e
-too_many input n OutOfMemory many over = tt
-too_many input n (TooLarge what) many over = (over.0, many over.1)
-too_many input n _ many over = absurd over
-
 pub if_err : {A E : Type 0} (r : Result A E) (P Q : E → Type 0) → ((e : E) → P e → Q e) → IfErr r P → IfErr r Q
 if_err (Ok x) P Q step err = tt
 if_err (Err e) P Q step err = step e err
@@ -359,13 +349,13 @@ if_ok (Err e) P Q step ok = tt
 pub functions_over : (input : Input) (start : ℕ) (e : LinkError) → start ≡ total (lengths_of (function_parts input))
     → IsOver (start + kept_count input Functions 0 input.link.objects) e → IsSpaceOver input e
 functions_over input start e is over =
-    too_many input (start + kept_count input Functions 0 input.link.objects) e
+    over_as input (start + kept_count input Functions 0 input.link.objects) e
     (λ lt. let long = functions_long input in inl (omega (arith, lt, is, long))) over
 
 pub globals_over : (input : Input) (start : ℕ) (e : LinkError) → start ≡ total (lengths_of (global_parts input))
     → IsOver (start + kept_count input Globals 0 input.link.objects) e → IsSpaceOver input e
 globals_over input start e is over =
-    too_many input (start + kept_count input Globals 0 input.link.objects) e
+    over_as input (start + kept_count input Globals 0 input.link.objects) e
     (λ lt. let long = globals_long input in inr (omega (arith, lt, is, long))) over
 
 pub functions_room : (input : Input) (start : ℕ) → start ≡ total (lengths_of (function_parts input))

@@ -34,6 +34,7 @@ use Rattle.wl_bind.specs.Sameness.{same_made}
 use Rattle.wl_bind.specs.declared.binding.FunctionTarget.TheVariants as function
 use Rattle.wl_bind.specs.declared.binding.GlobalTarget.TheVariants as global
 use Rattle.wl_bind.specs.declared.exported.DataSymbol.{DataSymbol}
+use Rattle.wl_bind.proofs.ListLaws.{is_not}
 use Rattle.wl_bind.proofs.OnceParts.{IsIn, in_split, passes, in_firsts, in_map, Distinct, once_from, distinct-append, distinct-filter, distinct-map_filter, distinct-map, distinct_if, distinct-range, distinct-firsts, distinct-self, distinct-by_object, given_by, IsPart, AreParts, distinct-joined, part_of, part_if, part_by_object, joined_end}
 use Rattle.wl_bind.proofs.SameLaws.{made_self, pairs_self}
 
@@ -255,13 +256,9 @@ dynamic_if input d true h =
 dynamic_told : (input : Input) (d : DataSymbol) → IsIn (dynamic_data input) d → is_dynamic input d ≡ true
 dynamic_told input d h = dynamic_if input d input.link.args.export_dynamic h
 
-false_if_not : (b : Bool) → not b ≡ true → b ≡ false
-false_if_not true e = absurd cc
-false_if_not false e = refl
-
 forced_told : (input : Input) (d : DataSymbol) → IsIn (forced_data input) d → is_dynamic input d ≡ false
 forced_told input d h =
-    false_if_not (is_dynamic input d)
+    is_not (is_dynamic input d)
     (passes (λ (x : DataSymbol). not (is_dynamic input x)) (filter_map (forced_by input) input.link.args.export_symbols) d
     (in_firsts same_data (filter (λ (x : DataSymbol). not (is_dynamic input x)) (filter_map (forced_by input) input.link.args.export_symbols)) d h))
 

@@ -1,5 +1,5 @@
 -- What function slots are bound to, by cases.
-use Rattle.std.proofs.Common.{◌≡◌, ◌∙◌, ◌⊎◌, zero, suc, Bool, true, false, not, ◌&&◌, List, [], ◌∷◌, ◌++◌, filter, find, refl, sym, ap, arith, inl, inr, Option, Some, None, Contains, bytes_eq}
+use Rattle.std.proofs.Common.{◌≡◌, ◌∙◌, ◌⊎◌, zero, suc, Bool, true, false, not, List, [], ◌∷◌, ◌++◌, filter, find, refl, sym, ap, arith, inl, inr, Option, Some, None, Contains, bytes_eq}
 use Rattle.std.specs.List.{list_any}
 use Rattle.std.specs.Option.{unwrap_or, is_none}
 use Rattle.std.proofs.lemmas.Bool.{cases_Bool}
@@ -16,8 +16,10 @@ use Rattle.wl_bind.specs.FunctionBinding.{left_functions, link_stubs, host_funct
 use Rattle.wl_bind.specs.BindingCases.{IsOfStub, IsOfHost, IsBoundAs}
 use Rattle.wl_bind.specs.declared.binding.FunctionTarget.{FunctionTarget}
 use Rattle.wl_bind.specs.declared.binding.FunctionTarget.TheVariants.{Host, Stub}
+use Rattle.wl_bind.proofs.FindLaws.{find_some}
 use Rattle.wl_bind.proofs.RowLaws.{passes}
-use Rattle.wl_bind.proofs.LeftLaws.{cases_option, any_at, all_inserted, found, none_found, stub_found, no_stub, rules_join, named_binds, left_of, right_of}
+use Rattle.wl_bind.proofs.LeftLaws.{cases_option, any_at, all_inserted, found, stub_found, no_stub, rules_join, named_binds}
+use Rattle.wl_bind.proofs.ListLaws.{left_and, none_found, right_and}
 
 -- ---- lists
 
@@ -27,21 +29,13 @@ one_behind y xs x among = (suc among.0, omega (arith, among.1), among.2)
 in_front : {X : Type 0} (x : X) (xs : List X) → Contains (x ∷ xs) x
 in_front x xs = (zero, omega arith, refl)
 
--- what is found is in the list, and passes
-found_in : {X : Type 0} (test : X → Bool) (xs : List X) (x : X) → find test xs ≡ Some x → Contains xs x × (test x ≡ true)
-found_in test [] x is = absurd cc
-found_in test (y ∷ xs) x is = elim (cases_Bool (test y)) [
-  | inl so ↦ (let told : Some y ≡ Some x = rw so at is in let same : y ≡ x = cc in rw (← same) (in_front y xs, so))
-  | inr fails ↦ (let rest = found_in test xs x (rw fails at is) in (one_behind y xs x rest.0, rest.1))
-]
-
 -- an element of a list is the first one, or is behind it
 behind_first : {X : Type 0} (y : X) (kept xs : List X) (x : X) → (Contains kept x → Contains xs x) → Contains (y ∷ kept) x → Contains (y ∷ xs) x
 behind_first y kept xs x rest (zero, lt, is) = (zero, omega arith, is)
 behind_first y kept xs x rest (suc k, lt, is) = one_behind y xs x (rest (k, omega (arith, lt), is))
 
 -- what passes is in the list that it was taken of
-taken_of : {X : Type 0} (test : X → Bool) (xs : List X) (x : X) → Contains (filter test xs) x → Contains xs x
+pub taken_of : {X : Type 0} (test : X → Bool) (xs : List X) (x : X) → Contains (filter test xs) x → Contains xs x
 taken_of test [] x among = among
 taken_of test (y ∷ xs) x among = elim (cases_Bool (test y)) [
   | inl so ↦ (let kept : Contains (y ∷ filter test xs) x = rw so at among in behind_first y (filter test xs) xs x (λ k. taken_of test xs x k) kept)
@@ -83,7 +77,7 @@ stub_case input t s listed none is =
     let so : is_stub input.link.objects (left_functions input) t ≡ true = stub_found input.link.objects (left_functions input) t s listed is in
     let f = found (same_field t) (is_stub input.link.objects (left_functions input)) (link_stubs input) s
     (all_inserted same_field (is_stub input.link.objects (left_functions input)) [] (left_functions input) refl) is in
-    let among = found_in (same_field t) (link_stubs input) s is in
+    let among = find_some (same_field t) (link_stubs input) s is in
     let kept : Contains (stub_slots input.link.objects (left_functions input)) s = listed_of same_field (stub_slots input.link.objects (left_functions input)) s among.0 in
     let target : binds_function input t ≡ unwrap_or (by_stub input t) (by_host input t) = rules_join input t ∙ rw none refl in
     let stub : by_stub input t ≡ Some (Stub s.object s.number) = rw (so, is) refl in
@@ -101,9 +95,9 @@ stub_case input t s listed none is =
 host_found : (input : Input) (t s : ImportSlot) → slot_target input.link t ≡ None → is_stub input.link.objects (left_functions input) t ≡ false
     → find (same_import t) (first_imports (host_functions input)) ≡ Some s → IsOfHost input t (binds_function input t)
 host_found input t s none no_stub_of is =
-    let among = found_in (same_import t) (first_imports (host_functions input)) s is in
-    let origin : bytes_eq t.item.origin s.item.origin ≡ true = left_of (bytes_eq t.item.origin s.item.origin) (bytes_eq t.item.name s.item.name) among.1 in
-    let name : bytes_eq t.item.name s.item.name ≡ true = right_of (bytes_eq t.item.origin s.item.origin) (bytes_eq t.item.name s.item.name) among.1 in
+    let among = find_some (same_import t) (first_imports (host_functions input)) s is in
+    let origin : bytes_eq t.item.origin s.item.origin ≡ true = left_and (bytes_eq t.item.origin s.item.origin) (bytes_eq t.item.name s.item.name) among.1 in
+    let name : bytes_eq t.item.name s.item.name ≡ true = right_and (bytes_eq t.item.origin s.item.origin) (bytes_eq t.item.name s.item.name) among.1 in
     let target : binds_function input t ≡ unwrap_or (by_stub input t) (by_host input t) = rules_join input t ∙ rw none refl in
     let stub : by_stub input t ≡ None = rw no_stub_of refl in
     let host : by_host input t ≡ Host s.object s.number = rw is refl in

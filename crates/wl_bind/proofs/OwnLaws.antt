@@ -1,5 +1,5 @@
 -- What objects define stands in a space at the first index of its object and its ordinal.
-use Rattle.std.proofs.Common.{◌≡◌, ◌∙◌, ℕ, zero, suc, ◌+◌, ◌-◌, ◌<◌, ◌≤◌, ◌&&◌, Bool, true, false, List, [], ◌∷◌, ◌++◌, map, filter, length, Some, refl, sym, ap, arith, slice_get, slice_index_or, if◌then◌else◌, length-append, append_assoc, nat_lt, inl, inr}
+use Rattle.std.proofs.Common.{◌≡◌, ◌∙◌, ℕ, zero, suc, ◌+◌, ◌-◌, ◌<◌, ◌≤◌, Bool, true, false, List, [], ◌∷◌, ◌++◌, map, filter, length, Some, refl, sym, ap, arith, slice_get, slice_index_or, if◌then◌else◌, length-append, append_assoc, nat_lt, inl, inr}
 use Rattle.std.specs.List.{range_with_len}
 use Rattle.std.proofs.lemmas.Bool.{cases_Bool, ltb-true}
 use Rattle.std.proofs.lemmas.List.Elements.{filter-append}
@@ -15,7 +15,8 @@ use Rattle.wl_bind.specs.Parts.{by_object}
 use Rattle.wl_bind.specs.declared.own_indices.Own.{Own}
 use Rattle.wl_bind.specs.declared.own_indices.Own.TheVariants.{Functions, Globals}
 use Rattle.wl_bind.proofs.ClosedLaws.{counts_at}
-use Rattle.wl_bind.proofs.PlaceLaws.{get_behind, get_in_front}
+use Rattle.wl_bind.proofs.ListLaws.{get_in_front, left_and, length_mapped, mapped_at}
+use Rattle.wl_bind.proofs.PlaceLaws.{get_behind}
 
 -- ---- numbers that pass a test
 
@@ -96,13 +97,9 @@ below_own input Functions object number (suc n) =
 below_own input Globals object number (suc n) =
     ap (λ (k : ℕ). k + (if keeps input object (own_unit Globals n) then 1 else 0)) (below_own input Globals object number n)
 
-and_front : (a b : Bool) → (a && b) ≡ true → a ≡ true
-and_front true b e = refl
-and_front false b e = absurd cc
-
 live_exists : (live : Live) (u : LinkUnit) → is_live live u ≡ true → exists live.units u ≡ true
 live_exists live u e =
-    and_front (exists live.units u) (slice_index_or live.marks (unit_number live.units u) false) e
+    left_and (exists live.units u) (slice_index_or live.marks (unit_number live.units u) false) e
 
 own_index_is : (own : Own) (number : ℕ) → unit_index (own_unit own number) ≡ number
 own_index_is Functions number = refl
@@ -118,16 +115,6 @@ own_within Functions o number e = below_lt number (length o.functions) e
 own_within Globals o number e = below_lt number (length o.globals) e
 
 -- ---- objects
-
-mapped_length : {X Y : Type 0} (f : X → Y) (xs : List X) → length (map f xs) ≡ length xs
-mapped_length f [] = refl
-mapped_length f (x ∷ xs) = ap suc (mapped_length f xs)
-
-pub mapped_at : {X Y : Type 0} (f : X → Y) (xs : List X) (n : ℕ) (x : X) → slice_get xs n ≡ Some x
-    → slice_get (map f xs) n ≡ Some (f x)
-mapped_at f [] n x e = absurd cc
-mapped_at f (y ∷ xs) zero x e = let same : y ≡ x = cc in ap (λ z. Some (f z)) same
-mapped_at f (y ∷ xs) (suc n) x e = mapped_at f xs n x e
 
 -- the first index of an object, and what it gives
 own_stands_from : {Y : Type 0} (input : Input) (own : Own) (entry : ℕ → ℕ → Y) (front : List Y)
@@ -150,7 +137,7 @@ own_stands_from {Y} input own entry front i (x ∷ objects) zero first n number 
 own_stands_from {Y} input own entry front i (x ∷ objects) (suc k) first n number o at first_is kept =
     let mine = map (entry i) (kept_own input own i x) in
     let len : length (front ++ mine) ≡ length front + length (kept_own input own i x) =
-    length-append front mine ∙ ap (λ (m : ℕ). length front + m) (mapped_length (entry i) (kept_own input own i x)) in
+    length-append front mine ∙ ap (λ (m : ℕ). length front + m) (length_mapped (entry i) (kept_own input own i x)) in
     let here : i + suc k ≡ (i + 1) + k = omega arith in
     let more = own_stands_from input own entry (front ++ mine) (i + 1) objects k first n number o at
     (ap (λ (m : ℕ). slice_get (firsts_from input own m (i + 1) objects) k) len ∙ first_is)

@@ -1,6 +1,7 @@
 -- Lists that stand in a space from a place on, and the parts of a space.
 use Rattle.std.proofs.Common.{◌≡◌, ℕ, zero, suc, ◌+◌, List, [], ◌∷◌, ◌++◌, length, refl, sym, ap, subst, ◌∙◌, arith, Some, slice_get, length-append, append_assoc}
 use Rattle.wl_bind.specs.Parts.{joined, lengths_of, starts_from, total}
+use Rattle.wl_bind.proofs.ListLaws.{get_in_front}
 
 -- ---- a list stands in a space from a place on
 
@@ -12,12 +13,6 @@ pub get_behind : {X : Type 0} (xs ys : List X) (k n : ℕ) → length xs + k ≡
 get_behind [] ys k n e = let e' : n ≡ k = omega (arith, e) in rw e'
 get_behind (x ∷ xs) ys k zero e = absurd (omega (arith, e))
 get_behind (x ∷ xs) ys k (suc n) e = get_behind xs ys k n (omega (arith, e))
-
-pub get_in_front : {X : Type 0} (xs ys : List X) (k : ℕ) (x : X) → slice_get xs k ≡ Some x
-    → slice_get (xs ++ ys) k ≡ Some x
-get_in_front [] ys k x e = absurd (cc)
-get_in_front (y ∷ xs) ys zero x e = e
-get_in_front (y ∷ xs) ys (suc k) x e = get_in_front xs ys k x e
 
 pub from_head : {X : Type 0} (space : List X) (n : ℕ) (x : X) (xs : List X)
     → StandsFrom space n (x ∷ xs) → slice_get space n ≡ Some x

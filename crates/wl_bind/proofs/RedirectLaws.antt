@@ -41,8 +41,9 @@ use Rattle.wl_bind.specs.declared.redirects.LocalFunction.{LocalFunction}
 use Rattle.wl_bind.proofs.ClosedLaws.{SlotLaws, kept_function}
 use Rattle.wl_bind.proofs.HostLaws.{IsAt, placed}
 use Rattle.wl_bind.proofs.LeftLaws.{cases_option, rules_join, named_binds}
+use Rattle.wl_bind.proofs.ListLaws.{all_at, get_in_front, left_and, right_and}
 use Rattle.wl_bind.proofs.NumberingLaws.{zip_maps, slots_here}
-use Rattle.wl_bind.proofs.PlaceLaws.{get_behind, get_in_front}
+use Rattle.wl_bind.proofs.PlaceLaws.{get_behind}
 use Rattle.wl_bind.proofs.RowLaws.{splits}
 
 -- ---- rows
@@ -125,21 +126,6 @@ pub record IsGiven (input : Input) (rows : List (List ℕ)) : Type 0 where
   pub slots : (object : ℕ) (o : Object) → length (object_slots object Func o) ≡ count_imports external.Func o.imports
   pub numbers : (kind : WasmSymbolKind) (o : Object) (k : ℕ) (s : LinkedSymbol) → IsWhole o
       → slice_get o.symbols k ≡ Some s → is_definition_of kind s ≡ true → (n : ℕ) × (own_number kind o s.index ≡ Some n)
-
--- what each of a list is, one of them is
-all_at : {X : Type 0} (P : X → Type 0) (xs : List X) (k : ℕ) (x : X) → AllByRecursion P xs → slice_get xs k ≡ Some x → P x
-all_at P [] k x all at = absurd cc
-all_at {X} P (y ∷ xs) zero x all at = let same : y ≡ x = cc in subst P same all.0
-all_at P (y ∷ xs) (suc k) x all at = all_at P xs k x all.1 at
-
--- of two tests that both pass, each does
-left_and : (a b : Bool) → (a && b) ≡ true → a ≡ true
-left_and true b both = refl
-left_and false b both = absurd cc
-
-right_and : (a b : Bool) → (a && b) ≡ true → b ≡ true
-right_and true b both = both
-right_and false b both = absurd cc
 
 -- a test that each of a list passes
 pub test_at : {X : Type 0} (test : X → Bool) (xs : List X) (k : ℕ) (x : X) → list_all test xs ≡ true → slice_get xs k ≡ Some x

@@ -55,7 +55,7 @@ use Rattle.wl_bind.specs.declared.relocated.FixupPlace.TheVariants.{Code, Segmen
 use Rattle.wl_bind.specs.declared.relocated.Relocated.{Relocated}
 use Rattle.wl_bind.proofs.ClosedLaws.{function_units, counts_at, definition_is, other_is}
 use Rattle.wl_bind.proofs.HostLaws.{IsAt, placed, kept_at}
-use Rattle.wl_bind.proofs.LeftLaws.{cases_option, itself, left_of}
+use Rattle.wl_bind.proofs.LeftLaws.{cases_option, itself}
 use Rattle.wl_bind.proofs.MadeLaws.{BindingLaws}
 use Rattle.wl_bind.proofs.NumberingLaws.{slots_here}
 use Rattle.wl_bind.proofs.OnceParts.{IsIn, in_split, in_firsts, Given, given_by}
@@ -63,9 +63,9 @@ use Rattle.wl_bind.proofs.RedirectLaws.{test_at, target_is, undefined_below, kin
 use Rattle.wl_bind.proofs.RowLaws.{passes as stays, at_is_in, slot_is_one}
 use Rattle.wl_bind.proofs.SameLaws.{eqb_self, target_self, target_one}
 use Rattle.wl_bind.proofs.StartLaws.{there_is}
-use Rattle.wl_bind.proofs.StubTypeLaws.{whole_at}
-use Rattle.wl_bind.proofs.ListedLaws.{MadeOf, and_both, any_in, as_in, as_listed, is_not, made_of_one, made_of_some, or_left, or_right, still_in}
+use Rattle.wl_bind.proofs.ListedLaws.{MadeOf, any_in, as_in, as_listed, made_of_some, still_in}
 use Rattle.wl_bind.proofs.FirstSlotLaws.{bound_is_there, kept_is_there}
+use Rattle.wl_bind.proofs.ListLaws.{all_at, and_both, is_not, left_and, made_of_one, or_left, or_right}
 
 -- ---- what is told of objects, of names, of slots and of live sets
 
@@ -213,7 +213,7 @@ type_is_named laws input r settled listed so =
     let from : IsFrom input r = is_from input r listed in
     let o : Object = from.object in
     let number : ℕ = r.relocation.index in
-    let fit : IsFitting o = laws.fitting o (whole_at IsWhole input.link.objects r.object o settled.whole from.here) in
+    let fit : IsFitting o = laws.fitting o (all_at IsWhole input.link.objects r.object o settled.whole from.here) in
     let lt : number < length o.types = type_below (spaces_of o) r.relocation so (from.names fit) in
     let ty = there_is o.types number lt in
     let named : list_any (names_type number) (object_relocations input.live r.object o) ≡ true =
@@ -252,7 +252,7 @@ names_one laws input r settled listed other =
     let from : IsFrom input r = is_from input r listed in
     let o : Object = from.object in
     let number : ℕ = r.relocation.index in
-    let whole : IsWhole o = whole_at IsWhole input.link.objects r.object o settled.whole from.here in
+    let whole : IsWhole o = all_at IsWhole input.link.objects r.object o settled.whole from.here in
     let fit : IsFitting o = laws.fitting o whole in
     let lt : number < length o.symbols = symbol_below (spaces_of o) r.relocation other (from.names fit) in
     let s = there_is o.symbols number lt in
@@ -431,7 +431,7 @@ own_of link i k target is = elim (cases_option (slice_get link.objects i)) [
 ]
 
 not_undefined : (s : LinkedSymbol) → is_definition_of Func s ≡ true → is_undefined s ≡ false
-not_undefined s so = is_not (is_undefined s) (left_of (not (is_undefined s)) (is_imported_as Func s.kind) so)
+not_undefined s so = is_not (is_undefined s) (left_and (not (is_undefined s)) (is_imported_as Func s.kind) so)
 
 -- what is defined in place of a weak function is kept
 replacing_kept : Laws → (input : Input) (r : Relocated) → IsSettled input → (n : Names input r) → n.symbol.kind ≡ Func

@@ -1,7 +1,6 @@
 -- Rows of resolutions, object by object.
-use Rattle.std.proofs.Common.{◌≡◌, ◌∙◌, ℕ, zero, suc, ◌+◌, ◌<◌, ◌≤◌, List, [], ◌∷◌, ◌++◌, length, map, Option, Some, refl, sym, ap, get_or, drop, drop-cons, slice_get, append_assoc, append-nil, arith}
+use Rattle.std.proofs.Common.{◌≡◌, ◌∙◌, ℕ, zero, suc, ◌+◌, ◌<◌, ◌≤◌, List, [], ◌∷◌, ◌++◌, length, map, Some, refl, sym, ap, drop, slice_get, append_assoc, append-nil, arith}
 use Rattle.std.proofs.lemmas.List.{drop_all}
-use Rattle.std.proofs.lemmas.Option.{slice_get-get_or}
 use Rattle.wl_linking.specs.Object.{Object}
 use Rattle.wl_linking.specs.declared.symbols.WasmSymbolKind.{WasmSymbolKind}
 use Rattle.wl_linking.specs.declared.symbols.WasmSymbolKind.TheVariants.{Func, Global}
@@ -10,6 +9,7 @@ use Rattle.wl_bind.specs.Input.{Input}
 use Rattle.wl_bind.specs.Resolutions.{named_resolution, named_resolutions, rows_from, by_names}
 use Rattle.wl_bind.specs.declared.resolution.ImportResolution.{ImportResolution}
 use Rattle.wl_bind.specs.declared.resolution.ObjectImportResolutions.{ObjectImportResolutions}
+use Rattle.wl_bind.proofs.ListLaws.{next_is}
 
 -- what names resolve the slots of the object of that number to
 abbrev pub named_row : Input → ℕ → ObjectImportResolutions
@@ -25,9 +25,6 @@ rows_behind input object = rows_from (by_names input) object (drop object input.
 slots_are : (objects : List Object) (object : ℕ) (kind : WasmSymbolKind) (o : Object) → slice_get objects object ≡ Some o
     → import_slots objects object kind ≡ object_slots object kind o
 slots_are objects object kind o is = rw is refl
-
-one_more : (k : ℕ) → suc k ≡ k + 1
-one_more k = omega arith
 
 the_row : List ImportResolution → List ImportResolution → ObjectImportResolutions
 the_row functions globals = record { function_resolutions = functions; global_resolutions = globals }
@@ -57,7 +54,7 @@ row_first input object lt =
     ap (rows_from (by_names input) object) here.2
     ∙ (ap (λ (r : ObjectImportResolutions). r ∷ rows_from (by_names input) (object + 1) (drop (suc object) input.link.objects))
     (row_of input object here.0 here.1)
-    ∙ ap (λ (m : ℕ). named_row input object ∷ rows_from (by_names input) (object + 1) (drop m input.link.objects)) (one_more object))
+    ∙ ap (λ (m : ℕ). named_row input object ∷ rows_from (by_names input) (object + 1) (drop m input.link.objects)) (next_is object))
 
 -- one row more
 pub row_more : (input : Input) (object : ℕ) (old new : List ObjectImportResolutions) (row : ObjectImportResolutions)

@@ -14,17 +14,13 @@ use Rattle.wl_symbols.specs.declared.entry.Definition.TheVariants as definition
 use Rattle.wl_bind.specs.declared.binding.FunctionTarget.{FunctionTarget}
 use Rattle.wl_bind.specs.declared.binding.FunctionTarget.TheVariants as function
 use Rattle.wl_bind.specs.Sameness.{same_definition, same_target, same_pair}
+use Rattle.wl_bind.proofs.ListLaws.{both}
 
 pub made_one : (a b : WasmLinkerSymbol) → made.ghosts.eq a b ≡ true → a ≡ b
 made_one a b e = same_true the_type (search rules) a b e
 
 pub made_self : (a : WasmLinkerSymbol) → made.ghosts.eq a a ≡ true
 made_self a = true_same the_type a a refl
-
-both : (a b : Bool) → (a && b) ≡ true → (a ≡ true) × (b ≡ true)
-both true true e = (refl, refl)
-both true false e = absurd cc
-both false b e = absurd cc
 
 pub eqb_self : (n : ℕ) → eqb n n ≡ true
 eqb_self n = eq-eqb n n refl

@@ -31,6 +31,7 @@ use Rattle.wl_bind.specs.declared.binding.GlobalTarget.TheVariants as global
 use Rattle.wl_bind.proofs.StubLaws.{binds as binds_by_stub}
 use Rattle.wl_bind.proofs.GlobalLaws.{binds as binds_by_got}
 use Rattle.wl_bind.proofs.HostLaws.{placed}
+use Rattle.wl_bind.proofs.ListLaws.{next_is}
 
 -- ---- lists
 
@@ -93,9 +94,6 @@ places_here input kind imports object =
 
 -- ---- the slots of all objects
 
-one_more : (k : ℕ) → suc k ≡ k + 1
-one_more k = omega arith
-
 -- the objects from a place on, and the slots of the first of them
 record IsNext (kind : WasmSymbolKind) (n : ℕ) (os : List Object) (k : ℕ) : Type 0 where
   first : Object
@@ -109,7 +107,7 @@ next kind n (o ∷ os) (suc k) lt =
     let h = next kind n os k (omega (arith, lt)) in record { first = h.first; splits = h.splits; slots = h.slots }
 
 from_here : (kind : WasmSymbolKind) (n : ℕ) (os : List Object) (k : ℕ) (h : IsNext kind n os k) → drop k os ≡ h.first ∷ drop (k + 1) os
-from_here kind n os k h = h.splits ∙ ap (λ (m : ℕ). h.first ∷ drop m os) (one_more k)
+from_here kind n os k h = h.splits ∙ ap (λ (m : ℕ). h.first ∷ drop m os) (next_is k)
 
 pub hosts_more : (input : Input) (kind : WasmSymbolKind) (k : ℕ) (slots old new all : List ImportSlot) → k < length input.link.objects
     → slots ≡ import_slots input.link.objects k kind → new ≡ old ++ filter (is_host_of input) slots

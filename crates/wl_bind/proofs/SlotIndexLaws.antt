@@ -1,51 +1,47 @@
 -- What slots are resolved to has its entry.
-use Rattle.std.proofs.Common.{◌≡◌, ◌∙◌, ◌≤◌, ◌<◌, ◌⊎◌, ℕ, zero, suc, ◌+◌, Bool, true, false, not, List, [], ◌∷◌, ◌++◌, length, map, find, position, refl, sym, ap, subst, arith, inl, inr, Option, Some, None, unwrap_or, slice_get, Contains, if◌then◌else◌}
+use Rattle.std.proofs.Common.{◌≡◌, ◌∙◌, ◌<◌, ℕ, zero, suc, ◌+◌, Bool, true, false, not, List, [], ◌∷◌, ◌++◌, length, map, find, position, refl, sym, ap, subst, arith, inl, inr, Option, Some, None, unwrap_or, slice_get, Contains, if◌then◌else◌}
 use Rattle.std.specs.List.{AllZip, range_with_len}
-use Rattle.std.specs.Option.{option_map, option_map_or, option_and_then, is_none, option_or}
-use Rattle.std.proofs.lemmas.Bool.{cases_Bool}
+use Rattle.std.specs.Option.{option_map_or, option_and_then, is_none}
 use Rattle.std.proofs.lemmas.Option.{slice_get_within}
 use Rattle.wl_linking.specs.Object.{Object}
 use Rattle.wl_linking.specs.declared.symbols.WasmSymbolKind.{WasmSymbolKind}
-use Rattle.wl_linking.specs.declared.symbols.WasmSymbolKind.TheVariants.{Func, Data, Global, Section, Event, Table}
-use Rattle.wl_symbols.specs.LinkerNames.{row_of, is_imported_as, matches_kind}
+use Rattle.wl_linking.specs.declared.symbols.WasmSymbolKind.TheVariants.{Func}
+use Rattle.wl_symbols.specs.LinkerNames.{row_of, matches_kind}
 use Rattle.wl_symbols.specs.declared.linker_symbol.WasmLinkerSymbol.{WasmLinkerSymbol}
 use Rattle.wl_symbols.specs.declared.linker_symbol.WasmLinkerSymbol.TheVariants.{CallCtors, InitTls}
 use Rattle.wl_live.specs.Live.{is_live, live_below, ordinal_of, IsLiveOf}
-use Rattle.wl_live.specs.Units.{unit_index}
 use Rattle.wl_live.specs.declared.units.LinkUnit.{LinkUnit}
-use Rattle.wl_live.specs.declared.units.WasmGcUnit.TheVariants.{DefinedFunction, DefinedGlobal}
+use Rattle.wl_live.specs.declared.units.WasmGcUnit.TheVariants.{DefinedFunction}
 use Rattle.wl_slots.specs.ImportSlots.{ImportSlot, object_slots, import_slots}
 use Rattle.wl_slots.specs.Left.{HostImport, same_field, same_import, is_stub, first_imports, first_slot, first_like, place_of_import}
 use Rattle.wl_slots.specs.SlotTargets.{slot_target}
 use Rattle.wl_slots.specs.declared.targets.SlotTarget.{SlotTarget}
 use Rattle.wl_slots.specs.declared.targets.SlotTarget.TheVariants as slot
-use Rattle.wl_types.specs.Types.{max_entries}
 use Rattle.wl_types.specs.declared.types.TheConstants.{WASM_DEAD_INDEX}
 use Rattle.wl_bind.specs.FunctionBinding.{left_functions, link_stubs, host_functions, by_stub, by_host, binds_function, named_function}
-use Rattle.wl_bind.specs.FunctionSpace.{FunctionEntry, FunctionOf, InitMemory, host_function_part, made_function_part, init_memory_part, stub_part, object_functions, function_parts, function_space, function_slot_entry, own_function_entry, local_functions}
+use Rattle.wl_bind.specs.FunctionSpace.{FunctionEntry, FunctionOf, host_function_part, made_function_part, init_memory_part, stub_part, object_functions, function_parts, function_space, function_slot_entry, own_function_entry, local_functions}
 use Rattle.wl_bind.specs.Input.{Input, keeps_slot}
-use Rattle.wl_bind.specs.KeptSlots.{is_kept_slot, kept_slots, slots_from, left_slots}
-use Rattle.wl_bind.specs.Made.{is_made}
+use Rattle.wl_bind.specs.KeptSlots.{is_kept_slot, kept_slots, slots_from}
 use Rattle.wl_bind.specs.MadeIndices.{StandsAt}
 use Rattle.wl_bind.specs.Numbering.{IsNumbering}
-use Rattle.wl_bind.specs.NumberingSteps.{FitsPlace, HasIndex, IsResolvedIndex, behind_first, resolution_of, own_indices_of, HaveSlotIndices, IsSlotIndex}
-use Rattle.wl_bind.specs.Parts.{AreStarts, starts_from, total, lengths_of, start_of, HasEntry, joined, IsIndexOf, AreIndicesOf}
+use Rattle.wl_bind.specs.NumberingSteps.{FitsPlace, HasIndex, IsResolvedIndex, resolution_of, own_indices_of, HaveSlotIndices, IsSlotIndex}
+use Rattle.wl_bind.specs.Parts.{AreStarts, starts_from, total, lengths_of, joined, IsIndexOf, AreIndicesOf}
 use Rattle.wl_bind.specs.Resolutions.{kept_number, resolved_function, stub_place, as_function, function_resolution}
 use Rattle.wl_bind.specs.Shared.{function_imports, import_place, places_from, place_in, place_at, shared_of, Shared}
-use Rattle.wl_bind.specs.Undefined.{is_host_slot, is_host_function}
+use Rattle.wl_bind.specs.Undefined.{is_host_slot}
 use Rattle.wl_bind.specs.declared.binding.FunctionTarget.{FunctionTarget}
 use Rattle.wl_bind.specs.declared.binding.FunctionTarget.TheVariants as function
 use Rattle.wl_bind.specs.declared.numbering.Numbering.{Numbering}
-use Rattle.wl_bind.specs.declared.own_indices.Own.TheVariants.{Functions, Globals}
+use Rattle.wl_bind.specs.declared.own_indices.Own.TheVariants.{Functions}
 use Rattle.wl_bind.specs.declared.parts.PartStarts.{PartStarts}
 use Rattle.wl_bind.specs.declared.resolution.ImportResolution.{ImportResolution}
-use Rattle.wl_bind.specs.declared.resolution.ImportResolution.TheVariants.{Unresolved, ResolvedFunction, ResolvedGlobal, LinkerDefined, WeakUndefStub, GotMemSlot, GotFuncSlot}
-use Rattle.wl_bind.proofs.ClosedLaws.{kept_function, bound_of_kind}
+use Rattle.wl_bind.specs.declared.resolution.ImportResolution.TheVariants.{Unresolved, ResolvedFunction, LinkerDefined, WeakUndefStub}
+use Rattle.wl_bind.proofs.ClosedLaws.{bound_of_kind, is_function, kept_function}
 use Rattle.wl_bind.proofs.HostLaws.{IsAt, placed}
 use Rattle.wl_bind.proofs.LeftLaws.{cases_option, no_place, some_place, stub_found, no_stub, rules_join, named_binds}
+use Rattle.wl_bind.proofs.ListLaws.{get_in_front, mapped_at}
 use Rattle.wl_bind.proofs.MadeLaws.{BindingLaws, bound_is_made_function}
-use Rattle.wl_bind.proofs.NumberingLaws.{zip_map, zip_joined, slots_here, OwnAt, fits, function_at, has_ordinal, own_functions}
-use Rattle.wl_bind.proofs.PlaceLaws.{get_in_front}
+use Rattle.wl_bind.proofs.NumberingLaws.{zip_map, zip_joined, slots_here, fits, function_at, has_ordinal, own_functions}
 use Rattle.wl_bind.proofs.RowLaws.{passes, at_is_in, slot_is_one}
 
 -- ---- what is told of slots, of names and of host imports
@@ -106,12 +102,6 @@ get_via f h [] k y at = absurd cc
 get_via f h (x ∷ xs) zero y at = let e : f x ≡ y = cc in ap (λ (z : _). Some (h z)) e
 get_via f h (x ∷ xs) (suc k) y at = get_via f h xs k y at
 
-get_made : {X Y : Type 0} (f : X → Y) (xs : List X) (k : ℕ) (x : X) → slice_get xs k ≡ Some x
-    → slice_get (map f xs) k ≡ Some (f x)
-get_made f [] k x at = absurd cc
-get_made f (y ∷ xs) zero x at = let e : y ≡ x = cc in ap (λ (z : _). Some (f z)) e
-get_made f (y ∷ xs) (suc k) x at = get_made f xs k x at
-
 -- what stands in the first part stands in the space
 pub in_front : {Y : Type 0} (first : List Y) (others : List (List Y)) (rest : List Y) (p : ℕ) (y : Y)
     → slice_get first p ≡ Some y → slice_get (joined (first ∷ others) ++ rest) p ≡ Some y
@@ -171,14 +161,6 @@ own_leads n is live t i j kept =
           subst (λ (x : ℕ). slice_get (function_space input) x ≡ Some (FunctionOf (function.Defined i j))) (sym sum) at.stands;
     })
 
-is_function_kind : (kind : WasmSymbolKind) → is_imported_as Func kind ≡ true → kind ≡ Func
-is_function_kind Func e = refl
-is_function_kind Data e = absurd cc
-is_function_kind Global e = absurd cc
-is_function_kind Section e = absurd cc
-is_function_kind Event e = absurd cc
-is_function_kind Table e = absurd cc
-
 made_leads : ImportLaws → (n : Numbering) (t : ImportSlot) (m : WasmLinkerSymbol)
     → Contains (kept_slots n.input.now Func) t
     → binds_function n.input.now t ≡ function.Made m → matches_kind Func m ≡ true
@@ -187,7 +169,7 @@ made_leads laws n t m kept bound of_kind =
     record {
       has = tt;
       stands = λ index made.
-          subst (λ (kind : WasmSymbolKind). StandsAt n.input.now m kind index) (is_function_kind (row_of m).kind of_kind)
+          subst (λ (kind : WasmSymbolKind). StandsAt n.input.now m kind index) (is_function (row_of m).kind of_kind)
           (made (bound_is_made_function laws.binding n.input.now t m kept bound));
     }
 
@@ -201,7 +183,7 @@ stub_leads n is t s found = elim (cases_option (position (same_field t) (link_st
       let place : stub_place input t ≡ p.0 = ap (λ (o : Option ℕ). unwrap_or o 0) p.1 in
       let there : slice_get (link_stubs input) p.0 ≡ Some s = some_place (same_field t) (link_stubs input) p.0 p.1 ∙ found in
       let entry : slice_get (stub_part input) p.0 ≡ Some (FunctionOf (function.Stub s.object s.number)) =
-      get_made (λ (x : ImportSlot). FunctionOf (function.Stub x.object x.number)) (link_stubs input) p.0 s there in
+      mapped_at (λ (x : ImportSlot). FunctionOf (function.Stub x.object x.number)) (link_stubs input) p.0 s there in
       subst (λ (k : ℕ). Leads n Func t (WeakUndefStub k) (function_space input) (FunctionOf (function.Stub s.object s.number))) (sym place)
       (record {
         has = has_entry (function_parts input) n.indices.now.functions 4 5 p.0 (length (stub_part input)) is.indices.functions refl refl

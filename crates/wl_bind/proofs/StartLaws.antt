@@ -1,12 +1,12 @@
 -- Where the parts of a space begin, and the entries of a part.
-use Rattle.std.proofs.Common.{◌≡◌, ◌∙◌, ◌⊎◌, ℕ, zero, suc, ◌+◌, ◌<◌, ◌≤◌, Bool, true, false, List, [], ◌∷◌, ◌++◌, map, length, Option, Some, None, refl, sym, ap, arith, subst, inl, inr, slice_get, unwrap_or, if◌then◌else◌, nat_lt, MatchOption, length-append}
+use Rattle.std.proofs.Common.{◌≡◌, ◌∙◌, ℕ, zero, suc, ◌+◌, ◌<◌, Bool, true, false, List, [], ◌∷◌, ◌++◌, map, length, Option, Some, None, refl, sym, ap, arith, subst, inl, inr, slice_get, unwrap_or, if◌then◌else◌, nat_lt, MatchOption}
 use Rattle.std.specs.List.{range_with_len}
-use Rattle.std.proofs.lemmas.Bool.{cases_Bool, ltb-true, ltb-false, lt-ltb}
+use Rattle.std.proofs.lemmas.Bool.{cases_Bool, ltb-true, lt-ltb}
 use Rattle.std.proofs.lemmas.List.FromFn.{length-map-range_with_len}
 use Rattle.wl_bind.specs.Parts.{joined, lengths_of, starts_from, total, AreStarts, start_of, single_of, HasEntry}
 use Rattle.wl_bind.specs.PartSteps.{entry_of}
 use Rattle.wl_bind.specs.declared.parts.PartStarts.{PartStarts}
-use Rattle.wl_bind.proofs.PlaceLaws.{StandsFrom, part_stands, joined_length}
+use Rattle.wl_bind.proofs.PlaceLaws.{StandsFrom, part_stands}
 
 -- ---- starts by lengths
 

@@ -1,14 +1,9 @@
 -- Two lists side by side, the second stepped place by place.
-use Rattle.std.proofs.Common.{◌≡◌, ◌∙◌, ℕ, zero, suc, ◌+◌, ◌<◌, ◌≤◌, List, [], ◌∷◌, Option, Some, None, length, refl, sym, ap, get_or, drop, drop-cons, slice_get, slice_set, arith}
+use Rattle.std.proofs.Common.{◌≡◌, ◌∙◌, ℕ, zero, suc, ◌+◌, ◌<◌, ◌≤◌, List, [], ◌∷◌, Some, None, length, refl, sym, ap, get_or, drop, drop-cons, slice_get, slice_set, arith}
 use Rattle.std.proofs.lemmas.List.{drop_all}
 use Rattle.std.proofs.lemmas.Option.{slice_get-get_or}
 use Rattle.wl_bind.specs.Stepped.{stepped, stepped_behind, step_at}
-
-some_is : {X : Type 0} (x y : X) → Some x ≡ Some y → x ≡ y
-some_is x y e = cc
-
-one_more : (k : ℕ) → suc k ≡ k + 1
-one_more k = omega arith
+use Rattle.wl_bind.proofs.ListLaws.{next_is, some_same}
 
 module _ {X Y : Type 0} (step : ℕ → X → Y → Y) where
   -- what is there is stepped
@@ -16,7 +11,7 @@ module _ {X Y : Type 0} (step : ℕ → X → Y → Y) where
       → slice_set ys place z ≡ step_at step place n x ys
   set_steps [] place n x y z is e = absurd cc
   set_steps (u ∷ ys) zero n x y z is e =
-      ap (λ (w : Y). w ∷ ys) (e ∙ ap (step n x) (sym (some_is u y is)))
+      ap (λ (w : Y). w ∷ ys) (e ∙ ap (step n x) (sym (some_same u y is)))
   set_steps (u ∷ ys) (suc place) n x y z is e =
       ap (λ (zs : List Y). u ∷ zs) (set_steps ys place n x y z is e)
 
@@ -62,9 +57,9 @@ module _ {X Y : Type 0} (step : ℕ → X → Y → Y) where
   turn xs k x ys zs all lt at new rest =
       let here : drop k xs ≡ x ∷ drop (k + 1) xs =
       drop-cons xs k x lt
-      ∙ (ap (λ (w : X). w ∷ drop (suc k) xs) (sym at) ∙ ap (λ (m : ℕ). x ∷ drop m xs) (one_more k)) in
+      ∙ (ap (λ (w : X). w ∷ drop (suc k) xs) (sym at) ∙ ap (λ (m : ℕ). x ∷ drop m xs) (next_is k)) in
       ap (left_from (k + 1) xs) new
-      ∙ (ap (λ (m : ℕ). stepped_behind step m (k + 1) (drop (k + 1) xs) (step_at step k k x ys)) (sym (one_more k))
+      ∙ (ap (λ (m : ℕ). stepped_behind step m (k + 1) (drop (k + 1) xs) (step_at step k k x ys)) (sym (next_is k))
       ∙ (sym (behind_more ys k k x (drop (k + 1) xs))
       ∙ (ap (λ (ws : List X). stepped_behind step k k ws ys) (sym here) ∙ rest)))
 

@@ -1,5 +1,5 @@
 -- Function slots with what names resolve them to, and the stubs among them.
-use Rattle.std.proofs.Common.{◌≡◌, ◌∙◌, ℕ, ◌+◌, ◌&&◌, Bool, true, false, List, [], ◌∷◌, ◌++◌, map, Option, Some, None, is_some, Contains, refl, sym, ap, if◌then◌else◌, unwrap_or}
+use Rattle.std.proofs.Common.{◌≡◌, ◌∙◌, ℕ, ◌+◌, ◌&&◌, Bool, true, false, List, [], ◌∷◌, map, Option, Some, None, is_some, Contains, refl, sym, ap, if◌then◌else◌, unwrap_or}
 use Rattle.std.specs.List.{position}
 use Rattle.std.specs.Option.{option_or, option_map, option_map_or, is_none}
 use Rattle.std.specs.Str.{bytes_eq}
@@ -10,15 +10,15 @@ use Rattle.wl_linking.specs.Symbols.{Symbol as LinkedSymbol}
 use Rattle.wl_linking.specs.declared.symbols.WasmSymbolKind.TheVariants.{Func, Global}
 use Rattle.wl_slots.specs.ImportSlots.{ImportSlot, slot_imports, slot_at, numbered_slots, object_slots}
 use Rattle.wl_slots.specs.SlotTargets.{by_definition, by_symbol_name, by_field_name, slot_target}
-use Rattle.wl_slots.specs.Left.{HostImport, same_field, same_import, first_like, first_imports, is_stub, stubs, first_slot, place_of_name}
+use Rattle.wl_slots.specs.Left.{HostImport, same_field, first_like, is_stub, stubs, first_slot, place_of_name}
 use Rattle.wl_slots.specs.declared.targets.SlotTarget.{SlotTarget}
 use Rattle.wl_slots.specs.declared.targets.SlotTarget.TheVariants as slot
 use Rattle.wl_bind.specs.Input.{Input, keeps_slot}
-use Rattle.wl_bind.specs.KeptSlots.{slots_from, is_kept_slot, kept_slots, left_slots}
-use Rattle.wl_bind.specs.FunctionBinding.{left_functions, link_stubs, host_functions, named_function, by_stub, by_host, binds_function}
-use Rattle.wl_bind.specs.Resolutions.{resolved, named_resolution, stub_place, as_function, function_resolution, global_resolution, rows_from, by_names_and_got, by_all_rules, resolutions}
+use Rattle.wl_bind.specs.KeptSlots.{slots_from, is_kept_slot, kept_slots}
+use Rattle.wl_bind.specs.FunctionBinding.{left_functions, link_stubs, named_function, by_stub, by_host, binds_function}
+use Rattle.wl_bind.specs.Resolutions.{resolved, named_resolution, as_function, function_resolution, global_resolution, rows_from, by_names_and_got, by_all_rules, resolutions}
 use Rattle.wl_bind.specs.Stepped.{stepped}
-use Rattle.wl_bind.specs.Later.{later_by_stub, is_unresolved, walk_of, walked_at, walked, functions_walked}
+use Rattle.wl_bind.specs.Later.{later_by_stub, is_unresolved, walk_of, walked_at, functions_walked}
 use Rattle.wl_bind.specs.declared.binding.FunctionTarget.{FunctionTarget}
 use Rattle.wl_bind.specs.declared.binding.FunctionTarget.TheVariants as function
 use Rattle.wl_bind.specs.declared.resolution.ImportResolution.{ImportResolution}

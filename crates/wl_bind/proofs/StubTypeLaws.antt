@@ -1,5 +1,5 @@
 -- Each stub has a type, since objects are whole.
-use Rattle.std.proofs.Common.{◌≡◌, ◌∙◌, ◌⊎◌, ℕ, zero, suc, ◌+◌, ◌<◌, Bool, true, false, List, [], ◌∷◌, ◌++◌, length, refl, sym, ap, subst, arith, inl, inr, Option, Some, None, slice_get, filter, filter_map, nat_lt}
+use Rattle.std.proofs.Common.{◌≡◌, ◌∙◌, ℕ, suc, ◌+◌, Bool, true, false, List, [], ◌∷◌, length, refl, sym, ap, subst, arith, inl, inr, Option, Some, None, slice_get, filter_map, nat_lt}
 use Rattle.std.specs.List.{list_all, AllByRecursion}
 use Rattle.std.proofs.lemmas.Bool.{cases_Bool, ltb-true}
 use Rattle.std.specs.Option.{option_and_then, is_none}
@@ -20,6 +20,7 @@ use Rattle.wl_bind.specs.Input.{Input}
 use Rattle.wl_bind.specs.KeptSlots.{slots_from, is_kept_slot, kept_slots}
 use Rattle.wl_bind.specs.FunctionBinding.{left_functions, link_stubs}
 use Rattle.wl_bind.specs.FunctionTypes.{type_in, type_number, slot_type, stub_types}
+use Rattle.wl_bind.proofs.ListLaws.{all_at}
 use Rattle.wl_bind.proofs.OnceParts.{IsIn, in_split, in_filter, passes, in_firsts}
 use Rattle.wl_bind.proofs.StartLaws.{there_is}
 
@@ -68,11 +69,6 @@ all_in {X} p (y ∷ xs) x all h = elim (cases_Bool (p y)) [
   | inr f ↦ absurd (let no : list_all p (y ∷ xs) ≡ false = rw f refl in cc)
 ]
 
-pub whole_at : {X : Type 0} (P : X → Type 0) (xs : List X) (k : ℕ) (x : X) → AllByRecursion P xs → slice_get xs k ≡ Some x → P x
-whole_at P [] k x all e = absurd cc
-whole_at {X} P (y ∷ xs) zero x all e = let same : y ≡ x = cc in subst P same all.0
-whole_at P (y ∷ xs) (suc k) x all e = whole_at P xs k x all.1 e
-
 -- an import that exists and is a function has a type
 typed_import : (o : Object) (m : Imported) (e : ImportEntity) → m.entity ≡ e → is_slot_of Func e ≡ true
     → import_exists (spaces_of o) m ≡ true
@@ -96,7 +92,7 @@ pub slot_typed : (objects : List Object) (t : ImportSlot) → AllByRecursion IsW
     → (ty : FunctionType) × (slot_type objects t ≡ Some ty)
 slot_typed objects t whole fitting h =
     let f = from_object Func objects 0 t h in
-    let fits = fitting f.object (whole_at IsWhole objects f.place f.object whole f.at) in
+    let fits = fitting f.object (all_at IsWhole objects f.place f.object whole f.at) in
     let item = in_filter (λ (i : Imported). is_slot_of Func i.entity) f.object.imports t.item f.item in
     let slot = passes (λ (i : Imported). is_slot_of Func i.entity) f.object.imports t.item f.item in
     let exists = all_in (import_exists (spaces_of f.object)) f.object.imports t.item fits.names.imports item in

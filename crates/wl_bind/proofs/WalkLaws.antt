@@ -1,21 +1,19 @@
 -- Going through the slots of a kind of an object.
-use Rattle.std.proofs.Common.{◌≡◌, ◌∙◌, ℕ, suc, ◌+◌, ◌<◌, ◌≤◌, Bool, true, false, List, [], ◌∷◌, length, refl, sym, ap, get_or, drop, drop-cons, arith}
+use Rattle.std.proofs.Common.{◌≡◌, ◌∙◌, ℕ, suc, ◌+◌, ◌<◌, ◌≤◌, true, false, List, ◌∷◌, length, refl, sym, ap, get_or, drop, drop-cons, arith}
 use Rattle.std.proofs.lemmas.List.{drop_all}
 use Rattle.wl_module.specs.Imports.{Imported}
 use Rattle.wl_linking.specs.declared.symbols.WasmSymbolKind.{WasmSymbolKind}
 use Rattle.wl_slots.specs.ImportSlots.{is_slot_of, slot_imports}
-use Rattle.wl_bind.specs.Stepped.{stepped, stepped_behind, step_at}
+use Rattle.wl_bind.specs.Stepped.{stepped_behind, step_at}
+use Rattle.wl_bind.proofs.ListLaws.{next_is}
 use Rattle.wl_bind.proofs.SteppedLaws.{behind_more, behind_end}
-
-one_more : (k : ℕ) → suc k ≡ k + 1
-one_more k = omega arith
 
 -- the imports from a place on, of which the first is this one
 from_here : (items : List Imported) (k : ℕ) (i : Imported) → k < length items → i ≡ get_or items k i
     → drop k items ≡ i ∷ drop (k + 1) items
 from_here items k i lt at =
     drop-cons items k i lt
-    ∙ (ap (λ (x : Imported). x ∷ drop (suc k) items) (sym at) ∙ ap (λ (m : ℕ). i ∷ drop m items) (one_more k))
+    ∙ (ap (λ (x : Imported). x ∷ drop (suc k) items) (sym at) ∙ ap (λ (m : ℕ). i ∷ drop m items) (next_is k))
 
 slots_here : (kind : WasmSymbolKind) (i : Imported) (rest : List Imported) → is_slot_of kind i.entity ≡ true
     → slot_imports kind (i ∷ rest) ≡ i ∷ slot_imports kind rest
@@ -38,7 +36,7 @@ module _ {Y : Type 0} (step : ℕ → Imported → Y → Y) (kind : WasmSymbolKi
       let slots : slot_imports kind (drop k items) ≡ i ∷ slot_imports kind (drop (k + 1) items) =
       ap (slot_imports kind) (from_here items k i lt at) ∙ slots_here kind i (drop (k + 1) items) so in
       let more = behind_more step ys n n i (slot_imports kind (drop (k + 1) items)) in
-      ap (λ (m : ℕ). stepped_behind step m (n + 1) (slot_imports kind (drop (k + 1) items)) (step_at step n n i ys)) (sym (one_more n))
+      ap (λ (m : ℕ). stepped_behind step m (n + 1) (slot_imports kind (drop (k + 1) items)) (step_at step n n i ys)) (sym (next_is n))
       ∙ (sym more ∙ (ap (λ (is : List Imported). stepped_behind step n n is ys) (sym slots) ∙ rest))
 
   pub walk_slot : (items : List Imported) (k n m : ℕ) (i : Imported) (ys zs all : List Y) → k < length items → i ≡ get_or items k i

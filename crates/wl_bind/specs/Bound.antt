@@ -1,7 +1,7 @@
 -- What the references of a link are bound to, and why they can't be.
-use Rattle.std.specs.Prelude.{◌≡◌, List}
+use Rattle.std.specs.Prelude.{List}
 use Rattle.wl_module.specs.Types.{FunctionType}
-use Rattle.wl_linking.specs.Steps.{Clear, Step, NoStep}
+use Rattle.wl_linking.specs.Steps.{Step, NoStep}
 use Rattle.wl_linking.specs.declared.error.LinkError.{LinkError}
 use Rattle.wl_bind.specs.Input.{Input}
 use Rattle.wl_bind.specs.FunctionTypes.{stub_types}

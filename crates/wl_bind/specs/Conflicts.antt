@@ -1,5 +1,5 @@
 -- Slots of one import with different types.
-use Rattle.std.specs.Prelude.{◌≡◌, ◌⊎◌, ℕ, ◌&&◌, Bool, true, false, not, List, [], Contains, Option, Some, None, find, if◌then◌else◌}
+use Rattle.std.specs.Prelude.{◌≡◌, ◌⊎◌, ◌&&◌, Bool, true, false, not, List, [], Contains, Option, Some, None, find, if◌then◌else◌}
 use Rattle.indexmap.specs.IndexSet.{insert_all}
 use Rattle.wl_module.specs.Types.{FunctionType, same_value, same_type}
 use Rattle.wl_module.specs.declared.globals.GlobalType.{GlobalType}

@@ -1,5 +1,5 @@
 -- Data names of the linker's that are exported, as globals with their addresses.
-use Rattle.std.specs.Prelude.{ℕ, Bool, true, List, [], Option, Some, None, if◌then◌else◌}
+use Rattle.std.specs.Prelude.{ℕ, true, List, [], Option, Some, None, if◌then◌else◌}
 use Rattle.std.specs.List.{filter_map}
 use Rattle.std.specs.Option.{option_and_then}
 use Rattle.indexmap.specs.IndexSet.{insert_all}

@@ -2,7 +2,6 @@
 use Rattle.std.specs.Prelude.{ℕ, List, [], ◌∷◌, Option, Some, None, if◌then◌else◌, slice_get}
 use Rattle.std.specs.Option.{option_and_then}
 use Rattle.wl_module.specs.Types.{FunctionType}
-use Rattle.wl_module.specs.Imports.{Imported}
 use Rattle.wl_module.specs.declared.types.ValType.TheVariants.{I32}
 use Rattle.wl_module.specs.declared.imports.ImportEntity.{ImportEntity}
 use Rattle.wl_module.specs.declared.imports.ImportEntity.TheVariants as entity

@@ -1,5 +1,5 @@
 -- What a kept import slot of a global is bound to: the first of the rules that applies.
-use Rattle.std.specs.Prelude.{ℕ, ◌&&◌, Bool, false, not, if◌then◌else◌, List, codes, length, ◌==◌, Option, Some, None, unwrap_or, position}
+use Rattle.std.specs.Prelude.{ℕ, ◌&&◌, Bool, false, if◌then◌else◌, List, codes, Option, None, unwrap_or, position}
 use Rattle.std.specs.Option.{option_or, option_map, option_map_or}
 use Rattle.std.specs.List.{filter}
 use Rattle.std.specs.Option.{is_none}

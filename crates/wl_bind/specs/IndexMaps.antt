@@ -6,8 +6,6 @@ use Rattle.wl_linking.specs.Object.{Object}
 use Rattle.wl_linking.specs.Symbols.{Symbol as LinkedSymbol, is_data}
 use Rattle.wl_symbols.specs.Entries.{symbol_in}
 use Rattle.wl_symbols.specs.Names.{def}
-use Rattle.wl_symbols.specs.declared.entry.Definition.{Definition}
-use Rattle.wl_live.specs.Entry.{is_function_kind}
 use Rattle.wl_live.specs.declared.units.WasmGcUnit.TheVariants.{DefinedFunction}
 use Rattle.wl_bind.specs.Input.{Input, keeps}
 use Rattle.wl_bind.specs.FunctionSymbols.{fun}

@@ -6,7 +6,7 @@ use Rattle.std.specs.Option.{option_map, option_map_or, option_and_then}
 use Rattle.indexmap.specs.IndexSet.{insert_all}
 use Rattle.wl_linking.specs.Symbols.{Symbol as LinkedSymbol, is_data}
 use Rattle.wl_linking.specs.declared.relocation_type.RelocationType.{RelocationType}
-use Rattle.wl_linking.specs.declared.relocation_type.RelocationType.TheVariants.{FunctionIndexLeb, TableIndexSleb, TableIndexI32, MemoryAddrLeb, MemoryAddrSleb, MemoryAddrI32, TypeIndexLeb, GlobalIndexLeb, MemoryAddrRelSleb, TableIndexRelSleb, GlobalIndexI32, TableNumberLeb, MemoryAddrTlsSleb, FunctionIndexI32}
+use Rattle.wl_linking.specs.declared.relocation_type.RelocationType.TheVariants.{TableIndexSleb, TableIndexI32, GlobalIndexLeb, MemoryAddrRelSleb, TableIndexRelSleb, GlobalIndexI32, TableNumberLeb}
 use Rattle.wl_symbols.specs.Entries.{symbol_in}
 use Rattle.wl_symbols.specs.Names.{def}
 use Rattle.wl_symbols.specs.LinkerNames.{name_of}
@@ -174,7 +174,6 @@ pub record Scanned : Type 0 where
   pub got_func : List GotFuncEntry
   pub table_functions : List FunctionTarget
   pub needs : RelocNeeds
-  pub relocations : List Relocated
 
 -- the scan of a link
 abbrev pub scan_of : Input → Scanned
@@ -183,5 +182,4 @@ scan_of input = record {
   got_func = map (got_func_entry input) (got_func input);
   table_functions = table_functions input;
   needs = needs_of input;
-  relocations = relocations input;
 }

@@ -1,5 +1,5 @@
 -- Functions of another type than the one under which an object knows them.
-use Rattle.std.specs.Prelude.{◌≡◌, ◌⊎◌, ℕ, ◌==◌, Bool, true, false, List, [], ◌∷◌, Contains, Option, Some, None, slice_get}
+use Rattle.std.specs.Prelude.{◌≡◌, ◌⊎◌, ℕ, true, false, Contains, Some, slice_get}
 use Rattle.wl_module.specs.Types.{FunctionType, same_type}
 use Rattle.wl_linking.specs.Object.{Object}
 use Rattle.wl_linking.specs.RelocationTypes.{names_a_type}

@@ -13,7 +13,7 @@ ghost use Rattle.wl_bind.specs.Parts.{IsPlaceOf, ArePlacesOf};
 use crate::input::LinkInput;
 use crate::kinds::is_data;
 use crate::numbering::Numbering;
-use crate::relocated::{Relocated, push_object};
+use crate::relocated::{Relocated, kept_of_object};
 use crate::scan::is_global_index;
 use crate::targets::FunctionBindings;
 use std::alloc::{AllocError, Global};
@@ -43,11 +43,9 @@ fn global_marks(
     ensures { IfOk result (λ marks. marks.items
         ≡ map (has_global input.now object file.now) (range_with_len 0 (length file.now.symbols))) }
 {
-    let mut relocations = Vec::new(alloc);
-    push_object(&mut relocations, input.live(), object, file)?;
     let mut marks = vec![in alloc; false; file.symbols().len()]?;
-    for relocated in &relocations {
-        mark_symbol(&mut marks, relocated);
+    for relocated in kept_of_object(input, object, file) {
+        mark_symbol(&mut marks, &relocated);
     }
     Ok(marks)
 }

@@ -22,7 +22,7 @@ use wl_symbols::{Definition, WasmLinkerSymbol};
 // ---- relocations
 
 /// Whether symbols of that kind are data.
-pub(crate) fn is_data(kind: WasmSymbolKind) -> bool
+pub fn is_data(kind: WasmSymbolKind) -> bool
     ensures { result ≡ is_data kind }
 {
     matches!(kind, WasmSymbolKind::Data)

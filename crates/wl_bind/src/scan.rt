@@ -15,7 +15,7 @@ use crate::relocated::Relocated;
 use crate::targets::FunctionBindings;
 use std::alloc::{AllocError, Global};
 use std::marker::Model;
-use wl_linking::{ItemList, RelocationType};
+use wl_linking::RelocationType;
 use wl_live::is_function_kind;
 use wl_symbols::Definition;
 
@@ -41,8 +41,6 @@ pub struct RelocScan<'a> {
     pub table_functions: TableFunctions,
     /// What else is asked for.
     pub needs: RelocNeeds,
-    /// The kept relocations themselves.
-    pub relocations: ItemList<Relocated>,
 }
 
 impl<'a> Model for RelocScan<'a> {
@@ -55,7 +53,6 @@ impl<'a> Model for RelocScan<'a> {
       got_func = s.got_func;
       table_functions = s.table_functions;
       needs = s.needs;
-      relocations = s.relocations;
     } };
 }
 
@@ -146,7 +143,7 @@ pub(crate) fn definition_name<'a>(input: &LinkInput<'_, 'a>, definition: Definit
 
 /// The entry that a relocation asks for in the GOT list of data: the definition of a data symbol
 /// under the number of a global.
-fn got_mem_of(input: &LinkInput<'_, '_>, relocated: &Relocated) -> Option<Definition>
+pub fn got_mem_of(input: &LinkInput<'_, '_>, relocated: &Relocated) -> Option<Definition>
     ensures { result ≡ got_mem_of input.now relocated.now }
 {
     if is_global_index(relocated.relocation.ty) && names_data(input, relocated) {
@@ -376,21 +373,16 @@ pub(crate) fn gather<'a>(
     alloc: Global,
     input: &LinkInput<'_, 'a>,
     bindings: &FunctionBindings,
-    relocations: Vec<Relocated>,
+    relocations: &[Relocated],
 ) -> Result<RelocScan<'a>, AllocError>
     requires bindings { bindings.now ≡ function_bindings input.now }
-    requires relocations { relocations.items ≡ relocations_of input.now }
+    requires relocations { relocations.now ≡ relocations_of input.now }
     ensures { IfOk result (λ s. s ≡ scan_of input.now) }
 {
-    let got_mem = got_mem(alloc, input, &relocations)?;
-    let got_func = got_func(alloc, input, bindings, &relocations)?;
-    let table_functions = table_functions(alloc, input, bindings, &relocations)?;
-    let needs = needs(input, &relocations);
     Ok(RelocScan {
-        got_mem,
-        got_func,
-        table_functions,
-        needs,
-        relocations: ItemList::new(relocations),
+        got_mem: got_mem(alloc, input, relocations)?,
+        got_func: got_func(alloc, input, bindings, relocations)?,
+        table_functions: table_functions(alloc, input, bindings, relocations)?,
+        needs: needs(input, relocations),
     })
 }

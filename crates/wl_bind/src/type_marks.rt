@@ -8,7 +8,7 @@ ghost use Rattle.wl_bind.specs.OutputTypes.{is_live_type};
 ghost use Rattle.wl_bind.specs.MergeSteps.{mark, mark_all, AreMarked, function_type, function_types, host_type, host_types, named_type};
 
 use crate::input::LinkInput;
-use crate::relocated::{Relocated, push_object};
+use crate::relocated::{Relocated, kept_of_object};
 use crate::report::is_host_at;
 use crate::resolution::ObjectImportResolutions;
 use crate::types::type_number;
@@ -123,30 +123,19 @@ fn named_type(relocated: &Relocated) -> Option<u32>
     }
 }
 
-/// Marks the types that these relocations name.
-fn mark_named(marks: &mut Vec<bool>, relocations: &[Relocated])
-    ensures { marks.new.items ≡ mark_all marks.old.items (map named_type relocations.now) }
-{
-    for relocated in relocations {
-        mark(marks, named_type(relocated));
-    }
-}
-
 /// Marks the types that kept relocations of an object name.
 fn mark_relocations(
-    alloc: Global,
     marks: &mut Vec<bool>,
     input: &LinkInput<'_, '_>,
     object: usize,
     file: &File<'_>,
-) -> Result<(), AllocError>
-    ensures { OnOk result (marks.new.items ≡ mark_all marks.old.items
-        (map named_type (object_relocations input.now.live object file.now))) }
+)
+    ensures { marks.new.items ≡ mark_all marks.old.items
+        (map named_type (object_relocations input.now.live object file.now)) }
 {
-    let mut relocations = Vec::new(alloc);
-    push_object(&mut relocations, input.live(), object, file)?;
-    mark_named(marks, &relocations);
-    Ok(())
+    for relocated in kept_of_object(input, object, file) {
+        mark(marks, named_type(&relocated));
+    }
 }
 
 // ---- all of them
@@ -171,6 +160,6 @@ pub(crate) fn live_marks(
     let mut marks = vec![in alloc; false; file.types().len()]?;
     mark_functions(&mut marks, input, object, file.functions());
     mark_hosts(alloc, &mut marks, input, rows, object)?;
-    mark_relocations(alloc, &mut marks, input, object, file)?;
+    mark_relocations(&mut marks, input, object, file);
     Ok(marks)
 }

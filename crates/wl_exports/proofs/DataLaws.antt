@@ -1,5 +1,5 @@
 -- Where exported data stands among the globals, and how that is noted.
-use Rattle.std.proofs.Common.{◌≡◌, ◌⊎◌, ◌∙◌, ◌≤◌, ◌<◌, ℕ, ◌+◌, ◌-◌, ◌&&◌, Bool, true, false, cond, List, [], ◌∷◌, ◌++◌, length, take, get_or, refl, sym, ap, subst, arith, inl, inr, Option, Some, slice_get, eqb, eqb-true, eq-eqb, append_assoc, true≢false, length-append, length-take}
+use Rattle.std.proofs.Common.{◌≡◌, ◌⊎◌, ◌∙◌, ◌≤◌, ◌<◌, ℕ, ◌+◌, ◌-◌, true, false, cond, List, [], ◌∷◌, ◌++◌, length, take, get_or, refl, sym, ap, subst, arith, inl, inr, Option, Some, slice_get, eqb, eqb-true, eq-eqb, append_assoc, true≢false, length-append, length-take}
 use Rattle.std.specs.List.{list_any}
 use Rattle.std.specs.HashMap.{HashMap}
 use Rattle.std.proofs.lemmas.Bool.{cases_Bool}
@@ -14,13 +14,9 @@ use Rattle.wl_bind.specs.Parts.{AreStarts, joined, lengths_of, total}
 use Rattle.wl_bind.specs.declared.exported.DataSymbol.{DataSymbol}
 use Rattle.wl_bind.specs.declared.parts.PartStarts.{PartStarts}
 use Rattle.wl_exports.specs.DataSteps.{IsNoted, IsLeft, NotesPlaces, AreDataPlaces, exported_data}
-use Rattle.wl_exports.proofs.ListLaws.{IsIn, in_list, list_in, in_split, behind_at, front_at, map_at, length_mapped}
+use Rattle.wl_exports.proofs.ListLaws.{IsIn, behind_at, both, front_at, in_list, in_split, length_mapped, list_in, map_at}
 
 -- ---- data symbols that are the same
-
-both : (a b : Bool) → (a && b) ≡ true → (a ≡ true) × (b ≡ true)
-both true b e = (refl, e)
-both false b e = absurd cc
 
 pub same_is : (a b : DataSymbol) → same_data a b ≡ true → a ≡ b
 same_is a b e =

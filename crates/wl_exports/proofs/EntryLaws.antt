@@ -29,7 +29,7 @@ use Rattle.wl_exports.specs.ExportSteps.{IsPlainIf, AddsExports, takes}
 use Rattle.wl_exports.specs.declared.dynamic.Wanted.{Wanted}
 use Rattle.wl_exports.proofs.GrowLaws.{adds_more, adds_same}
 use Rattle.wl_exports.proofs.ShownLaws.{Found, found, entity_found}
-use Rattle.wl_exports.proofs.ListLaws.{one_item, in_at, in_list, map_at, at_read}
+use Rattle.wl_exports.proofs.ListLaws.{at_read, both, in_at, in_list, map_at, not_true, one_item}
 
 -- ---- by names
 
@@ -127,18 +127,10 @@ function_kind Section e = absurd cc
 function_kind Event e = absurd cc
 function_kind Table e = absurd cc
 
-both : (a b : Bool) → (a && b) ≡ true → (a ≡ true) × (b ≡ true)
-both true b e = (refl, e)
-both false b e = absurd cc
-
-not_so : (a : Bool) → not a ≡ true → a ≡ false
-not_so true e = absurd cc
-not_so false e = refl
-
 pub function_parts_of : (s : LinkedSymbol) → is_defined_function s ≡ true → (s.kind ≡ Func) × (is_undefined s ≡ false)
 function_parts_of s e =
     let h = both (is_function_kind s.kind) (not (is_undefined s)) e in
-    (function_kind s.kind h.0, not_so (is_undefined s) h.1)
+    (function_kind s.kind h.0, not_true (is_undefined s) h.1)
 
 no_function : (f : ℕ → GlobalEntry) (n : Option ℕ)
     → option_and_then only_function (option_map (λ k. OfGlobal (f k)) n) ≡ None

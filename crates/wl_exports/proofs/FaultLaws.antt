@@ -31,7 +31,7 @@ use Rattle.wl_exports.specs.FaultSteps.{IsSoundSymbol, IsSymbolFault, no_room, a
 use Rattle.wl_exports.specs.Faults.{is_table_kind, is_table, IsExportFault}
 use Rattle.wl_exports.specs.NameSteps.{has_export}
 use Rattle.wl_exports.specs.Sources.{IsPlainExport}
-use Rattle.wl_exports.proofs.ListLaws.{IsIn, in_list, list_in, in_split, zip_at, zip_from, at_read}
+use Rattle.wl_exports.proofs.ListLaws.{IsIn, at_read, in_list, in_split, list_in, zip_at, zip_from}
 use Rattle.wl_exports.proofs.EntryLaws.{texts_more}
 use Rattle.wl_exports.proofs.NameLaws.{bytes_is, bytes_self}
 use Rattle.wl_exports.proofs.ShownLaws.{AreNumbered, Found, found, entity_found, no_entity, holds_at, function_value, global_value}
@@ -390,10 +390,6 @@ sound_by numbered input object number s whole at defined (inr (inl kind)) =
     (λ o w here. gives_global numbered object number s o kind defined w here)
 sound_by numbered input object number s whole at defined (inr (inr kind)) =
     sound_symbol numbered input object number s Data whole at kind defined refl (λ o w here. (_, refl))
-
-pub not_true : (b : Bool) → not b ≡ true → b ≡ false
-not_true true e = absurd cc
-not_true false e = refl
 
 pub not_false : (b : Bool) → not b ≡ false → b ≡ true
 not_false true e = refl

@@ -1,5 +1,5 @@
 -- What stands in lists, and at which places.
-use Rattle.std.proofs.Common.{◌≡◌, ◌⊎◌, ◌∙◌, ℕ, zero, suc, ◌+◌, ◌<◌, Bool, true, List, [], ◌∷◌, ◌++◌, length, map, filter, filter_map, take, get_or, refl, sym, ap, subst, arith, inl, inr, Option, Some, None, slice_get, Contains}
+use Rattle.std.proofs.Common.{◌≡◌, ◌⊎◌, ◌∙◌, ◌&&◌, not, ℕ, zero, suc, ◌+◌, ◌<◌, Bool, true, false, List, [], ◌∷◌, ◌++◌, length, map, filter, filter_map, take, get_or, refl, sym, ap, subst, arith, inl, inr, Option, Some, None, slice_get, Contains}
 use Rattle.std.specs.List.{AllZip, cons_option, range_with_len}
 use Rattle.std.specs.Option.{option_to_list}
 use Rattle.std.proofs.lemmas.Bool.{cases_Bool}
@@ -176,3 +176,13 @@ filter_map_more {X} {Y} f xs i x lt is =
     ∙ (filter_map-append f (take i xs) (get_or xs i x ∷ [])
     ∙ (ap (λ (z : X). filter_map f (take i xs) ++ filter_map f (z ∷ [])) (sym is)
     ∙ ap (λ (ys : List Y). filter_map f (take i xs) ++ ys) (one_item (f x))))
+
+-- ---- truth values
+
+pub both : (a b : Bool) → (a && b) ≡ true → (a ≡ true) × (b ≡ true)
+both true b e = (refl, e)
+both false b e = absurd cc
+
+pub not_true : (b : Bool) → not b ≡ true → b ≡ false
+not_true true e = absurd cc
+not_true false e = refl

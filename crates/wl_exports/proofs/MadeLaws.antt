@@ -131,7 +131,7 @@ found_passes {X} p (y ∷ xs) x e = elim (cases_Bool (p y)) [
   | inr f ↦ found_passes p xs x (rw f at e)
 ]
 
-any_in : (p : List ℕ → Bool) (names : List (List ℕ)) (name : List ℕ) → IsIn names name → p name ≡ true
+pub any_in : (p : List ℕ → Bool) (names : List (List ℕ)) (name : List ℕ) → IsIn names name → p name ≡ true
     → list_any p names ≡ true
 any_in p [] name h e = absurd h
 any_in p (n ∷ names) name h e = elim h [

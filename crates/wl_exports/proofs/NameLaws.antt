@@ -1,5 +1,5 @@
 -- Names that are taken.
-use Rattle.std.proofs.Common.{◌≡◌, ◌∙◌, ◌<◌, ℕ, ◌+◌, ◌&&◌, ◌||◌, Bool, true, false, not, cond, List, [], ◌∷◌, ◌++◌, length, take, get_or, refl, sym, ap, subst, inl, inr, if◌then◌else◌, eqb, eqb-true, eq-eqb, append_assoc, append-nil, true≢false}
+use Rattle.std.proofs.Common.{◌≡◌, ◌∙◌, ◌<◌, ℕ, ◌+◌, ◌||◌, Bool, true, false, not, cond, List, [], ◌∷◌, ◌++◌, length, take, get_or, refl, sym, ap, subst, inl, inr, if◌then◌else◌, eqb, eqb-true, eq-eqb, append_assoc, append-nil, true≢false}
 use Rattle.std.specs.Borrow.{Bor}
 use Rattle.std.specs.HashSet.{HashSet}
 use Rattle.std.specs.List.{AllZip, list_any}
@@ -12,13 +12,9 @@ use Rattle.wl_exports.specs.Exports.{ExportEntry, same_name, unless_taken, first
 use Rattle.wl_exports.specs.ExportSteps.{AddsExports}
 use Rattle.wl_exports.specs.NameSteps.{holds_name, has_export, HoldsNames, untaken}
 use Rattle.wl_exports.specs.Sources.{IsPlainExport, ArePlainExports}
-use Rattle.wl_exports.proofs.ListLaws.{zip_joined}
+use Rattle.wl_exports.proofs.ListLaws.{both, zip_joined}
 
 -- ---- texts
-
-both : (a b : Bool) → (a && b) ≡ true → (a ≡ true) × (b ≡ true)
-both true b e = (refl, e)
-both false b e = absurd cc
 
 pub bytes_is : (a b : List ℕ) → bytes_eq a b ≡ true → a ≡ b
 bytes_is [] [] e = refl

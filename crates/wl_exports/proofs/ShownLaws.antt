@@ -37,7 +37,7 @@ use Rattle.wl_exports.specs.DataSteps.{exported_data}
 use Rattle.wl_exports.specs.Exports.{Entity, OfFunction, OfGlobal, export_of, defined_of_kind, defined_entity, object_entity}
 use Rattle.wl_exports.specs.ExportSteps.{IsPlainIf, IsShown}
 use Rattle.wl_exports.proofs.DataLaws.{in_once}
-use Rattle.wl_exports.proofs.ListLaws.{IsIn, in_list, list_in, in_front, in_back, filter_in, filter_map_in}
+use Rattle.wl_exports.proofs.ListLaws.{IsIn, both, filter_in, filter_map_in, in_back, in_front, in_list, list_in}
 use Rattle.wl_exports.proofs.PlaceLaws.{AreCounted, AreGlobalsCounted, function_there, global_there}
 
 -- ---- what is counted on
@@ -54,10 +54,6 @@ abbrev pub AreKeptRoots : Type 0
 AreKeptRoots =
     (link : Link) (live : Live) (u : LinkUnit) → IsLiveOf link live → IsRoot link u
     → is_live live u ≡ true
-
-both : (a b : Bool) → (a && b) ≡ true → (a ≡ true) × (b ≡ true)
-both true b e = (refl, e)
-both false b e = absurd cc
 
 or_right : (a b : Bool) → b ≡ true → (a || b) ≡ true
 or_right true b e = refl

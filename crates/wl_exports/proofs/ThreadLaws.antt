@@ -15,7 +15,7 @@ use Rattle.wl_exports.specs.Exports.{ExportEntry, export_of, made_entity, thread
 use Rattle.wl_exports.specs.ExportSteps.{AddsExports, uses_mutable_globals}
 use Rattle.wl_exports.proofs.GrowLaws.{adds_more, adds_same}
 use Rattle.wl_exports.proofs.ListLaws.{IsIn, list_in}
-use Rattle.wl_exports.proofs.MadeLaws.{made_entry}
+use Rattle.wl_exports.proofs.MadeLaws.{any_in, made_entry}
 
 three : (b : Bool) (x y z : ExportEntry)
     → option_to_list (if b then Some x else None) ++ option_to_list (if b then Some y else None)
@@ -54,20 +54,6 @@ any_some p (n ∷ names) e = elim (cases_Bool (p n)) [
   | inl t ↦ (n, inl refl, t)
   | inr f ↦ (let r = any_some p names (rw f at e) in (r.0, inr r.1, r.2))
 ]
-
-any_in : (p : List ℕ → Bool) (names : List (List ℕ)) (name : List ℕ) → IsIn names name → p name ≡ true
-    → list_any p names ≡ true
-any_in p [] name h e = absurd h
-any_in p (n ∷ names) name h e = elim h [
-  | inl same ↦
-      let here : p n ≡ true = subst (λ (k : List ℕ). p k ≡ true) (sym same) e in
-      rw here refl
-  | inr rest ↦ or_right (p n) (list_any p names) (any_in p names name rest e)
-]
-  where
-    or_right : (a b : Bool) → b ≡ true → (a || b) ≡ true
-    or_right true b k = refl
-    or_right false b k = k
 
 all_in : {X : Type 0} (P : X → Type 0) (xs : List X) (x : X) → All P xs → IsIn xs x → P x
 all_in P [] x all h = absurd h

@@ -5,7 +5,6 @@ ghost use Rattle.std.specs.List.{list_any};
 ghost use Rattle.wl_types.specs.Types.{max_entries};
 ghost use Rattle.wl_bind.specs.FunctionSpace.{host_function_part, function_space};
 ghost use Rattle.wl_bind.specs.Input.{Input as Linked};
-ghost use Rattle.wl_bind.specs.Made.{has_init_functions};
 ghost use Rattle.wl_exports.specs.Exports.{ExportEntry};
 ghost use Rattle.wl_exports.specs.Sources.{IsPlainExport, ArePlainExports};
 ghost use Rattle.wl_exports.specs.WrapSteps.{AddsWrapped};
@@ -15,7 +14,7 @@ ghost use Rattle.wl_exports.specs.Wrappers.{is_ctors_name, is_function, calls_ct
 use crate::made::INIT_TLS;
 use std::alloc::{AllocError, Global};
 use std::marker::Model;
-use wl_bind::LinkInput;
+use wl_bind::{LinkInput, has_init_functions};
 use wl_linking::{File, ItemList};
 use wl_module::{ExternalKind, Import, ImportEntity, OutputExport};
 
@@ -78,14 +77,6 @@ fn calls_ctors(file: &File<'_>) -> bool
     ensures { result ≡ calls_ctors file.now }
 {
     imports_ctors(file.imports()) || exports_ctors(file.exports())
-}
-
-/// Whether an object has functions that run at the start.
-fn has_init_functions(input: &LinkInput<'_, '_>) -> bool
-    ensures { result ≡ has_init_functions input.now }
-{
-    let files = input.files().as_slice();
-    files.iter().any(|file| !file.init_funcs().is_empty())
 }
 
 /// Whether an object calls the constructors itself.

@@ -47,7 +47,7 @@ use Rattle.wl_bind.specs.declared.binding.FunctionTarget.{FunctionTarget}
 use Rattle.wl_bind.specs.declared.binding.FunctionTarget.TheVariants as function
 use Rattle.wl_bind.specs.declared.relocated.Relocated.{Relocated}
 use Rattle.wl_plan.specs.Addresses.{symbol_address}
-use Rattle.wl_plan.specs.FixupSteps.{AreFixupSources, HasRoom, is_absolute, left_of, counted_base, number_by, IsRefusedAt}
+use Rattle.wl_plan.specs.FixupSteps.{AreFixupSources, Answers, AnswersFrom, HasRoom, is_absolute, left_of, counted_base, number_by, IsRefusedAt}
 use Rattle.wl_plan.specs.Fixups.{type_named, global_named, slot_named, address_named, bases_of, address_taken, addend_left, number_taken, IsTaken, IsAddressReason}
 use Rattle.wl_plan.specs.IndexedMaps.{IsWholeMap, AreWholeMaps}
 use Rattle.wl_plan.specs.Table.{slot_of, slot_of_entry, space_slots}
@@ -136,12 +136,6 @@ resolver_of input g o m = record {
   slots = space_slots input;
   bases = bases_of g;
 }
-
--- what its field takes, or why it can't take the address of what it names
-abbrev pub Answers : Input → Placing → Relocated → Option Taking → ℤ → Result ℕ RelocError → Type 0
-Answers input g r taking left (Ok value) = IsTaken input g r taking value left
-Answers input g r taking left (Err why) =
-    (base : AddressBase) × (taking ≡ Some (Address base)) × (address_taken input g r base ≡ Err why)
 
 pub answers_as : (input : Input) (g : Placing) (r : Relocated) (taking : Option Taking) (left : ℤ)
     (result other : Result ℕ RelocError) → result ≡ other → Answers input g r taking left other
@@ -752,8 +746,7 @@ pub answers_of : (s : FixupSources) (r : Relocated) (o : Object) (m : WasmObject
     → slice_get s.input.now.link.objects r.object ≡ Some o → slice_get s.maps.now r.object ≡ Some m
     → symbols ≡ o.symbols
     → result ≡ resolved (given m symbols s.slots.now s.placing.now) r.relocation
-    → Answers s.input.now s.placing.now r (taking_of r.relocation.ty)
-    (left_of (address_named s.input.now s.placing.now r) r.relocation) result
+    → AnswersFrom s r result
 answers_of s r o m symbols result laws table sources kept here at symbols_are is =
     answers_as s.input.now s.placing.now r (taking_of r.relocation.ty)
     (left_of (address_named s.input.now s.placing.now r) r.relocation) result

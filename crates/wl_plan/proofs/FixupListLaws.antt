@@ -1,79 +1,81 @@
 -- Fixups one after the other.
-use Rattle.std.proofs.Common.{◌≡◌, ◌<◌, ◌≤◌, ℕ, zero, suc, ◌+◌, List, [], ◌∷◌, ◌++◌, length, get_or, take, add-one, sym, subst, arith, Contains}
-use Rattle.std.specs.Prelude.{pos}
+use Rattle.std.proofs.Common.{◌≡◌, ◌<◌, ℕ, zero, suc, List, [], ◌∷◌, ◌++◌, length, get_or, refl, sym, subst, arith, Contains}
 use Rattle.std.specs.List.{AllByRecursion, AllZip}
-use Rattle.std.proofs.lemmas.List.{take_all}
+use Rattle.std.proofs.lemmas.List.Elements.{Contains-append_right}
 use Rattle.wl_linking.specs.Steps.{Clear, Refuses}
 use Rattle.wl_linking.specs.declared.error.LinkError.{LinkError}
-use Rattle.wl_linking.specs.declared.relocation_type.RelocationType.TheVariants.{FunctionIndexLeb}
 use Rattle.wl_bind.specs.Scan.{relocations}
-use Rattle.wl_bind.specs.declared.relocated.FixupPlace.TheVariants.{Code}
 use Rattle.wl_bind.specs.declared.relocated.Relocated.{Relocated}
 use Rattle.wl_plan.specs.FixupSteps.{IsRefusedAt, NoneRefused}
 use Rattle.wl_plan.specs.Fixups.{IsFixupFault}
 use Rattle.wl_plan.specs.declared.fixups.FixupSources.{FixupSources}
 use Rattle.wl_plan.proofs.FixupLaws.{reason_of}
+use Rattle.wl_plan.proofs.ListLaws.{zip_joined}
 
--- what stands where a list has nothing
-abbrev pub no_relocation : Relocated
-no_relocation = record {
-  object = 0;
-  place = Code;
-  relocation = record { ty = FunctionIndexLeb; offset = 0; index = 0; addend = pos 0 };
-  site = record { unit = 0; position = 0 };
-}
+-- ---- the relocation at hand
+
+-- it stands behind those that were seen
+next_is : {X : Type 0} (all seen left more : List X) (x : X) → seen ++ left ≡ all
+    → left ≡ x ∷ more → seen ++ x ∷ more ≡ all
+next_is all seen left more x is steps = rw (← steps) is
+
+pub next_is_kept : (all seen left more : List Relocated) (r : Relocated) → seen ++ left ≡ all
+    → left ≡ r ∷ more → Contains all r
+next_is_kept all seen left more r is steps =
+    subst (λ (rs : List Relocated). Contains rs r) (next_is all seen left more r is steps)
+    (Contains-append_right seen (r ∷ more) r (0, omega arith, refl))
 
 -- ---- lists side by side
 
-zip_suc : {X Y : Type 0} (R : X → Y → Type 0) (xs : List X) (i : ℕ) (d : X) (ys : List Y) (y : Y)
-    → i < length xs → R (get_or xs i d) y → AllZip R (take i xs) ys
-    → AllZip R (take (suc i) xs) (ys ++ y ∷ [])
-zip_suc R [] i d ys y lt r h = absurd (omega (arith, lt))
-zip_suc R (z ∷ xs) zero d [] y lt r h = (r, tt)
-zip_suc R (z ∷ xs) zero d (w ∷ ys) y lt r h = absurd h
-zip_suc R (z ∷ xs) (suc i) d [] y lt r h = absurd h
-zip_suc R (z ∷ xs) (suc i) d (w ∷ ys) y lt r h =
-    (h.0, zip_suc R xs i d ys y (omega (arith, lt)) r h.1)
+-- one more on both sides
+pub zip_more : {X Y : Type 0} (R : X → Y → Type 0) (xs : List X) (x : X) (old new : List Y) (y : Y)
+    → AllZip R xs old → R x y → new ≡ old ++ y ∷ [] → AllZip R (xs ++ x ∷ []) new
+zip_more R xs x old new y h r pushed = rw pushed (zip_joined R xs (x ∷ []) old (y ∷ []) h (r, tt))
 
-pub zip_more : {X Y : Type 0} (R : X → Y → Type 0) (xs : List X) (i : ℕ) (d : X) (old new : List Y)
-    (y : Y) → i < length xs → R (get_or xs i d) y → new ≡ old ++ y ∷ []
-    → AllZip R (take i xs) old → AllZip R (take (i + 1) xs) new
-zip_more R xs i d old new y lt r pushed h =
-    rw (pushed, add-one) (zip_suc R xs i d old y lt r h)
+-- the place behind as many as there are on another side
+zip_within : {X Y Z : Type 0} (R : X → Y → Type 0) (S : X → Z → Type 0) (xs : List X) (x : X)
+    (more : List X) (ys : List Y) (zs : List Z) → AllZip R (xs ++ x ∷ more) ys → AllZip S xs zs
+    → length zs < length ys
+zip_within R S [] x more [] [] h s = absurd h
+zip_within R S [] x more (y ∷ ys) [] h s = omega arith
+zip_within R S [] x more ys (z ∷ zs) h s = absurd s
+zip_within R S (w ∷ xs) x more [] zs h s = absurd h
+zip_within R S (w ∷ xs) x more (y ∷ ys) [] h s = absurd s
+zip_within R S (w ∷ xs) x more (y ∷ ys) (z ∷ zs) h s =
+    let rest = zip_within R S xs x more ys zs h.1 s.1 in omega (arith, rest)
 
-all_suc : {X : Type 0} (P : X → Type 0) (xs : List X) (i : ℕ) (d : X) → i < length xs
-    → P (get_or xs i d) → AllByRecursion P (take i xs) → AllByRecursion P (take (suc i) xs)
-all_suc P [] i d lt p h = absurd (omega (arith, lt))
-all_suc P (z ∷ xs) zero d lt p h = (p, tt)
-all_suc P (z ∷ xs) (suc i) d lt p h = (h.0, all_suc P xs i d (omega (arith, lt)) p h.1)
+zip_there : {X Y Z : Type 0} (R : X → Y → Type 0) (S : X → Z → Type 0) (xs : List X) (x : X)
+    (more : List X) (ys : List Y) (zs : List Z) (d : Y) → AllZip R (xs ++ x ∷ more) ys
+    → AllZip S xs zs → R x (get_or ys (length zs) d)
+zip_there R S [] x more [] [] d h s = absurd h
+zip_there R S [] x more (y ∷ ys) [] d h s = h.0
+zip_there R S [] x more ys (z ∷ zs) d h s = absurd s
+zip_there R S (w ∷ xs) x more [] zs d h s = absurd h
+zip_there R S (w ∷ xs) x more (y ∷ ys) [] d h s = absurd s
+zip_there R S (w ∷ xs) x more (y ∷ ys) (z ∷ zs) d h s = zip_there R S xs x more ys zs d h.1 s.1
 
-pub all_more : {X : Type 0} (P : X → Type 0) (xs : List X) (i : ℕ) (d : X) → i < length xs
-    → P (get_or xs i d) → AllByRecursion P (take i xs) → AllByRecursion P (take (i + 1) xs)
-all_more P xs i d lt p h = rw add-one (all_suc P xs i d lt p h)
+-- the same of the one at hand, as many being there as were seen
+pub place_within : {X Y Z : Type 0} (R : X → Y → Type 0) (S : X → Z → Type 0)
+    (all seen left more : List X) (x : X) (ys : List Y) (zs : List Z) (n : ℕ) → seen ++ left ≡ all
+    → left ≡ x ∷ more → AllZip R all ys → AllZip S seen zs → n ≡ length zs → n < length ys
+place_within {X} R S all seen left more x ys zs n is steps r s len =
+    subst (λ (k : ℕ). k < length ys) (sym len)
+    (zip_within R S seen x more ys zs
+    (subst (λ (xs : List X). AllZip R xs ys) (sym (next_is all seen left more x is steps)) r) s)
 
-pub zip_within : {X Y : Type 0} (R : X → Y → Type 0) (xs : List X) (ys : List Y) (i : ℕ)
-    → AllZip R xs ys → i < length xs → i < length ys
-zip_within R [] [] i h lt = lt
-zip_within R [] (y ∷ ys) i h lt = absurd h
-zip_within R (x ∷ xs) [] i h lt = absurd h
-zip_within R (x ∷ xs) (y ∷ ys) zero h lt = omega arith
-zip_within R (x ∷ xs) (y ∷ ys) (suc i) h lt =
-    let rest = zip_within R xs ys i h.1 (omega (arith, lt)) in omega (arith, rest)
+pub place_there : {X Y Z : Type 0} (R : X → Y → Type 0) (S : X → Z → Type 0)
+    (all seen left more : List X) (x : X) (ys : List Y) (zs : List Z) (n : ℕ) (d : Y)
+    → seen ++ left ≡ all → left ≡ x ∷ more → AllZip R all ys → AllZip S seen zs → n ≡ length zs
+    → R x (get_or ys n d)
+place_there {X} R S all seen left more x ys zs n d is steps r s len =
+    subst (λ (k : ℕ). R x (get_or ys k d)) (sym len)
+    (zip_there R S seen x more ys zs d
+    (subst (λ (xs : List X). AllZip R xs ys) (sym (next_is all seen left more x is steps)) r) s)
 
-pub zip_at : {X Y : Type 0} (R : X → Y → Type 0) (xs : List X) (ys : List Y) (i : ℕ) (d : X) (e : Y)
-    → AllZip R xs ys → i < length xs → R (get_or xs i d) (get_or ys i e)
-zip_at R [] ys i d e h lt = absurd (omega (arith, lt))
-zip_at R (z ∷ xs) [] i d e h lt = absurd h
-zip_at R (z ∷ xs) (w ∷ ys) zero d e h lt = h.0
-zip_at R (z ∷ xs) (w ∷ ys) (suc i) d e h lt = zip_at R xs ys i d e h.1 (omega (arith, lt))
-
-pub zip_end : {X Y : Type 0} (R : X → Y → Type 0) (xs : List X) (i : ℕ) (ys : List Y)
-    → length xs ≤ i → AllZip R (take i xs) ys → AllZip R xs ys
-zip_end {X} R xs i ys le h = subst (λ (zs : List X). AllZip R zs ys) (take_all i xs le) h
-
-pub all_end : {X : Type 0} (P : X → Type 0) (xs : List X) (i : ℕ) → length xs ≤ i
-    → AllByRecursion P (take i xs) → AllByRecursion P xs
-all_end {X} P xs i le h = subst (λ (zs : List X). AllByRecursion P zs) (take_all i xs le) h
+pub all_more : {X : Type 0} (P : X → Type 0) (xs : List X) (x : X) → AllByRecursion P xs → P x
+    → AllByRecursion P (xs ++ x ∷ [])
+all_more P [] x h p = (p, tt)
+all_more P (z ∷ xs) x h p = (h.0, all_more P xs x h.1 p)
 
 one_from : {X : Type 0} (P : X → Type 0) (xs : List X) (x : X) (k : ℕ) → k < length xs
     → get_or xs k x ≡ x → AllByRecursion P xs → P x

@@ -1,10 +1,10 @@
 -- What the globals of the output start with.
-use Rattle.std.proofs.Common.{◌≤◌, ◌++◌, add-one, drop, drop-cons, get_or, nat_lt, ◌≡◌, ◌⊎◌, ◌∙◌, ℕ, zero, suc, ◌+◌, ◌<◌, ◌&&◌, Bool, true, false, List, [], ◌∷◌, length, map, refl, sym, ap, subst, inl, inr, arith, Option, Some, None, Result, Ok, Err, Contains, slice_get, if◌then◌else◌}
+use Rattle.std.proofs.Common.{◌≤◌, ◌++◌, get_or, nat_lt, ◌≡◌, ◌⊎◌, ◌∙◌, ℕ, zero, suc, ◌+◌, ◌<◌, ◌&&◌, Bool, true, false, List, [], ◌∷◌, length, map, refl, sym, ap, subst, inl, inr, arith, Option, Some, None, Result, Ok, Err, Contains, slice_get, if◌then◌else◌}
 use Rattle.std.specs.List.{filter_map, cons_option, list_any, range_with_len}
 use Rattle.std.specs.Result.{IfErr, OnErr}
 use Rattle.std.specs.Option.{option_map, unwrap_or}
 use Rattle.std.proofs.lemmas.Bool.{cases_Bool, ltb-true, ltb-false}
-use Rattle.std.proofs.lemmas.List.{drop_all, length-map}
+use Rattle.std.proofs.lemmas.List.{length-map}
 use Rattle.std.proofs.lemmas.List.FromFn.{length-map-range_with_len, get_or-map-range_with_len}
 use Rattle.std.proofs.lemmas.Option.{slice_get-map, slice_get-get_or, same_Some, slice_get_past}
 use Rattle.indexmap.specs.IndexSet.{insert_key, insert_all}
@@ -27,7 +27,6 @@ use Rattle.wl_bind.specs.declared.binding.FunctionTarget.{FunctionTarget}
 use Rattle.wl_bind.specs.declared.relocated.Relocated.{Relocated}
 use Rattle.wl_plan.specs.Addresses.{address_of_definition, symbol_address, IsHigh, HasHighSymbol, IsAddressTooHigh}
 use Rattle.wl_plan.specs.AddressSteps.{IsHighAt}
-use Rattle.wl_plan.specs.GlobalSteps.{asks_for_entry, first_among}
 use Rattle.wl_plan.specs.Globals.{global_in}
 use Rattle.wl_plan.specs.IndexedMaps.{IsWholeMap, AreWholeMaps}
 use Rattle.wl_plan.specs.declared.placing.Placing.{Placing}
@@ -191,29 +190,6 @@ pub func_count : (input : Input) (scan : Scanned) → scan ≡ scan_of input
     → length scan.got_func ≡ length (got_func input)
 func_count input scan is =
     ap (λ (s : Scanned). length s.got_func) is ∙ length-map (got_func input) (got_func_entry input)
-
--- ---- relocations that ask for an entry
-
--- the first that asks, which stands in front
-pub found_first : (input : Input) (d : Definition) (rs : List Relocated) (k : ℕ) (r : Relocated)
-    → k < length rs → asks_for_entry input d (get_or rs k r) ≡ true
-    → first_among input d (drop k rs) ≡ (get_or rs k r).object
-found_first input d rs k r lt asks =
-    let split : drop k rs ≡ get_or rs k r ∷ drop (k + 1) rs = rw (add-one) (drop-cons rs k r lt) in
-    rw (split, asks) refl
-
--- one that doesn't ask is passed over
-pub found_next : (input : Input) (d : Definition) (rs : List Relocated) (k : ℕ) (r : Relocated)
-    → k < length rs → asks_for_entry input d (get_or rs k r) ≡ false
-    → first_among input d (drop (k + 1) rs) ≡ first_among input d (drop k rs)
-found_next input d rs k r lt fails =
-    let split : drop k rs ≡ get_or rs k r ∷ drop (k + 1) rs = rw (add-one) (drop-cons rs k r lt) in
-    rw (split, fails) refl
-
--- none does
-pub found_none : (input : Input) (d : Definition) (rs : List Relocated) (k : ℕ) → length rs ≤ k
-    → first_among input d (drop k rs) ≡ 0
-found_none input d rs k le = rw (drop_all k rs le) refl
 
 -- ---- the rows of objects
 

@@ -9,12 +9,12 @@ use Rattle.wl_bind.specs.Input.{Input}
 use Rattle.wl_bind.specs.Kinds.{IsWrongKind}
 use Rattle.wl_bind.specs.References.{IsSettled}
 use Rattle.wl_bind.specs.declared.relocated.Relocated.{Relocated}
-use Rattle.wl_plan.specs.FixupSteps.{HasRoom, left_of}
+use Rattle.wl_plan.specs.FixupSteps.{Answers, HasRoom, left_of}
 use Rattle.wl_plan.specs.Fixups.{address_named}
 use Rattle.wl_plan.specs.IndexedMaps.{AreWholeMaps}
 use Rattle.wl_plan.specs.Resolved.{IsNumbered, IsOf, answer_for, HasNoAddress}
 use Rattle.wl_plan.specs.declared.placing.Placing.{Placing}
-use Rattle.wl_plan.proofs.FixupLaws.{Answers, IsKnown, Laws, map_of, reason_of, resolves_as}
+use Rattle.wl_plan.proofs.FixupLaws.{IsKnown, Laws, map_of, reason_of, resolves_as}
 use Rattle.wl_plan.proofs.PlanLaws.{few_by}
 use Rattle.wl_plan.proofs.SlotLaws.{TableLaws}
 use Rattle.wl_plan.proofs.StepLaws.{first_clear}

@@ -1,5 +1,5 @@
 -- What fixups are made from.
-use Rattle.std.specs.Prelude.{◌≡◌, ◌≤◌, length, ℕ, ℤ, pos, ◌+ℤ◌, ◌-ℤ◌, Bool, true, false, if◌then◌else◌, List, Some, Err}
+use Rattle.std.specs.Prelude.{◌≡◌, ◌≤◌, length, ℕ, ℤ, pos, ◌+ℤ◌, ◌-ℤ◌, Bool, true, false, if◌then◌else◌, List, Option, Some, Result, Ok, Err}
 use Rattle.std.specs.List.{AllByRecursion}
 use Rattle.wl_linking.specs.Steps.{Clear}
 use Rattle.wl_linking.specs.declared.error.LinkError.{LinkError}
@@ -13,6 +13,7 @@ use Rattle.wl_reloc.specs.Takings.{taking_of}
 use Rattle.wl_reloc.specs.declared.addresses.AddressBases.{AddressBases}
 use Rattle.wl_reloc.specs.declared.error.RelocError.{RelocError}
 use Rattle.wl_reloc.specs.declared.takings.AddressBase.{AddressBase}
+use Rattle.wl_reloc.specs.declared.takings.Taking.{Taking}
 use Rattle.wl_reloc.specs.declared.takings.Taking.TheVariants.{Address}
 use Rattle.wl_bind.specs.GlobalSpace.{global_space}
 use Rattle.wl_bind.specs.Input.{Input}
@@ -20,10 +21,11 @@ use Rattle.wl_bind.specs.OutputTypes.{output_types}
 use Rattle.wl_bind.specs.References.{IsSettled}
 use Rattle.wl_bind.specs.Scan.{table_functions}
 use Rattle.wl_bind.specs.declared.relocated.Relocated.{Relocated}
-use Rattle.wl_plan.specs.Fixups.{address_named, address_taken, address_refusal}
+use Rattle.wl_plan.specs.Fixups.{address_named, address_taken, address_refusal, IsTaken}
 use Rattle.wl_plan.specs.IndexedMaps.{AreWholeMaps}
 use Rattle.wl_plan.specs.Table.{space_slots}
 use Rattle.wl_plan.specs.declared.fixups.FixupSources.{FixupSources}
+use Rattle.wl_plan.specs.declared.placing.Placing.{Placing}
 
 -- there is room in the spaces of the output, and for the slots of the functions of the table
 pub record HasRoom (input : Input) : Type 0 where
@@ -69,6 +71,18 @@ number_by base Missing addend = (pos 0 -ℤ pos base) +ℤ addend
 number_by base (Placed place) addend = (pos place -ℤ pos base) +ℤ addend
 number_by base Passive addend = pos 0
 number_by base (TlsOffset place) addend = (pos place -ℤ pos 0) +ℤ addend
+
+-- what the field of a kept relocation takes, or why it can't take the address of what it names
+abbrev pub Answers : Input → Placing → Relocated → Option Taking → ℤ → Result ℕ RelocError → Type 0
+Answers input g r taking left (Ok value) = IsTaken input g r taking value left
+Answers input g r taking left (Err why) =
+    (base : AddressBase) × (taking ≡ Some (Address base)) × (address_taken input g r base ≡ Err why)
+
+-- the same by what fixups are made from
+abbrev pub AnswersFrom : FixupSources → Relocated → Result ℕ RelocError → Type 0
+AnswersFrom s r answer =
+    Answers s.input.now s.placing.now r (taking_of r.relocation.ty)
+    (left_of (address_named s.input.now s.placing.now r) r.relocation) answer
 
 -- the kept relocation can't take its address
 pub record IsRefusedAt (s : FixupSources) (r : Relocated) (e : LinkError) : Type 0 where

@@ -1,5 +1,5 @@
 -- How globals of the output come to be.
-use Rattle.std.specs.Prelude.{◌≡◌, ℕ, ◌∷◌, ◌++◌, Bool, true, false, List, [], if◌then◌else◌, Contains, Result, Ok, Err, find, unwrap_or, slice_get}
+use Rattle.std.specs.Prelude.{◌≡◌, ℕ, ◌∷◌, ◌++◌, Bool, true, false, List, [], if◌then◌else◌, Contains, Result, Ok, Err, unwrap_or, slice_get}
 use Rattle.std.specs.List.{AllZip}
 use Rattle.std.specs.Option.{option_map_or}
 use Rattle.wl_module.specs.Globals.{DefinedGlobal}
@@ -50,11 +50,6 @@ AnswersStart s entry (Err e) =
 -- the relocation asks for the entry of that definition in the GOT list of data
 abbrev pub asks_for_entry : Input → Definition → Relocated → Bool
 asks_for_entry input d r = option_map_or (same_definition d) (got_mem_of input r) false
-
--- the object of the first of these relocations that asks for it
-abbrev pub first_among : Input → Definition → List Relocated → ℕ
-first_among input d rs =
-    option_map_or (λ (r : Relocated). r.object) (find (asks_for_entry input d) rs) 0
 
 -- the slot of the function of that place in the GOT list of functions, 0 where it has none
 abbrev pub func_slot : Input → ℕ → ℕ

@@ -2,7 +2,6 @@
 
 ghost use Rattle.std.specs.Prelude.{◌≡◌, ◌<◌, length, Some, IfOk, OnOk, IfErr, slice_get};
 ghost use Rattle.wl_linking.specs.Steps.{Refuses};
-ghost use Rattle.wl_linking.specs.Symbols.{is_data};
 ghost use Rattle.wl_linking.specs.declared.error.LinkError.TheVariants.{TooLarge};
 ghost use Rattle.wl_linking.specs.declared.error.Quantity.TheVariants.{Address};
 ghost use Rattle.wl_symbols.specs.LinkerAddresses.{IsTooHigh};
@@ -13,9 +12,9 @@ ghost use Rattle.wl_plan.specs.Placing.{IsPlacing};
 
 use crate::placing::Placing;
 use std::alloc::{AllocError, Global};
-use wl_bind::{ExportedData, LinkInput};
+use wl_bind::{ExportedData, LinkInput, is_data};
 use wl_data::{WasmDataAddress, WasmDataSegmentLayout, segments_have_layouts};
-use wl_linking::{File, ItemList, LinkError, Quantity, WasmSymbol, WasmSymbolKind, whole_objects};
+use wl_linking::{File, ItemList, LinkError, Quantity, WasmSymbol, whole_objects};
 use wl_symbols::{Definition, WasmLinkerSymbol};
 
 // ---- segments
@@ -88,13 +87,6 @@ pub(crate) fn all_starts(
 }
 
 // ---- definitions
-
-/// Whether symbols of that kind are data.
-fn is_data(kind: WasmSymbolKind) -> bool
-    ensures { result ≡ is_data kind }
-{
-    matches!(kind, WasmSymbolKind::Data)
-}
 
 /// What tells where definitions lie.
 #[derive(Drop)]

@@ -8,15 +8,15 @@ ghost use Rattle.wl_reloc.specs.declared.takings.AddressBase.{AddressBase as Bas
 ghost use Rattle.wl_reloc.specs.declared.takings.Taking.TheVariants.{Address};
 ghost use Rattle.wl_bind.specs.Scan.{relocations};
 ghost use Rattle.wl_plan.specs.Bodies.{IsMovedIn};
-ghost use Rattle.wl_plan.specs.FixupSteps.{AreFixupSources, is_absolute, left_at, left_of, counted_base, number_by, IsRefusedAt};
+ghost use Rattle.wl_plan.specs.FixupSteps.{AreFixupSources, AnswersFrom, is_absolute, left_at, left_of, counted_base, number_by, IsRefusedAt};
 ghost use Rattle.wl_plan.specs.Fixups.{no_address, address_named, bases_of, address_refusal, IsFixup, AreFixups, IsFixupFault};
 
 use crate::layout::{Fixup, FixupTo};
 use crate::placing::Placing;
 use std::alloc::Global;
 use wl_bind::{
-    LinkInput, Relocated, WasmObjectIndexMap, references_are_kept, same_targets_are_one,
-    table_functions_stand_once,
+    LinkInput, Relocated, WasmObjectIndexMap, kept_relocations, references_are_kept,
+    same_targets_are_one, table_functions_stand_once,
 };
 use wl_data::WasmDataAddress;
 use wl_linking::{File, ItemList, LinkError, RelocationType};
@@ -185,6 +185,27 @@ impl<'s, 'i, 'a> FixupSources<'s, 'i, 'a> {
         }
     }
 
+    /// The value of a kept relocation.
+    fn value(&self, relocated: &Relocated) -> Result<u32, RelocError>
+        requires sources { AreFixupSources self.now }
+        requires kept { Contains (relocations self.now.input.now) relocated.now }
+        ensures { AnswersFrom self.now relocated.now result }
+    {
+        references_are_kept();
+        same_targets_are_one();
+        table_functions_stand_once();
+        let file = file_at(self.input.files().as_slice(), relocated.object);
+        let symbols = file.symbols();
+        resolve_reloc(
+            map_at(self.maps, relocated.object),
+            &relocated.relocation,
+            symbols,
+            self.slots,
+            self.placing.memory_base,
+            self.placing.places.tls_base,
+        )
+    }
+
     /// What a kept relocation becomes, whose field stands there in what the output has.
     fn fixup(&self, relocated: &Relocated, position: u32) -> Result<Fixup, LinkError>
         requires sources { AreFixupSources self.now }
@@ -194,19 +215,7 @@ impl<'s, 'i, 'a> FixupSources<'s, 'i, 'a> {
         ensures clear { OnOk result (Clear (IsRefusedAt self.now relocated.now)) }
         ensures err { IfErr result (IsRefusedAt self.now relocated.now) }
     {
-        references_are_kept();
-        same_targets_are_one();
-        table_functions_stand_once();
-        let file = file_at(self.input.files().as_slice(), relocated.object);
-        let symbols = file.symbols();
-        let value = match resolve_reloc(
-            map_at(self.maps, relocated.object),
-            &relocated.relocation,
-            symbols,
-            self.slots,
-            self.placing.memory_base,
-            self.placing.places.tls_base,
-        ) {
+        let value = match self.value(relocated) {
             Ok(value) => value,
             Err(error) => return Err(self.refusal(relocated, error)),
         };
@@ -232,22 +241,21 @@ impl<'s, 'i, 'a> FixupSources<'s, 'i, 'a> {
 pub(crate) fn all_fixups(
     alloc: Global,
     sources: &FixupSources<'_, '_, '_>,
-    kept: &[Relocated],
     positions: &[u32],
 ) -> Result<ItemList<Fixup>, LinkError>
     requires sources { AreFixupSources sources.now }
-    requires kept { kept.now ≡ relocations sources.now.input.now }
     requires positions { AllZip (IsMovedIn sources.now.input.now sources.now.placing.now)
-        kept.now positions.now }
+        (relocations sources.now.input.now) positions.now }
     ensures ok { IfOk result (AreFixups sources.now.input.now sources.now.placing.now) }
     ensures clear { OnOk result
         (Clear (IsFixupFault sources.now.input.now sources.now.placing.now)) }
     ensures err { IfErr result
         (Refuses (IsFixupFault sources.now.input.now sources.now.placing.now)) }
 {
-    let mut fixups = Vec::new(alloc);
-    for (place, relocated) in kept.iter().enumerate() {
-        fixups.push(sources.fixup(relocated, positions[place])?)?;
+    let mut fixups = Vec::with_capacity(alloc, positions.len())?;
+    for relocated in kept_relocations(sources.input) {
+        let position = positions[fixups.len()];
+        fixups.push(sources.fixup(&relocated, position)?)?;
     }
     Ok(ItemList::new(fixups))
 }

@@ -1,15 +1,14 @@
 //! What the globals of the output start with.
 
 ghost use Rattle.std.specs.Prelude.{◌≡◌, IfOk, OnErr, Some, Contains, length, option_map, slice_get};
-ghost use Rattle.wl_linking.specs.Symbols.{is_data};
 ghost use Rattle.wl_linking.specs.declared.error.LinkError.TheVariants.{Unsupported};
 ghost use Rattle.wl_bind.specs.ExportedAddresses.{exported_addresses};
 ghost use Rattle.wl_bind.specs.ExportedData.{dynamic_data, forced_data};
 ghost use Rattle.wl_bind.specs.GlobalSpace.{GlobalOf, AddressOf, DataOf};
-ghost use Rattle.wl_bind.specs.Scan.{is_global_index, names_data, got_mem_of, got_mem, got_func};
+ghost use Rattle.wl_bind.specs.Scan.{got_mem, got_func};
 ghost use Rattle.wl_bind.specs.declared.binding.GlobalTarget.TheVariants as global;
 ghost use Rattle.wl_plan.specs.Addresses.{address_of_definition, symbol_address};
-ghost use Rattle.wl_plan.specs.GlobalSteps.{AreSources, AnswersStart, asks_for_entry, first_among, func_slot};
+ghost use Rattle.wl_plan.specs.GlobalSteps.{AreSources, AnswersStart, asks_for_entry, func_slot};
 ghost use Rattle.wl_plan.specs.Globals.{constant_or_range, got_address, own_place, common_address, own_address, is_own, first_asking, is_in_block, made_start, may_change};
 ghost use Rattle.wl_plan.specs.declared.placing.Placing.{Placing as SpecPlacing};
 
@@ -17,9 +16,12 @@ use crate::addresses::{AddressBook, linker_address};
 use crate::bindings::Bindings;
 use crate::table::slot_of;
 use bitflags::Flags;
-use wl_bind::{DataSymbol, FunctionTarget, LinkInput, Relocated, WasmObjectIndexMap};
+use wl_bind::{
+    DataSymbol, FunctionTarget, LinkInput, Relocated, WasmObjectIndexMap, got_mem_of,
+    kept_relocations,
+};
 use wl_data::WasmDataAddress;
-use wl_linking::{LinkError, RelocationType, SymbolFlags, WasmSymbolKind};
+use wl_linking::{LinkError, SymbolFlags};
 use wl_module::Form;
 use wl_symbols::{Definition, WasmLinkerSymbol};
 
@@ -121,8 +123,7 @@ impl<'g, 'b, 'i, 'a> GlobalSources<'g, 'b, 'i, 'a> {
         requires { AreSources self.now }
         ensures { result ≡ first_asking self.now.book.now.input.now definition }
     {
-        let scan = &self.bindings.scan;
-        first_among(self.book.input, scan.relocations.as_slice(), definition)
+        first_asking(self.book.input, definition)
     }
 
     /// The definition of an entry of the GOT list of data.
@@ -388,48 +389,6 @@ fn is_own(input: &LinkInput<'_, '_>, datum: DataSymbol) -> bool
     }
 }
 
-/// Whether the relocation takes the number of a global.
-fn is_global_index(ty: RelocationType) -> bool
-    ensures { result ≡ is_global_index ty }
-{
-    matches!(
-        ty,
-        RelocationType::GlobalIndexLeb | RelocationType::GlobalIndexI32
-    )
-}
-
-/// Whether a symbol is data.
-fn is_data(kind: WasmSymbolKind) -> bool
-    ensures { result ≡ is_data kind }
-{
-    matches!(kind, WasmSymbolKind::Data)
-}
-
-/// Whether the relocation names a data symbol.
-fn names_data(input: &LinkInput<'_, '_>, relocated: &Relocated) -> bool
-    ensures { result ≡ names_data input.now relocated.now }
-{
-    match input
-        .symbols()
-        .symbol(relocated.object, relocated.relocation.index)
-    {
-        None => false,
-        Some(symbol) => is_data(symbol.kind),
-    }
-}
-
-/// The definition whose entry in the GOT list of data a relocation asks for.
-fn got_mem_of(input: &LinkInput<'_, '_>, relocated: &Relocated) -> Option<Definition>
-    ensures { result ≡ got_mem_of input.now relocated.now }
-{
-    if is_global_index(relocated.relocation.ty) && names_data(input, relocated) {
-        let symbols = input.symbols();
-        Some(symbols.definition(relocated.object, relocated.relocation.index))
-    } else {
-        None
-    }
-}
-
 /// A kept relocation asks for the entry of that definition in the GOT list of data.
 fn asks_for(input: &LinkInput<'_, '_>, relocated: &Relocated, definition: Definition) -> bool
     ensures { result ≡ asks_for_entry input.now definition relocated.now }
@@ -440,16 +399,12 @@ fn asks_for(input: &LinkInput<'_, '_>, relocated: &Relocated, definition: Defini
     }
 }
 
-/// The object of the first of these relocations that asks for the entry of that definition.
-fn first_among(
-    input: &LinkInput<'_, '_>,
-    relocations: &[Relocated],
-    definition: Definition,
-) -> usize
-    ensures { result ≡ first_among input.now definition relocations.now }
+/// The object of the first kept relocation that asks for the entry of that definition.
+fn first_asking(input: &LinkInput<'_, '_>, definition: Definition) -> usize
+    ensures { result ≡ first_asking input.now definition }
 {
-    for relocated in relocations {
-        if asks_for(input, relocated, definition) {
+    for relocated in kept_relocations(input) {
+        if asks_for(input, &relocated, definition) {
             return relocated.object;
         }
     }

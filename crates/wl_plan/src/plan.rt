@@ -149,15 +149,14 @@ fn output_values<'a>(
     let elements = element_functions(alloc, input, placing, bindings, maps)?;
     let count = space_len(things);
     let mut slots = space_slots(alloc, input, bindings, elements.as_slice(), count)?;
-    let relocations = bindings.scan.relocations.as_slice();
-    let positions = moved_positions(alloc, input, placing, numbers, relocations)?;
+    let positions = moved_positions(alloc, input, placing, numbers)?;
     let sources = FixupSources {
         input,
         placing,
         maps,
         slots: slots.as_slice(),
     };
-    let fixups = all_fixups(alloc, &sources, relocations, &positions)?;
+    let fixups = all_fixups(alloc, &sources, &positions)?;
     push_wrapper_slots(&mut slots, things.wrappers)?;
     Ok(OutputValues {
         globals,

@@ -15,7 +15,7 @@ use crate::parsing::link_error;
 use crate::placing::Placing;
 use std::alloc::{AllocError, Global};
 use std::borrow::CowSlice;
-use wl_bind::{FixupPlace, LinkInput, Relocated};
+use wl_bind::{FixupPlace, LinkInput, Relocated, list_relocations};
 use wl_linking::{File, ItemList, LinkError, parts_of_objects_stand, whole_objects};
 use wl_live::live_units_are_closed;
 use wl_module::WasmFunctionBody;
@@ -198,17 +198,16 @@ pub(crate) fn moved_positions(
     input: &LinkInput<'_, '_>,
     placing: &Placing<'_>,
     numbers: &[ItemList<Option<u32>>],
-    kept: &[Relocated],
 ) -> Result<Vec<u32>, LinkError>
     requires sound { AreSoundBodies input.now }
     requires numbers { AreAllNumbers input.now placing.now numbers.now }
-    requires kept { kept.now ≡ relocations input.now }
     ensures ok { IfOk result (λ positions.
         AllZip (IsMovedIn input.now placing.now) (relocations input.now) positions.items) }
     ensures err { IfErr result (λ e. e ≡ OutOfMemory) }
 {
+    let kept = list_relocations(alloc, input)?;
     let mut positions = Vec::new(alloc);
-    let mut rest = kept;
+    let mut rest = kept.as_slice();
     while !rest.is_empty() {
         let (run, more) = rest.split_at(run_length(rest));
         let mut moved = moved_run(alloc, input, placing, numbers, run)?;

@@ -1,4 +1,4 @@
-use Rattle.std.proofs.Common.{◌≡◌, ◌∙◌, ◌+◌, ◌∷◌, ℕ, List, ap, find, drop}
+use Rattle.std.proofs.Common.{◌≡◌, ◌∙◌, ◌+◌, ℕ, List, ap, find, drop}
 use Rattle.std.specs.Option.{option_map}
 use Rattle.wl_slots.specs.Left.{same_field, place_of_name}
 use Rattle.wl_bind.specs.ConflictSteps.{slot_at}

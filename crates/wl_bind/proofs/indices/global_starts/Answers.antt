@@ -13,7 +13,8 @@ use Rattle.wl_bind.specs.Scan.{Scanned, got_mem, got_func, got_mem_entry, got_fu
 use Rattle.wl_bind.specs.Shared.{Shared}
 use Rattle.wl_bind.specs.declared.binding.GlobalTarget.TheVariants as global
 use Rattle.wl_bind.specs.declared.exported.DataSymbol.{DataSymbol}
-use Rattle.wl_bind.proofs.IndexLaws.{length_if, length_mapped, lengths_mapped, length_numbered, starts_ok, starts_err}
+use Rattle.wl_bind.proofs.IndexLaws.{length_if, lengths_mapped, length_numbered, starts_ok, starts_err}
+use Rattle.wl_bind.proofs.ListLaws.{length_mapped}
 use Rattle.wl_bind.proofs.indices.global_starts.Goals as goal
 
 -- how long the parts are, as they were counted

@@ -1,4 +1,4 @@
-use Rattle.std.proofs.Common.{◌≡◌, sym, ◌∙◌}
+use Rattle.std.proofs.Common.{sym, ◌∙◌}
 use Rattle.wl_bind.specs.KindSteps.{is_wrong_at}
 use Rattle.wl_bind.proofs.FindLaws.{find_next}
 use Rattle.wl_bind.proofs.kinds.find_in_object.Goals as goal

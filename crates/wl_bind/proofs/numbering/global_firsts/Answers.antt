@@ -1,9 +1,7 @@
-use Rattle.std.proofs.Common.{◌≡◌, ◌∙◌, ◌≤◌, ◌+◌, ℕ, subst, IfOk}
-use Rattle.wl_types.specs.Types.{max_entries}
+use Rattle.std.proofs.Common.{◌≡◌, ◌∙◌, ◌+◌, ℕ, subst, IfOk}
 use Rattle.wl_bind.specs.OwnIndices.{firsts_from, kept_count}
 use Rattle.wl_bind.specs.Parts.{IsOver}
 use Rattle.wl_bind.specs.SpaceFaults.{IsSpaceOver}
-use Rattle.wl_bind.specs.GlobalSpace.{global_space}
 use Rattle.wl_bind.specs.declared.own_indices.Own.TheVariants.{Globals}
 use Rattle.wl_bind.proofs.GotLaws.{on_ok}
 use Rattle.wl_bind.proofs.NumberingLaws.{if_err, globals_over, globals_room}

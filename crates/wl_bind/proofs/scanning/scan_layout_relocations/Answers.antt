@@ -1,5 +1,5 @@
 use Rattle.std.proofs.lemmas.Result.{err_from_is_err_and}
-use Rattle.wl_linking.specs.Steps.{Step, here, behind, Refuses}
+use Rattle.wl_linking.specs.Steps.{here, behind, Refuses}
 use Rattle.wl_bind.specs.ScanFaults.{scan_fault}
 use Rattle.wl_bind.proofs.scanning.scan_layout_relocations.Goals as goal
 

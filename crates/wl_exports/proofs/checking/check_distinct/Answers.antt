@@ -5,7 +5,8 @@ use Rattle.wl_module.specs.Exports.{Exported}
 use Rattle.wl_exports.specs.FaultSteps.{IsRepeat}
 use Rattle.wl_exports.specs.NameSteps.{has_export}
 use Rattle.wl_exports.proofs.NameLaws.{holds_next}
-use Rattle.wl_exports.proofs.FaultLaws.{distinct_next, distinct_all, repeat_at, not_true, not_false}
+use Rattle.wl_exports.proofs.FaultLaws.{distinct_next, distinct_all, repeat_at, not_false}
+use Rattle.wl_exports.proofs.ListLaws.{not_true}
 use Rattle.wl_exports.proofs.checking.check_distinct.Goals as goal
 
 pub returns-then-not-is_free : goal.returns-then-not-is_free

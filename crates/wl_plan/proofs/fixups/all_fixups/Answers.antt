@@ -1,51 +1,90 @@
-use Rattle.std.proofs.Common.{List, arith, subst, get_or, Contains}
-use Rattle.std.proofs.lemmas.List.Elements.{Contains-get_or}
+use Rattle.std.proofs.Common.{◌≡◌, ◌<◌, ◌∙◌, ◌∷◌, [], List, length, sym, subst, append-nil, append_assoc, rules}
+use Rattle.std.specs.List.{AllZip}
 use Rattle.std.proofs.lemmas.Result.{err_from_is_err_and}
 use Rattle.wl_linking.specs.Steps.{Clear}
+use Rattle.wl_bind.specs.KeptRelocations.{relocations_left}
+use Rattle.wl_bind.specs.Scan.{relocations}
 use Rattle.wl_bind.specs.declared.relocated.Relocated.{Relocated}
 use Rattle.wl_plan.specs.Bodies.{IsMovedIn}
 use Rattle.wl_plan.specs.FixupSteps.{IsRefusedAt}
 use Rattle.wl_plan.specs.Fixups.{IsFixup}
-use Rattle.wl_plan.proofs.FixupListLaws.{all_end, all_more, no_relocation, none_refused, one_refused, zip_at, zip_more, zip_within}
+use Rattle.wl_plan.proofs.FixupListLaws.{all_more, next_is_kept, none_refused, one_refused, place_there, place_within, zip_more}
 use Rattle.wl_plan.proofs.fixups.all_fixups.Goals as goal
 
-pub bounds-positions-place : goal.bounds-positions-place
-bounds-positions-place c =
+pub bounds-positions-len : goal.bounds-positions-len
+bounds-positions-len c =
     let s = c.args.sources.now in
-    zip_within (IsMovedIn s.input.now s.placing.now) c.args.kept.now c.args.positions.now
-    c.loop-place.place c.requires.positions c.loop-place-test.true
+    let at = c.loop-relocated in
+    place_within (IsMovedIn s.input.now s.placing.now) (IsFixup s.input.now s.placing.now)
+    (relocations s.input.now) at.yielded _ (relocations_left c.next.new.self) c.in-Some.relocated
+    c.args.positions.now at.fixups.items c.len.result at.invariant.all c.in-Some.ensures.steps
+    c.requires.positions at.invariant.so_far (c.len.ensures ∙ at.fixups.ok.0)
+
+pub offset_bounds-positions-len : goal.offset_bounds-positions-len
+offset_bounds-positions-len c =
+    let s = c.args.sources.now in
+    let at = c.loop-relocated in
+    let within : c.len.result < length c.args.positions.now =
+    place_within (IsMovedIn s.input.now s.placing.now) (IsFixup s.input.now s.placing.now)
+    (relocations s.input.now) at.yielded _ (relocations_left c.next.new.self) c.in-Some.relocated
+    c.args.positions.now at.fixups.items c.len.result at.invariant.all c.in-Some.ensures.steps
+    c.requires.positions at.invariant.so_far (c.len.ensures ∙ at.fixups.ok.0) in
+    search rules
+
+pub fixup-requires-clause-kept : goal.fixup-requires-clause-kept
+fixup-requires-clause-kept c =
+    let at = c.loop-relocated in
+    next_is_kept (relocations c.args.sources.now.input.now) at.yielded _
+    (relocations_left c.next.new.self) c.in-Some.relocated at.invariant.all c.in-Some.ensures.steps
 
 pub fixup-requires-clause-moved : goal.fixup-requires-clause-moved
 fixup-requires-clause-moved c =
     let s = c.args.sources.now in
-    zip_at (IsMovedIn s.input.now s.placing.now) c.args.kept.now c.args.positions.now
-    c.loop-place.place no_relocation 0 c.requires.positions c.loop-place-test.true
+    let at = c.loop-relocated in
+    place_there (IsMovedIn s.input.now s.placing.now) (IsFixup s.input.now s.placing.now)
+    (relocations s.input.now) at.yielded _ (relocations_left c.next.new.self) c.in-Some.relocated
+    c.args.positions.now at.fixups.items c.len.result 0 at.invariant.all c.in-Some.ensures.steps
+    c.requires.positions at.invariant.so_far (c.len.ensures ∙ at.fixups.ok.0)
 
 pub returns-in_err-fixup-clause-err : goal.returns-in_err-fixup-clause-err
 returns-in_err-fixup-clause-err c =
-    let p = err_from_is_err_and c.from_residual.result c.from_residual.ensures.1 in
+    let p = err_from_is_err_and c.from_residual-in_err-fixup.result c.from_residual-in_err-fixup.ensures.1 in
     let s = c.args.sources.now in
-    let r : Relocated = get_or c.args.kept.now c.loop-place.place no_relocation in
-    let kept = subst (λ (rs : List Relocated). Contains rs r) c.requires.kept
-    (Contains-get_or c.args.kept.now c.loop-place.place no_relocation c.loop-place-test.true) in
+    let at = c.loop-relocated in
+    let r = c.in-Some.relocated in
+    let kept = next_is_kept (relocations s.input.now) at.yielded _ (relocations_left c.next.new.self) r
+    at.invariant.all c.in-Some.ensures.steps in
     rw (p.1, p.2) (one_refused s r c.in_err-fixup.field-0.0 kept c.in_err-fixup.ensures.err)
 
-pub loop-place-preserved : goal.loop-place-preserved
-loop-place-preserved c =
+pub loop-relocated-preserved : goal.loop-relocated-preserved
+loop-relocated-preserved c =
     let s = c.args.sources.now in
+    let at = c.loop-relocated in
+    let r = c.in-Some.relocated in
     record {
-      so_far = zip_more (IsFixup s.input.now s.placing.now) c.args.kept.now c.loop-place.place
-          no_relocation c.loop-place.fixups.items c.push.new.self.items c.in_ok-fixup.field-0
-          c.loop-place-test.true c.in_ok-fixup.ensures.ok c.in_ok-push.ensures.items
-          c.loop-place.invariant.so_far;
-      clear = all_more (λ (r : Relocated). Clear (IsRefusedAt s r)) c.args.kept.now
-          c.loop-place.place no_relocation c.loop-place-test.true c.in_ok-fixup.ensures.clear
-          c.loop-place.invariant.clear;
+      all = append_assoc at.yielded (r ∷ []) _ ∙ rw (← c.in-Some.ensures.steps) at.invariant.all;
+      so_far = zip_more (IsFixup s.input.now s.placing.now) at.yielded r at.fixups.items
+          c.push.new.self.items c.in_ok-fixup.field-0 at.invariant.so_far c.in_ok-fixup.ensures.ok
+          c.in_ok-push.ensures.items;
+      clear = all_more (λ (x : Relocated). Clear (IsRefusedAt s x)) at.yielded r at.invariant.clear
+          c.in_ok-fixup.ensures.clear;
     }
+
+pub returns-clause-ok : goal.returns-clause-ok
+returns-clause-ok c =
+    let s = c.args.sources.now in
+    let at = c.loop-relocated in
+    let seen : at.yielded ≡ relocations s.input.now =
+    sym (append-nil at.yielded) ∙ rw c.in-None.ensures.steps.0 at at.invariant.all in
+    let made : AllZip (IsFixup s.input.now s.placing.now) (relocations s.input.now) at.fixups.items =
+    subst (λ (rs : List Relocated). AllZip (IsFixup s.input.now s.placing.now) rs at.fixups.items) seen
+    at.invariant.so_far in
+    rw c.new.ensures made
 
 pub returns-clause-clear : goal.returns-clause-clear
 returns-clause-clear c =
     let s = c.args.sources.now in
-    none_refused s c.args.kept.now c.requires.kept
-    (all_end (λ (r : Relocated). Clear (IsRefusedAt s r)) c.args.kept.now c.loop-place.place
-    (omega (arith, c.loop-place-test.false)) c.loop-place.invariant.clear)
+    let at = c.loop-relocated in
+    let seen : at.yielded ≡ relocations s.input.now =
+    sym (append-nil at.yielded) ∙ rw c.in-None.ensures.steps.0 at at.invariant.all in
+    none_refused s at.yielded seen at.invariant.clear

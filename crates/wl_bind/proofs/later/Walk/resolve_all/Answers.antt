@@ -1,4 +1,4 @@
-use Rattle.std.proofs.Common.{◌≡◌, ◌∙◌, sym, ap, arith}
+use Rattle.std.proofs.Common.{◌∙◌, sym, ap, arith}
 use Rattle.wl_module.specs.Imports.{Imported}
 use Rattle.wl_slots.specs.ImportSlots.{is_slot_of}
 use Rattle.wl_bind.specs.Later.{walk_of, walked_at, walked}

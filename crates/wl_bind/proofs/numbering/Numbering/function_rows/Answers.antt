@@ -1,4 +1,4 @@
-use Rattle.std.proofs.Common.{◌≡◌, ◌∙◌, ◌<◌, ℕ, List, length, ap, subst, Some, slice_get}
+use Rattle.std.proofs.Common.{◌∙◌, ◌<◌, ℕ, List, length, subst}
 use Rattle.wl_linking.specs.Object.{Object}
 use Rattle.wl_bind.specs.FunctionSpace.{function_space, local_functions}
 use Rattle.wl_bind.specs.Parts.{AreIndicesOf}

@@ -1,4 +1,4 @@
-use Rattle.std.proofs.Common.{◌≡◌, ◌∙◌, ◌<◌, ℕ, List, length, ap, subst, Some, slice_get}
+use Rattle.std.proofs.Common.{◌∙◌, ◌<◌, ℕ, List, length, subst}
 use Rattle.wl_linking.specs.Object.{Object}
 use Rattle.wl_bind.specs.GlobalSpace.{global_space, local_globals}
 use Rattle.wl_bind.specs.Parts.{AreIndicesOf}

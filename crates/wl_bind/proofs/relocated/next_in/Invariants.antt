@@ -1,0 +1,11 @@
+use Rattle.std.proofs.Common.{◌≡◌, length}
+use Rattle.wl_bind.specs.KeptRelocations.{section_left}
+use Rattle.wl_bind.proofs.relocated.next_in.Given as goal
+
+abbrev pub invariant-loop-relocation : goal.invariant-loop-relocation
+invariant-loop-relocation l =
+    section_left l.live l.place l.object l.section
+    ≡ section_left l.live l.place l.object l.initial.section
+
+abbrev pub decreases-loop-relocation : goal.decreases-loop-relocation
+decreases-loop-relocation l = length l.section.listed.now
