@@ -64,7 +64,9 @@ pub record IsNewFiles (s : MemFiles) : Type 0 where
 
 -- one name more, unless it is there already
 abbrev pub AddsFile : Names → Names → List ℕ → List ℕ → Type 0
-AddsFile old new name bytes = (other : List ℕ) → new other ≡ option_or (old other) (if bytes_eq name other then Some bytes else None)
+AddsFile old new name bytes =
+    (other : List ℕ)
+    → new other ≡ option_or (old other) (if bytes_eq name other then Some bytes else None)
 
 -- a call was made, and what was told of the calls stays
 pub record IsOneCall (old new : MemFiles) : Type 0 where

@@ -1,10 +1,11 @@
 -- Symbols that lead to functions of another type.
-use Rattle.std.proofs.Common.{◌≡◌, ◌∙◌, ◌⊎◌, ℕ, zero, suc, ◌+◌, ◌<◌, Bool, true, false, not, ◌&&◌, List, [], ◌∷◌, length, refl, sym, ap, subst, arith, inl, inr, Option, Some, None, slice_get, slice_index_or, Contains}
+use Rattle.std.proofs.Common.{◌≡◌, ◌∙◌, ◌⊎◌, ℕ, zero, suc, ◌+◌, ◌<◌, Bool, true, false, not, ◌&&◌, List, [], ◌∷◌, length, refl, sym, ap, subst, arith, inl, inr, Option, Some, None, find, slice_get, slice_index_or, Contains}
 use Rattle.std.specs.Option.{option_map_or}
 use Rattle.std.proofs.lemmas.Bool.{cases_Bool}
 use Rattle.std.proofs.lemmas.Option.{slice_get_within}
 use Rattle.wl_module.specs.Types.{FunctionType, same_type}
 use Rattle.wl_linking.specs.Object.{Object}
+use Rattle.wl_linking.specs.RelocationTypes.{names_a_type}
 use Rattle.wl_linking.specs.Steps.{Clear}
 use Rattle.wl_linking.specs.Symbols.{Symbol, is_undefined}
 use Rattle.wl_linking.specs.declared.error.LinkError.{LinkError}
@@ -18,11 +19,12 @@ use Rattle.wl_bind.specs.FunctionSymbols.{fun}
 use Rattle.wl_bind.specs.FunctionTypes.{declared_type, target_type}
 use Rattle.wl_bind.specs.Scan.{relocations}
 use Rattle.wl_bind.specs.Signatures.{NamedByRelocation, OnKeptSlot, NamedByInit, IsLookedAt, IsMismatch}
-use Rattle.wl_bind.specs.BindingSteps.{is_other_type, differs, is_mismatch, names_mismatch, TellsMismatch, NamesMismatch, AreOwnClear}
+use Rattle.wl_bind.specs.BindingSteps.{is_other_type, differs, is_mismatch, names_mismatch, TellsMismatch, AreOwnClear}
 use Rattle.wl_bind.specs.declared.binding.FunctionTarget.{FunctionTarget}
 use Rattle.wl_bind.specs.declared.relocated.Relocated.{Relocated}
+use Rattle.wl_bind.proofs.FindLaws.{find_none, find_some}
 use Rattle.wl_bind.proofs.LeftLaws.{cases_option}
-use Rattle.wl_bind.proofs.ListLaws.{and_both, is_not, left_and, right_and, some_same}
+use Rattle.wl_bind.proofs.ListLaws.{and_both, both, is_not, left_and, right_and, some_same}
 
 -- ---- what differs
 
@@ -117,40 +119,33 @@ stands_there (x ∷ xs) (suc k) d lt = stands_there xs k d (omega (arith, lt))
 
 -- ---- the passes
 
--- what holds of all kept relocations holds of the symbols that they name
-pub relocations_clear : (input : Input) (list : List Relocated) → list ≡ relocations input
-    → ((k : ℕ) (r : Relocated) → k < length list → slice_index_or list k r ≡ r → names_mismatch input r ≡ false)
-    → (object number : ℕ) → NamedByRelocation input object number → is_mismatch input object number ≡ false
-relocations_clear input list is none object number named =
+-- where no kept relocation names such a symbol, none that they name is one
+pub no_relocation : (input : Input) → find (names_mismatch input) (relocations input) ≡ None
+    → (object number : ℕ) → NamedByRelocation input object number
+    → is_mismatch input object number ≡ false
+no_relocation input none object number named =
     let r = named.relocated in
-    let among : Contains list r = rw is named.kept in
-    let so : names_mismatch input r ≡ false = none among.0 r among.1 among.2 in
+    let so : names_mismatch input r ≡ false =
+    find_none (names_mismatch input) (relocations input) none r named.kept in
     let this : is_mismatch input r.object r.relocation.index ≡ false = rw named.by_symbol at so in
-    ap (λ (i : ℕ). is_mismatch input i number) (sym named.object_is) ∙ (ap (λ (n : ℕ). is_mismatch input r.object n) (sym named.number_is) ∙ this)
+    ap (λ (i : ℕ). is_mismatch input i number) (sym named.object_is)
+    ∙ (ap (λ (n : ℕ). is_mismatch input r.object n) (sym named.number_is) ∙ this)
 
 -- a kept relocation that names such a symbol is a cause
-pub relocation_told : (input : Input) (list : List Relocated) (k : ℕ) (r : Relocated) (e : LinkError) → list ≡ relocations input
-    → k < length list → r ≡ slice_index_or list k r → NamesMismatch input r e → IsMismatch input e
-relocation_told input list k r e is lt at_r h =
-    let here : Contains list r = (k, lt, sym at_r) in
+pub a_relocation : (input : Input) (r : Relocated)
+    → find (names_mismatch input) (relocations input) ≡ Some r
+    → IsMismatch input (SignatureMismatch r.object r.relocation.index)
+a_relocation input r e =
+    let found = find_some (names_mismatch input) (relocations input) r e in
+    let parts = both (not (names_a_type r.relocation.ty)) (is_mismatch input r.object r.relocation.index) found.1 in
     let named : NamedByRelocation input r.object r.relocation.index = record {
       relocated = r;
-      kept = rw is at here;
-      by_symbol = h.by_symbol;
+      kept = found.0;
+      by_symbol = is_not (names_a_type r.relocation.ty) parts.0;
       object_is = refl;
       number_is = refl;
-    } in mismatch input r.object r.relocation.index e (inl named) h.tells
-
-pub relocation_at : (input : Input) (list : List Relocated) (k : ℕ) (d : Relocated) (e : LinkError) → list ≡ relocations input
-    → k < length list → NamesMismatch input (slice_index_or list k d) e → IsMismatch input e
-relocation_at input list k d e is lt h = relocation_told input list k (slice_index_or list k d) e is lt (stands_there list k d lt) h
-
--- one more relocation
-pub relocation_more : (input : Input) (list : List Relocated) (k : ℕ) (d : Relocated) → k < length list → names_mismatch input (slice_index_or list k d) ≡ false
-    → ((j : ℕ) (r : Relocated) → j < k → slice_index_or list j r ≡ r → names_mismatch input r ≡ false)
-    → (j : ℕ) (r : Relocated) → j < k + 1 → slice_index_or list j r ≡ r → names_mismatch input r ≡ false
-relocation_more input list k d lt so before =
-    one_more (names_mismatch input) list k (slice_index_or list k d) lt (stands_there list k d lt) so before
+    } in
+    mismatch input r.object r.relocation.index _ (inl named) (record { so = parts.1; told = refl })
 
 -- a symbol that is defined is on no slot
 pub defined_clear : (input : Input) (object number : ℕ) (s : Symbol) → symbol_in input.link.objects object number ≡ Some s → is_undefined s ≡ false

@@ -114,11 +114,6 @@ pub record TellsMismatch (input : Input) (object number : ℕ) (e : LinkError) :
   pub so : is_mismatch input object number ≡ true
   pub told : e ≡ SignatureMismatch object number
 
--- it tells such a symbol that the relocation names
-pub record NamesMismatch (input : Input) (r : Relocated) (e : LinkError) : Type 0 where
-  pub by_symbol : names_a_type r.relocation.ty ≡ false
-  pub tells : TellsMismatch input r.object r.relocation.index e
-
 -- no symbol of the object that it names without a relocation is such a one
 abbrev pub AreOwnClear : Input → ℕ → Type 0
 AreOwnClear input object =

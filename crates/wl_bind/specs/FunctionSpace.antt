@@ -27,7 +27,8 @@ pub data FunctionEntry : Type 0 where
 -- the host imports, in order of their first kept slots
 abbrev pub host_function_part : Input → List FunctionEntry
 host_function_part input =
-    map (λ (t : ImportSlot). FunctionOf (Host t.object t.number)) (first_imports (host_functions input))
+    map (λ (t : ImportSlot). FunctionOf (Host t.object t.number))
+    (first_imports (host_functions input))
 
 -- a function that the linker makes, where there is one
 abbrev pub made_function_part : Input → WasmLinkerSymbol → List FunctionEntry
@@ -49,7 +50,8 @@ kept_functions input object o =
 
 -- those functions
 abbrev pub functions_of : Input → ℕ → Object → List FunctionEntry
-functions_of input object o = map (λ k. FunctionOf (Defined object k)) (kept_functions input object o)
+functions_of input object o =
+    map (λ k. FunctionOf (Defined object k)) (kept_functions input object o)
 
 -- those of all objects
 abbrev pub object_functions : Input → List FunctionEntry

@@ -37,7 +37,8 @@ own_function object o s = option_map named_function (symbol_target Func object o
 abbrev pub function_of : Input → ℕ → ℕ → Object → Symbol → Option FunctionTarget
 function_of input object number o s =
     if is_undefined s then binding_at input object s.index
-    else if is_weak s then option_or (defined_function input object number) (own_function object o s)
+    else if is_weak s then option_or (defined_function input object number)
+    (own_function object o s)
     else own_function object o s
 
 -- the function that the symbol of those numbers leads to, where it is a function's

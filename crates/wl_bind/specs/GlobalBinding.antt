@@ -50,7 +50,8 @@ by_got input t =
     then option_map GotMem (position (is_called input t.item.name) (got_mem input))
     else if is_from (codes "GOT.func") t
     then option_map GotFunc
-    (position (λ (p : Definition × FunctionTarget). is_called input t.item.name p.0) (got_func input))
+    (position (λ (p : Definition × FunctionTarget). is_called input t.item.name p.0)
+    (got_func input))
     else None
 
 -- the global slots that are left to the host

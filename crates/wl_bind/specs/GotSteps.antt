@@ -31,7 +31,8 @@ abbrev pub place_named : {K : Type 0} → List (K × Bor (List ℕ)) → List �
 place_named entries wanted = position (λ e. is_name wanted e.1.now) entries
 
 -- the map has the first place of each name
-abbrev pub ArePlaces : {K S : Type 0} → HashMap (Bor (List ℕ)) ℕ S → List (K × Bor (List ℕ)) → Type 0
+abbrev pub ArePlaces : {K S : Type 0} → HashMap (Bor (List ℕ)) ℕ S → List (K × Bor (List ℕ))
+    → Type 0
 ArePlaces places entries =
     (wanted : List ℕ) → get_by (λ k. bytes_eq wanted k.now) places ≡ place_named entries wanted
 
@@ -52,7 +53,8 @@ insert_some eq keys (Some key) = insert_key eq keys key
 module _ {K E : Type 0} (eq : K → K → Bool) (key : E → K) (entry : K → E) where
   -- the entries after that of a key, unless the same key has one
   abbrev pub insert_as : List E → K → List E
-  insert_as entries k = if list_any (λ e. eq k (key e)) entries then entries else entries ++ entry k ∷ []
+  insert_as entries k =
+      if list_any (λ e. eq k (key e)) entries then entries else entries ++ entry k ∷ []
 
   -- the same, where there is a key
   abbrev pub insert_some_as : List E → Option K → List E
@@ -80,9 +82,11 @@ abbrev pub with_all_mem : Input → List GotMemEntry → List Definition → Lis
 with_all_mem input = insert_all_as same_definition mem_key (got_mem_entry input)
 
 -- the GOT list of functions with one more definition and function, where there is one
-abbrev pub with_func : Input → List GotFuncEntry → Option (Definition × FunctionTarget) → List GotFuncEntry
+abbrev pub with_func : Input → List GotFuncEntry → Option (Definition × FunctionTarget)
+    → List GotFuncEntry
 with_func input = insert_some_as same_pair func_key (got_func_entry input)
 
 -- the same with these definitions and functions
-abbrev pub with_all_func : Input → List GotFuncEntry → List (Definition × FunctionTarget) → List GotFuncEntry
+abbrev pub with_all_func : Input → List GotFuncEntry → List (Definition × FunctionTarget)
+    → List GotFuncEntry
 with_all_func input = insert_all_as same_pair func_key (got_func_entry input)

@@ -58,7 +58,8 @@ has_global input object o number =
 -- the symbol of those numbers is data
 abbrev pub is_data_symbol : Input → ℕ → ℕ → Bool
 is_data_symbol input object number =
-    option_map_or (λ (s : LinkedSymbol). is_data s.kind) (symbol_in input.link.objects object number)
+    option_map_or (λ (s : LinkedSymbol). is_data s.kind)
+    (symbol_in input.link.objects object number)
     false
 
 -- the place of its definition in the GOT list of data
@@ -81,7 +82,8 @@ got_mem_globals input object o =
 abbrev pub func_place : Input → ℕ → ℕ → Option ℕ
 func_place input object number =
     option_and_then
-    (λ (f : FunctionTarget). position (same_pair (def input.link object number, f)) (got_func input))
+    (λ (f : FunctionTarget). position (same_pair (def input.link object number, f))
+    (got_func input))
     (fun input object number)
 
 -- the global of a function symbol that a kept relocation names so
@@ -100,16 +102,19 @@ got_func_globals input object o =
 -- the map of an object: the indices of its types, functions and globals, of what its function
 -- symbols lead to, and of the globals of its data and function symbols; what goes by the places of
 -- data is still empty
-pub record IsIndexMap (input : Input) (object : ℕ) (o : Object) (m : WasmObjectIndexMap) : Type 0 where
+pub record IsIndexMap (input : Input) (object : ℕ) (o : Object) (m : WasmObjectIndexMap)
+    : Type 0 where
   pub types : AreTypeIndices input object o m.type_indices
-  pub functions : AreIndicesOf (function_space input) (local_functions input object o) m.function_indices
+  pub functions : AreIndicesOf (function_space input) (local_functions input object o)
+      m.function_indices
   pub globals : AreIndicesOf (global_space input) (local_globals input object o) m.global_indices
   pub segments : m.segment_indices ≡ []
   pub addresses : m.data_addresses ≡ []
   pub redirects : ArePlacesOf (function_space input) (symbol_functions input object o)
       m.function_symbol_redirects
   pub got_mem : ArePlacesOf (global_space input) (got_mem_globals input object o) m.got_mem_globals
-  pub got_func : ArePlacesOf (global_space input) (got_func_globals input object o) m.got_func_globals
+  pub got_func : ArePlacesOf (global_space input) (got_func_globals input object o)
+      m.got_func_globals
 
 -- those of all objects
 abbrev pub AreIndexMaps : Input → List WasmObjectIndexMap → Type 0

@@ -16,7 +16,8 @@ pub record Input : Type 0 where
   pub live : Live
 
 -- the table of names is that of the objects and options, and the live set that of the table
-pub record IsFit (objects : List Object) (link : Link) (live : Live) (args : WasmArgs) : Type 0 where
+pub record IsFit (objects : List Object) (link : Link) (live : Live) (args : WasmArgs)
+    : Type 0 where
   pub table : link ≡ link_of objects args
   pub kept : IsLiveOf link live
 

@@ -15,7 +15,8 @@ section_left live place i s = relocated_in live place i s.listed.now s.sites.now
 
 -- those of an object
 abbrev pub object_left : Live → ObjectRest → List Relocated
-object_left live o = section_left live Code o.object o.code ++ section_left live Segment o.object o.data
+object_left live o =
+    section_left live Code o.object o.code ++ section_left live Segment o.object o.data
 
 -- those of the object at hand, and of the objects behind it
 abbrev pub relocations_left : KeptRelocations → List Relocated

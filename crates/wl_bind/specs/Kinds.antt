@@ -69,7 +69,8 @@ is_no_data input (Made m) = not (is_data (row_of m).kind)
 -- something else
 abbrev pub is_wrong_use : Input → Relocated → LinkedSymbol → Bool
 is_wrong_use input r s =
-    not (takes_kind r.relocation.ty s.kind) || (is_data s.kind && is_no_data input (definition_of input r))
+    not (takes_kind r.relocation.ty s.kind)
+    || (is_data s.kind && is_no_data input (definition_of input r))
 
 -- a kept relocation that names a symbol, and doesn't take it
 pub record IsWrongUse (input : Input) (e : LinkError) : Type 0 where

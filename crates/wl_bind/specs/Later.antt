@@ -66,11 +66,19 @@ abbrev pub walked : Walk → Object → List ImportResolution → List ImportRes
 walked w o olds = stepped (walked_at w) 0 (slot_imports w.kind o.imports) olds
 
 -- the slots of globals, with what the GOT lists make of their imports
-abbrev pub globals_walked : Input → Scanned → ℕ → Object → ObjectImportResolutions → ObjectImportResolutions
+abbrev pub globals_walked : Input → Scanned → ℕ → Object → ObjectImportResolutions
+    → ObjectImportResolutions
 globals_walked input scan object o row =
-    record row { global_resolutions = walked (walk_of input (later_by_got scan) Global object) o row.global_resolutions }
+    record row {
+      global_resolutions = walked (walk_of input (later_by_got scan) Global object) o
+          row.global_resolutions;
+    }
 
 -- the slots of functions, with the stubs among them
-abbrev pub functions_walked : Input → List HostImport → ℕ → Object → ObjectImportResolutions → ObjectImportResolutions
+abbrev pub functions_walked : Input → List HostImport → ℕ → Object → ObjectImportResolutions
+    → ObjectImportResolutions
 functions_walked input stubs object o row =
-    record row { function_resolutions = walked (walk_of input (later_by_stub stubs) Func object) o row.function_resolutions }
+    record row {
+      function_resolutions = walked (walk_of input (later_by_stub stubs) Func object) o
+          row.function_resolutions;
+    }

@@ -50,8 +50,10 @@ is_made_global m (global.Host object slot) = false
 -- a kept slot is bound to it
 abbrev pub is_bound : Input → WasmLinkerSymbol → Bool
 is_bound input m =
-    list_any (λ (t : ImportSlot). is_made_function m (binds_function input t)) (kept_slots input Func)
-    || list_any (λ (t : ImportSlot). is_made_global m (binds_global input t)) (kept_slots input Global)
+    list_any (λ (t : ImportSlot). is_made_function m (binds_function input t))
+    (kept_slots input Func)
+    || list_any (λ (t : ImportSlot). is_made_global m (binds_global input t))
+    (kept_slots input Global)
 
 -- its name is to be exported
 abbrev pub is_forced : Input → WasmLinkerSymbol → Bool

@@ -31,9 +31,11 @@ pub record AreMadeIndices (input : Input) (i : LinkerDefinedIndices) : Type 0 wh
 
 -- the thing stands at the place, in the space of its kind; data stands there by its address
 abbrev pub StandsAt : Input → WasmLinkerSymbol → WasmSymbolKind → ℕ → Type 0
-StandsAt input m Func place = slice_get (function_space input) place ≡ Some (FunctionOf (function.Made m))
+StandsAt input m Func place =
+    slice_get (function_space input) place ≡ Some (FunctionOf (function.Made m))
 StandsAt input m Data place = slice_get (global_space input) place ≡ Some (AddressOf m)
-StandsAt input m Global place = slice_get (global_space input) place ≡ Some (GlobalOf (global.Made m))
+StandsAt input m Global place =
+    slice_get (global_space input) place ≡ Some (GlobalOf (global.Made m))
 StandsAt input m Section place = ⊥
 StandsAt input m Event place = ⊥
 StandsAt input m Table place = ⊥

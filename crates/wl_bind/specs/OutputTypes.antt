@@ -57,7 +57,8 @@ local_types input object o = types_if (is_live_type input object o) 0 o.types
 
 -- the live ones, in order
 abbrev pub live_types : Input → ℕ → Object → List FunctionType
-live_types input object o = filter_map (λ (ty : Option FunctionType). ty) (local_types input object o)
+live_types input object o =
+    filter_map (λ (ty : Option FunctionType). ty) (local_types input object o)
 
 -- ---- types of what the linker makes
 
@@ -68,7 +69,8 @@ made_type input m =
 
 -- the function that copies data for all threads takes nothing
 abbrev pub init_memory_type : Input → List FunctionType
-init_memory_type input = if has_init_memory input then record { params = []; results = [] } ∷ [] else []
+init_memory_type input =
+    if has_init_memory input then record { params = []; results = [] } ∷ [] else []
 
 -- those of all that it makes, in the order of the function space
 abbrev pub made_types : Input → List FunctionType

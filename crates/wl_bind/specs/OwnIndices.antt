@@ -29,11 +29,13 @@ abbrev pub kept_own : Input → Own → ℕ → Object → List ℕ
 kept_own input own object o =
     filter (λ k. keeps input object (own_unit own k)) (range_with_len 0 (own_count own o))
 
--- the first index of each of these objects, the first of which has that number, and takes that index
+-- the first index of each of these objects, the first of which has that number, and takes that
+-- index
 abbrev pub firsts_from : Input → Own → ℕ → ℕ → List Object → List ℕ
 firsts_from input own index object [] = []
 firsts_from input own index object (o ∷ objects) =
-    index ∷ firsts_from input own (index + length (kept_own input own object o)) (object + 1) objects
+    index ∷ firsts_from input own (index + length (kept_own input own object o)) (object + 1)
+    objects
 
 -- how many are kept of these objects, the first of which has that number
 abbrev pub kept_count : Input → Own → ℕ → List Object → ℕ

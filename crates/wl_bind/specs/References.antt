@@ -82,7 +82,8 @@ pub record IsMadeFunction (input : Input) (m : WasmLinkerSymbol) : Type 0 where
   pub kind : (row_of m).kind ≡ Func
   pub made : is_made input m ≡ true
 
--- the output has the function; an import of the host and a stub are what their first slot is bound to
+-- the output has the function; an import of the host and a stub are what their first slot is bound
+-- to
 abbrev pub IsInOutput : Input → FunctionTarget → Type 0
 IsInOutput input (Defined object function) = IsKeptFunction input object function
 IsInOutput input (Made m) = IsMadeFunction input m

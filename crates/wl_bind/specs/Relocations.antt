@@ -36,12 +36,14 @@ relocated_in live place i _ _ = []
 -- those of object i: code before data, each in order of the fields
 abbrev pub object_relocations : Live → ℕ → Object → List Relocated
 object_relocations live i o =
-    relocated_in live Code i o.code_relocations o.code_sites ++ relocated_in live Segment i o.data_relocations o.data_sites
+    relocated_in live Code i o.code_relocations o.code_sites
+    ++ relocated_in live Segment i o.data_relocations o.data_sites
 
 -- those of these objects, the first of which has number i
 abbrev pub relocations_from : Live → ℕ → List Object → List Relocated
 relocations_from live i [] = []
-relocations_from live i (o ∷ objects) = object_relocations live i o ++ relocations_from live (i + 1) objects
+relocations_from live i (o ∷ objects) =
+    object_relocations live i o ++ relocations_from live (i + 1) objects
 
 -- the kept relocations of all objects
 abbrev pub kept_relocations : Live → List Object → List Relocated

@@ -26,7 +26,8 @@ import_place input kind imports t =
     if is_host_slot input kind t then place_of_import t.item.origin t.item.name imports else None
 
 -- those of the slots of a kind of these objects, the first of which has that number
-abbrev pub places_from : Input → WasmSymbolKind → List HostImport → ℕ → List Object → List (List (Option ℕ))
+abbrev pub places_from : Input → WasmSymbolKind → List HostImport → ℕ → List Object
+    → List (List (Option ℕ))
 places_from input kind imports object [] = []
 places_from input kind imports object (o ∷ objects) =
     map (import_place input kind imports) (object_slots object kind o)
@@ -51,7 +52,8 @@ shared_of input = record {
 -- the place in a row of rows
 abbrev pub place_in : List (List (Option ℕ)) → ℕ → ℕ → Option ℕ
 place_in rows object slot =
-    option_and_then (λ (row : List (Option ℕ)). option_and_then (λ (p : Option ℕ). p) (slice_get row slot))
+    option_and_then (λ (row : List (Option ℕ)). option_and_then (λ (p : Option ℕ). p)
+    (slice_get row slot))
     (slice_get rows object)
 
 -- the place of the import that the slot of that kind and number is

@@ -1,4 +1,5 @@
--- Two lists side by side: each of the second, with what the one at its place in the first makes of it.
+-- Two lists side by side: each of the second, with what the one at its place in the first makes of
+-- it.
 use Rattle.std.specs.Prelude.{ℕ, zero, suc, ◌+◌, List, [], ◌∷◌}
 
 module _ {X Y : Type 0} (step : ℕ → X → Y → Y) where

@@ -8,11 +8,11 @@ ghost use Rattle.wl_bind.specs.FunctionSymbols.{function_bindings};
 ghost use Rattle.wl_bind.specs.FunctionTypes.{target_type};
 ghost use Rattle.wl_bind.specs.Kinds.{has_global, takes_kind, is_no_data, is_wrong_use, takes_parameters, leads_to_parameters, IsWrongUse, IsWrongInit, IsWrongKind};
 ghost use Rattle.wl_bind.specs.KindSteps.{is_wrong_relocation, is_wrong_at, wrong_init_from};
-ghost use Rattle.wl_bind.specs.Scan.{symbol_of, relocations as kept_relocations};
+ghost use Rattle.wl_bind.specs.Scan.{symbol_of, relocations};
 
 use crate::binding::FunctionTarget;
 use crate::input::LinkInput;
-use crate::relocated::Relocated;
+use crate::relocated::{Relocated, kept_relocations};
 use crate::targets::FunctionBindings;
 use crate::types::type_of_defined;
 use wl_linking::{LinkError, RelocationType, WasmInitFunc, WasmSymbol, WasmSymbolKind};
@@ -111,13 +111,13 @@ fn is_wrong_relocation(input: &LinkInput<'_, '_>, relocated: &Relocated) -> bool
     }
 }
 
-/// The first relocation that doesn't take the symbol that it names.
-fn find_wrong_relocation(input: &LinkInput<'_, '_>, relocations: &[Relocated]) -> Option<Relocated>
-    ensures { result ≡ find (is_wrong_relocation input.now) relocations.now }
+/// The first kept relocation that doesn't take the symbol that it names.
+fn find_wrong_relocation(input: &LinkInput<'_, '_>) -> Option<Relocated>
+    ensures { result ≡ find (is_wrong_relocation input.now) (relocations input.now) }
 {
-    for relocated in relocations {
-        if is_wrong_relocation(input, relocated) {
-            return Some(*relocated);
+    for relocated in kept_relocations(input) {
+        if is_wrong_relocation(input, &relocated) {
+            return Some(relocated);
         }
     }
     None
@@ -125,12 +125,11 @@ fn find_wrong_relocation(input: &LinkInput<'_, '_>, relocations: &[Relocated]) -
 
 /// Sees that each kept relocation takes the symbol that it names.
 #[tactic(auto, using(crate::proofs::KindLaws::no_wrong_use, crate::proofs::KindLaws::a_wrong_use))]
-fn check_uses(input: &LinkInput<'_, '_>, relocations: &[Relocated]) -> Result<(), LinkError>
-    requires { relocations.now ≡ kept_relocations input.now }
+fn check_uses(input: &LinkInput<'_, '_>) -> Result<(), LinkError>
     ensures clear { OnOk result (Clear (IsWrongUse input.now)) }
     ensures err { IfErr result (IsWrongUse input.now) }
 {
-    match find_wrong_relocation(input, relocations) {
+    match find_wrong_relocation(input) {
         None => Ok(()),
         Some(relocated) => Err(LinkError::WrongKind {
             object: relocated.object,
@@ -250,13 +249,11 @@ fn check_inits(input: &LinkInput<'_, '_>, bindings: &FunctionBindings) -> Result
 pub(crate) fn check_kinds(
     input: &LinkInput<'_, '_>,
     bindings: &FunctionBindings,
-    relocations: &[Relocated],
 ) -> Result<(), LinkError>
-    requires bindings { bindings.now ≡ function_bindings input.now }
-    requires relocations { relocations.now ≡ kept_relocations input.now }
+    requires { bindings.now ≡ function_bindings input.now }
     ensures clear { OnOk result (Clear (IsWrongKind input.now)) }
     ensures err { IfErr result (IsWrongKind input.now) }
 {
-    check_uses(input, relocations)?;
+    check_uses(input)?;
     check_inits(input, bindings)
 }

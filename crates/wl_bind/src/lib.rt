@@ -60,7 +60,7 @@ pub use laws::{same_targets_are_one, stubs_have_no_slot, table_functions_stand_o
 pub use merging::{MergedTypes, merge_live_output_types};
 pub use needs::{LinkerImportAbsorption, has_init_functions};
 pub use reference_laws::{entries_have_types, references_are_kept, table_functions_are_kept};
-pub use relocated::{FixupPlace, KeptRelocations, Relocated, kept_relocations, list_relocations};
+pub use relocated::{FixupPlace, KeptRelocations, Relocated, kept_relocations};
 pub use report::report_disallowed_unresolved_imports;
 pub use resolution::{ImportResolution, ObjectImportResolutions, ResolutionList};
 pub use resolving::{resolve_import_symbols, resolve_objects};

@@ -1,6 +1,6 @@
 //! The relocations of the objects whose fields lie in units that are kept.
 
-ghost use Rattle.std.specs.Prelude.{◌≡◌, [], IfOk};
+ghost use Rattle.std.specs.Prelude.{◌≡◌, []};
 ghost use Rattle.std.specs.Iterator.{YieldsFirst};
 ghost use Rattle.wl_live.specs.Live.{Live};
 ghost use Rattle.wl_bind.specs.KeptRelocations.{object_left, section_left, relocations_left};
@@ -8,7 +8,6 @@ ghost use Rattle.wl_bind.specs.Relocations.{unit_in, object_relocations};
 ghost use Rattle.wl_bind.specs.Scan.{relocations};
 
 use crate::input::LinkInput;
-use std::alloc::{AllocError, Global};
 use wl_linking::{File, Site, WasmRelocation};
 use wl_live::{LiveSet, WasmGcUnit};
 
@@ -196,21 +195,4 @@ pub fn kept_relocations<'k, 'a>(input: &LinkInput<'k, 'a>) -> KeptRelocations<'k
         next: 0,
         current: ObjectRest::none(),
     }
-}
-
-/// The kept relocations of all objects in a list, for what goes through them more than once.
-///
-/// # Errors
-/// `AllocError` where memory runs out.
-pub fn list_relocations(
-    alloc: Global,
-    input: &LinkInput<'_, '_>,
-) -> Result<Vec<Relocated>, AllocError>
-    ensures { IfOk result (λ kept. kept.items ≡ relocations input.now) }
-{
-    let mut kept = Vec::new(alloc);
-    for relocated in kept_relocations(input) {
-        kept.push(relocated)?;
-    }
-    Ok(kept)
 }

@@ -1,17 +1,16 @@
 //! What kept relocations ask for.
 
 ghost use Rattle.std.specs.Prelude.{◌≡◌, map, OnOk, IfOk};
-ghost use Rattle.std.specs.List.{list_any};
 ghost use Rattle.wl_bind.specs.FunctionSymbols.{function_bindings};
 ghost use Rattle.wl_bind.specs.GotSteps.{mem_entry, func_entry, insert_some, with_mem, with_func, ArePlaces};
 ghost use Rattle.wl_bind.specs.Sameness.{same_target};
-ghost use Rattle.wl_bind.specs.Scan.{is_global_index, is_table_index, is_table_number, is_memory_relative, is_table_relative, names_data, names_function, got_mem_of, got_func_of, unless_stub, table_function_of, asks_for_table, definition_name, got_mem_entry, got_func_entry, got_mem, got_func, table_functions, needs_of, scan_of, relocations as relocations_of};
+ghost use Rattle.wl_bind.specs.Scan.{is_global_index, is_table_index, is_table_number, is_memory_relative, is_table_relative, names_data, names_function, got_mem_of, got_func_of, unless_stub, table_function_of, asks_for_table, definition_name, got_mem_entry, got_func_entry, got_mem, got_func, table_functions, needs_of, scan_of};
 
 use crate::binding::FunctionTarget;
 use crate::got::{GotFunc, GotMem, NamedKeys, TableFunctions};
 use crate::input::LinkInput;
 use crate::kinds::is_data;
-use crate::relocated::Relocated;
+use crate::relocated::{Relocated, kept_relocations};
 use crate::targets::FunctionBindings;
 use std::alloc::{AllocError, Global};
 use std::marker::Model;
@@ -263,17 +262,12 @@ fn add_table_function(
 }
 
 /// The GOT list of data, in order of first occurrence.
-fn got_mem<'a>(
-    alloc: Global,
-    input: &LinkInput<'_, 'a>,
-    relocations: &[Relocated],
-) -> Result<GotMem<'a>, AllocError>
-    requires { relocations.now ≡ relocations_of input.now }
+fn got_mem<'a>(alloc: Global, input: &LinkInput<'_, 'a>) -> Result<GotMem<'a>, AllocError>
     ensures { IfOk result (λ g. g ≡ map (got_mem_entry input.now) (got_mem input.now)) }
 {
     let mut list = NamedKeys::new(alloc);
-    for relocated in relocations {
-        add_mem(&mut list, input, relocated)?;
+    for relocated in kept_relocations(input) {
+        add_mem(&mut list, input, &relocated)?;
     }
     Ok(GotMem::of(list))
 }
@@ -283,15 +277,13 @@ fn got_func<'a>(
     alloc: Global,
     input: &LinkInput<'_, 'a>,
     bindings: &FunctionBindings,
-    relocations: &[Relocated],
 ) -> Result<GotFunc<'a>, AllocError>
-    requires bindings { bindings.now ≡ function_bindings input.now }
-    requires relocations { relocations.now ≡ relocations_of input.now }
+    requires { bindings.now ≡ function_bindings input.now }
     ensures { IfOk result (λ g. g ≡ map (got_func_entry input.now) (got_func input.now)) }
 {
     let mut list = NamedKeys::new(alloc);
-    for relocated in relocations {
-        add_func(&mut list, input, bindings, relocated)?;
+    for relocated in kept_relocations(input) {
+        add_func(&mut list, input, bindings, &relocated)?;
     }
     Ok(GotFunc::of(list))
 }
@@ -301,15 +293,13 @@ fn table_functions(
     alloc: Global,
     input: &LinkInput<'_, '_>,
     bindings: &FunctionBindings,
-    relocations: &[Relocated],
 ) -> Result<TableFunctions, AllocError>
-    requires bindings { bindings.now ≡ function_bindings input.now }
-    requires relocations { relocations.now ≡ relocations_of input.now }
+    requires { bindings.now ≡ function_bindings input.now }
     ensures { IfOk result (λ t. t ≡ table_functions input.now) }
 {
     let mut list = TableFunctions::new(alloc);
-    for relocated in relocations {
-        add_table_function(&mut list, input, bindings, relocated)?;
+    for relocated in kept_relocations(input) {
+        add_table_function(&mut list, input, bindings, &relocated)?;
     }
     Ok(list)
 }
@@ -325,43 +315,21 @@ fn asks_for_table(input: &LinkInput<'_, '_>, relocated: &Relocated) -> bool
         || (is_global_index(ty) && names_function(input, relocated))
 }
 
-/// Whether one of these relocations is counted from the base of the memory.
-fn any_memory_relative(relocations: &[Relocated]) -> bool
-    ensures { result ≡ list_any (λ r. is_memory_relative r.relocation.ty) relocations.now }
-{
-    relocations
-        .iter()
-        .any(|relocated| is_memory_relative(relocated.relocation.ty))
-}
-
-/// Whether one of these relocations is counted from the base of the table.
-fn any_table_relative(relocations: &[Relocated]) -> bool
-    ensures { result ≡ list_any (λ r. is_table_relative r.relocation.ty) relocations.now }
-{
-    relocations
-        .iter()
-        .any(|relocated| is_table_relative(relocated.relocation.ty))
-}
-
-/// Whether one of these relocations asks for the table.
-fn any_asks_for_table(input: &LinkInput<'_, '_>, relocations: &[Relocated]) -> bool
-    ensures { result ≡ list_any (asks_for_table input.now) relocations.now }
-{
-    relocations
-        .iter()
-        .any(|relocated| asks_for_table(input, relocated))
-}
-
 /// What kept relocations ask the linker for.
-pub(crate) fn needs(input: &LinkInput<'_, '_>, relocations: &[Relocated]) -> RelocNeeds
-    requires { relocations.now ≡ relocations_of input.now }
+pub(crate) fn needs(input: &LinkInput<'_, '_>) -> RelocNeeds
     ensures { result ≡ needs_of input.now }
 {
-    RelocNeeds {
-        memory_base: any_memory_relative(relocations),
-        table_base: any_table_relative(relocations),
-        table: any_asks_for_table(input, relocations),
+    let mut needs = RelocNeeds {
+        memory_base: false,
+        table_base: false,
+        table: false,
+    };
+    for relocated in kept_relocations(input) {
+        needs.memory_base |= is_memory_relative(relocated.relocation.ty);
+        needs.table_base |= is_table_relative(relocated.relocation.ty);
+        needs.table |= asks_for_table(input, &relocated);
     }
+    needs
 }
 
 /// What kept relocations ask for: the entries of both GOT lists, the functions of the table, and
@@ -373,16 +341,14 @@ pub(crate) fn gather<'a>(
     alloc: Global,
     input: &LinkInput<'_, 'a>,
     bindings: &FunctionBindings,
-    relocations: &[Relocated],
 ) -> Result<RelocScan<'a>, AllocError>
-    requires bindings { bindings.now ≡ function_bindings input.now }
-    requires relocations { relocations.now ≡ relocations_of input.now }
+    requires { bindings.now ≡ function_bindings input.now }
     ensures { IfOk result (λ s. s ≡ scan_of input.now) }
 {
     Ok(RelocScan {
-        got_mem: got_mem(alloc, input, relocations)?,
-        got_func: got_func(alloc, input, bindings, relocations)?,
-        table_functions: table_functions(alloc, input, bindings, relocations)?,
-        needs: needs(input, relocations),
+        got_mem: got_mem(alloc, input)?,
+        got_func: got_func(alloc, input, bindings)?,
+        table_functions: table_functions(alloc, input, bindings)?,
+        needs: needs(input),
     })
 }

@@ -10,7 +10,6 @@ ghost use Rattle.wl_bind.specs.ScanFaults.{scan_fault};
 
 use crate::input::LinkInput;
 use crate::kinds::check_kinds;
-use crate::relocated::list_relocations;
 use crate::scan::{RelocScan, gather};
 use crate::signatures::check_signatures;
 use crate::targets::FunctionBindings;
@@ -36,9 +35,8 @@ pub fn scan_layout_relocations<'a>(
     ensures err { IfErr result (Refuses (scan_fault input.now)) }
 {
     let bindings = FunctionBindings::new(alloc, input)?;
-    let relocations = list_relocations(alloc, input)?;
-    check_kinds(input, &bindings, &relocations)?;
-    check_signatures(alloc, input, &bindings, &relocations)?;
-    check_undefined_data(alloc, input, &relocations)?;
-    Ok(gather(alloc, input, &bindings, &relocations)?)
+    check_kinds(input, &bindings)?;
+    check_signatures(alloc, input, &bindings)?;
+    check_undefined_data(alloc, input)?;
+    Ok(gather(alloc, input, &bindings)?)
 }

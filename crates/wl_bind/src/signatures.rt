@@ -1,16 +1,16 @@
 //! Functions of another type than the one under which an object knows them.
 
-ghost use Rattle.std.specs.Prelude.{◌≡◌, ℕ, OnOk, IfErr, Some, false, slice_get};
+ghost use Rattle.std.specs.Prelude.{◌≡◌, ℕ, OnOk, IfErr, Some, false, find, slice_get};
 ghost use Rattle.wl_linking.specs.Steps.{Clear, Refuses};
 ghost use Rattle.wl_symbols.specs.Entries.{symbol_in};
 ghost use Rattle.wl_bind.specs.FunctionSymbols.{function_bindings};
-ghost use Rattle.wl_bind.specs.Scan.{relocations as link_relocations};
+ghost use Rattle.wl_bind.specs.Scan.{relocations};
 ghost use Rattle.wl_bind.specs.Signatures.{NamedByRelocation, OnKeptSlot, NamedByInit, IsMismatch};
-ghost use Rattle.wl_bind.specs.BindingSteps.{slot_numbers, differs, is_mismatch, names_mismatch, TellsMismatch, NamesMismatch, AreOwnClear};
+ghost use Rattle.wl_bind.specs.BindingSteps.{slot_numbers, differs, is_mismatch, names_mismatch, TellsMismatch, AreOwnClear};
 
 use crate::binding::FunctionTarget;
 use crate::input::LinkInput;
-use crate::relocated::Relocated;
+use crate::relocated::{Relocated, kept_relocations};
 use crate::targets::FunctionBindings;
 use crate::types::{SlotTypes, declared_type, is_other_type};
 use std::alloc::Global;
@@ -70,30 +70,41 @@ impl<'c, 'i, 'a> TypeCheck<'c, 'i, 'a> {
         }
     }
 
-    /// The same of the symbol that a relocation names.
-    fn check_relocation(&self, relocated: &Relocated) -> Result<(), LinkError>
-        ensures clear { OnOk result (names_mismatch self.now.input.now relocated.now ≡ false) }
-        ensures err { IfErr result (NamesMismatch self.now.input.now relocated.now) }
+    /// Whether a relocation names such a symbol.
+    fn names_mismatch(&self, relocated: &Relocated) -> bool
+        ensures { result ≡ names_mismatch self.now.input.now relocated.now }
     {
         let relocation = relocated.relocation;
-        if relocation.ty.names_a_type() {
-            return Ok(());
-        }
-        self.check_symbol(relocated.object, relocation.index)
+        !relocation.ty.names_a_type() && self.is_mismatch(relocated.object, relocation.index)
     }
 
-    /// The same of all symbols that kept relocations name.
-    fn check_relocations(&self, relocations: &[Relocated]) -> Result<(), LinkError>
-        requires { relocations.now ≡ link_relocations self.now.input.now }
+    /// The first kept relocation that names such a symbol.
+    fn find_relocation(&self) -> Option<Relocated>
+        ensures { result ≡ find (names_mismatch self.now.input.now) (relocations self.now.input.now) }
+    {
+        for relocated in kept_relocations(self.input) {
+            if self.names_mismatch(&relocated) {
+                return Some(relocated);
+            }
+        }
+        None
+    }
+
+    /// Sees that kept relocations name no such symbol.
+    #[tactic(auto, using(crate::proofs::MismatchLaws::no_relocation, crate::proofs::MismatchLaws::a_relocation))]
+    fn check_relocations(&self) -> Result<(), LinkError>
         ensures clear { OnOk result ((object number : ℕ)
             → NamedByRelocation self.now.input.now object number
             → is_mismatch self.now.input.now object number ≡ false) }
         ensures err { IfErr result (IsMismatch self.now.input.now) }
     {
-        for relocated in relocations {
-            self.check_relocation(relocated)?;
+        match self.find_relocation() {
+            None => Ok(()),
+            Some(relocated) => Err(LinkError::SignatureMismatch {
+                object: relocated.object,
+                symbol: relocated.relocation.index,
+            }),
         }
-        Ok(())
     }
 
     /// The same of a symbol that is undefined, on a slot that is kept.
@@ -179,10 +190,8 @@ pub(crate) fn check_signatures(
     alloc: Global,
     input: &LinkInput<'_, '_>,
     bindings: &FunctionBindings,
-    relocations: &[Relocated],
 ) -> Result<(), LinkError>
-    requires bindings { bindings.now ≡ function_bindings input.now }
-    requires relocations { relocations.now ≡ link_relocations input.now }
+    requires { bindings.now ≡ function_bindings input.now }
     ensures clear { OnOk result (Clear (IsMismatch input.now)) }
     ensures err { IfErr result (Refuses (IsMismatch input.now)) }
 {
@@ -191,7 +200,7 @@ pub(crate) fn check_signatures(
         bindings,
         types: SlotTypes::new(alloc, input.files())?,
     };
-    check.check_relocations(relocations)?;
+    check.check_relocations()?;
     check.check_objects()?;
     Ok(())
 }

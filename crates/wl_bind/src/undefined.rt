@@ -5,11 +5,11 @@ ghost use Rattle.indexmap.specs.IndexSet.{insert_key, insert_all};
 ghost use Rattle.wl_linking.specs.Steps.{Clear, Refuses};
 ghost use Rattle.wl_bind.specs.Undefined.{wants_definition, same_undefined, is_undefined_definition, undefined_data_of, IsUndefinedData};
 ghost use Rattle.wl_bind.specs.UndefinedSteps.{named_in, as_undefined, insert_some, is_undefined_data};
-ghost use Rattle.wl_bind.specs.Scan.{symbol_of, relocations as kept_relocations};
+ghost use Rattle.wl_bind.specs.Scan.{symbol_of, relocations};
 
 use crate::input::LinkInput;
 use crate::kinds::is_data;
-use crate::relocated::Relocated;
+use crate::relocated::{Relocated, kept_relocations};
 use indexmap::IndexSet;
 use std::alloc::{AllocError, Global};
 use std::marker::Model;
@@ -160,18 +160,17 @@ fn undefined_data_of<'a>(
     }
 }
 
-/// The undefined data that these relocations name.
+/// The undefined data that kept relocations name.
 fn collect_undefined_data<'a>(
     alloc: Global,
     input: &LinkInput<'_, 'a>,
-    relocations: &[Relocated],
 ) -> Result<UndefinedNames<'a>, AllocError>
-    ensures { IfOk result (λ names. names
-        ≡ insert_all same_undefined [] (filter_map (undefined_data_of input.now) relocations.now)) }
+    ensures { IfOk result (λ names. names ≡ insert_all same_undefined []
+        (filter_map (undefined_data_of input.now) (relocations input.now))) }
 {
     let mut names = UndefinedNames::new(alloc);
-    for relocated in relocations {
-        names.add_some(undefined_data_of(input, relocated))?;
+    for relocated in kept_relocations(input) {
+        names.add_some(undefined_data_of(input, &relocated))?;
     }
     Ok(names)
 }
@@ -184,16 +183,14 @@ fn collect_undefined_data<'a>(
 pub(crate) fn check_undefined_data(
     alloc: Global,
     input: &LinkInput<'_, '_>,
-    relocations: &[Relocated],
 ) -> Result<(), LinkError>
-    requires relocations { relocations.now ≡ kept_relocations input.now }
     ensures clear { OnOk result (Clear (IsUndefinedData input.now)) }
     ensures err { IfErr result (Refuses (IsUndefinedData input.now)) }
 {
     if input.args().allow_undefined {
         return Ok(());
     }
-    let names = collect_undefined_data(alloc, input, relocations)?;
+    let names = collect_undefined_data(alloc, input)?;
     if names.is_empty() {
         return Ok(());
     }

@@ -192,7 +192,8 @@ pub record HasLayout (o : DataOptions) (s : KeptData) (l : SegmentLayout) : Type
 
 -- an object's segments as the output has them: those that all threads have in common come first
 abbrev pub in_output_order : List KeptData → List KeptData
-in_output_order segments = filter (λ (s : KeptData). not s.tls) segments ++ filter is_thread_local segments
+in_output_order segments =
+    filter (λ (s : KeptData). not s.tls) segments ++ filter is_thread_local segments
 
 -- each of them has its layout
 abbrev pub HaveLayouts : DataOptions → List KeptData → List SegmentLayout → Type 0

@@ -9,7 +9,7 @@ ghost use Rattle.wl_linking.specs.declared.error.Quantity.TheVariants.{Address};
 use wl_linking::{LinkError, Quantity};
 
 /// The refusal of an address past the last one.
-pub(crate) fn past_last_address() -> LinkError
+pub fn past_last_address() -> LinkError
     ensures { result ≡ TooLarge Address }
 {
     LinkError::TooLarge {

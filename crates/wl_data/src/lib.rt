@@ -21,7 +21,7 @@ mod segments;
 mod sizes;
 mod stack;
 
-pub use align::{align_up, least_multiple_is_one};
+pub use align::{align_up, least_multiple_is_one, past_last_address};
 pub use laws::{
     layout_is_one, objects_are_laid_as_one, places_are_one, places_stand_apart, segments_are_apart,
     segments_have_layouts, spans_are_apart,

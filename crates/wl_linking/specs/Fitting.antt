@@ -1,5 +1,5 @@
--- The relocatable object that some bytes are: what its sections hold, and what must hold across them
--- (core specification, "Modules"; object file linking, version 2).
+-- The relocatable object that some bytes are: what its sections hold, and what must hold across
+-- them (core specification, "Modules"; object file linking, version 2).
 use Rattle.std.specs.Prelude.{◌≡◌, ◌⊎◌, ◌≤◌, ℕ, List, length, map, Result, Ok, Err, IfOk, IfErr}
 use Rattle.wl_bytes.specs.declared.reader.TheConstants.{MAX_LEN}
 use Rattle.wl_module.specs.declared.sections.SectionHeader.{SectionHeader}
@@ -69,7 +69,8 @@ object_of bytes headers parts fields = record {
 }
 
 -- an object of these bytes and headers holds these parts, its relocations in order of their fields
-pub record HasItems (bytes : List ℕ) (headers : List SectionHeader) (parts : Parts) (o : Object) : Type 0 where
+pub record HasItems (bytes : List ℕ) (headers : List SectionHeader) (parts : Parts) (o : Object)
+    : Type 0 where
   pub items : o ≡ object_of bytes headers parts (fields_of o)
   pub code : AreInOrder parts.code_relocations o.code_relocations
   pub data_ : AreInOrder parts.data_relocations o.data_relocations
@@ -84,7 +85,8 @@ code_pieces o = map body_piece o.bodies
 abbrev pub data_pieces : Object → List PieceOf
 data_pieces o = map segment_piece o.segments
 
--- the counts hold, what is named exists, each import has one name, and each field lies by itself in a body or a segment
+-- the counts hold, what is named exists, each import has one name, and each field lies by itself in
+-- a body or a segment
 pub record IsFitting (o : Object) : Type 0 where
   pub names : NamesExist o
   pub slots : AgreeOnNames (spaces_of o) o.symbols
@@ -109,7 +111,8 @@ NameStands bytes s = bytes_between bytes s.name_range ≡ s.name
 -- ---- the same in steps
 
 -- an object of these parts, each of whose fields lies by itself
-pub record IsPlacedObject (bytes : List ℕ) (headers : List SectionHeader) (parts : Parts) (o : Object) : Type 0 where
+pub record IsPlacedObject (bytes : List ℕ) (headers : List SectionHeader) (parts : Parts)
+    (o : Object) : Type 0 where
   pub items : HasItems bytes headers parts o
   pub code : LieApart (code_pieces o) o.code_relocations o.code_sites
   pub data_ : LieApart (data_pieces o) o.data_relocations o.data_sites
@@ -181,16 +184,18 @@ FirstItemsFault sections = AreFaulty sections no_parts sections
 -- the frame is at fault, or the first section that isn't sound, or what must hold across sections
 abbrev pub ObjectFault : ReadError → List ℕ → Type 0
 ObjectFault e bytes = FrameFault e bytes
-    ⊎ ((sections : List Section) × IsModule sections bytes × (FirstItemsFault sections e ⊎ IsUnfitting sections bytes e))
+    ⊎ ((sections : List Section) × IsModule sections bytes
+    × (FirstItemsFault sections e ⊎ IsUnfitting sections bytes e))
 
--- What a call on an object's bytes has answered, memory apart: the object exactly where they are one, and else what is wrong;
--- the frame and the sections are judged before what must hold across them. No list of the object has more items than there are
--- bytes.
+-- What a call on an object's bytes has answered, memory apart: the object exactly where they are
+-- one, and else what is wrong; the frame and the sections are judged before what must hold across
+-- them. No list of the object has more items than there are bytes.
 pub record ParsesObject (bytes : List ℕ) (result : Result Object ReadError) : Type 0 where
   pub sound : IfOk result (λ o. IsObject o bytes)
   pub few : IfOk result (HasFewItems (length bytes))
   pub only : (o : Object) → IsObject o bytes → Gives (λ f. f) result (Ok o)
   pub fault : IfErr result (HasCause (λ e. ObjectFault e bytes))
   pub frame : (e : ReadError) → FrameFault e bytes → Gives (λ f. f) result (Err e)
-  pub section : (e : ReadError) (sections : List Section) → IsModule sections bytes → FirstItemsFault sections e
+  pub section : (e : ReadError) (sections : List Section) → IsModule sections bytes
+      → FirstItemsFault sections e
       → Gives (λ f. f) result (Err e)

@@ -1,4 +1,5 @@
--- What a linking section tells of segments, and of functions that run at the start (object file linking, version 2, "Segment Info Subsection" and "Init Funcs Subsection").
+-- What a linking section tells of segments, and of functions that run at the start (object file
+-- linking, version 2, "Segment Info Subsection" and "Init Funcs Subsection").
 use Rattle.std.specs.Prelude.{ℕ, ◌==◌, ◌^◌, Bool, not, nat_le, List, Result}
 use Rattle.std.specs.Int.RustNames.{bit_and}
 use Rattle.wl_bytes.specs.Cursor.{Cursor}
@@ -46,11 +47,13 @@ alignment_at c = map_at two_to (where_at number_at is_exponent (Malformed BadAli
 
 -- a name, an alignment and flags
 abbrev pub IsInfo : ℕ → SegmentInfo → List ℕ → Type 0
-IsInfo place i text = Then IsName (λ _. Then IsAlignment (λ _. IsU32)) place (i.name, (i.alignment, i.flags)) text
+IsInfo place i text =
+    Then IsName (λ _. Then IsAlignment (λ _. IsU32)) place (i.name, (i.alignment, i.flags)) text
 
 -- the first of the three at fault
 abbrev pub InfoFault : ReadError → Cursor → Type 0
-InfoFault = ThenFault IsName WordFault (λ _. ThenFault IsAlignment AlignmentFault (λ _. NumberFault))
+InfoFault =
+    ThenFault IsName WordFault (λ _. ThenFault IsAlignment AlignmentFault (λ _. NumberFault))
 
 -- what was read of a segment
 abbrev pub info_from : List ℕ × (ℕ × ℕ) → SegmentInfo

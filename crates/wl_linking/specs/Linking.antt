@@ -29,7 +29,8 @@ use Rattle.wl_linking.specs.declared.linking.SubsectionKind.TheVariants as kind
 
 -- ---- a subsection
 
--- what a subsection of that number is for: segments, 5, functions that run at the start, 6, symbols, 8
+-- what a subsection of that number is for: segments, 5, functions that run at the start, 6,
+-- symbols, 8
 abbrev pub subsection_kind : ℕ → SubsectionKind
 subsection_kind n =
     if n == 5 then kind.SegmentInfo
@@ -39,16 +40,20 @@ subsection_kind n =
 
 -- each of the three comes once at most
 abbrev pub subsection_verdict : SeenSubsections → SubsectionKind → Result (Unit {0}) ReadError
-subsection_verdict seen kind.SegmentInfo = if seen.segment_info then Err (Malformed Repeated) else Ok tt
+subsection_verdict seen kind.SegmentInfo =
+    if seen.segment_info then Err (Malformed Repeated) else Ok tt
 subsection_verdict seen kind.InitFuncs = if seen.init_funcs then Err (Malformed Repeated) else Ok tt
-subsection_verdict seen kind.SymbolTable = if seen.symbol_table then Err (Malformed Repeated) else Ok tt
+subsection_verdict seen kind.SymbolTable =
+    if seen.symbol_table then Err (Malformed Repeated) else Ok tt
 subsection_verdict seen kind.Other = Ok tt
 
 -- a subsection that holds what its payload spells
-abbrev pub HoldsAll : {X : Type 0} → (X → Subsection) → (X → List ℕ → Type 0) → Subsection → List ℕ → Type 0
+abbrev pub HoldsAll : {X : Type 0} → (X → Subsection) → (X → List ℕ → Type 0) → Subsection → List ℕ
+    → Type 0
 HoldsAll {X} make spells s payload = (x : X) × (make x ≡ s) × spells x payload
 
--- what a subsection of a kind holds, where so many bytes of the object lie before its payload; others are skipped
+-- what a subsection of a kind holds, where so many bytes of the object lie before its payload;
+-- others are skipped
 abbrev pub IsHeld : ℕ → SubsectionKind → Subsection → List ℕ → Type 0
 IsHeld base kind.SegmentInfo = HoldsAll held.SegmentInfo AreInfos
 IsHeld base kind.InitFuncs = HoldsAll held.InitFuncs AreInits
@@ -75,8 +80,11 @@ SubsectionParts = ℕ × (Unit {0} × (ℕ × (ℕ × (List ℕ × Subsection)))
 
 -- these parts stand one behind the other
 abbrev pub AreSubsectionParts : ℕ → SeenSubsections → ℕ → SubsectionParts → List ℕ → Type 0
-AreSubsectionParts base seen = Then IsByte (λ n. Then (Judged (subsection_verdict seen (subsection_kind n))) (λ _. Then IsU32 (λ size.
-    Then IsHere (λ place. Then (IsStretch size) (λ payload. Inside (IsHeld (base + place) (subsection_kind n)) payload)))))
+AreSubsectionParts base seen =
+    Then IsByte (λ n. Then (Judged (subsection_verdict seen (subsection_kind n)))
+    (λ _. Then IsU32 (λ size.
+    Then IsHere (λ place. Then (IsStretch size)
+    (λ payload. Inside (IsHeld (base + place) (subsection_kind n)) payload)))))
 
 -- a kind byte, a size, and so many bytes that hold it
 abbrev pub IsSubsection : ℕ → SeenSubsections → ℕ → Subsection → List ℕ → Type 0
@@ -84,13 +92,23 @@ IsSubsection base seen = Seen (AreSubsectionParts base seen) (λ p. p.1.1.1.1.1)
 
 -- the first part at fault
 abbrev pub SubsectionFault : ℕ → SeenSubsections → ReadError → Cursor → Type 0
-SubsectionFault base seen = ThenFault IsByte ByteFault (λ n. ThenFault (Judged (subsection_verdict seen (subsection_kind n))) (JudgedFault (subsection_verdict seen (subsection_kind n)))
-    (λ _. ThenFault IsU32 NumberFault (λ size. ThenFault IsHere NoFault (λ place. ThenFault (IsStretch size) (StretchFault size) (λ payload. InsideFault (HeldFault (base + place) (subsection_kind n)) payload)))))
+SubsectionFault base seen =
+    ThenFault IsByte ByteFault (λ n. ThenFault
+    (Judged (subsection_verdict seen (subsection_kind n)))
+    (JudgedFault (subsection_verdict seen (subsection_kind n)))
+    (λ _. ThenFault IsU32 NumberFault
+    (λ size. ThenFault IsHere NoFault
+    (λ place. ThenFault (IsStretch size) (StretchFault size)
+    (λ payload. InsideFault (HeldFault (base + place) (subsection_kind n)) payload)))))
 
 -- the parts of a subsection, read from a place
-abbrev pub subsection_parts_at : ℕ → SeenSubsections → Cursor → Result (SubsectionParts × Cursor) ReadError
-subsection_parts_at base seen c = then_at one_byte_at (λ n. then_at (judged_at (subsection_verdict seen (subsection_kind n))) (λ _. then_at number_at (λ size.
-    then_at here_at (λ place. then_at (stretch_at size) (λ payload. judged_at (held_of (base + place) (subsection_kind n) payload)))))) c
+abbrev pub subsection_parts_at : ℕ → SeenSubsections → Cursor
+    → Result (SubsectionParts × Cursor) ReadError
+subsection_parts_at base seen c =
+    then_at one_byte_at (λ n. then_at (judged_at (subsection_verdict seen (subsection_kind n)))
+    (λ _. then_at number_at (λ size.
+    then_at here_at (λ place. then_at (stretch_at size)
+    (λ payload. judged_at (held_of (base + place) (subsection_kind n) payload)))))) c
 
 -- a subsection, read from a place
 unfoldable pub subsection_at : ℕ → SeenSubsections → Cursor → Result (Subsection × Cursor) ReadError
@@ -178,14 +196,18 @@ SubsectionsFault base = ChainFault (subsections_in_turn base) (SubsectionFault b
 -- subsections to the end of the bytes hold this
 abbrev pub HaveSubsections : ℕ → Cursor → Linking → Type 0
 HaveSubsections base from linking =
-    (subsections : List Subsection) × (last : Cursor) × AreSubsections base subsections from last × (linking ≡ linking_of subsections)
+    (subsections : List Subsection) × (last : Cursor) × AreSubsections base subsections from last
+    × (linking ≡ linking_of subsections)
 
--- a linking section: its version, and subsections to the end; so many bytes of the object lie before it
+-- a linking section: its version, and subsections to the end; so many bytes of the object lie
+-- before it
 abbrev pub IsLinking : ℕ → Linking → List ℕ → Type 0
 IsLinking base linking payload =
-    (version : ℕ × Unit {0}) × (behind : Cursor) × Takes IsVersion version (start payload) behind × HaveSubsections base behind linking
+    (version : ℕ × Unit {0}) × (behind : Cursor) × Takes IsVersion version (start payload) behind
+    × HaveSubsections base behind linking
 
 -- the version is at fault, or what stands behind it is
 abbrev pub LinkingFault : ℕ → ReadError → List ℕ → Type 0
 LinkingFault base e payload = VersionFault e (start payload)
-    ⊎ ((version : ℕ × Unit {0}) × (behind : Cursor) × Takes IsVersion version (start payload) behind × SubsectionsFault base e behind)
+    ⊎ ((version : ℕ × Unit {0}) × (behind : Cursor) × Takes IsVersion version (start payload) behind
+    × SubsectionsFault base e behind)

@@ -17,9 +17,10 @@ use Rattle.wl_linking.specs.declared.relocations.WasmRelocation.{WasmRelocation}
 use Rattle.wl_linking.specs.declared.relocations.WasmRelocSection.{WasmRelocSection}
 use Rattle.wl_linking.specs.declared.sites.Site.{Site}
 
--- What an object holds, in file order: its bytes, and the items of its sections. For each segment there is the memory that
--- it goes into when the module starts, if it does. Symbols have the names that they take from imports. Relocations are in
--- order of their fields, each with the place of its field.
+-- What an object holds, in file order: its bytes, and the items of its sections. For each segment
+-- there is the memory that it goes into when the module starts, if it does. Symbols have the names
+-- that they take from imports. Relocations are in order of their fields, each with the place of its
+-- field.
 pub record Object : Type 0 where
   pub bytes : List ℕ
   pub sections : List SectionHeader

@@ -74,7 +74,8 @@ join a b = record {
 abbrev pub segment_memories_of : List Targeted → List (Option ℕ)
 segment_memories_of = map (λ (t : Targeted). t.memory_index)
 
--- an import section, where so many bytes of the object lie before its payload: the imports, and the names that symbols may take
+-- an import section, where so many bytes of the object lie before its payload: the imports, and the
+-- names that symbols may take
 abbrev pub imports_part : List PlacedImported → ℕ → Parts
 imports_part imports base = record no_parts {
   imports = plain_imports imports;
@@ -126,7 +127,12 @@ part_of (Globals globals) = record no_parts { globals = globals }
 part_of (Exports exports) = record no_parts { exports = exports }
 part_of (DataCount count) = record no_parts { data_counts = count ∷ [] }
 part_of (Code bodies) = record no_parts { bodies = bodies }
-part_of (Data segments) = record no_parts { segments = plain_segments segments; segment_memories = segment_memories_of segments }
+part_of (Data segments) =
+    record no_parts {
+      segments = plain_segments segments;
+      segment_memories = segment_memories_of
+          segments;
+    }
 part_of (Linking linking) = record no_parts {
   segment_infos = linking.segment_infos;
   init_funcs = linking.init_funcs;

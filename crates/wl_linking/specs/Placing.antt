@@ -27,7 +27,8 @@ Ascend place (piece ∷ pieces) = (place ≤ piece.place) × Ascend (piece_end p
 -- where in a piece a field of that form lies at that place of the section
 abbrev pub position_of : PieceOf → FieldForm → ℕ → Option ℕ
 position_of piece form offset =
-    if nat_le piece.place offset && has_form form (take (field_len form) (drop (offset - piece.place) piece.bytes))
+    if nat_le piece.place offset
+    && has_form form (take (field_len form) (drop (offset - piece.place) piece.bytes))
     then Some (offset - piece.place)
     else None
 

@@ -15,7 +15,8 @@ text_of bytes = if is_utf8 bytes then Some bytes else None
 
 -- the text at a range of the bytes, where it lies within them and they are UTF-8 there
 abbrev pub text_between : List ℕ → ℕ × ℕ → Option (List ℕ)
-text_between bytes range = if is_within bytes range then text_of (bytes_between bytes range) else None
+text_between bytes range =
+    if is_within bytes range then text_of (bytes_between bytes range) else None
 
 -- the text at the range of a symbol's name, where the symbol has a name
 abbrev pub named_text : List ℕ → Symbol → Option (List ℕ)

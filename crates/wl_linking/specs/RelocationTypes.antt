@@ -8,8 +8,8 @@ use Rattle.wl_linking.specs.declared.relocation_type.FieldForm.TheVariants.{Padd
 use Rattle.wl_linking.specs.declared.relocation_type.Indexed.TheVariants as indexed
 use Rattle.wl_linking.specs.declared.relocation_type.Allowed.TheVariants.{Anywhere, InCode}
 
--- the row of a type whose index is that of a symbol, and which may stand in code and in data: the type, its number and
--- name, how its field holds the value, and whether there is an addend
+-- the row of a type whose index is that of a symbol, and which may stand in code and in data: the
+-- type, its number and name, how its field holds the value, and whether there is an addend
 abbrev symbol_row : RelocationType → ℕ → List ℕ → FieldForm → Bool → RelocationRow
 symbol_row ty number name form addend = record {
   ty = ty;
@@ -23,22 +23,37 @@ symbol_row ty number name form addend = record {
 
 -- what the conventions say of each type
 abbrev pub relocation_row : RelocationType → RelocationRow
-relocation_row type.FunctionIndexLeb = symbol_row type.FunctionIndexLeb 0 (codes "R_WASM_FUNCTION_INDEX_LEB") PaddedUnsigned false
-relocation_row type.TableIndexSleb = symbol_row type.TableIndexSleb 1 (codes "R_WASM_TABLE_INDEX_SLEB") PaddedSigned false
-relocation_row type.TableIndexI32 = symbol_row type.TableIndexI32 2 (codes "R_WASM_TABLE_INDEX_I32") Word false
-relocation_row type.MemoryAddrLeb = symbol_row type.MemoryAddrLeb 3 (codes "R_WASM_MEMORY_ADDR_LEB") PaddedUnsigned true
-relocation_row type.MemoryAddrSleb = symbol_row type.MemoryAddrSleb 4 (codes "R_WASM_MEMORY_ADDR_SLEB") PaddedSigned true
-relocation_row type.MemoryAddrI32 = symbol_row type.MemoryAddrI32 5 (codes "R_WASM_MEMORY_ADDR_I32") Word true
+relocation_row type.FunctionIndexLeb =
+    symbol_row type.FunctionIndexLeb 0 (codes "R_WASM_FUNCTION_INDEX_LEB") PaddedUnsigned false
+relocation_row type.TableIndexSleb =
+    symbol_row type.TableIndexSleb 1 (codes "R_WASM_TABLE_INDEX_SLEB") PaddedSigned false
+relocation_row type.TableIndexI32 =
+    symbol_row type.TableIndexI32 2 (codes "R_WASM_TABLE_INDEX_I32") Word false
+relocation_row type.MemoryAddrLeb =
+    symbol_row type.MemoryAddrLeb 3 (codes "R_WASM_MEMORY_ADDR_LEB") PaddedUnsigned true
+relocation_row type.MemoryAddrSleb =
+    symbol_row type.MemoryAddrSleb 4 (codes "R_WASM_MEMORY_ADDR_SLEB") PaddedSigned true
+relocation_row type.MemoryAddrI32 =
+    symbol_row type.MemoryAddrI32 5 (codes "R_WASM_MEMORY_ADDR_I32") Word true
 relocation_row type.TypeIndexLeb =
-    record (symbol_row type.TypeIndexLeb 6 (codes "R_WASM_TYPE_INDEX_LEB") PaddedUnsigned false) { index = indexed.Type }
-relocation_row type.GlobalIndexLeb = symbol_row type.GlobalIndexLeb 7 (codes "R_WASM_GLOBAL_INDEX_LEB") PaddedUnsigned false
-relocation_row type.MemoryAddrRelSleb = symbol_row type.MemoryAddrRelSleb 11 (codes "R_WASM_MEMORY_ADDR_REL_SLEB") PaddedSigned true
+    record (symbol_row type.TypeIndexLeb 6 (codes "R_WASM_TYPE_INDEX_LEB") PaddedUnsigned false) {
+      index = indexed.Type;
+    }
+relocation_row type.GlobalIndexLeb =
+    symbol_row type.GlobalIndexLeb 7 (codes "R_WASM_GLOBAL_INDEX_LEB") PaddedUnsigned false
+relocation_row type.MemoryAddrRelSleb =
+    symbol_row type.MemoryAddrRelSleb 11 (codes "R_WASM_MEMORY_ADDR_REL_SLEB") PaddedSigned true
 relocation_row type.TableIndexRelSleb =
-    record (symbol_row type.TableIndexRelSleb 12 (codes "R_WASM_TABLE_INDEX_REL_SLEB") PaddedSigned false) { allowed = InCode }
-relocation_row type.GlobalIndexI32 = symbol_row type.GlobalIndexI32 13 (codes "R_WASM_GLOBAL_INDEX_I32") Word false
-relocation_row type.TableNumberLeb = symbol_row type.TableNumberLeb 20 (codes "R_WASM_TABLE_NUMBER_LEB") PaddedUnsigned false
-relocation_row type.MemoryAddrTlsSleb = symbol_row type.MemoryAddrTlsSleb 21 (codes "R_WASM_MEMORY_ADDR_TLS_SLEB") PaddedSigned true
-relocation_row type.FunctionIndexI32 = symbol_row type.FunctionIndexI32 26 (codes "R_WASM_FUNCTION_INDEX_I32") Word false
+    record (symbol_row type.TableIndexRelSleb 12 (codes "R_WASM_TABLE_INDEX_REL_SLEB") PaddedSigned
+    false) { allowed = InCode }
+relocation_row type.GlobalIndexI32 =
+    symbol_row type.GlobalIndexI32 13 (codes "R_WASM_GLOBAL_INDEX_I32") Word false
+relocation_row type.TableNumberLeb =
+    symbol_row type.TableNumberLeb 20 (codes "R_WASM_TABLE_NUMBER_LEB") PaddedUnsigned false
+relocation_row type.MemoryAddrTlsSleb =
+    symbol_row type.MemoryAddrTlsSleb 21 (codes "R_WASM_MEMORY_ADDR_TLS_SLEB") PaddedSigned true
+relocation_row type.FunctionIndexI32 =
+    symbol_row type.FunctionIndexI32 26 (codes "R_WASM_FUNCTION_INDEX_I32") Word false
 
 -- the types there are a rule for
 abbrev pub relocation_types : List RelocationType
@@ -63,7 +78,8 @@ relocation_types =
 abbrev pub numbered_in : List RelocationRow → ℕ → Option RelocationType
 numbered_in rows n = option_map (λ r. r.ty) (find (λ r. r.number == n) rows)
 
--- the type of that number; the others are offsets of functions and sections, tags, forms of 64 bits, and addresses relative to their field
+-- the type of that number; the others are offsets of functions and sections, tags, forms of 64
+-- bits, and addresses relative to their field
 abbrev pub relocation_type_of : ℕ → Option RelocationType
 relocation_type_of n = numbered_in (map relocation_row relocation_types) n
 

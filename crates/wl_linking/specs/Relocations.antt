@@ -36,7 +36,8 @@ ruled at (Some ty) = if may_stand at ty then Ok ty else Err (Unsupported RelocTy
 
 -- the type of a relocation in that target
 abbrev pub type_verdict : Target → ℕ → Result RelocationType ReadError
-type_verdict at n = if nat_lt LAST_TYPE n then Err (Malformed UnknownType) else ruled at (relocation_type_of n)
+type_verdict at n =
+    if nat_lt LAST_TYPE n then Err (Malformed UnknownType) else ruled at (relocation_type_of n)
 
 -- the addend that was found, or 0
 abbrev pub addend_or_zero : Option ℤ → ℤ
@@ -61,7 +62,9 @@ relocation_of p = record { ty = p.1.0; offset = p.1.1.0; index = p.1.1.1.0; adde
 
 -- these parts stand one behind the other
 abbrev pub AreEntryParts : Target → ℕ → EntryParts → List ℕ → Type 0
-AreEntryParts at = Then IsByte (λ n. Then (Judged (type_verdict at n)) (λ ty. Then IsU32 (λ _. Then IsU32 (λ _. IsAddendWhere (has_addend ty)))))
+AreEntryParts at =
+    Then IsByte (λ n. Then (Judged (type_verdict at n))
+    (λ ty. Then IsU32 (λ _. Then IsU32 (λ _. IsAddendWhere (has_addend ty)))))
 
 -- a type byte, an offset, an index, and an addend for addresses
 abbrev pub IsEntry : Target → ℕ → WasmRelocation → List ℕ → Type 0
@@ -69,12 +72,18 @@ IsEntry at = Seen (AreEntryParts at) relocation_of
 
 -- the first part at fault
 abbrev pub EntryFault : Target → ReadError → Cursor → Type 0
-EntryFault at = ThenFault IsByte ByteFault (λ n. ThenFault (Judged (type_verdict at n)) (JudgedFault (type_verdict at n))
-    (λ ty. ThenFault IsU32 NumberFault (λ _. ThenFault IsU32 NumberFault (λ _. WhenFault (SignedNumberFault s32_form) (has_addend ty)))))
+EntryFault at =
+    ThenFault IsByte ByteFault (λ n. ThenFault (Judged (type_verdict at n))
+    (JudgedFault (type_verdict at n))
+    (λ ty. ThenFault IsU32 NumberFault
+    (λ _. ThenFault IsU32 NumberFault
+    (λ _. WhenFault (SignedNumberFault s32_form) (has_addend ty)))))
 
 -- the parts of an entry, read from a place
 abbrev pub entry_parts_at : Target → Cursor → Result (EntryParts × Cursor) ReadError
-entry_parts_at at c = then_at one_byte_at (λ n. then_at (judged_at (type_verdict at n)) (λ ty. then_at number_at (λ _. then_at number_at (λ _. addend_where_at (has_addend ty))))) c
+entry_parts_at at c =
+    then_at one_byte_at (λ n. then_at (judged_at (type_verdict at n))
+    (λ ty. then_at number_at (λ _. then_at number_at (λ _. addend_where_at (has_addend ty))))) c
 
 -- an entry, read from a place
 unfoldable pub entry_at : Target → Cursor → Result (WasmRelocation × Cursor) ReadError
@@ -115,7 +124,8 @@ held_entries_at target.Data c = entries_to_end_at target.Data c
 held_entries_at target.Debug c = Ok []
 
 -- a relocation section, where this is the verdict on each section that it may be for
-pub record IsRelocSection (verdict : ℕ → Result Target ReadError) (held : RelocHeld) (payload : List ℕ) : Type 0 where
+pub record IsRelocSection (verdict : ℕ → Result Target ReadError) (held : RelocHeld)
+    (payload : List ℕ) : Type 0 where
   pub behind : Cursor
   pub number : Takes IsU32 held.section.target_section (start payload) behind
   pub target : verdict held.section.target_section ≡ Ok held.target
@@ -125,8 +135,14 @@ pub record IsRelocSection (verdict : ℕ → Result Target ReadError) (held : Re
 abbrev pub RelocSectionFault : (ℕ → Result Target ReadError) → ReadError → List ℕ → Type 0
 RelocSectionFault verdict e payload = NumberFault e (start payload)
     ⊎ ((number : ℕ) × (behind : Cursor) × Takes IsU32 number (start payload) behind
-    × ((verdict number ≡ Err e) ⊎ ((at : Target) × (verdict number ≡ Ok at) × HoldsEntriesFault at e behind)))
+    × ((verdict number ≡ Err e)
+    ⊎ ((at : Target) × (verdict number ≡ Ok at) × HoldsEntriesFault at e behind)))
 
 -- a relocation section, read from its payload
 abbrev pub reloc_section_of : (ℕ → Result Target ReadError) → List ℕ → Result RelocHeld ReadError
-reloc_section_of verdict payload = number_at (start payload) >>= λ p. verdict p.0 >>= λ at. held_entries_at at p.1 >>= λ entries. Ok (record { target = at; section = record { target_section = p.0; relocations = entries } })
+reloc_section_of verdict payload =
+    number_at (start payload) >>= λ p. verdict p.0 >>= λ at. held_entries_at at p.1
+    >>= λ entries. Ok (record {
+      target = at;
+      section = record { target_section = p.0; relocations = entries };
+    })

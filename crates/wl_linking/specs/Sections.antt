@@ -1,4 +1,5 @@
--- What each section holds, or what is wrong with it (core specification, "Sections"; object file linking, version 2).
+-- What each section holds, or what is wrong with it (core specification, "Sections"; object file
+-- linking, version 2).
 use Rattle.std.specs.Prelude.{◌≡◌, ◌⊎◌, ◌≤◌, ◌+◌, ℕ, Bool, true, false, List, [], ◌∷◌, length}
 use Rattle.wl_bytes.specs.declared.reader.TheConstants.{MAX_LEN}
 use Rattle.std.specs.List.{list_any}
@@ -41,7 +42,8 @@ base_of s = s.header.payload_range.0
 
 -- the first linking section, with this in it
 abbrev pub LinkingItems : Parts → Section → LinkingHeld → List ℕ → Type 0
-LinkingItems before s linking payload = (before.has_linking ≡ false) × IsLinking (base_of s) linking payload
+LinkingItems before s linking payload =
+    (before.has_linking ≡ false) × IsLinking (base_of s) linking payload
 
 -- one came before, or the first one is at fault
 abbrev pub LinkingItemsFault : Parts → Section → ReadError → List ℕ → Type 0
@@ -51,7 +53,8 @@ LinkingItemsFault before s e payload = ((before.has_linking ≡ true) × (e ≡ 
 -- ---- a section, among all sections, after those with some items
 
 -- a section that holds what its payload spells
-abbrev pub Holding : {X : Type 0} → (X → SectionItems) → (X → List ℕ → Type 0) → SectionItems → List ℕ → Type 0
+abbrev pub Holding : {X : Type 0} → (X → SectionItems) → (X → List ℕ → Type 0) → SectionItems
+    → List ℕ → Type 0
 Holding {X} make spells items payload = (x : X) × (items ≡ make x) × spells x payload
 
 -- an import section: the imports, and where its payload begins
@@ -70,7 +73,8 @@ section_context sections before = record { sections = sections; before = before 
 -- what a custom section holds
 abbrev pub HoldsCustom : CustomKind → SectionContext → Section → SectionItems → List ℕ → Type 0
 HoldsCustom custom.Linking context s = Holding Linking (LinkingItems context.before s)
-HoldsCustom custom.Reloc context s = Holding Reloc (IsRelocSection (numbered_verdict context.sections context.before))
+HoldsCustom custom.Reloc context s =
+    Holding Reloc (IsRelocSection (numbered_verdict context.sections context.before))
 HoldsCustom custom.Features context s = Holding Features AreFeatures
 HoldsCustom custom.Debug context s = λ items payload. items ≡ Debug (debug_of s.name payload)
 HoldsCustom custom.Other context s = λ items payload. items ≡ Nothing
@@ -82,7 +86,8 @@ HoldsItems kind.Type context s = Holding Types AreTypes
 HoldsItems kind.Import context s = Holding (imports_at s) ArePlacedImports
 HoldsItems kind.Function context s = Holding Functions AreIndices
 HoldsItems kind.Table context s = λ items payload. ⊥
-HoldsItems kind.Memory context s = Holding Memories (AreMemories (has_memory context.before.imports))
+HoldsItems kind.Memory context s =
+    Holding Memories (AreMemories (has_memory context.before.imports))
 HoldsItems kind.Global context s = Holding Globals AreGlobals
 HoldsItems kind.Export context s = Holding Exports AreExports
 HoldsItems kind.Start context s = λ items payload. ⊥
@@ -95,7 +100,8 @@ HoldsItems kind.Tag context s = λ items payload. ⊥
 -- what is wrong with a custom section
 abbrev pub CustomFault : CustomKind → SectionContext → Section → ReadError → List ℕ → Type 0
 CustomFault custom.Linking context s = LinkingItemsFault context.before s
-CustomFault custom.Reloc context s = RelocSectionFault (numbered_verdict context.sections context.before)
+CustomFault custom.Reloc context s =
+    RelocSectionFault (numbered_verdict context.sections context.before)
 CustomFault custom.Features context s = FeaturesFault
 CustomFault custom.Debug context s = λ e payload. ⊥
 CustomFault custom.Other context s = λ e payload. ⊥
@@ -119,15 +125,18 @@ ItemsFault kind.Tag context s = λ e payload. e ≡ Unsupported form.Tag
 
 -- a sound custom section
 abbrev pub IsSoundCustom : List Section → Parts → Section → SectionItems → Type 0
-IsSoundCustom sections before s items = HoldsCustom (custom_kind s.name) (section_context sections before) s items s.payload
+IsSoundCustom sections before s items =
+    HoldsCustom (custom_kind s.name) (section_context sections before) s items s.payload
 
 -- a custom section at fault
 abbrev pub IsFaultyCustom : List Section → Parts → Section → ReadError → Type 0
-IsFaultyCustom sections before s e = CustomFault (custom_kind s.name) (section_context sections before) s e s.payload
+IsFaultyCustom sections before s e =
+    CustomFault (custom_kind s.name) (section_context sections before) s e s.payload
 
 -- a sound section
 abbrev pub IsSound : List Section → Parts → Section → SectionItems → Type 0
-IsSound sections before s items = HoldsItems s.kind (section_context sections before) s items s.payload
+IsSound sections before s items =
+    HoldsItems s.kind (section_context sections before) s items s.payload
 
 -- a section at fault
 abbrev pub IsFaulty : List Section → Parts → Section → ReadError → Type 0
@@ -139,14 +148,17 @@ EndsWithin s = base_of s + length s.payload ≤ MAX_LEN
 
 -- ---- all sections
 
--- each section is sound after those before it, in file order, from some items to those that there are then
+-- each section is sound after those before it, in file order, from some items to those that there
+-- are then
 abbrev pub AreSound : List Section → Parts → List Section → Parts → Type 0
 AreSound sections before [] after = before ≡ after
 AreSound sections before (s ∷ rest) after =
-    (items : SectionItems) × IsSound sections before s items × AreSound sections (join before (part_of items)) rest after
+    (items : SectionItems) × IsSound sections before s items
+    × AreSound sections (join before (part_of items)) rest after
 
 -- some sections are sound, and the next one is at fault
 abbrev pub AreFaulty : List Section → Parts → List Section → ReadError → Type 0
 AreFaulty sections before [] e = ⊥
 AreFaulty sections before (s ∷ rest) e = IsFaulty sections before s e
-    ⊎ ((items : SectionItems) × IsSound sections before s items × AreFaulty sections (join before (part_of items)) rest e)
+    ⊎ ((items : SectionItems) × IsSound sections before s items
+    × AreFaulty sections (join before (part_of items)) rest e)

@@ -23,7 +23,8 @@ field_len Word = 4
 
 -- a padded LEB128 number: five bytes, the high bit on all but the last
 abbrev pub is_padded : List ℕ → Bool
-is_padded (a ∷ b ∷ c ∷ d ∷ e ∷ []) = nat_le 128 a && nat_le 128 b && nat_le 128 c && nat_le 128 d && nat_lt e 128
+is_padded (a ∷ b ∷ c ∷ d ∷ e ∷ []) =
+    nat_le 128 a && nat_le 128 b && nat_le 128 c && nat_le 128 d && nat_lt e 128
 is_padded _ = false
 
 -- the text is a field of that form; any four bytes are a word
@@ -45,7 +46,8 @@ body_piece b = record { place = b.code_offset; bytes = b.bytes }
 
 -- fields of data lie in the bytes of segments, with which these end
 abbrev pub segment_piece : Segment → PieceOf
-segment_piece s = record { place = s.section_offset + s.encoded_size - length s.payload; bytes = s.payload }
+segment_piece s =
+    record { place = s.section_offset + s.encoded_size - length s.payload; bytes = s.payload }
 
 -- ---- where fields lie
 
@@ -54,7 +56,8 @@ pub record IsSite (pieces : List PieceOf) (r : WasmRelocation) (s : Site) : Type
   pub piece : PieceOf
   pub here : slice_get pieces s.unit ≡ Some piece
   pub place : piece.place + s.position ≡ r.offset
-  pub field : has_form (field_form r.ty) (take (field_len (field_form r.ty)) (drop s.position piece.bytes)) ≡ true
+  pub field : has_form (field_form r.ty)
+      (take (field_len (field_form r.ty)) (drop s.position piece.bytes)) ≡ true
 
 -- each relocation has its site
 abbrev pub AreSites : List PieceOf → List WasmRelocation → List Site → Type 0
@@ -73,16 +76,21 @@ LiesBefore r q = r.offset + field_len (field_form r.ty) ≤ q.offset
 
 -- each field ends before any later one begins, so no two share a byte
 abbrev pub AreApart : List WasmRelocation → Type 0
-AreApart rs = (i j : ℕ) (d : WasmRelocation) → i < j → j < length rs → LiesBefore (slice_index_or rs i d) (slice_index_or rs j d)
+AreApart rs =
+    (i j : ℕ) (d : WasmRelocation) → i < j → j < length rs
+    → LiesBefore (slice_index_or rs i d) (slice_index_or rs j d)
 
 -- a relocation whose field lies in no piece, or isn't of its form
 abbrev pub HasNoSite : List PieceOf → List WasmRelocation → Type 0
-HasNoSite pieces rs = (i : ℕ) × (r : WasmRelocation) × (slice_get rs i ≡ Some r) × ((s : Site) → IsSite pieces r s → ⊥)
+HasNoSite pieces rs =
+    (i : ℕ) × (r : WasmRelocation) × (slice_get rs i ≡ Some r)
+    × ((s : Site) → IsSite pieces r s → ⊥)
 
 -- a field that begins before an earlier one ends
 abbrev pub HasOverlap : List WasmRelocation → Type 0
 HasOverlap rs =
-    (i : ℕ) × (j : ℕ) × (d : WasmRelocation) × (i < j) × (j < length rs) × (LiesBefore (slice_index_or rs i d) (slice_index_or rs j d) → ⊥)
+    (i : ℕ) × (j : ℕ) × (d : WasmRelocation) × (i < j) × (j < length rs)
+    × (LiesBefore (slice_index_or rs i d) (slice_index_or rs j d) → ⊥)
 
 -- in ascending order of offset, and in file order where offsets are the same
 pub record AreInOrder (entries relocations : List WasmRelocation) : Type 0 where
@@ -92,7 +100,8 @@ pub record AreInOrder (entries relocations : List WasmRelocation) : Type 0 where
 -- ---- the relocations of a section
 
 -- each field lies in one of the pieces, and by itself
-pub record LieApart (pieces : List PieceOf) (relocations : List WasmRelocation) (sites : List Site) : Type 0 where
+pub record LieApart (pieces : List PieceOf) (relocations : List WasmRelocation) (sites : List Site)
+    : Type 0 where
   pub sited : AreSites pieces relocations sites
   pub apart : AreApart relocations
 

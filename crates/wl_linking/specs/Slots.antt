@@ -1,4 +1,5 @@
--- The names of imports, which symbols refer to by slots: numbers among the imports of a kind (object file linking, version 2, "Symbol Table Subsection").
+-- The names of imports, which symbols refer to by slots: numbers among the imports of a kind
+-- (object file linking, version 2, "Symbol Table Subsection").
 use Rattle.std.specs.Prelude.{◌≡◌, ◌≢◌, ◌<◌, ℕ, ◌&&◌, Bool, true, false, not, if◌then◌else◌, List, length, map, Option, Some, None, slice_get}
 use Rattle.std.specs.List.{filter}
 use Rattle.wl_module.specs.declared.imports.ExternalKind.{ExternalKind}
@@ -21,11 +22,13 @@ pub record Slot : Type 0 where
 
 -- the field name of an import, where so many bytes of the object lie before its section's payload
 abbrev pub slot_of : ℕ → PlacedImported → Slot
-slot_of base i = record { name = i.import.name; range = range_of base i.name_offset (length i.import.name) }
+slot_of base i =
+    record { name = i.import.name; range = range_of base i.name_offset (length i.import.name) }
 
 -- the field names of the imports of a kind, in order
 abbrev pub slots_of : ExternalKind → ℕ → List PlacedImported → List Slot
-slots_of kind base imports = map (slot_of base) (filter (λ (i : PlacedImported). is_of_kind kind i.import.entity) imports)
+slots_of kind base imports =
+    map (slot_of base) (filter (λ (i : PlacedImported). is_of_kind kind i.import.entity) imports)
 
 -- ---- symbols that take them
 
@@ -45,11 +48,13 @@ with_name_of functions globals Table s = s
 
 -- undefined symbols without a name take that of their import
 abbrev pub with_import_name : List Slot → List Slot → Symbol → Symbol
-with_import_name functions globals s = if is_undefined s && not (has_name s) then with_name_of functions globals s.kind s else s
+with_import_name functions globals s =
+    if is_undefined s && not (has_name s) then with_name_of functions globals s.kind s else s
 
 -- ---- one name for each import
 
--- a symbol of that kind has a name to compare: those of functions and globals took that of their import, even an empty one
+-- a symbol of that kind has a name to compare: those of functions and globals took that of their
+-- import, even an empty one
 abbrev pub has_claim : WasmSymbolKind → WasmSymbolKind → Symbol → Bool
 has_claim Func Func s = true
 has_claim Global Global s = true
@@ -78,7 +83,8 @@ pub record SharesSlot (kind : WasmSymbolKind) (count : ℕ) (s t : Symbol) : Typ
 
 -- the symbols of each of so many imports of that kind have one name
 abbrev pub HasOneName : WasmSymbolKind → ℕ → List Symbol → Type 0
-HasOneName kind count symbols = (i j : ℕ) (s t : Symbol) → slice_get symbols i ≡ Some s → slice_get symbols j ≡ Some t
+HasOneName kind count symbols =
+    (i j : ℕ) (s t : Symbol) → slice_get symbols i ≡ Some s → slice_get symbols j ≡ Some t
     → SharesSlot kind count s t → s.name ≡ t.name
 
 -- two symbols of one of so many imports of that kind have different names
@@ -100,4 +106,6 @@ pub record AgreeOnNames (spaces : Counts) (symbols : List Symbol) : Type 0 where
 
 -- some import has two
 abbrev pub SlotFault : Counts → List Symbol → ReadError → Type 0
-SlotFault spaces symbols e = (e ≡ Malformed SlotNames) × ((kind : WasmSymbolKind) × HasTwoNames kind (imported_of spaces kind) symbols)
+SlotFault spaces symbols e =
+    (e ≡ Malformed SlotNames)
+    × ((kind : WasmSymbolKind) × HasTwoNames kind (imported_of spaces kind) symbols)

@@ -22,12 +22,14 @@ IsNamedWithin i = i.name_offset + length i.import.name ≤ MAX_LEN
 
 -- what stands at one range of the bytes is one name
 abbrev pub AreNamedByRange : List Symbol → Type 0
-AreNamedByRange symbols = (i j : ℕ) (s t : Symbol) → slice_get symbols i ≡ Some s → slice_get symbols j ≡ Some t
+AreNamedByRange symbols =
+    (i j : ℕ) (s t : Symbol) → slice_get symbols i ≡ Some s → slice_get symbols j ≡ Some t
     → s.name_range ≡ t.name_range → s.name ≡ t.name
 
 -- a known name is that of a symbol where it stands at the same range
 abbrev pub IsNamedByRange : Option Slot → Symbol → Type 0
-IsNamedByRange known s = (slot : Slot) → known ≡ Some slot → slot.range ≡ s.name_range → slot.name ≡ s.name
+IsNamedByRange known s =
+    (slot : Slot) → known ≡ Some slot → slot.range ≡ s.name_range → slot.name ≡ s.name
 
 -- no name is known, or that of a symbol
 abbrev pub is_name_of : Option Slot → Symbol → Bool
@@ -38,8 +40,8 @@ is_name_of (Some slot) s = bytes_eq slot.name s.name
 abbrev pub named_as : Symbol → Slot
 named_as s = record { name = s.name; range = s.name_range }
 
--- The name of a symbol is taken down for its import, and whether it is the one that was known before. There may be no such
--- import, and then nothing is told.
+-- The name of a symbol is taken down for its import, and whether it is the one that was known
+-- before. There may be no such import, and then nothing is told.
 pub record Agrees (before after : List (Option Slot)) (s : Symbol) (answer : Bool) : Type 0 where
   pub there : (known : Option Slot) → slice_get before s.index ≡ Some known
       → (after ≡ slice_set before s.index (Some (named_as s))) × (answer ≡ is_name_of known s)

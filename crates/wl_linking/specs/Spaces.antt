@@ -1,4 +1,5 @@
--- How many things of each kind an object has, and that what it names is among them (core specification, "Indices"; object file linking, version 2).
+-- How many things of each kind an object has, and that what it names is among them (core
+-- specification, "Indices"; object file linking, version 2).
 use Rattle.std.specs.Prelude.{◌≡◌, ◌⊎◌, ℕ, ◌+◌, ◌-◌, ◌==◌, ◌&&◌, ◌||◌, Bool, true, false, nat_lt, nat_le, if◌then◌else◌, List, length, Option, Some, None}
 use Rattle.std.specs.List.{list_all, count_by}
 use Rattle.wl_module.specs.declared.imports.ImportEntity.{ImportEntity}
@@ -86,21 +87,28 @@ abbrev pub memory_exists : Counts → Option ℕ → Bool
 memory_exists spaces None = true
 memory_exists spaces (Some memory) = nat_lt memory (spaces.imported_memories + spaces.memories)
 
--- the number of an undefined symbol is that of an import, and else of a definition, which come behind the imports
+-- the number of an undefined symbol is that of an import, and else of a definition, which come
+-- behind the imports
 abbrev pub number_exists : Bool → ℕ → ℕ → ℕ → Bool
 number_exists undefined imported defined index =
-    if undefined then nat_lt index imported else nat_le imported index && nat_lt (index - imported) defined
+    if undefined then nat_lt index imported
+    else nat_le imported index && nat_lt (index - imported) defined
 
--- what a symbol of that kind stands for exists: that of a section isn't looked at, and no table is defined
+-- what a symbol of that kind stands for exists: that of a section isn't looked at, and no table is
+-- defined
 abbrev pub thing_exists : Counts → WasmSymbolKind → Bool → ℕ → Bool
-thing_exists spaces symbol.Func undefined index = number_exists undefined spaces.imported_functions spaces.functions index
-thing_exists spaces symbol.Global undefined index = number_exists undefined spaces.imported_globals spaces.globals index
-thing_exists spaces symbol.Table undefined index = number_exists undefined spaces.imported_tables 0 index
+thing_exists spaces symbol.Func undefined index =
+    number_exists undefined spaces.imported_functions spaces.functions index
+thing_exists spaces symbol.Global undefined index =
+    number_exists undefined spaces.imported_globals spaces.globals index
+thing_exists spaces symbol.Table undefined index =
+    number_exists undefined spaces.imported_tables 0 index
 thing_exists spaces symbol.Data undefined index = undefined || nat_lt index spaces.segments
 thing_exists spaces symbol.Section undefined index = true
 thing_exists spaces symbol.Event undefined index = true
 
--- what a symbol stands for exists; data at an absolute address lies in no segment, and its index names nothing
+-- what a symbol stands for exists; data at an absolute address lies in no segment, and its index
+-- names nothing
 abbrev pub symbol_exists : Counts → Symbol → Bool
 symbol_exists spaces s = is_absolute s || thing_exists spaces s.kind (is_undefined s) s.index
 
@@ -110,7 +118,8 @@ init_exists spaces f = nat_lt f.symbol_index spaces.symbols
 
 -- a relocation names one of the types or of the symbols
 abbrev pub relocation_exists : Counts → WasmRelocation → Bool
-relocation_exists spaces r = nat_lt r.index (if names_a_type r.ty then spaces.types else spaces.symbols)
+relocation_exists spaces r =
+    nat_lt r.index (if names_a_type r.ty then spaces.types else spaces.symbols)
 
 -- a function's type is one of those there are
 abbrev pub type_exists : Counts → ℕ → Bool
@@ -120,7 +129,8 @@ type_exists spaces t = nat_lt t spaces.types
 abbrev pub counts_segments : Counts → ℕ → Bool
 counts_segments spaces count = count == spaces.segments
 
--- there are as many bodies as functions, the data count is that of the segments, and what is named exists
+-- there are as many bodies as functions, the data count is that of the segments, and what is named
+-- exists
 pub record NamesExist (o : Object) : Type 0 where
   pub bodies : length o.bodies ≡ length o.functions
   pub data_counts : list_all (counts_segments (spaces_of o)) o.data_counts ≡ true
@@ -133,9 +143,11 @@ pub record NamesExist (o : Object) : Type 0 where
   pub code : list_all (relocation_exists (spaces_of o)) o.code_relocations ≡ true
   pub data_ : list_all (relocation_exists (spaces_of o)) o.data_relocations ≡ true
 
--- there are as many bodies as functions, and as many segments as the data count says, where there is one
+-- there are as many bodies as functions, and as many segments as the data count says, where there
+-- is one
 abbrev pub counts_hold : Counts → Object → Bool
-counts_hold spaces o = (length o.bodies == spaces.functions) && list_all (counts_segments spaces) o.data_counts
+counts_hold spaces o =
+    (length o.bodies == spaces.functions) && list_all (counts_segments spaces) o.data_counts
 
 -- all that the core sections name exists
 abbrev pub core_names_exist : Counts → Object → Bool
@@ -156,5 +168,6 @@ linked_names_exist spaces o =
 -- a count that doesn't hold, or a name of nothing
 abbrev pub NamesFault : Object → ReadError → Type 0
 NamesFault o (Malformed why.Count) = counts_hold (spaces_of o) o ≡ false
-NamesFault o (Malformed why.BadIndex) = (core_names_exist (spaces_of o) o ≡ false) ⊎ (linked_names_exist (spaces_of o) o ≡ false)
+NamesFault o (Malformed why.BadIndex) =
+    (core_names_exist (spaces_of o) o ≡ false) ⊎ (linked_names_exist (spaces_of o) o ≡ false)
 NamesFault o _ = ⊥

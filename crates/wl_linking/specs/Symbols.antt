@@ -1,4 +1,5 @@
--- The symbol table of a linking section (object file linking, version 2, "Symbol Table Subsection").
+-- The symbol table of a linking section (object file linking, version 2, "Symbol Table
+-- Subsection").
 use Rattle.std.specs.Prelude.{◌≡◌, ℕ, ◌+◌, ◌==◌, ◌&&◌, ◌||◌, Bool, true, false, not, if◌then◌else◌, List, [], length, Option, Some, None, Result, Ok, Err}
 use Rattle.std.specs.Int.RustNames.{bit_and}
 use Rattle.wl_bytes.specs.Cursor.{Cursor}
@@ -16,8 +17,9 @@ use Rattle.wl_linking.specs.Verdict.{Judged, JudgedFault}
 use Rattle.wl_linking.specs.declared.symbols.WasmSymbolKind.{WasmSymbolKind}
 use Rattle.wl_linking.specs.declared.symbols.WasmSymbolKind.TheVariants.{Func, Data, Global, Section, Event, Table}
 
--- A symbol as clauses see it: what it stands for; its flags; the number of that in the object; where data lies in its
--- segment, and how many bytes it has; its name, and the stretch of the object's bytes in which that stands.
+-- A symbol as clauses see it: what it stands for; its flags; the number of that in the object;
+-- where data lies in its segment, and how many bytes it has; its name, and the stretch of the
+-- object's bytes in which that stands.
 pub record Symbol : Type 0 where
   pub kind : WasmSymbolKind
   pub flags : ℕ
@@ -85,7 +87,8 @@ based_name base w = (w.0, range_of base w.1 (length w.0))
 
 -- a name, with its range in the object
 abbrev pub IsBasedName : ℕ → ℕ → List ℕ × (ℕ × ℕ) → List ℕ → Type 0
-IsBasedName base place n text = (w : List ℕ × ℕ) × IsPlacedName place w text × (based_name base w ≡ n)
+IsBasedName base place n text =
+    (w : List ℕ × ℕ) × IsPlacedName place w text × (based_name base w ≡ n)
 
 -- what stands behind the flags: a number, where data lies, and a name with its range
 pub record SymbolDetails : Type 0 where
@@ -119,7 +122,8 @@ numbered_from p = record { index = p.0; offset = 0; size = 0; name = p.1.0; name
 
 -- a name and where data lies: segment, offset and size
 abbrev pub located_from : (List ℕ × (ℕ × ℕ)) × (ℕ × (ℕ × ℕ)) → SymbolDetails
-located_from p = record { index = p.1.0; offset = p.1.1.0; size = p.1.1.1; name = p.0.0; name_range = p.0.1 }
+located_from p =
+    record { index = p.1.0; offset = p.1.1.0; size = p.1.1.1; name = p.0.0; name_range = p.0.1 }
 
 -- the number of a section
 abbrev pub sectioned_from : ℕ → SymbolDetails
@@ -147,9 +151,11 @@ IsNumbered base flags = Seen (Then IsU32 (λ _. IsNameWhere base (is_named flags
 
 -- a name, and where the data lies where the object defines it
 abbrev pub IsLocated : ℕ → ℕ → ℕ → SymbolDetails → List ℕ → Type 0
-IsLocated base flags = Seen (Then (IsBasedName base) (λ _. IsExtentWhere (is_defined flags))) located_from
+IsLocated base flags =
+    Seen (Then (IsBasedName base) (λ _. IsExtentWhere (is_defined flags))) located_from
 
--- what stands behind the flags is read under: how many bytes of the object lie before those of the table, and the flags
+-- what stands behind the flags is read under: how many bytes of the object lie before those of the
+-- table, and the flags
 pub record SymbolContext : Type 0 where
   pub base : ℕ
   pub flags : ℕ
@@ -173,7 +179,8 @@ NumberedFault flags = ThenFault IsU32 NumberFault (λ _. WhenFault WordFault (is
 
 -- the name is at fault, or one of the three numbers behind it
 abbrev pub LocatedFault : ℕ → ℕ → ReadError → Cursor → Type 0
-LocatedFault base flags = ThenFault (IsBasedName base) WordFault (λ _. WhenFault ExtentFault (is_defined flags))
+LocatedFault base flags =
+    ThenFault (IsBasedName base) WordFault (λ _. WhenFault ExtentFault (is_defined flags))
 
 -- the first of them at fault
 abbrev pub DetailsFault : WasmSymbolKind → SymbolContext → ReadError → Cursor → Type 0
@@ -204,7 +211,9 @@ symbol_of (byte, (kind, (flags, details))) = record {
 
 -- a kind byte, flags, and what that kind has with these flags
 abbrev pub AreParts : ℕ → ℕ → SymbolParts → List ℕ → Type 0
-AreParts base = Then IsByte (λ byte. Then (Judged (symbol_kind_verdict byte)) (λ kind. Then IsU32 (λ flags. IsDetails kind (symbol_context base flags))))
+AreParts base =
+    Then IsByte (λ byte. Then (Judged (symbol_kind_verdict byte))
+    (λ kind. Then IsU32 (λ flags. IsDetails kind (symbol_context base flags))))
 
 -- a symbol, where so many bytes of the object lie before those of the table
 abbrev pub IsSymbol : ℕ → ℕ → Symbol → List ℕ → Type 0
@@ -222,4 +231,5 @@ AreSymbols base = Whole (Listed (IsSymbol base))
 
 -- the first thing at fault in a symbol table
 abbrev pub SymbolsFault : ℕ → ReadError → List ℕ → Type 0
-SymbolsFault base = WholeFault (Listed (IsSymbol base)) (ListedFault (IsSymbol base) (SymbolFault base))
+SymbolsFault base =
+    WholeFault (Listed (IsSymbol base)) (ListedFault (IsSymbol base) (SymbolFault base))

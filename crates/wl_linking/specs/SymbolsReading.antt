@@ -29,18 +29,21 @@ extent_where_at defined c = map_at extent_or_none (when_at extent_at defined) c
 
 -- an index and perhaps a name, read from a place
 unfoldable pub numbered_at : ℕ → ℕ → Cursor → Result (SymbolDetails × Cursor) ReadError
-numbered_at base flags c = map_at numbered_from (then_at number_at (λ _. name_where_at base (is_named flags))) c
+numbered_at base flags c =
+    map_at numbered_from (then_at number_at (λ _. name_where_at base (is_named flags))) c
 
 -- a name and perhaps where data lies, read from a place
 unfoldable pub located_at : ℕ → ℕ → Cursor → Result (SymbolDetails × Cursor) ReadError
-located_at base flags c = map_at located_from (then_at (based_name_at base) (λ _. extent_where_at (is_defined flags))) c
+located_at base flags c =
+    map_at located_from (then_at (based_name_at base) (λ _. extent_where_at (is_defined flags))) c
 
 -- the number of a section, read from a place
 unfoldable pub sectioned_at : Cursor → Result (SymbolDetails × Cursor) ReadError
 sectioned_at c = map_at sectioned_from number_at c
 
 -- what stands behind the flags, read from a place
-abbrev pub details_at : WasmSymbolKind → SymbolContext → Cursor → Result (SymbolDetails × Cursor) ReadError
+abbrev pub details_at : WasmSymbolKind → SymbolContext → Cursor
+    → Result (SymbolDetails × Cursor) ReadError
 details_at Func context c = numbered_at context.base context.flags c
 details_at Data context c = located_at context.base context.flags c
 details_at Global context c = numbered_at context.base context.flags c
@@ -50,7 +53,9 @@ details_at Table context c = numbered_at context.base context.flags c
 
 -- the parts of a symbol, read from a place
 abbrev pub parts_at : ℕ → Cursor → Result (SymbolParts × Cursor) ReadError
-parts_at base c = then_at one_byte_at (λ byte. then_at (judged_at (symbol_kind_verdict byte)) (λ kind. then_at number_at (λ flags. details_at kind (symbol_context base flags)))) c
+parts_at base c =
+    then_at one_byte_at (λ byte. then_at (judged_at (symbol_kind_verdict byte))
+    (λ kind. then_at number_at (λ flags. details_at kind (symbol_context base flags)))) c
 
 -- a symbol, read from a place
 unfoldable pub symbol_at : ℕ → Cursor → Result (Symbol × Cursor) ReadError

@@ -1,4 +1,5 @@
--- What each section of an object is for (core specification, "Sections"; object file linking, version 2).
+-- What each section of an object is for (core specification, "Sections"; object file linking,
+-- version 2).
 use Rattle.std.specs.Prelude.{ℕ, Bool, true, false, ◌-◌, if◌then◌else◌, List, take, drop, Option, Some, None, Result, Ok, Err, codes, slice_get, nat_eq}
 use Rattle.std.specs.List.{starts_with}
 use Rattle.std.specs.Str.{bytes_eq}
@@ -36,10 +37,13 @@ abbrev pub custom_verdict : CustomKind → Result Target ReadError
 custom_verdict custom.Debug = Ok target.Debug
 custom_verdict _ = Err (Unsupported RelocTarget)
 
--- code and data sections have one such section at most; for other standard sections there is no rule
+-- code and data sections have one such section at most; for other standard sections there is no
+-- rule
 abbrev pub kind_verdict : Parts → List ℕ → SectionKind → Result Target ReadError
-kind_verdict before name kind.Code = if before.has_code_relocations then Err (Malformed Repeated) else Ok target.Code
-kind_verdict before name kind.Data = if before.has_data_relocations then Err (Malformed Repeated) else Ok target.Data
+kind_verdict before name kind.Code =
+    if before.has_code_relocations then Err (Malformed Repeated) else Ok target.Code
+kind_verdict before name kind.Data =
+    if before.has_data_relocations then Err (Malformed Repeated) else Ok target.Data
 kind_verdict before name kind.Custom = custom_verdict (custom_kind name)
 kind_verdict before name _ = Err (Unsupported RelocTarget)
 

@@ -21,8 +21,9 @@ pub const TARGET_FEATURE_PREFIX_DISALLOWED: u8 = b'-';
 /// Section"). Clauses see it as a `Feature`, with its name as a list of bytes.
 #[derive(Drop)]
 pub struct WasmTargetFeature<'a> {
-    /// [`TARGET_FEATURE_PREFIX_USED`] where the object uses it, [`TARGET_FEATURE_PREFIX_DISALLOWED`]
-    /// where it can't be linked with one that does; any byte may stand there.
+    /// [`TARGET_FEATURE_PREFIX_USED`] where the object uses it,
+    /// [`TARGET_FEATURE_PREFIX_DISALLOWED`] where it can't be linked with one that does; any byte
+    /// may stand there.
     pub prefix: u8,
     /// Its name.
     pub name: &'a str,

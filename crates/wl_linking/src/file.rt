@@ -24,8 +24,8 @@ use wl_module::{
 
 /// A relocatable object: what its sections hold, in file order (core specification, "Modules";
 /// object file linking, version 2). Names, bodies and payloads are slices of the bytes that it was
-/// read from. Clauses see it as an `Object`. Accessors that answer slices take no memory; those that
-/// take an allocator answer a list of their own with the same things in it.
+/// read from. Clauses see it as an `Object`. Accessors that answer slices take no memory; those
+/// that take an allocator answer a list of their own with the same things in it.
 #[derive(Drop)]
 pub struct File<'a> {
     pub(crate) contents: Contents<'a>,
@@ -142,8 +142,8 @@ impl<'a> File<'a> {
         self.contents.parts.init_funcs.as_slice()
     }
 
-    /// The symbols (object file linking, version 2, "Symbol Table Subsection"). An undefined function
-    /// or global without a name of its own has that of its import.
+    /// The symbols (object file linking, version 2, "Symbol Table Subsection"). An undefined
+    /// function or global without a name of its own has that of its import.
     pub fn symbols(&self) -> &[WasmSymbol<'a>]
         ensures { result.now ≡ self.now.symbols }
     {

@@ -1,52 +1,14 @@
 //! What a relocatable object holds, in lists of the caller's own.
 
 ghost use Rattle.std.specs.Prelude.{◌≡◌, IfOk};
-ghost use Rattle.std.specs.Cow.{cow_slice_items};
-ghost use Rattle.wl_module.specs.Slices.{is_owned};
 
 use crate::debug::DebugSectionInput;
 use crate::file::File;
 use std::alloc::{AllocError, Global};
-use std::borrow::CowSlice;
 use wl_module::{MemoryType, OutputGlobal, WasmDataSegment, WasmFunctionBody};
 
-/// The same bytes: borrowed ones stay borrowed, and others are copied.
-fn copy_bytes<'a>(alloc: Global, bytes: &CowSlice<'a, u8>) -> Result<CowSlice<'a, u8>, AllocError>
-    ensures items { IfOk result (λ copy. cow_slice_items copy ≡ cow_slice_items bytes.now) }
-    ensures owned { IfOk result (λ copy. is_owned copy ≡ is_owned bytes.now) }
-{
-    match bytes {
-        CowSlice::Borrowed(bytes) => Ok(CowSlice::Borrowed(*bytes)),
-        CowSlice::Owned(bytes) => Ok(CowSlice::Owned(Vec::from_slice(alloc, bytes.as_slice())?)),
-    }
-}
-
-/// The same body.
-fn copy_body<'a>(
-    alloc: Global,
-    body: &WasmFunctionBody<'a>,
-) -> Result<WasmFunctionBody<'a>, AllocError>
-    ensures { IfOk result (λ copy. copy ≡ body.now) }
-{
-    Ok(WasmFunctionBody {
-        bytes: copy_bytes(alloc, &body.bytes)?,
-        code_offset: body.code_offset,
-        object_index: body.object_index,
-    })
-}
-
-/// The same global.
-fn copy_global<'a>(alloc: Global, global: &OutputGlobal<'a>) -> Result<OutputGlobal<'a>, AllocError>
-    ensures { IfOk result (λ copy. copy ≡ global.now) }
-{
-    Ok(OutputGlobal {
-        ty: global.ty,
-        init_expr_body: copy_bytes(alloc, &global.init_expr_body)?,
-    })
-}
-
-/// Lists of what an object holds, for callers that keep or change them. Bytes that the object borrows
-/// are borrowed in them too.
+/// Lists of what an object holds, for callers that keep or change them. Bytes that the object
+/// borrows are borrowed in them too.
 impl<'a> File<'a> {
     /// The body of each function that the object defines, as [`bodies`](File::bodies) shows them
     /// (core specification, "Code Section").
@@ -58,7 +20,7 @@ impl<'a> File<'a> {
     {
         let mut bodies = Vec::new(alloc);
         for body in self.bodies() {
-            bodies.push(copy_body(alloc, body)?)?;
+            bodies.push(body.duplicate(alloc)?)?;
         }
         Ok(bodies)
     }
@@ -84,7 +46,7 @@ impl<'a> File<'a> {
     {
         let mut globals = Vec::new(alloc);
         for global in self.globals() {
-            globals.push(copy_global(alloc, global)?)?;
+            globals.push(global.duplicate(alloc)?)?;
         }
         Ok(globals)
     }

@@ -10,7 +10,8 @@ use std::fmt;
 use std::marker::Model;
 
 /// The name of a symbol as these bytes spell it: the text at its `name_range` (object file linking,
-/// version 2, "Symbol Table Subsection"). The bytes are those of the object that the symbol is from.
+/// version 2, "Symbol Table Subsection"). The bytes are those of the object that the symbol is
+/// from.
 ///
 /// `None` where the symbol has no name, where its range isn't within the bytes, and where the bytes
 /// there aren't UTF-8.

@@ -123,8 +123,8 @@ fn memory_exists(spaces: Counts, memory: Option<u32>) -> bool
     }
 }
 
-/// Whether the thing of that number is there for a symbol of its kind. That of a section isn't looked
-/// at.
+/// Whether the thing of that number is there for a symbol of its kind. That of a section isn't
+/// looked at.
 fn thing_exists(spaces: Counts, symbol: &WasmSymbol<'_>) -> bool
     ensures { let s = symbol.now in result ≡ thing_exists spaces s.kind (is_undefined s) s.index }
 {

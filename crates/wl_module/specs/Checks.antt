@@ -20,12 +20,15 @@ abbrev pub unless : {X E : Type 0} → (X → Bool) → E → Test X E
 unless passes failed = record { passes = passes; failed = failed }
 
 -- the item is at fault, or it stands there and fails the test
-abbrev pub WhereFault : {X E : Type 0} → (ℕ → X → List ℕ → Type 0) → (E → Cursor → Type 0) → Test X E → E → Cursor → Type 0
+abbrev pub WhereFault : {X E : Type 0} → (ℕ → X → List ℕ → Type 0) → (E → Cursor → Type 0)
+    → Test X E → E → Cursor → Type 0
 WhereFault {X} spells wrong test e from =
-    wrong e from ⊎ ((x : X) × (mid : Cursor) × Takes spells x from mid × (test.passes x ≡ false) × (e ≡ test.failed))
+    wrong e from ⊎ ((x : X) × (mid : Cursor) × Takes spells x from mid × (test.passes x ≡ false)
+    × (e ≡ test.failed))
 
 -- the item in front, if it passes
-abbrev pub where_at : {X E : Type 0} → (Cursor → Result (X × Cursor) E) → (X → Bool) → E → Cursor → Result (X × Cursor) E
+abbrev pub where_at : {X E : Type 0} → (Cursor → Result (X × Cursor) E) → (X → Bool) → E → Cursor
+    → Result (X × Cursor) E
 where_at read test failed c = read c >>= λ p. if test p.0 then Ok p else Err failed
 
 -- ---- an item that stands only where it is said to
@@ -42,7 +45,8 @@ WhenFault wrong false e from = ⊥
 WhenFault wrong true e from = wrong e from
 
 -- nothing, or the item in front
-abbrev pub when_at : {X E : Type 0} → (Cursor → Result (X × Cursor) E) → Bool → Cursor → Result (Option X × Cursor) E
+abbrev pub when_at : {X E : Type 0} → (Cursor → Result (X × Cursor) E) → Bool → Cursor
+    → Result (Option X × Cursor) E
 when_at read false c = Ok (None, c)
 when_at read true c = map_at (λ x. Some x) read c
 
@@ -55,7 +59,8 @@ Seen {X} spells f place y text = (x : X) × spells place x text × (f x ≡ y)
 -- ---- an item that tells where it stands, and how many bytes it has
 
 -- the item in front, seen by f with its place and its length
-abbrev pub measured_at : {X Y E : Type 0} → (ℕ → ℕ → X → Y) → (Cursor → Result (X × Cursor) E) → Cursor → Result (Y × Cursor) E
+abbrev pub measured_at : {X Y E : Type 0} → (ℕ → ℕ → X → Y) → (Cursor → Result (X × Cursor) E)
+    → Cursor → Result (Y × Cursor) E
 measured_at f read c = read c >>= λ p. Ok (f c.position (p.1.position - c.position) p.0, p.1)
 
 -- ---- an item of which nothing is told
@@ -65,7 +70,8 @@ abbrev pub Any : {X : Type 0} → (ℕ → X → List ℕ → Type 0) → ℕ �
 Any {X} spells place u text = (x : X) × spells place x text
 
 -- whatever stands in front
-abbrev pub any_at : {X E : Type 0} → (Cursor → Result (X × Cursor) E) → Cursor → Result (Unit {0} × Cursor) E
+abbrev pub any_at : {X E : Type 0} → (Cursor → Result (X × Cursor) E) → Cursor
+    → Result (Unit {0} × Cursor) E
 any_at read c = map_at (λ _. tt) read c
 
 -- ---- nothing

@@ -46,8 +46,11 @@ step_code (Some o) = operator_code o
 
 -- all of them
 abbrev pub all_steps : List (Option ConstOperator)
-all_steps = None ∷ Some I32Const ∷ Some I64Const ∷ Some F32Const ∷ Some F64Const ∷ Some GlobalGet ∷ Some RefNull ∷ Some RefFunc
-    ∷ Some I32Add ∷ Some I32Sub ∷ Some I32Mul ∷ Some I64Add ∷ Some I64Sub ∷ Some I64Mul ∷ Some Vector ∷ []
+all_steps =
+    None ∷ Some I32Const ∷ Some I64Const ∷ Some F32Const ∷ Some F64Const ∷ Some GlobalGet
+    ∷ Some RefNull ∷ Some RefFunc
+    ∷ Some I32Add ∷ Some I32Sub ∷ Some I32Mul ∷ Some I64Add ∷ Some I64Sub ∷ Some I64Mul
+    ∷ Some Vector ∷ []
 
 -- the first byte in front
 unfoldable pub first_at : Cursor → Result (Option ConstOperator × Cursor) ReadError
@@ -69,11 +72,15 @@ IsReference = Where (IsCoded value_type_code) is_reference
 
 -- there is no byte, or another one
 abbrev pub ReferenceFault : ReadError → Cursor → Type 0
-ReferenceFault = WhereFault (IsCoded value_type_code) (CodedFault value_type_code (λ _. Unsupported Operator)) (unless is_reference (Unsupported Operator))
+ReferenceFault =
+    WhereFault (IsCoded value_type_code) (CodedFault value_type_code (λ _. Unsupported Operator))
+    (unless is_reference (Unsupported Operator))
 
 -- such a type in front
 unfoldable pub reference_at : Cursor → Result (Unit {0} × Cursor) ReadError
-reference_at c = any_at (where_at (coded_at value_type_code value_types (λ _. Unsupported Operator)) is_reference (Unsupported Operator)) c
+reference_at c =
+    any_at (where_at (coded_at value_type_code value_types (λ _. Unsupported Operator)) is_reference
+    (Unsupported Operator)) c
 
 -- the number of `v128.const` among the operators that begin as it does
 abbrev pub is_vector_const : ℕ → Bool
@@ -85,11 +92,16 @@ IsVector = Then (Where IsU32 is_vector_const) (λ _. IsStretch 16)
 
 -- the number is at fault, or another one, or the bytes end
 abbrev pub VectorFault : ReadError → Cursor → Type 0
-VectorFault = ThenFault (Where IsU32 is_vector_const) (WhereFault IsU32 NumberFault (unless is_vector_const (Unsupported OtherOperator))) (λ _. StretchFault 16)
+VectorFault =
+    ThenFault (Where IsU32 is_vector_const)
+    (WhereFault IsU32 NumberFault (unless is_vector_const (Unsupported OtherOperator)))
+    (λ _. StretchFault 16)
 
 -- both in front
 unfoldable pub vector_at : Cursor → Result (Unit {0} × Cursor) ReadError
-vector_at c = any_at (then_at (where_at number_at is_vector_const (Unsupported OtherOperator)) (λ _. stretch_at 16)) c
+vector_at c =
+    any_at (then_at (where_at number_at is_vector_const (Unsupported OtherOperator))
+    (λ _. stretch_at 16)) c
 
 -- what stands behind the first byte of each operator: a number, so many bytes, a type, or nothing
 abbrev pub IsConstImmediate : ConstOperator → ℕ → Unit {0} → List ℕ → Type 0
@@ -147,9 +159,12 @@ abbrev pub StepImmediateFault : Option ConstOperator → ReadError → Cursor �
 StepImmediateFault None = NoFault
 StepImmediateFault (Some o) = ConstImmediateFault o
 
--- there is no byte, or one that begins no operator and isn't the end; or what stands behind it is at fault
+-- there is no byte, or one that begins no operator and isn't the end; or what stands behind it is
+-- at fault
 abbrev pub StepFault : ReadError → Cursor → Type 0
-StepFault = ThenFault (IsCoded step_code) (CodedFault step_code (λ _. Unsupported OtherOperator)) StepImmediateFault
+StepFault =
+    ThenFault (IsCoded step_code) (CodedFault step_code
+    (λ _. Unsupported OtherOperator)) StepImmediateFault
 
 -- what stands behind the first byte in front
 abbrev pub step_immediate_at : Option ConstOperator → Cursor → Result (Unit {0} × Cursor) ReadError
@@ -164,12 +179,17 @@ step_at c = map_at (λ p. p.0) (then_at first_at step_immediate_at) c
 
 -- operators, and then the byte 0x0b, which isn't told
 abbrev pub IsExpression : ℕ → List ℕ → List ℕ → Type 0
-IsExpression place body text = (os : List ConstOperator) × (text ≡ body ++ 0x0b ∷ []) × Items IsOperator place os body
+IsExpression place body text =
+    (os : List ConstOperator) × (text ≡ body ++ 0x0b ∷ []) × Items IsOperator place os body
 
 -- behind some operators stands neither another one nor the end
 abbrev pub ExpressionFault : ReadError → Cursor → Type 0
-ExpressionFault e from = (os : List ConstOperator) × (mid : Cursor) × Takes (Items IsOperator) os from mid × StepFault e mid
+ExpressionFault e from =
+    (os : List ConstOperator) × (mid : Cursor) × Takes (Items IsOperator) os from mid
+    × StepFault e mid
 
 -- the expression in front
 unfoldable pub expression_at : Cursor → Result (List ℕ × Cursor) ReadError
-expression_at c = ended_at step_at (Malformed Truncated) c >>= λ p. Ok (take (p.1.position - c.position - 1) c.rest, p.1)
+expression_at c =
+    ended_at step_at (Malformed Truncated) c
+    >>= λ p. Ok (take (p.1.position - c.position - 1) c.rest, p.1)

@@ -14,19 +14,24 @@ Ended step place xs text = (front : List ℕ) × (back : List ℕ) × (text ≡ 
     × Items (ItemOf step) place xs front × step (place + length front) None back
 
 -- some items stand there, and behind them neither one more nor the end
-abbrev pub EndedFault : {X E : Type 0} → (ℕ → Option X → List ℕ → Type 0) → (E → Cursor → Type 0) → E → Cursor → Type 0
-EndedFault {X} step wrong e from = (xs : List X) × (mid : Cursor) × Takes (Items (ItemOf step)) xs from mid × wrong e mid
+abbrev pub EndedFault : {X E : Type 0} → (ℕ → Option X → List ℕ → Type 0) → (E → Cursor → Type 0)
+    → E → Cursor → Type 0
+EndedFault {X} step wrong e from =
+    (xs : List X) × (mid : Cursor) × Takes (Items (ItemOf step)) xs from mid × wrong e mid
 
 -- what is read by a step and what may come behind it
-abbrev pub step_and : {X E : Type 0} → Option X → Cursor → Result (List X × Cursor) E → Result (List X × Cursor) E
+abbrev pub step_and : {X E : Type 0} → Option X → Cursor → Result (List X × Cursor) E
+    → Result (List X × Cursor) E
 step_and None c more = Ok ([], c)
 step_and (Some x) c more = more >>= λ q. Ok (x ∷ q.0, q.1)
 
 -- reads at most n steps
-unfoldable pub steps_at : {X E : Type 0} → (Cursor → Result (Option X × Cursor) E) → E → ℕ → Cursor → Result (List X × Cursor) E
+unfoldable pub steps_at : {X E : Type 0} → (Cursor → Result (Option X × Cursor) E) → E → ℕ → Cursor
+    → Result (List X × Cursor) E
 steps_at step dry zero c = Err dry
 steps_at step dry (suc n) c = step c >>= λ p. step_and p.0 p.1 (steps_at step dry n p.1)
 
 -- reads to the end, where each item takes a byte at least
-abbrev pub ended_at : {X E : Type 0} → (Cursor → Result (Option X × Cursor) E) → E → Cursor → Result (List X × Cursor) E
+abbrev pub ended_at : {X E : Type 0} → (Cursor → Result (Option X × Cursor) E) → E → Cursor
+    → Result (List X × Cursor) E
 ended_at step dry c = steps_at step dry (suc (length c.rest)) c

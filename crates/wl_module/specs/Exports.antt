@@ -18,7 +18,8 @@ pub record Exported : Type 0 where
 
 -- the first of the three that is at fault
 abbrev pub ExportFault : ReadError → Cursor → Type 0
-ExportFault = ThenFault IsName WordFault (λ _. ThenFault IsExternalKind ExternalKindFault (λ _. NumberFault))
+ExportFault =
+    ThenFault IsName WordFault (λ _. ThenFault IsExternalKind ExternalKindFault (λ _. NumberFault))
 
 -- what was read as an export
 abbrev pub export_from : List ℕ × (ExternalKind × ℕ) → Exported
@@ -30,7 +31,8 @@ IsExport = Seen (Then IsName (λ _. Then IsExternalKind (λ _. IsU32))) export_f
 
 -- the export in front
 unfoldable pub export_at : Cursor → Result (Exported × Cursor) ReadError
-export_at c = map_at export_from (then_at word_at (λ _. then_at external_kind_at (λ _. number_at))) c
+export_at c =
+    map_at export_from (then_at word_at (λ _. then_at external_kind_at (λ _. number_at))) c
 
 -- the payload is a list of these exports
 abbrev pub AreExports : List Exported → List ℕ → Type 0

@@ -49,7 +49,8 @@ global_type_at c = map_at global_type_from (then_at value_type_at (λ _. mutabil
 
 -- ---- the section
 
--- a global as clauses see it: its type, the expression that it starts with, and whether that is a copy
+-- a global as clauses see it: its type, the expression that it starts with, and whether that is a
+-- copy
 pub record DefinedGlobal : Type 0 where
   pub ty : GlobalType
   pub body : List ℕ

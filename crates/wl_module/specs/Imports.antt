@@ -90,15 +90,20 @@ import_from p = record {
 
 -- two names, the kind, and the type
 abbrev pub IsImport : ℕ → PlacedImported → List ℕ → Type 0
-IsImport = Seen (Then IsName (λ _. Then IsPlacedName (λ _. Then IsExternalKind IsEntity))) import_from
+IsImport =
+    Seen (Then IsName (λ _. Then IsPlacedName (λ _. Then IsExternalKind IsEntity))) import_from
 
 -- the first of the four that is at fault
 abbrev pub ImportFault : ReadError → Cursor → Type 0
-ImportFault = ThenFault IsName WordFault (λ _. ThenFault IsPlacedName WordFault (λ _. ThenFault IsExternalKind ExternalKindFault EntityFault))
+ImportFault =
+    ThenFault IsName WordFault (λ _. ThenFault IsPlacedName WordFault
+    (λ _. ThenFault IsExternalKind ExternalKindFault EntityFault))
 
 -- the import in front
 unfoldable pub import_at : Cursor → Result (PlacedImported × Cursor) ReadError
-import_at c = map_at import_from (then_at word_at (λ _. then_at placed_name_at (λ _. then_at external_kind_at entity_at))) c
+import_at c =
+    map_at import_from (then_at word_at
+    (λ _. then_at placed_name_at (λ _. then_at external_kind_at entity_at))) c
 
 -- a memory
 abbrev pub is_memory : ImportEntity → Bool
@@ -127,7 +132,9 @@ AreImports = SeenAs plain_imports ArePlacedImports
 
 -- what is wrong with a payload that is no such list
 abbrev pub ImportsFault : ReadError → List ℕ → Type 0
-ImportsFault = WholeFault (ListedOnce IsImport memory_import_once) (ListedOnceFault IsImport ImportFault memory_import_once)
+ImportsFault =
+    WholeFault (ListedOnce IsImport memory_import_once)
+    (ListedOnceFault IsImport ImportFault memory_import_once)
 
 -- the imports of a whole payload, with the places of their names
 abbrev pub placed_imports_of : List ℕ → Result (List PlacedImported) ReadError

@@ -22,12 +22,17 @@ flags_code f = (if f.has_maximum then 1 else 0) + (if f.shared then 2 else 0)
 
 -- all that the two bits can say
 abbrev pub all_flags : List LimitsFlags
-all_flags = record { has_maximum = false; shared = false } ∷ record { has_maximum = true; shared = false } ∷ record { has_maximum = false; shared = true } ∷ record { has_maximum = true; shared = true } ∷ []
+all_flags =
+    record { has_maximum = false; shared = false } ∷ record { has_maximum = true; shared = false }
+    ∷ record { has_maximum = false; shared = true } ∷ record { has_maximum = true; shared = true }
+    ∷ []
 
--- another byte of a memory: bit 2 says that its addresses have 64 bits, bit 3 that its pages have their own size, and
--- higher ones say nothing
+-- another byte of a memory: bit 2 says that its addresses have 64 bits, bit 3 that its pages have
+-- their own size, and higher ones say nothing
 abbrev pub memory_flags_error : ℕ → ReadError
-memory_flags_error b = if nat_lt b 16 then (if b / 4 % 2 == 1 then Unsupported Memory64 else Unsupported PageSize) else Malformed BadByte
+memory_flags_error b =
+    if nat_lt b 16 then (if b / 4 % 2 == 1 then Unsupported Memory64 else Unsupported PageSize)
+    else Malformed BadByte
 
 -- another byte of a table
 abbrev pub table_flags_error : ℕ → ReadError
@@ -55,11 +60,14 @@ IsTableFlags = Where (IsCoded flags_code) is_own
 
 -- there is no byte, or another one
 abbrev pub TableFlagsFault : ReadError → Cursor → Type 0
-TableFlagsFault = WhereFault (IsCoded flags_code) (CodedFault flags_code table_flags_error) (unless is_own (Unsupported TableForm))
+TableFlagsFault =
+    WhereFault (IsCoded flags_code) (CodedFault flags_code table_flags_error)
+    (unless is_own (Unsupported TableForm))
 
 -- the flags in front
 unfoldable pub table_flags_at : Cursor → Result (LimitsFlags × Cursor) ReadError
-table_flags_at c = where_at (coded_at flags_code all_flags table_flags_error) is_own (Unsupported TableForm) c
+table_flags_at c =
+    where_at (coded_at flags_code all_flags table_flags_error) is_own (Unsupported TableForm) c
 
 -- ---- the limits
 
@@ -72,15 +80,19 @@ abbrev pub IsLimits : (ℕ → LimitsFlags → List ℕ → Type 0) → ℕ → 
 IsLimits flags = Seen (Then flags (λ f. Then IsU32 (λ _. When IsU32 f.has_maximum))) limits_from
 
 -- the first of the three that is at fault
-abbrev pub LimitsFault : (ℕ → LimitsFlags → List ℕ → Type 0) → (ReadError → Cursor → Type 0) → ReadError → Cursor → Type 0
-LimitsFault flags wrong = ThenFault flags wrong (λ f. ThenFault IsU32 NumberFault (λ _. WhenFault NumberFault f.has_maximum))
+abbrev pub LimitsFault : (ℕ → LimitsFlags → List ℕ → Type 0) → (ReadError → Cursor → Type 0)
+    → ReadError → Cursor → Type 0
+LimitsFault flags wrong =
+    ThenFault flags wrong (λ f. ThenFault IsU32 NumberFault
+    (λ _. WhenFault NumberFault f.has_maximum))
 
 -- the sizes in front, behind such flags
 unfoldable pub sizes_at : LimitsFlags → Cursor → Result ((ℕ × Option ℕ) × Cursor) ReadError
 sizes_at f c = then_at number_at (λ _. when_at number_at f.has_maximum) c
 
 -- the limits in front
-abbrev pub limits_at : (Cursor → Result (LimitsFlags × Cursor) ReadError) → Cursor → Result (Limits × Cursor) ReadError
+abbrev pub limits_at : (Cursor → Result (LimitsFlags × Cursor) ReadError) → Cursor
+    → Result (Limits × Cursor) ReadError
 limits_at flags c = map_at limits_from (then_at flags sizes_at) c
 
 -- the maximum isn't below the minimum
@@ -99,7 +111,8 @@ limits_fit l = is_ordered l.minimum l.maximum
 
 -- a memory's limits that can be: at most 65536 pages, and with a maximum where it is shared
 abbrev pub memory_limits_fit : Limits → Bool
-memory_limits_fit l = limits_fit l && (are_within 65536 l.minimum l.maximum && (not l.shared || is_some l.maximum))
+memory_limits_fit l =
+    limits_fit l && (are_within 65536 l.minimum l.maximum && (not l.shared || is_some l.maximum))
 
 -- ---- memories
 
@@ -113,11 +126,15 @@ IsMemoryType = Seen (Where (IsLimits IsMemoryFlags) memory_limits_fit) memory_of
 
 -- the limits are at fault, or they stand there and can't be
 abbrev pub MemoryTypeFault : ReadError → Cursor → Type 0
-MemoryTypeFault = WhereFault (IsLimits IsMemoryFlags) (LimitsFault IsMemoryFlags MemoryFlagsFault) (unless memory_limits_fit (Malformed BadLimits))
+MemoryTypeFault =
+    WhereFault (IsLimits IsMemoryFlags) (LimitsFault IsMemoryFlags MemoryFlagsFault)
+    (unless memory_limits_fit (Malformed BadLimits))
 
 -- the memory in front
 unfoldable pub memory_type_at : Cursor → Result (MemoryType × Cursor) ReadError
-memory_type_at c = map_at memory_of (where_at (limits_at memory_flags_at) memory_limits_fit (Malformed BadLimits)) c
+memory_type_at c =
+    map_at memory_of (where_at (limits_at memory_flags_at) memory_limits_fit (Malformed BadLimits))
+    c
 
 -- ---- tables
 
@@ -131,12 +148,15 @@ table_of p = record { initial = p.1.minimum; maximum = p.1.maximum }
 
 -- the type of the elements, and limits
 abbrev pub IsTableType : ℕ → TableType → List ℕ → Type 0
-IsTableType = Seen (Then (IsCoded elements_code) (λ _. Where (IsLimits IsTableFlags) limits_fit)) table_of
+IsTableType =
+    Seen (Then (IsCoded elements_code) (λ _. Where (IsLimits IsTableFlags) limits_fit)) table_of
 
 -- the elements are at fault, or the limits are, or they can't be
 abbrev pub TableTypeFault : ReadError → Cursor → Type 0
-TableTypeFault = ThenFault (IsCoded elements_code) (CodedFault elements_code (λ _. Unsupported OtherElements))
-    (λ _. WhereFault (IsLimits IsTableFlags) (LimitsFault IsTableFlags TableFlagsFault) (unless limits_fit (Malformed BadLimits)))
+TableTypeFault =
+    ThenFault (IsCoded elements_code) (CodedFault elements_code (λ _. Unsupported OtherElements))
+    (λ _. WhereFault (IsLimits IsTableFlags) (LimitsFault IsTableFlags TableFlagsFault)
+    (unless limits_fit (Malformed BadLimits)))
 
 -- the type of the elements in front
 unfoldable pub elements_at : Cursor → Result (Unit {0} × Cursor) ReadError
@@ -144,4 +164,6 @@ elements_at c = coded_at elements_code (tt ∷ []) (λ _. Unsupported OtherEleme
 
 -- the table in front
 unfoldable pub table_type_at : Cursor → Result (TableType × Cursor) ReadError
-table_type_at c = map_at table_of (then_at elements_at (λ _. where_at (limits_at table_flags_at) limits_fit (Malformed BadLimits))) c
+table_type_at c =
+    map_at table_of (then_at elements_at
+    (λ _. where_at (limits_at table_flags_at) limits_fit (Malformed BadLimits))) c

@@ -1,4 +1,5 @@
--- The memory section and the data count section (core specification, "Memory Section" and "Data Count Section").
+-- The memory section and the data count section (core specification, "Memory Section" and "Data
+-- Count Section").
 use Rattle.std.specs.Prelude.{ℕ, Bool, true, List, Result}
 use Rattle.wl_bytes.specs.Leb.{IsU32}
 use Rattle.wl_module.specs.declared.limits.MemoryType.{MemoryType}
@@ -15,7 +16,8 @@ use Rattle.wl_module.specs.Limits.{IsMemoryType, MemoryTypeFault, memory_type_at
 abbrev pub memory_once : Bool → Once MemoryType
 memory_once imported = record { sort = λ _. true; seen = imported; many = Unsupported ManyMemories }
 
--- the payload is a list of these memories, one at most, and none where the flag says that one is imported
+-- the payload is a list of these memories, one at most, and none where the flag says that one is
+-- imported
 abbrev pub AreMemories : Bool → List MemoryType → List ℕ → Type 0
 AreMemories imported = Whole (ListedOnce IsMemoryType (memory_once imported))
 

@@ -20,7 +20,8 @@ IsPart bytes text = (place : ℕ) × StandsAt bytes text place
 
 -- whatever items the payload spells, the parts of each stand in it
 abbrev pub PartsStand : {X : Type 0} → (List ℕ → X → Type 0) → (List X → List ℕ → Type 0) → Type 0
-PartsStand {X} stands spells = (xs : List X) (payload : List ℕ) → spells xs payload → AllByRecursion (stands payload) xs
+PartsStand {X} stands spells =
+    (xs : List X) (payload : List ℕ) → spells xs payload → AllByRecursion (stands payload) xs
 
 -- ---- the parts of each item
 

@@ -39,7 +39,8 @@ decodes ExternRef = refl
 -- value types with one byte are one
 pub value_is : (a b : ValType) → same_value a b ≡ true → a ≡ b
 value_is a b e =
-    sym (decodes a) ∙ ap type_of_code (eqb-true (value_type_code a) (value_type_code b) e) ∙ decodes b
+    sym (decodes a) ∙ ap type_of_code (eqb-true (value_type_code a) (value_type_code b) e) ∙ decodes
+    b
 
 values_equiv : IsEquivalence same_value
 values_equiv = on_equiv value_type_code nat_eq_equiv

@@ -1,4 +1,5 @@
--- What the sections of a module are (core specification, "Sections"): their ids, and the order in which they stand.
+-- What the sections of a module are (core specification, "Sections"): their ids, and the order in
+-- which they stand.
 use Rattle.std.specs.Prelude.{ℕ, ◌==◌, Bool, List, [], ◌∷◌, Option}
 use Rattle.wl_module.specs.Lists.{with_code}
 use Rattle.wl_module.specs.declared.section_kind.SectionKind.{SectionKind}
@@ -23,7 +24,9 @@ id_of kind.Tag = 13
 
 -- all of them
 abbrev pub section_kinds : List SectionKind
-section_kinds = kind.Custom ∷ kind.Type ∷ kind.Import ∷ kind.Function ∷ kind.Table ∷ kind.Memory ∷ kind.Global ∷ kind.Export ∷ kind.Start
+section_kinds =
+    kind.Custom ∷ kind.Type ∷ kind.Import ∷ kind.Function ∷ kind.Table ∷ kind.Memory ∷ kind.Global
+    ∷ kind.Export ∷ kind.Start
     ∷ kind.Element ∷ kind.Code ∷ kind.Data ∷ kind.DataCount ∷ kind.Tag ∷ []
 
 -- the section of an id
@@ -34,7 +37,8 @@ kind_of = with_code id_of section_kinds
 abbrev pub is_custom : SectionKind → Bool
 is_custom k = id_of k == 0
 
--- its place among the sections that stand in order, from 1, the data count before code and data; 0 where it may stand anywhere
+-- its place among the sections that stand in order, from 1, the data count before code and data; 0
+-- where it may stand anywhere
 abbrev pub place_of : SectionKind → ℕ
 place_of kind.Custom = 0
 place_of kind.Type = 1

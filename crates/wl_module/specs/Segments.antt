@@ -29,11 +29,13 @@ SegmentFlagFault = CodedFault segment_code (λ _. Malformed BadByte)
 
 -- the flag in front
 unfoldable pub segment_flag_at : Cursor → Result (SegmentFlag × Cursor) ReadError
-segment_flag_at c = coded_at segment_code (InMemory ∷ InNoMemory ∷ InMemoryOf ∷ []) (λ _. Malformed BadByte) c
+segment_flag_at c =
+    coded_at segment_code (InMemory ∷ InNoMemory ∷ InMemoryOf ∷ []) (λ _. Malformed BadByte) c
 
 -- ---- where a segment goes
 
--- the memory of an active segment, the first one where none is named, and the expression of its place
+-- the memory of an active segment, the first one where none is named, and the expression of its
+-- place
 abbrev pub IsTarget : SegmentFlag → ℕ → Option ℕ → List ℕ → Type 0
 IsTarget InMemory = Seen IsExpression (λ _. Some 0)
 IsTarget InNoMemory = Seen IsNothing (λ _. None)
@@ -55,7 +57,8 @@ target_at InMemoryOf c = map_at (λ p. Some p.0) (then_at number_at (λ _. expre
 
 -- their number, and then they
 abbrev pub AreCounted : ℕ → List ℕ → List ℕ → Type 0
-AreCounted place bytes text = (head : List ℕ) × (text ≡ head ++ bytes) × IsU32 place (length bytes) head
+AreCounted place bytes text =
+    (head : List ℕ) × (text ≡ head ++ bytes) × IsU32 place (length bytes) head
 
 -- the bytes in front
 unfoldable pub counted_at : Cursor → Result (List ℕ × Cursor) ReadError
@@ -63,8 +66,9 @@ counted_at c = map_at (λ p. p.1) (then_at number_at stretch_at) c
 
 -- ---- segments
 
--- A segment as clauses see it: whether it goes into a memory when the module starts; its bytes; how many bytes of the
--- section's payload lie before its flag; and how many bytes it takes from there to the end of its own.
+-- A segment as clauses see it: whether it goes into a memory when the module starts; its bytes; how
+-- many bytes of the section's payload lie before its flag; and how many bytes it takes from there
+-- to the end of its own.
 pub record Segment : Type 0 where
   pub kind : DataKind
   pub payload : List ℕ
@@ -88,23 +92,35 @@ IsSegmentText = Then (IsCoded segment_code) (λ f. Then (IsTarget f) (λ _. AreC
 
 -- that text, of which the segment tells the place and the size
 abbrev pub IsSegment : ℕ → Targeted → List ℕ → Type 0
-IsSegment place t text = (f : SegmentFlag) × IsSegmentText place (f, (t.memory_index, t.segment.payload)) text
-    × (t.segment.kind ≡ segment_kind f) × (t.segment.section_offset ≡ place) × (t.segment.encoded_size ≡ length text)
+IsSegment place t text =
+    (f : SegmentFlag) × IsSegmentText place (f, (t.memory_index, t.segment.payload)) text
+    × (t.segment.kind ≡ segment_kind f) × (t.segment.section_offset ≡ place)
+    × (t.segment.encoded_size ≡ length text)
 
 -- the first of the three that is at fault
 abbrev pub SegmentFault : ReadError → Cursor → Type 0
-SegmentFault = ThenFault (IsCoded segment_code) SegmentFlagFault (λ f. ThenFault (IsTarget f) (TargetFault f) (λ _. BodyFault))
+SegmentFault =
+    ThenFault (IsCoded segment_code) SegmentFlagFault
+    (λ f. ThenFault (IsTarget f) (TargetFault f) (λ _. BodyFault))
 
 -- what was read as a segment of so many bytes, which stands at a place
 abbrev pub segment_from : ℕ → ℕ → SegmentFlag × (Option ℕ × List ℕ) → Targeted
 segment_from place len p = record {
-  segment = record { kind = segment_kind p.0; payload = p.1.1; section_offset = place; encoded_size = len };
+  segment =
+      record {
+        kind = segment_kind p.0;
+        payload = p.1.1;
+        section_offset = place;
+        encoded_size = len;
+      };
   memory_index = p.1.0;
 }
 
 -- the segment in front
 unfoldable pub segment_at : Cursor → Result (Targeted × Cursor) ReadError
-segment_at c = measured_at segment_from (then_at segment_flag_at (λ f. then_at (target_at f) (λ _. counted_at))) c
+segment_at c =
+    measured_at segment_from (then_at segment_flag_at
+    (λ f. then_at (target_at f) (λ _. counted_at))) c
 
 -- the payload is a list of these segments
 abbrev pub AreTargeted : List Targeted → List ℕ → Type 0

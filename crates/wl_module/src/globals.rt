@@ -1,6 +1,6 @@
 //! The global section: the globals that a module defines.
 
-ghost use Rattle.std.specs.Prelude.{◌≤◌, length, IfOk};
+ghost use Rattle.std.specs.Prelude.{◌≡◌, ◌≤◌, length, IfOk};
 ghost use Rattle.wl_bytes.specs.declared.reader.TheConstants.{MAX_LEN};
 ghost use Rattle.wl_module.specs.Globals.{mutability_at, global_type_at, AreGlobals, GlobalsFault};
 ghost use Rattle.wl_module.specs.Outcome.{Yields, ReadsWhole, AreAlternatives};
@@ -8,8 +8,9 @@ ghost use Rattle.wl_module.specs.Outcome.{Yields, ReadsWhole, AreAlternatives};
 use crate::constants::read_expression;
 use crate::error::{ReadError, Why};
 use crate::items::{Item, read_payload};
+use crate::slices::copy_bytes;
 use crate::types::{ValType, read_value_type};
-use std::alloc::Global;
+use std::alloc::{AllocError, Global};
 use std::borrow::CowSlice;
 use std::marker::Model;
 use wl_bytes::Reader;
@@ -46,6 +47,21 @@ impl<'a> Model for OutputGlobal<'a> {
       body = cow_slice_items g.init_expr_body;
       owned = is_owned g.init_expr_body;
     } };
+}
+
+impl<'a> OutputGlobal<'a> {
+    /// The same global once more. Bytes of the module aren't copied.
+    ///
+    /// # Errors
+    /// `AllocError` where memory runs out.
+    pub fn duplicate(&self, alloc: Global) -> Result<Self, AllocError>
+        ensures { IfOk result (λ copy. copy ≡ self.now) }
+    {
+        Ok(OutputGlobal {
+            ty: self.ty,
+            init_expr_body: copy_bytes(alloc, &self.init_expr_body)?,
+        })
+    }
 }
 
 impl<'a> Item<'a> for OutputGlobal<'a> {

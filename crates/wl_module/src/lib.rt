@@ -21,6 +21,7 @@ pub mod section_id;
 mod section_kind;
 mod sections;
 mod segments;
+mod slices;
 mod types;
 mod words;
 
@@ -47,4 +48,5 @@ pub use segments::{
     DataKind, TargetedSegment, WasmDataSegment, read_segments, read_targeted_segments,
     segments_or_fault, targeted_segments_or_fault,
 };
+pub use slices::copy_bytes;
 pub use types::{FuncType, ValType, read_types, types_or_fault};

@@ -1,4 +1,5 @@
--- Bodies of functions (core specification, "Code Section"): local declarations, and operators to the end.
+-- Bodies of functions (core specification, "Code Section"): local declarations, and operators to
+-- the end.
 use Rattle.std.specs.Prelude.{◌≡◌, ◌≢◌, ◌⊎◌, ℕ, zero, suc, ◌+◌, ◌==◌, Bool, true, false, if◌then◌else◌, List, [], ◌∷◌, ◌++◌, length, Result, Ok, Err}
 use Rattle.std.specs.List.{AllByRecursion, sum_by}
 use Rattle.wl_bytes.specs.Cursor.{Cursor}
@@ -23,7 +24,9 @@ IsLocal = Then IsU32 (λ _. Where IsByte is_value_type)
 
 -- what is wrong where no declaration stands
 abbrev pub LocalFault : ReadError → Cursor → Type 0
-LocalFault = ThenFault IsU32 NumberFault (λ _. WhereFault IsByte ByteFault (unless is_value_type (Malformed BadByte)))
+LocalFault =
+    ThenFault IsU32 NumberFault (λ _. WhereFault IsByte ByteFault
+    (unless is_value_type (Malformed BadByte)))
 
 -- the declaration in front
 unfoldable pub local_at : Cursor → Result ((ℕ × ℕ) × Cursor) ReadError
@@ -46,7 +49,8 @@ is_ended (op ∷ next ∷ ops) = is_ended (next ∷ ops)
 
 -- a body of such operators
 abbrev pub IsBodyOf : (ℕ → Op → List ℕ → Type 0) → List Op → List ℕ → Type 0
-IsBodyOf op ops body = (locals : List (ℕ × ℕ)) × (front : List ℕ) × (back : List ℕ) × (body ≡ front ++ back)
+IsBodyOf op ops body =
+    (locals : List (ℕ × ℕ)) × (front : List ℕ) × (back : List ℕ) × (body ≡ front ++ back)
     × AreLocals 0 locals front × Items op (length front) ops back × (is_ended ops ≡ true)
 
 -- a body of operators of the table
@@ -60,7 +64,8 @@ AreTaken ops body = AreOps ops body × AllByRecursion (λ op. is_taken op ≡ tr
 -- behind some operators comes something else, or all are read and the last isn't `end`
 abbrev pub OpsFault : ReadError → Cursor → Type 0
 OpsFault e from = (ops : List Op) × (mid : Cursor) × Takes (Items IsTaken) ops from mid
-    × (((mid.rest ≢ []) × OpFault e mid) ⊎ ((mid.rest ≡ []) × (is_ended ops ≡ false) × (e ≡ Malformed Truncated)))
+    × (((mid.rest ≢ []) × OpFault e mid)
+    ⊎ ((mid.rest ≡ []) × (is_ended ops ≡ false) × (e ≡ Malformed Truncated)))
 
 -- the local declarations are at fault, or what comes behind them is
 abbrev pub PartFault : ReadError → List ℕ → Type 0
@@ -87,9 +92,12 @@ abbrev pub kept_if : List Op → Result (List Op) ReadError
 kept_if ops = if is_ended ops then Ok ops else Err (Malformed Truncated)
 
 -- reads at most n items, to the end of the bytes
-unfoldable pub rest_of : {X E : Type 0} → (Cursor → Result (X × Cursor) E) → E → ℕ → Cursor → Result (List X) E
+unfoldable pub rest_of : {X E : Type 0} → (Cursor → Result (X × Cursor) E) → E → ℕ → Cursor
+    → Result (List X) E
 rest_of item dry zero c = Err dry
-rest_of item dry (suc n) c = if length c.rest == 0 then Ok [] else item c >>= λ p. rest_of item dry n p.1 >>= λ xs. Ok (p.0 ∷ xs)
+rest_of item dry (suc n) c =
+    if length c.rest == 0 then Ok []
+    else item c >>= λ p. rest_of item dry n p.1 >>= λ xs. Ok (p.0 ∷ xs)
 
 -- the operators up to the end of the bytes
 unfoldable pub ops_of : Cursor → Result (List Op) ReadError

@@ -5,5 +5,6 @@ use Rattle.wl_bytes.specs.Parse.{◌>>=◌}
 use Rattle.wl_module.specs.declared.error.ReadError.{ReadError}
 
 -- what was read before, and behind it what is read
-abbrev pub with_front : {X : Type 0} → List X → Result (List X × Cursor) ReadError → Result (List X × Cursor) ReadError
+abbrev pub with_front : {X : Type 0} → List X → Result (List X × Cursor) ReadError
+    → Result (List X × Cursor) ReadError
 with_front front read = read >>= λ x. Ok (front ++ x.0, x.1)

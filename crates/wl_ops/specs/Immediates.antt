@@ -1,4 +1,5 @@
--- What stands behind an operator, and the values that it spells (core specification, "Instructions").
+-- What stands behind an operator, and the values that it spells (core specification,
+-- "Instructions").
 use Rattle.std.specs.Prelude.{ℕ, ℤ, pos, negsuc, int_le, ◌||◌, ◌&&◌, nat_lt, Bool, false, if◌then◌else◌, List, [], ◌∷◌, ◌++◌, Option, Some, None, is_some, Result}
 use Rattle.std.specs.List.{flat_map}
 use Rattle.wl_bytes.specs.Cursor.{Cursor}
@@ -27,7 +28,9 @@ is_alignment n = nat_lt n 0x40
 
 -- the index of a type from 0 on, a value type (-1 to -5, -16, -17), or nothing (-64)
 abbrev pub is_block_type : ℤ → Bool
-is_block_type z = int_le (negsuc 4) z || (int_le (negsuc 16) z && int_le z (negsuc 15)) || (int_le (negsuc 63) z && int_le z (negsuc 63))
+is_block_type z =
+    int_le (negsuc 4) z || (int_le (negsuc 16) z && int_le z (negsuc 15))
+    || (int_le (negsuc 63) z && int_le z (negsuc 63))
 
 -- the byte of a type of values
 abbrev pub is_value_type : ℕ → Bool
@@ -57,23 +60,29 @@ IsSingle ValueType = Seen (Where IsByte is_value_type) (λ b. pos b)
 abbrev pub SingleFault : Single → ReadError → Cursor → Type 0
 SingleFault Number = NumberFault
 SingleFault Alignment = WhereFault IsU32 NumberFault (unless is_alignment (Unsupported Operator))
-SingleFault BlockType = WhereFault (IsSigned s33_form) (SignedNumberFault s33_form) (unless is_block_type (Unsupported Operator))
+SingleFault BlockType =
+    WhereFault (IsSigned s33_form) (SignedNumberFault s33_form)
+    (unless is_block_type (Unsupported Operator))
 SingleFault Signed32 = SignedNumberFault s32_form
 SingleFault Signed64 = SignedNumberFault s64_form
 SingleFault Byte = ByteFault
-SingleFault ReferenceType = WhereFault IsByte ByteFault (unless is_reference_type (Unsupported Operator))
+SingleFault ReferenceType =
+    WhereFault IsByte ByteFault (unless is_reference_type (Unsupported Operator))
 SingleFault ValueType = WhereFault IsByte ByteFault (unless is_value_type (Malformed BadByte))
 
 -- the value in front
 unfoldable pub single_at : Single → Cursor → Result (ℤ × Cursor) ReadError
 single_at Number c = map_at (λ n. pos n) number_at c
-single_at Alignment c = map_at (λ n. pos n) (where_at number_at is_alignment (Unsupported Operator)) c
+single_at Alignment c =
+    map_at (λ n. pos n) (where_at number_at is_alignment (Unsupported Operator)) c
 single_at BlockType c = where_at (signed_number_at s33_form) is_block_type (Unsupported Operator) c
 single_at Signed32 c = signed_number_at s32_form c
 single_at Signed64 c = signed_number_at s64_form c
 single_at Byte c = map_at (λ b. pos b) one_byte_at c
-single_at ReferenceType c = map_at (λ b. pos b) (where_at one_byte_at is_reference_type (Unsupported Operator)) c
-single_at ValueType c = map_at (λ b. pos b) (where_at one_byte_at is_value_type (Malformed BadByte)) c
+single_at ReferenceType c =
+    map_at (λ b. pos b) (where_at one_byte_at is_reference_type (Unsupported Operator)) c
+single_at ValueType c =
+    map_at (λ b. pos b) (where_at one_byte_at is_value_type (Malformed BadByte)) c
 
 -- ---- catches
 
@@ -104,10 +113,13 @@ abbrev pub IsCatch : ℕ → List ℤ → List ℕ → Type 0
 IsCatch = Seen (Then IsCatchKind (λ k. Times (IsSingle Number) (catch_numbers k))) counted
 
 abbrev pub CatchFault : ReadError → Cursor → Type 0
-CatchFault = ThenFault IsCatchKind CatchKindFault (λ k. TimesFault (IsSingle Number) (SingleFault Number) (catch_numbers k))
+CatchFault =
+    ThenFault IsCatchKind CatchKindFault
+    (λ k. TimesFault (IsSingle Number) (SingleFault Number) (catch_numbers k))
 
 unfoldable pub catch_at : Cursor → Result (List ℤ × Cursor) ReadError
-catch_at c = map_at counted (then_at catch_kind_at (λ k. times_at (single_at Number) (catch_numbers k))) c
+catch_at c =
+    map_at counted (then_at catch_kind_at (λ k. times_at (single_at Number) (catch_numbers k))) c
 
 -- ---- immediates
 
@@ -116,7 +128,8 @@ abbrev pub counted_lists : ℕ × List (List ℤ) → List ℤ
 counted_lists p = pos p.0 ∷ flat_map (λ zs. zs) p.1
 
 -- the values of so many lists
-abbrev pub flat_at : (Cursor → Result (List ℤ × Cursor) ReadError) → ℕ → Cursor → Result (List ℤ × Cursor) ReadError
+abbrev pub flat_at : (Cursor → Result (List ℤ × Cursor) ReadError) → ℕ → Cursor
+    → Result (List ℤ × Cursor) ReadError
 flat_at item n c = map_at (flat_map (λ zs. zs)) (times_at item n) c
 
 -- what spells these values

@@ -1,4 +1,5 @@
--- The numbers of data segments in a body: of `memory.init` and `data.drop` (core specification, "Memory Instructions").
+-- The numbers of data segments in a body: of `memory.init` and `data.drop` (core specification,
+-- "Memory Instructions").
 use Rattle.std.specs.Prelude.{◌≡◌, ◌⊎◌, ℕ, ℤ, pos, ◌==◌, ◌||◌, ◌&&◌, Bool, true, false, List, [], ◌∷◌, ◌++◌, length, map, Option, Some, None, Result, Ok, Err}
 use Rattle.std.specs.List.{filter_map}
 use Rattle.std.specs.Option.{option_to_list}
@@ -36,9 +37,11 @@ abbrev pub IsSegmentNumber : ℕ → ℕ → DataIndexImm × Option ℕ → List
 IsSegmentNumber sub = Then IsPlacedNumber (λ _. When IsU32 (sub == 8))
 
 abbrev pub SegmentNumberFault : ℕ → ReadError → Cursor → Type 0
-SegmentNumberFault sub = ThenFault IsPlacedNumber NumberFault (λ _. WhenFault NumberFault (sub == 8))
+SegmentNumberFault sub =
+    ThenFault IsPlacedNumber NumberFault (λ _. WhenFault NumberFault (sub == 8))
 
-unfoldable pub segment_number_at : ℕ → Cursor → Result ((DataIndexImm × Option ℕ) × Cursor) ReadError
+unfoldable pub segment_number_at : ℕ → Cursor
+    → Result ((DataIndexImm × Option ℕ) × Cursor) ReadError
 segment_number_at sub c = then_at placed_number_at (λ _. when_at number_at (sub == 8)) c
 
 -- the values of these
@@ -62,13 +65,16 @@ abbrev pub MarkedBehindFault : Bool → ℕ × ℕ → ReadError → Cursor → 
 MarkedBehindFault true h = SegmentNumberFault h.1
 MarkedBehindFault false h = BehindFault (taken_shape h)
 
-abbrev pub marked_behind_at : Bool → ℕ × ℕ → Cursor → Result ((Option DataIndexImm × List ℤ) × Cursor) ReadError
+abbrev pub marked_behind_at : Bool → ℕ × ℕ → Cursor
+    → Result ((Option DataIndexImm × List ℤ) × Cursor) ReadError
 marked_behind_at true h c = map_at with_number (segment_number_at h.1) c
 marked_behind_at false h c = map_at without_number (behind_at (taken_shape h)) c
 
 -- an operator that is taken, and the number of a segment in it
 abbrev pub IsMarkedOp : ℕ → Marked → List ℕ → Type 0
-IsMarkedOp place m text = Then IsHead (λ h. IsMarkedBehind (is_segment h.0 h.1) h) place ((m.op.code, m.op.sub), (m.number, m.op.args)) text
+IsMarkedOp place m text =
+    Then IsHead (λ h. IsMarkedBehind (is_segment h.0 h.1) h) place
+    ((m.op.code, m.op.sub), (m.number, m.op.args)) text
 
 abbrev pub MarkedFault : ReadError → Cursor → Type 0
 MarkedFault = ThenFault IsHead HeadFault (λ h. MarkedBehindFault (is_segment h.0 h.1) h)
@@ -90,12 +96,16 @@ numbers ms = filter_map (λ m. m.number) ms
 
 -- a body of operators with their numbers
 abbrev pub AreMarked : List Marked → List ℕ → Type 0
-AreMarked ms body = (locals : List (ℕ × ℕ)) × (front : List ℕ) × (back : List ℕ) × (body ≡ front ++ back)
-    × AreLocals 0 locals front × Items IsMarkedOp (length front) ms back × (is_ended (map op_in ms) ≡ true)
+AreMarked ms body =
+    (locals : List (ℕ × ℕ)) × (front : List ℕ) × (back : List ℕ) × (body ≡ front ++ back)
+    × AreLocals 0 locals front × Items IsMarkedOp (length front) ms back
+    × (is_ended (map op_in ms) ≡ true)
 
 -- the numbers of a body; none where the body can't be decoded
 abbrev pub HasNumbers : List DataIndexImm → List ℕ → Type 0
-HasNumbers ns body = ((ms : List Marked) × AreMarked ms body × (ns ≡ numbers ms)) ⊎ (((ops : List Op) → ¬ AreTaken ops body) × (ns ≡ []))
+HasNumbers ns body =
+    ((ms : List Marked) × AreMarked ms body × (ns ≡ numbers ms))
+    ⊎ (((ops : List Op) → ¬ AreTaken ops body) × (ns ≡ []))
 
 -- ---- what is answered
 
@@ -114,7 +124,8 @@ AreTold ns body = HasNumbers ns body × ((e : ReadError) → ¬ NumbersFault e b
 
 -- what a reader has answered: the numbers of the operators up to the end of the bytes, or the fault
 abbrev pub NumbersIn : {X : Type 0} → (X → List DataIndexImm) → Cursor → Result X ReadError → Type 0
-NumbersIn view from (Ok v) = (ms : List Marked) × (to : Cursor) × Takes (Items IsMarkedOp) ms from to × (to.rest ≡ [])
+NumbersIn view from (Ok v) =
+    (ms : List Marked) × (to : Cursor) × Takes (Items IsMarkedOp) ms from to × (to.rest ≡ [])
     × (is_ended (map op_in ms) ≡ true) × (view v ≡ numbers ms)
 NumbersIn view from (Err e) = Fails e (ops_of from)
 

@@ -51,7 +51,8 @@ IsBehind (Some shape) place zs text = AreImmediates (immediates shape) place zs 
 
 -- an operator of the table
 abbrev pub IsOp : ℕ → Op → List ℕ → Type 0
-IsOp place op text = Then IsHead (λ h. IsBehind (shape_of h.0 h.1)) place ((op.code, op.sub), op.args) text
+IsOp place op text =
+    Then IsHead (λ h. IsBehind (shape_of h.0 h.1)) place ((op.code, op.sub), op.args) text
 
 -- no operator on element segments
 abbrev pub is_taken : Op → Bool
@@ -72,7 +73,9 @@ shape_or code (Some shape) = Ok shape
 
 -- the shape of an operator that is taken
 unfoldable pub taken_shape : ℕ × ℕ → Result Shape ReadError
-taken_shape h = if is_element h.0 h.1 then Err (Unsupported ElementOperator) else shape_or h.0 (shape_of h.0 h.1)
+taken_shape h =
+    if is_element h.0 h.1 then Err (Unsupported ElementOperator)
+    else shape_or h.0 (shape_of h.0 h.1)
 
 -- what stands behind an operator that is taken
 abbrev pub IsBehindTaken : Result Shape ReadError → ℕ → List ℤ → List ℕ → Type 0

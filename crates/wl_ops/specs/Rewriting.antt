@@ -27,12 +27,17 @@ new_index indices k = flattened (slice_get indices k)
 abbrev pub IsShort : ℕ → List ℕ → Type 0
 IsShort k short = (k < 2 ^ 32) × IsShortest k short
 
--- x is cut at the numbers, and y is the same with the shortest spelling of the new number in the place of each
+-- x is cut at the numbers, and y is the same with the shortest spelling of the new number in the
+-- place of each
 abbrev pub Rewrites : (ℕ → Option ℕ) → ℕ → List DataIndexImm → List ℕ → List ℕ → Type 0
 Rewrites new place [] x y = y ≡ x
-Rewrites new place (n ∷ ns) x y = (before : List ℕ) × (digits : List ℕ) × (after : List ℕ) × (k : ℕ) × (short : List ℕ) × (more : List ℕ)
-    × (x ≡ before ++ (digits ++ after)) × (n.offset ≡ place + length before) × (n.len ≡ length digits)
-    × (new n.index ≡ Some k) × IsShort k short × (y ≡ before ++ (short ++ more)) × Rewrites new (n.offset + n.len) ns after more
+Rewrites new place (n ∷ ns) x y =
+    (before : List ℕ) × (digits : List ℕ) × (after : List ℕ) × (k : ℕ) × (short : List ℕ)
+    × (more : List ℕ)
+    × (x ≡ before ++ (digits ++ after)) × (n.offset ≡ place + length before)
+    × (n.len ≡ length digits)
+    × (new n.index ≡ Some k) × IsShort k short × (y ≡ before ++ (short ++ more))
+    × Rewrites new (n.offset + n.len) ns after more
 
 -- one of the numbers has no new one
 abbrev pub LacksIndex : (ℕ → Option ℕ) → List DataIndexImm → Type 0
@@ -56,11 +61,14 @@ old_bytes ns = sum_by (λ n. n.len) ns
 abbrev pub NewBytes : (ℕ → Option ℕ) → List DataIndexImm → ℕ → Type 0
 NewBytes new [] bytes = bytes ≡ 0
 NewBytes new (n ∷ ns) bytes = (k : ℕ) × (short : List ℕ) × (others : ℕ)
-    × (new n.index ≡ Some k) × IsShort k short × NewBytes new ns others × (bytes ≡ length short + others)
+    × (new n.index ≡ Some k) × IsShort k short × NewBytes new ns others
+    × (bytes ≡ length short + others)
 
--- what stood at p stands at q: it has moved by the sum of the changes of length of the numbers before it
+-- what stood at p stands at q: it has moved by the sum of the changes of length of the numbers
+-- before it
 abbrev pub Moves : (ℕ → Option ℕ) → List DataIndexImm → ℕ → ℕ → Type 0
-Moves new ns p q = (bytes : ℕ) × NewBytes new (before p ns) bytes × (q + old_bytes (before p ns) ≡ p + bytes)
+Moves new ns p q =
+    (bytes : ℕ) × NewBytes new (before p ns) bytes × (q + old_bytes (before p ns) ≡ p + bytes)
 
 -- so it is with each field
 abbrev pub AllMove : (ℕ → Option ℕ) → List DataIndexImm → List ℕ → List ℕ → Type 0
@@ -79,12 +87,20 @@ renumbered_args new (negsuc k ∷ zs) = negsuc k ∷ zs
 
 -- the same operator with the new number of its segment
 abbrev pub renumbered : (ℕ → Option ℕ) → Op → Op
-renumbered new op = record { code = op.code; sub = op.sub; args = if is_segment op.code op.sub then renumbered_args new op.args else op.args }
+renumbered new op =
+    record {
+      code = op.code;
+      sub = op.sub;
+      args = if is_segment op.code op.sub then renumbered_args
+          new op.args else op.args;
+    }
 
 -- ---- what is answered
 
--- What becomes of a body and fields in it: whether it has numbers, the rewritten body, and the moved fields.
-pub record IsRemapped (new : ℕ → Option ℕ) (fields : List ℕ) (answer : Bool × (List ℕ × List ℕ)) (body : List ℕ) : Type 0 where
+-- What becomes of a body and fields in it: whether it has numbers, the rewritten body, and the
+-- moved fields.
+pub record IsRemapped (new : ℕ → Option ℕ) (fields : List ℕ) (answer : Bool × (List ℕ × List ℕ))
+    (body : List ℕ) : Type 0 where
   pub numbers : List DataIndexImm
   pub theirs : AreTold numbers body
   pub some : answer.0 ≡ not (length numbers == 0)
@@ -93,30 +109,39 @@ pub record IsRemapped (new : ℕ → Option ℕ) (fields : List ℕ) (answer : B
 
 -- why it is refused: the body isn't decoded, or one of its numbers has no new one
 abbrev pub RemapFault : (ℕ → Option ℕ) → ReadError → List ℕ → Type 0
-RemapFault new e body = NumbersFault e body ⊎ ((ns : List DataIndexImm) × AreTold ns body × LacksIndex new ns × (e ≡ Malformed BadIndex))
+RemapFault new e body =
+    NumbersFault e body
+    ⊎ ((ns : List DataIndexImm) × AreTold ns body × LacksIndex new ns × (e ≡ Malformed BadIndex))
 
--- What a call has answered that rewrites a body and moves fields in it, which are a pair before and after: what becomes of
--- them, or why it is refused.
-abbrev pub Remaps : (ℕ → Option ℕ) → List ℕ × List ℕ → List ℕ × List ℕ → Result Bool ReadError → Type 0
-Remaps new before after result = ReadsWhole (λ some. (some, after)) (IsRemapped new before.1) (RemapFault new) before.0 result
+-- What a call has answered that rewrites a body and moves fields in it, which are a pair before and
+-- after: what becomes of them, or why it is refused.
+abbrev pub Remaps : (ℕ → Option ℕ) → List ℕ × List ℕ → List ℕ × List ℕ → Result Bool ReadError
+    → Type 0
+Remaps new before after result =
+    ReadsWhole (λ some. (some, after)) (IsRemapped new before.1) (RemapFault new) before.0 result
 
 -- ---- on the way
 
--- the numbers lie from one place to another, one behind the other, and two bytes at least before each
+-- the numbers lie from one place to another, one behind the other, and two bytes at least before
+-- each
 abbrev pub LieWithin : ℕ → List DataIndexImm → ℕ → Type 0
 LieWithin from [] to = from ≤ to
-LieWithin from (n ∷ ns) to = (from + 2 ≤ n.offset) × (1 ≤ n.len) × LieWithin (n.offset + n.len) ns to
+LieWithin from (n ∷ ns) to =
+    (from + 2 ≤ n.offset) × (1 ≤ n.len) × LieWithin (n.offset + n.len) ns to
 
--- for each number where it ends, and where its new spelling ends; before them old has moved to there
+-- for each number where it ends, and where its new spelling ends; before them old has moved to
+-- there
 abbrev pub AreShifts : (ℕ → Option ℕ) → ℕ → ℕ → List DataIndexImm → List Shift → Type 0
 AreShifts new old there [] [] = Unit {0}
 AreShifts new old there [] (s ∷ ss) = ⊥
 AreShifts new old there (n ∷ ns) [] = ⊥
 AreShifts new old there (n ∷ ns) (s ∷ ss) = (s.old_end ≡ n.offset + n.len)
-    × ((k : ℕ) × (short : List ℕ) × (new n.index ≡ Some k) × IsShort k short × (length short ≤ 5) × (s.new_end + old ≡ there + n.offset + length short))
+    × ((k : ℕ) × (short : List ℕ) × (new n.index ≡ Some k) × IsShort k short × (length short ≤ 5)
+    × (s.new_end + old ≡ there + n.offset + length short))
     × AreShifts new s.old_end s.new_end ns ss
 
--- by the last shift that ends at p or before, p moves on; q is where it stands by those that were looked at
+-- by the last shift that ends at p or before, p moves on; q is where it stands by those that were
+-- looked at
 abbrev pub shifted : List Shift → ℕ → ℕ → ℕ
 shifted [] p q = q
 shifted (s ∷ ss) p q = if nat_le s.old_end p then shifted ss p (s.new_end + (p - s.old_end)) else q

@@ -45,11 +45,14 @@ OverlapsNone ns p w = AllByRecursion (λ n. (n.offset + n.len ≤ p) ⊎ (p + w 
 abbrev pub window : ℕ → ℕ → List ℕ → List ℕ
 window p w x = take w (drop p x)
 
--- What x keeps whose numbers ns are rewritten, so that y comes out: every operator but for these numbers, the bytes of
--- each field of w bytes at p that overlaps no number, and each of them in the operator of the same position, or in the
--- local declarations, which don't move.
+-- What x keeps whose numbers ns are rewritten, so that y comes out: every operator but for these
+-- numbers, the bytes of each field of w bytes at p that overlaps no number, and each of them in the
+-- operator of the same position, or in the local declarations, which don't move.
 pub record Keeps (new : ℕ → Option ℕ) (ns : List DataIndexImm) (x y : List ℕ) : Type 0 where
   pub operators : (ops : List Op) → AreTaken ops x → AreTaken (map (renumbered new) ops) y
-  pub bytes : (p q w : ℕ) → Moves new ns p q → OverlapsNone ns p w → p + w ≤ length x → window q w y ≡ window p w x
-  pub places : (p q w i j : ℕ) → Moves new ns p q → OverlapsNone ns p w → j < w → StandsIn x i (p + j) → StandsIn y i (q + j)
-  pub locals : (p q w j : ℕ) → Moves new ns p q → OverlapsNone ns p w → j < w → StandsInLocals x (p + j) → (q ≡ p) × StandsInLocals y (q + j)
+  pub bytes : (p q w : ℕ) → Moves new ns p q → OverlapsNone ns p w → p + w ≤ length x
+      → window q w y ≡ window p w x
+  pub places : (p q w i j : ℕ) → Moves new ns p q → OverlapsNone ns p w → j < w
+      → StandsIn x i (p + j) → StandsIn y i (q + j)
+  pub locals : (p q w j : ℕ) → Moves new ns p q → OverlapsNone ns p w → j < w
+      → StandsInLocals x (p + j) → (q ≡ p) × StandsInLocals y (q + j)

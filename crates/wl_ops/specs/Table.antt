@@ -1,4 +1,5 @@
--- The table of operators (core specification, "Instructions", with the vector and the thread operators).
+-- The table of operators (core specification, "Instructions", with the vector and the thread
+-- operators).
 use Rattle.std.specs.Prelude.{ℕ, ◌==◌, ◌||◌, ◌&&◌, nat_le, Bool, if◌then◌else◌, List, [], ◌∷◌, replicate, Option, Some, None}
 use Rattle.wl_ops.specs.declared.table.Single.TheVariants.{Number, Alignment, BlockType, Signed32, Signed64, Byte, ReferenceType, ValueType}
 use Rattle.wl_ops.specs.declared.table.Immediate.{Immediate}
@@ -127,7 +128,9 @@ shape_of code sub =
 
 -- the first bytes of operators that are known and not taken
 abbrev pub is_untaken : ℕ → Bool
-is_untaken code = is_prefix code || code == 0x14 || code == 0x15 || (nat_le 0xd3 code && nat_le code 0xd6) || code == 0xfb
+is_untaken code =
+    is_prefix code || code == 0x14 || code == 0x15 || (nat_le 0xd3 code && nat_le code 0xd6)
+    || code == 0xfb
 
 -- the two operators on element segments
 abbrev pub is_element : ℕ → ℕ → Bool

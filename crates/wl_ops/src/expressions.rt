@@ -35,8 +35,8 @@ fn next_is_reference(alloc: Global, reader: &mut Reader<'_>) -> Result<bool, Rea
     Ok(is_reference(&op))
 }
 
-/// Whether one of the operators of an expression takes the index of a global or of a function, as far
-/// as it can be decoded.
+/// Whether one of the operators of an expression takes the index of a global or of a function, as
+/// far as it can be decoded.
 ///
 /// # Errors
 /// `AllocError` where memory runs out.

@@ -1,8 +1,8 @@
 -- Where the fields of kept relocations stand.
-use Rattle.std.proofs.Common.{◌≡◌, ◌∙◌, ◌≤◌, ◌<◌, ℕ, zero, suc, ◌+◌, Bool, true, false, ◌&&◌, ◌==◌, List, [], ◌∷◌, ◌++◌, length, map, take, drop, refl, sym, ap, subst, arith, inl, inr, Option, Some, slice_get, Result, Ok, Err, IfOk, if◌then◌else◌, eqb-true, Contains}
+use Rattle.std.proofs.Common.{◌≡◌, ◌∙◌, ◌≤◌, ◌<◌, ℕ, zero, suc, ◌+◌, Bool, true, false, ◌&&◌, ◌==◌, List, [], ◌∷◌, ◌++◌, length, map, take, drop, refl, sym, ap, append-nil, append_assoc, subst, arith, inl, inr, Option, Some, slice_get, Result, Ok, Err, IfOk, if◌then◌else◌, eqb-true, Contains}
 use Rattle.std.specs.List.{AllByRecursion, AllZip}
 use Rattle.std.proofs.lemmas.Bool.{cases_lt}
-use Rattle.std.proofs.lemmas.List.{drop_all, take-append-drop}
+use Rattle.std.proofs.lemmas.List.{drop_all}
 use Rattle.std.proofs.lemmas.Option.{slice_get_within}
 use Rattle.std.proofs.lemmas.List.Elements.{Contains-append_left, Contains-append_right}
 use Rattle.wl_module.specs.Bodies.{Body}
@@ -27,11 +27,12 @@ use Rattle.wl_bind.specs.declared.relocated.FixupPlace.TheVariants.{Code, Segmen
 use Rattle.wl_bind.specs.declared.relocated.Relocated.{Relocated}
 use Rattle.wl_plan.specs.Bodies.{body_in, new_number, IsMovedBy, IsMovedAt, IsMovedIn}
 use Rattle.wl_plan.specs.BodySteps.{AreNewNumbers, AreSoundBodies, HasSoundBody}
-use Rattle.wl_plan.specs.PositionSteps.{is_code, share_body, AreOfOneBody, AreKept, IsThere}
+use Rattle.wl_plan.specs.PositionSteps.{is_code, share_body, goes_on, AreOfOneBody, AreKept, IsThere}
 use Rattle.wl_plan.specs.declared.placing.Placing.{Placing}
 use Rattle.wl_plan.proofs.ListLaws.{came_at, left_and, right_and, at_is_in, all_at}
 use Rattle.wl_plan.proofs.SegmentLaws.{append_split}
 use Rattle.wl_plan.proofs.BodyLaws.{body_at}
+use Rattle.wl_plan.proofs.FixupListLaws.{all_more}
 
 -- ---- where a kept relocation is from
 
@@ -401,28 +402,11 @@ data_stays input g first (r ∷ (q ∷ others)) at is one =
 -- ---- runs
 
 -- one more field of the body
-pub run_more : (rs : List Relocated) (first other : Relocated) (n : ℕ) → 0 < n
-    → slice_get rs 0 ≡ Some first → slice_get rs n ≡ Some other
-    → share_body first other ≡ true → AreOfOneBody (take n rs) → AreOfOneBody (take (n + 1) rs)
-run_more [] first other n pos at here is one = absurd cc
-run_more (r ∷ rs) first other zero pos at here is one = absurd (omega (arith, pos))
-run_more (r ∷ rs) first other (suc n) pos at here is one =
-    let same : first ≡ r = cc (at) in
-    let on : suc n + 1 ≡ suc (suc n) = omega arith in
-    rw on (all_more (λ (x : Relocated). share_body r x ≡ true) rs other n here
-    (subst (λ (x : Relocated). share_body x other ≡ true) same is) one)
-  where
-    all_more : (P : Relocated → Type 0) (xs : List Relocated) (x : Relocated) (n : ℕ)
-        → slice_get xs n ≡ Some x → P x → AllByRecursion P (take n xs)
-        → AllByRecursion P (take (suc n) xs)
-    all_more P [] x n here p all = absurd cc
-    all_more P (y ∷ xs) x zero here p all =
-        let same : x ≡ y = cc (here) in (subst P same p, tt)
-    all_more P (y ∷ xs) x (suc n) here p all = (all.0, all_more P xs x n here p all.1)
-
-pub run_one : (rs : List Relocated) → AreOfOneBody (take 1 rs)
-run_one [] = tt
-run_one (r ∷ rs) = tt
+pub one_more : (run : List Relocated) (r : Relocated) → goes_on run r ≡ true → AreOfOneBody run
+    → AreOfOneBody (run ++ r ∷ [])
+one_more [] r on one = tt
+one_more (first ∷ others) r on one =
+    all_more (λ (x : Relocated). share_body first x ≡ true) others r one on
 
 -- a part of the list is kept
 pub part_is_kept : (input : Input) (done run behind : List Relocated)
@@ -441,15 +425,49 @@ moved_more input g (r ∷ done) run [] new zip more = absurd zip
 moved_more input g (r ∷ done) run (p ∷ old) new zip more =
     (zip.0, moved_more input g done run old new zip.1 more)
 
--- what is done, and what is left of the list
-pub done_more : (all done rest : List Relocated) (n : ℕ) → done ++ rest ≡ all
-    → done ++ (take n rest ++ drop n rest) ≡ all
-done_more all done rest n is =
-    ap (λ (rs : List Relocated). done ++ rs) (take-append-drop n rest) ∙ is
+pub has_first : (run : List Relocated) → (length run == 0) ≡ false → 0 < length run
+has_first [] none = absurd cc
+has_first (r ∷ run) some = omega arith
 
-pub none_left : (rest : List Relocated) → length rest ≡ 0 → rest ≡ []
-none_left [] e = refl
-none_left (r ∷ rest) e = absurd (omega (arith, e))
+-- what is done, the run, and what is left: where the next field begins a run of its own
+pub after_run : (input : Input) (g : Placing) (done run left more next : List Relocated)
+    (r : Relocated) (old new positions : List ℕ) → done ++ (run ++ left) ≡ relocations input
+    → left ≡ r ∷ more → next ≡ r ∷ [] → positions ≡ old ++ new
+    → AllZip (IsMovedIn input g) done old → AllZip (IsMovedIn input g) run new
+    → (all : List Relocated) × (all ++ (next ++ more) ≡ relocations input) × (AreOfOneBody next)
+    × AllZip (IsMovedIn input g) all positions
+after_run input g done run left more next r old new positions whole steps is are zip moved = (
+  done ++ run,
+  rw is (append_assoc done run (r ∷ more) ∙ rw steps at whole),
+  rw is tt,
+  rw are (moved_more input g done run old new zip moved),
+)
+
+-- and where it goes on
+pub in_run : (input : Input) (g : Placing) (done run left more next : List Relocated)
+    (r : Relocated) (old positions : List ℕ) → done ++ (run ++ left) ≡ relocations input
+    → left ≡ r ∷ more → next ≡ run ++ r ∷ [] → positions ≡ old → goes_on run r ≡ true
+    → AreOfOneBody run → AllZip (IsMovedIn input g) done old
+    → (all : List Relocated) × (all ++ (next ++ more) ≡ relocations input) × (AreOfOneBody next)
+    × AllZip (IsMovedIn input g) all positions
+in_run input g done run left more next r old positions whole steps is are on one zip = (
+  done,
+  rw is (ap (λ (rs : List Relocated). done ++ rs) (append_assoc run (r ∷ []) more)
+      ∙ rw steps at whole),
+  rw is (one_more run r on one),
+  rw are zip,
+)
+
+-- where none is left, all are done but for the last run
+pub all_done : (input : Input) (g : Placing) (done run left : List Relocated)
+    (old new positions : List ℕ) → done ++ (run ++ left) ≡ relocations input → left ≡ []
+    → positions ≡ old ++ new → AllZip (IsMovedIn input g) done old
+    → AllZip (IsMovedIn input g) run new → AllZip (IsMovedIn input g) (relocations input) positions
+all_done input g done run left old new positions whole none are zip moved =
+    let is : done ++ run ≡ relocations input =
+    sym (ap (λ (rs : List Relocated). done ++ rs) (append-nil run)) ∙ rw none at whole in
+    subst (λ (rs : List Relocated). AllZip (IsMovedIn input g) rs positions) is
+    (rw are (moved_more input g done run old new zip moved))
 
 -- ---- the first field of a run
 

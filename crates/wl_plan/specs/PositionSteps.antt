@@ -26,6 +26,11 @@ AreOfOneBody [] = ⊤
 AreOfOneBody (first ∷ others) =
     AllByRecursion (λ (other : Relocated). share_body first other ≡ true) others
 
+-- a field lies in the body of these, or there are none
+abbrev pub goes_on : List Relocated → Relocated → Bool
+goes_on [] r = true
+goes_on (first ∷ others) r = share_body first r
+
 -- the relocations are kept
 abbrev pub AreKept : Input → List Relocated → Type 0
 AreKept input rs = (r : Relocated) → Contains rs r → Contains (relocations input) r

@@ -13,8 +13,8 @@ ghost use Rattle.wl_plan.specs.Placing.{IsPlacing};
 use crate::placing::Placing;
 use std::alloc::{AllocError, Global};
 use wl_bind::{ExportedData, LinkInput, is_data};
-use wl_data::{WasmDataAddress, WasmDataSegmentLayout, segments_have_layouts};
-use wl_linking::{File, ItemList, LinkError, Quantity, WasmSymbol, whole_objects};
+use wl_data::{WasmDataAddress, WasmDataSegmentLayout, past_last_address, segments_have_layouts};
+use wl_linking::{File, ItemList, LinkError, WasmSymbol, whole_objects};
 use wl_symbols::{Definition, WasmLinkerSymbol};
 
 // ---- segments
@@ -97,15 +97,6 @@ pub(crate) struct AddressBook<'b, 'i, 'a> {
     pub(crate) placing: &'b Placing<'a>,
     /// Where each segment of each object begins.
     pub(crate) starts: &'b [ItemList<WasmDataAddress>],
-}
-
-/// The refusal of an address past the last one.
-fn past_last_address() -> LinkError
-    ensures { result ≡ TooLarge Address }
-{
-    LinkError::TooLarge {
-        what: Quantity::Address,
-    }
 }
 
 /// So many bytes behind an address.

@@ -29,7 +29,7 @@ use wl_linking::{
     DebugSectionInput, File, ItemList, LinkError, parts_of_objects_stand, whole_objects,
 };
 use wl_live::{WasmGcUnit, live_units_are_closed};
-use wl_module::WasmFunctionBody;
+use wl_module::{WasmFunctionBody, copy_bytes};
 use wl_ops::remap_body_data_indices;
 use wl_symbols::WasmLinkerSymbol;
 use wl_synth::{UNREACHABLE_FUNCTION_BODY, encode_call_sequence_body};
@@ -80,17 +80,6 @@ pub(crate) fn all_numbers(
         numbers.push(object_numbers(alloc, map.segment_indices.as_slice())?)?;
     }
     Ok(ItemList::new(numbers))
-}
-
-/// The same bytes.
-fn copy_bytes<'a>(alloc: Global, bytes: &CowSlice<'a, u8>) -> Result<CowSlice<'a, u8>, AllocError>
-    ensures bytes { IfOk result (λ copy. cow_slice_items copy ≡ cow_slice_items bytes.now) }
-    ensures owned { IfOk result (λ copy. is_owned copy ≡ is_owned bytes.now) }
-{
-    match bytes {
-        CowSlice::Borrowed(bytes) => Ok(CowSlice::Borrowed(*bytes)),
-        CowSlice::Owned(bytes) => Ok(CowSlice::Owned(Vec::from_slice(alloc, bytes.as_slice())?)),
-    }
 }
 
 /// The bytes of a body that was rewritten, or wasn't.

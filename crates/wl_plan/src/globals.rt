@@ -1,6 +1,6 @@
 //! The globals of the output that aren't imported, each with what it starts with.
 
-ghost use Rattle.std.specs.Prelude.{◌≡◌, ◌++◌, List, [], ◌∷◌, map, true, Some, Contains, IfOk, OnOk, IfErr, slice_get};
+ghost use Rattle.std.specs.Prelude.{◌≡◌, ◌++◌, [], ◌∷◌, map, true, Some, Contains, IfOk, OnOk, IfErr, slice_get};
 ghost use Rattle.std.specs.Cow.{cow_slice_items};
 ghost use Rattle.wl_module.specs.Slices.{is_owned};
 ghost use Rattle.wl_linking.specs.Steps.{Clear, Refuses};
@@ -300,20 +300,6 @@ fn push_data<'a>(
 
 // ---- what objects define
 
-/// The same global.
-fn copy_global<'a>(alloc: Global, global: &OutputGlobal<'a>) -> Result<OutputGlobal<'a>, AllocError>
-    ensures { IfOk result (λ copy. copy ≡ global.now) }
-{
-    let init_expr_body = match &global.init_expr_body {
-        CowSlice::Borrowed(bytes) => CowSlice::Borrowed(*bytes),
-        CowSlice::Owned(bytes) => CowSlice::Owned(Vec::from_slice(alloc, bytes.as_slice())?),
-    };
-    Ok(OutputGlobal {
-        ty: global.ty,
-        init_expr_body,
-    })
-}
-
 /// Adds a global of an object, where it is kept.
 fn push_kept<'a>(
     alloc: Global,
@@ -334,7 +320,7 @@ fn push_kept<'a>(
         return Ok(());
     }
     globals.push(PlannedGlobal {
-        global: copy_global(alloc, global)?,
+        global: global.duplicate(alloc)?,
         origin: GlobalOrigin::Object {
             object,
             unit: number,

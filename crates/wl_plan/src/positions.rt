@@ -1,6 +1,6 @@
 //! Where the fields of kept relocations stand in what the output has.
 
-ghost use Rattle.std.specs.Prelude.{◌≡◌, ◌≤◌, ◌<◌, map, take, length, Some, IfOk, IfErr, slice_get};
+ghost use Rattle.std.specs.Prelude.{◌≡◌, ◌<◌, map, length, Some, IfOk, IfErr, slice_get};
 ghost use Rattle.std.specs.List.{AllByRecursion, AllZip};
 ghost use Rattle.std.specs.Cow.{cow_slice_items};
 ghost use Rattle.wl_linking.specs.declared.error.LinkError.TheVariants.{OutOfMemory};
@@ -9,13 +9,13 @@ ghost use Rattle.wl_bind.specs.declared.relocated.FixupPlace.TheVariants.{Code, 
 ghost use Rattle.wl_bind.specs.declared.relocated.Relocated.{Relocated as KeptRelocation};
 ghost use Rattle.wl_plan.specs.Bodies.{IsMovedIn};
 ghost use Rattle.wl_plan.specs.BodySteps.{AreAllNumbers, AreNewNumbers, AreSoundBodies, HasSoundBody};
-ghost use Rattle.wl_plan.specs.PositionSteps.{share_body, AreOfOneBody, AreKept, IsThere};
+ghost use Rattle.wl_plan.specs.PositionSteps.{share_body, goes_on, AreOfOneBody, AreKept, IsThere};
 
 use crate::parsing::link_error;
 use crate::placing::Placing;
 use std::alloc::{AllocError, Global};
 use std::borrow::CowSlice;
-use wl_bind::{FixupPlace, LinkInput, Relocated, list_relocations};
+use wl_bind::{FixupPlace, LinkInput, Relocated, kept_relocations};
 use wl_linking::{File, ItemList, LinkError, parts_of_objects_stand, whole_objects};
 use wl_live::live_units_are_closed;
 use wl_module::WasmFunctionBody;
@@ -31,18 +31,14 @@ fn share_body(first: &Relocated, other: &Relocated) -> bool
         && first.site.unit == other.site.unit
 }
 
-/// How many fields, from the first on, lie in its body; 1 for a field in data.
-fn run_length(relocations: &[Relocated]) -> usize
-    requires { 0 < length relocations.now }
-    ensures some { 0 < result }
-    ensures within { result ≤ length relocations.now }
-    ensures one { AreOfOneBody (take result relocations.now) }
+/// A field lies in the body of these, or there are none.
+fn goes_on(run: &[Relocated], relocated: &Relocated) -> bool
+    ensures { result ≡ goes_on run.now relocated.now }
 {
-    let mut count = 1;
-    while count < relocations.len() && share_body(&relocations[0], &relocations[count]) {
-        count += 1;
+    match run.first() {
+        None => true,
+        Some(first) => share_body(first, relocated),
     }
-    count
 }
 
 /// Where these fields stand as the object has them.
@@ -164,7 +160,8 @@ fn moved_code(
     moved_file(alloc, input, placing, file, row, first, run)
 }
 
-/// Where these fields of one body, or this one of data, stand in what the output has.
+/// Where these fields of one body, or this one of data, stand in what the output has; there may be
+/// none.
 fn moved_run(
     alloc: Global,
     input: &LinkInput<'_, '_>,
@@ -175,13 +172,15 @@ fn moved_run(
     requires sound { AreSoundBodies input.now }
     requires numbers { AreAllNumbers input.now placing.now numbers.now }
     requires kept { AreKept input.now run.now }
-    requires some { 0 < length run.now }
     requires one { AreOfOneBody run.now }
     ensures ok { IfOk result
         (λ positions. AllZip (IsMovedIn input.now placing.now) run.now positions.items) }
     ensures err { IfErr result (λ e. e ≡ OutOfMemory) }
 {
     whole_objects();
+    if run.is_empty() {
+        return Ok(Vec::new(alloc));
+    }
     let first = run[0];
     match first.place {
         FixupPlace::Segment => Ok(moved_data(alloc, input, placing, first, run)?),
@@ -205,14 +204,17 @@ pub(crate) fn moved_positions(
         AllZip (IsMovedIn input.now placing.now) (relocations input.now) positions.items) }
     ensures err { IfErr result (λ e. e ≡ OutOfMemory) }
 {
-    let kept = list_relocations(alloc, input)?;
     let mut positions = Vec::new(alloc);
-    let mut rest = kept.as_slice();
-    while !rest.is_empty() {
-        let (run, more) = rest.split_at(run_length(rest));
-        let mut moved = moved_run(alloc, input, placing, numbers, run)?;
-        positions.append(&mut moved)?;
-        rest = more;
+    let mut run = Vec::new(alloc);
+    for relocated in kept_relocations(input) {
+        if !goes_on(run.as_slice(), &relocated) {
+            let mut moved = moved_run(alloc, input, placing, numbers, run.as_slice())?;
+            positions.append(&mut moved)?;
+            run.clear();
+        }
+        run.push(relocated)?;
     }
+    let mut moved = moved_run(alloc, input, placing, numbers, run.as_slice())?;
+    positions.append(&mut moved)?;
     Ok(positions)
 }

@@ -40,7 +40,8 @@ pub record IsLaid (starts ends targets : List ℕ) : Type 0 where
   pub size : length ends ≡ length starts
   pub order : (k : ℕ) → k < length starts → slice_index starts k ≤ slice_index ends k
   pub room : (k : ℕ) → k < length starts → slice_index ends k ≤ length targets
-  pub nodes : (k : ℕ) → k < length starts → All (λ t. t < length starts) (stretch starts ends targets k)
+  pub nodes : (k : ℕ) → k < length starts
+      → All (λ t. t < length starts) (stretch starts ends targets k)
 
 -- the first i edges are counted, for so many nodes
 pub record Counted (n : ℕ) (edges : List Edge) (i : ℕ) (counts : List ℕ) : Type 0 where
@@ -53,16 +54,21 @@ pub record AreSums (counts : List ℕ) (n : ℕ) (starts : List ℕ) : Type 0 wh
   pub size : length starts ≡ n
   pub at : (k : ℕ) → k < n → slice_index starts k ≡ sum (take k counts)
 
--- where stretches begin that hold the edges of each node, apart from each other and inside the table
+-- where stretches begin that hold the edges of each node, apart from each other and inside the
+-- table
 pub record AreStarts (edges : List Edge) (starts : List ℕ) : Type 0 where
   pub room : (k : ℕ) → k < length starts → slice_index starts k + degree edges k ≤ length edges
-  pub apart : (j k : ℕ) → j < k → k < length starts → slice_index starts j + degree edges j ≤ slice_index starts k
+  pub apart : (j k : ℕ) → j < k → k < length starts
+      → slice_index starts j + degree edges j ≤ slice_index starts k
   pub count : sum_by length (graph_of (length starts) edges) ≡ length edges
 
 -- the first i edges are laid, each node's from its start to its end
-pub record Filled (starts : List ℕ) (edges : List Edge) (i : ℕ) (ends targets : List ℕ) : Type 0 where
+pub record Filled (starts : List ℕ) (edges : List Edge) (i : ℕ) (ends targets : List ℕ)
+    : Type 0 where
   pub size : length ends ≡ length starts
   pub room : length targets ≡ length edges
-  pub ends_at : (k : ℕ) → k < length starts → slice_index ends k ≡ slice_index starts k + degree (take i edges) k
+  pub ends_at : (k : ℕ) → k < length starts
+      → slice_index ends k ≡ slice_index starts k + degree (take i edges) k
   pub laid_at : (k : ℕ) → k < length starts
-      → take (degree (take i edges) k) (drop (slice_index starts k) targets) ≡ targets_of (take i edges) k
+      → take (degree (take i edges) k) (drop (slice_index starts k) targets)
+      ≡ targets_of (take i edges) k

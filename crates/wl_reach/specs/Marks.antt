@@ -26,4 +26,5 @@ unpacked n words = map (bit_of words) (range_with_len 0 n)
 -- how many of the marks before each word are set
 pub record IsRankTable (marks : List Bool) (before : List ℕ) : Type 0 where
   pub size : length marks ≤ 64 * length before
-  pub at : (word : ℕ) → word < length before → slice_index before word ≡ count_before marks (word * 64)
+  pub at : (word : ℕ) → word < length before
+      → slice_index before word ≡ count_before marks (word * 64)

@@ -4,9 +4,11 @@ use Rattle.wl_reach.specs.Graph.{HasEdge}
 use Rattle.wl_reach.specs.Marks.{IsMarked}
 
 -- the list begins with a root, each of its members refers to the next, and the last one is this
-pub record IsChain {X : Type 0} (root : X → Type 0) (refers : X → X → Type 0) (chain : List X) (last : X) : Type 0 where
+pub record IsChain {X : Type 0} (root : X → Type 0) (refers : X → X → Type 0) (chain : List X)
+    (last : X) : Type 0 where
   pub begins : (first : X) × (slice_get chain 0 ≡ Some first) × root first
-  pub linked : (k : ℕ) (x y : X) → slice_get chain k ≡ Some x → slice_get chain (k + 1) ≡ Some y → refers x y
+  pub linked : (k : ℕ) (x y : X) → slice_get chain k ≡ Some x → slice_get chain (k + 1) ≡ Some y
+      → refers x y
   pub ends : slice_get chain (length chain - 1) ≡ Some last
 
 -- such a list exists
@@ -23,7 +25,8 @@ pub record MarksReached (graph : List (List ℕ)) (roots : List ℕ) (marks : Li
 abbrev pub steps_of : List Bool → List (List ℕ) → ℕ
 steps_of [] graph = 0
 steps_of (is_marked ∷ marks) [] = 0
-steps_of (is_marked ∷ marks) (heads ∷ graph) = (if is_marked then 1 + length heads else 0) + steps_of marks graph
+steps_of (is_marked ∷ marks) (heads ∷ graph) =
+    (if is_marked then 1 + length heads else 0) + steps_of marks graph
 
 -- the marked nodes in their order, with one more behind them if it wasn't marked
 abbrev pub with_mark : List Bool → List ℕ → ℕ → List ℕ

@@ -40,8 +40,8 @@ behind_thread_data b place addend =
     if nat_lt place b.tls_base then Err Range
     else s32_or_range ((pos place -ℤ pos b.tls_base) +ℤ addend)
 
--- the value of an address, by from where it is counted, and by what is added to it; counted from the
--- start of the memory, the addend is left to be added
+-- the value of an address, by from where it is counted, and by what is added to it; counted from
+-- the start of the memory, the addend is left to be added
 abbrev pub address_value : AddressBase → AddressBases → WasmDataAddress → ℤ → Result ℤ RelocError
 address_value Memory b Missing addend = Ok (pos 0)
 address_value Memory b (Placed place) addend = Ok (pos place)

@@ -72,8 +72,8 @@ fn in_thread_data(offset: u32, addend: i64) -> Result<u32, RelocError>
     word_in_range(i128::from(offset) + i128::from(addend))
 }
 
-/// The word of an address, by from where it is counted, and by what is added to it; counted from the
-/// start of the memory, the addend is left to be added.
+/// The word of an address, by from where it is counted, and by what is added to it; counted from
+/// the start of the memory, the addend is left to be added.
 pub(crate) fn address_value(
     base: AddressBase,
     bases: AddressBases,
@@ -136,7 +136,8 @@ fn deferred_at(
 
 /// The place behind the start of a thread's data that the field of a relocation takes, where it
 /// names data that lies there, in the block of each thread: only four bytes can be stored when the
-/// thread starts. For data that lies elsewhere, and for a relocation that names none, there is none.
+/// thread starts. For data that lies elsewhere, and for a relocation that names none, there is
+/// none.
 ///
 /// # Errors
 /// `Unsupported` for an address in another field than four bytes; `Range` where the place is no

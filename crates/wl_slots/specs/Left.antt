@@ -7,8 +7,8 @@ use Rattle.indexmap.specs.IndexSet.{insert_all}
 use Rattle.wl_linking.specs.Object.{Object}
 use Rattle.wl_slots.specs.ImportSlots.{ImportSlot, has_symbols, are_symbols_weak}
 
--- an import that slots are, as clauses see it: its module and its field name, and the object and the
--- number of its first slot
+-- an import that slots are, as clauses see it: its module and its field name, and the object and
+-- the number of its first slot
 pub record HostImport : Type 0 where
   pub module_ : List ℕ
   pub name : List ℕ

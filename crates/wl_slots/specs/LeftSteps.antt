@@ -1,4 +1,5 @@
--- What maps beside lists of imports say: the place of each import, and which field names are stubs'.
+-- What maps beside lists of imports say: the place of each import, and which field names are
+-- stubs'.
 use Rattle.std.specs.Prelude.{◌≡◌, ℕ, ◌&&◌, Bool, true, List, unwrap_or}
 use Rattle.std.specs.HashMap.{HashMap, get_by}
 use Rattle.std.specs.Str.{bytes_eq}
@@ -19,7 +20,8 @@ TellsNames imports places =
     (name : List ℕ) → get_by (λ k. bytes_eq name k.now) places ≡ place_of_name name imports
 
 -- the map tells where in the list the import of each module and field name stands
-abbrev pub TellsImports : {S : Type 0} → List HostImport → HashMap (Bor (List ℕ) × Bor (List ℕ)) ℕ S → Type 0
+abbrev pub TellsImports : {S : Type 0} → List HostImport → HashMap (Bor (List ℕ) × Bor (List ℕ)) ℕ S
+    → Type 0
 TellsImports imports places =
     (origin name : List ℕ) → get_by (λ k. bytes_eq origin k.0.now && bytes_eq name k.1.now) places
     ≡ place_of_import origin name imports

@@ -77,7 +77,8 @@ pub fn stubs_are_found_by_name()
 pub fn host_imports_are_found()
     ensures { (slots : List Slot) (t : Slot) → Contains slots t
         → (p : ℕ)
-        × (place_of_import t.item.origin t.item.name (map first_slot (first_imports slots)) ≡ Some p)
+        × (place_of_import t.item.origin t.item.name (map first_slot (first_imports slots))
+        ≡ Some p)
         × (slice_get (map first_slot (first_imports slots)) p
         ≡ Some (first_slot (first_like same_import (first_imports slots) t))) }
 {}

@@ -19,9 +19,12 @@ no_firsts = record { strong = None; weak = None; undefined = None }
 
 -- one more symbol, behind these
 abbrev pub with_place : Firsts → Strength → Place → Firsts
-with_place b Strong p = record { strong = option_or b.strong (Some p); weak = b.weak; undefined = b.undefined }
-with_place b Weak p = record { strong = b.strong; weak = option_or b.weak (Some p); undefined = b.undefined }
-with_place b Undefined p = record { strong = b.strong; weak = b.weak; undefined = option_or b.undefined (Some p) }
+with_place b Strong p =
+    record { strong = option_or b.strong (Some p); weak = b.weak; undefined = b.undefined }
+with_place b Weak p =
+    record { strong = b.strong; weak = option_or b.weak (Some p); undefined = b.undefined }
+with_place b Undefined p =
+    record { strong = b.strong; weak = b.weak; undefined = option_or b.undefined (Some p) }
 
 -- what a map has for a name
 abbrev pub firsts_in : {S : Type 0} → HashMap (Bor (List ℕ)) Firsts S → List ℕ → Firsts
@@ -39,7 +42,8 @@ repeat_of before e = if is_strength Strong e.strength then first_of e.name Stron
 
 -- none repeats a strong name
 abbrev pub NoneRepeats : List Entry → Type 0
-NoneRepeats entries = (k : ℕ) (e : Entry) → slice_get entries k ≡ Some e → repeat_of (take k entries) e ≡ None
+NoneRepeats entries =
+    (k : ℕ) (e : Entry) → slice_get entries k ≡ Some e → repeat_of (take k entries) e ≡ None
 
 -- the second is the earliest that repeats a strong name, and the first is the first that had it
 pub record AreTwo (entries : List Entry) (pair : Pair) : Type 0 where
@@ -61,16 +65,19 @@ repeat_in firsts strength = if is_strength Strong strength then firsts.strong el
 -- one more entry: it is found too, or it repeats the strong name of the symbol told
 abbrev pub AddsOne : (List ℕ → Firsts) → (List ℕ → Firsts) → Entry → Option Place → Type 0
 AddsOne old new e told = (before : List Entry) → Holds old before →
-    MatchOption told ((repeat_of before e ≡ None) × Holds new (before ++ e ∷ [])) (λ first. repeat_of before e ≡ Some first)
+    MatchOption told ((repeat_of before e ≡ None) × Holds new (before ++ e ∷ []))
+    (λ first. repeat_of before e ≡ Some first)
 
 -- more entries, none of which repeats a strong name
 pub record Adds (old new : List ℕ → Firsts) (entries : List Entry) : Type 0 where
   pub found : (before : List Entry) → Holds old before → Holds new (before ++ entries)
-  pub clear : (before : List Entry) → Holds old before → NoneRepeats before → NoneRepeats (before ++ entries)
+  pub clear : (before : List Entry) → Holds old before → NoneRepeats before
+      → NoneRepeats (before ++ entries)
 
 -- more entries, the first repeat among which is told
 abbrev pub Meets : (List ℕ → Firsts) → List Entry → Pair → Type 0
-Meets old entries pair = (before : List Entry) → Holds old before → NoneRepeats before → AreTwo (before ++ entries) pair
+Meets old entries pair =
+    (before : List Entry) → Holds old before → NoneRepeats before → AreTwo (before ++ entries) pair
 
 -- all of them are added, or the first repeat is told
 abbrev pub AddsAll : (List ℕ → Firsts) → (List ℕ → Firsts) → List Entry → Option Pair → Type 0

@@ -129,7 +129,8 @@ last_of says default items = unwrap_or (said_of says items) default
 pub record AsksFor (items : List ArgItem) (args : WasmArgs) : Type 0 where
   pub inputs : args.inputs ≡ all_of input_of items
   pub export_symbols : args.export_symbols ≡ all_of export_symbol_of items
-  pub required_export_symbols : args.required_export_symbols ≡ all_of required_export_symbol_of items
+  pub required_export_symbols : args.required_export_symbols
+      ≡ all_of required_export_symbol_of items
   pub export_dynamic : args.export_dynamic ≡ last_of export_dynamic_of false items
   pub allow_undefined : args.allow_undefined ≡ last_of allow_undefined_of false items
   pub shared_memory : args.shared_memory ≡ false
@@ -166,7 +167,8 @@ HasArgFault words NoInputs = (args : WasmArgs) × IsArgs words args × (args.inp
 abbrev pub files_to_read : List (List ℕ) → WasmArgs → List (List ℕ)
 files_to_read words args = filter_map (slice_get words) args.inputs
 
--- a section that the program doesn't need is left in: no such section is left out, or its name is kept
+-- a section that the program doesn't need is left in: no such section is left out, or its name is
+-- kept
 abbrev pub emits_stripped_section : WasmArgs → List ℕ → Bool
 emits_stripped_section args name =
     not args.strip_all || list_any (λ kept. bytes_eq kept name) args.keep_sections

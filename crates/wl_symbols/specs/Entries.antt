@@ -22,7 +22,8 @@ is_private s = is_local s || not (has_name s)
 
 -- the symbol of that number in the object of that number
 abbrev pub symbol_in : List Object → ℕ → ℕ → Option LinkedSymbol
-symbol_in objects object symbol = option_and_then (λ o. slice_get o.symbols symbol) (slice_get objects object)
+symbol_in objects object symbol =
+    option_and_then (λ o. slice_get o.symbols symbol) (slice_get objects object)
 
 -- how many symbols these objects have
 abbrev pub symbol_count : List Object → ℕ
@@ -38,7 +39,12 @@ pub record Entry : Type 0 where
 
 -- the entry of a symbol
 abbrev pub entry_for : ℕ → ℕ → LinkedSymbol → Entry
-entry_for object k s = record { name = s.name; strength = strength_of s; place = record { object = object; symbol = k } }
+entry_for object k s =
+    record {
+      name = s.name;
+      strength = strength_of s;
+      place = record { object = object; symbol = k };
+    }
 
 -- its entry, where other objects know it
 abbrev pub entries_at : ℕ → ℕ → LinkedSymbol → List Entry

@@ -10,7 +10,8 @@ use Rattle.wl_symbols.specs.declared.options.Setting.TheVariants as setting
 use Rattle.wl_symbols.specs.declared.error.ArgError.{ArgError}
 use Rattle.wl_symbols.specs.declared.error.ArgError.TheVariants.{OutOfMemory, UnknownOption, MissingValue, BadNumber}
 
--- the word of this number is an option's, of which there is none, or which has a value and takes none
+-- the word of this number is an option's, of which there is none, or which has a value and takes
+-- none
 pub data IsUnknownOption (words : List (List ℕ)) (at : ℕ) : Type 0 where
   unnamed : (word : List ℕ) → slice_get words at ≡ Some word → is_option word ≡ true
       → taken_by (front_of word) ≡ None → IsUnknownOption words at
@@ -27,7 +28,8 @@ pub record LacksValue (words : List (List ℕ)) (at : ℕ) : Type 0 where
 abbrev pub ValueFault : Setting → List ℕ → ℕ → ArgError → Type 0
 ValueFault setting.Keyword value place e =
     ((stack_size_text value ≡ None) × (e ≡ UnknownOption place))
-    ⊎ ((text : List ℕ) × (stack_size_text value ≡ Some text) × (number_of 32 text ≡ None) × (e ≡ BadNumber place))
+    ⊎ ((text : List ℕ) × (stack_size_text value ≡ Some text) × (number_of 32 text ≡ None)
+    × (e ≡ BadNumber place))
 ValueFault setting.InitialMemory value place e = (number_of 64 value ≡ None) × (e ≡ BadNumber place)
 ValueFault setting.MaxMemory value place e = (number_of 64 value ≡ None) × (e ≡ BadNumber place)
 ValueFault _ value place e = ⊥
@@ -37,7 +39,8 @@ pub data ItemFault (words : List (List ℕ)) (at : ℕ) (e : ArgError) : Type 0 
   unknown : IsUnknownOption words at → e ≡ UnknownOption at → ItemFault words at e
   lacking : LacksValue words at → e ≡ MissingValue at → ItemFault words at e
   unsound : (setting : Setting) (value : List ℕ) (place : ℕ)
-      → HasValue words at setting value place → ValueFault setting value place e → ItemFault words at e
+      → HasValue words at setting value place → ValueFault setting value place e
+      → ItemFault words at e
 
 -- behind items, from the first word on, no item stands
 pub record WordsFault (words : List (List ℕ)) (e : ArgError) : Type 0 where
@@ -47,7 +50,8 @@ pub record WordsFault (words : List (List ℕ)) (e : ArgError) : Type 0 where
   pub fault : ItemFault words at e
 
 -- a refusal of a value has its cause; want of memory is free
-pub record RefusesValue (setting : Setting) (value : List ℕ) (place : ℕ) (e : ArgError) : Type 0 where
+pub record RefusesValue (setting : Setting) (value : List ℕ) (place : ℕ) (e : ArgError)
+    : Type 0 where
   pub cause_is : e ≢ OutOfMemory → ValueFault setting value place e
 
 -- a refusal of an item has its cause; want of memory is free

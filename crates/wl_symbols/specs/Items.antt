@@ -24,7 +24,8 @@ pub record NamesObject (words : List (List ℕ)) (at : ℕ) : Type 0 where
   pub plain : is_option word ≡ false
 
 -- the word of this number is an option's, which takes this, and this stands behind its equals sign
-pub record NamesOption (words : List (List ℕ)) (at : ℕ) (takes : OptionKind) (behind : Option (List ℕ)) : Type 0 where
+pub record NamesOption (words : List (List ℕ)) (at : ℕ) (takes : OptionKind)
+    (behind : Option (List ℕ)) : Type 0 where
   pub word : List ℕ
   pub here : slice_get words at ≡ Some word
   pub dashed : is_option word ≡ true
@@ -33,7 +34,8 @@ pub record NamesOption (words : List (List ℕ)) (at : ℕ) (takes : OptionKind)
 
 -- the word of this number is an option's that takes a value, and this is the value, in the word of
 -- that place: the same word, behind its equals sign, or the next
-pub data HasValue (words : List (List ℕ)) (at : ℕ) (setting : Setting) (value : List ℕ) (place : ℕ) : Type 0 where
+pub data HasValue (words : List (List ℕ)) (at : ℕ) (setting : Setting) (value : List ℕ) (place : ℕ)
+    : Type 0 where
   joined : NamesOption words at (Value setting) (Some value) → place ≡ at
       → HasValue words at setting value place
   parted : NamesOption words at (Value setting) None → slice_get words (at + 1) ≡ Some value
@@ -56,11 +58,13 @@ abbrev pub StandsAtWord : List (List ℕ) → ℕ → ArgItem → ℕ → Type 0
 StandsAtWord words at (Object place) next = NamesObject words at × (place ≡ at) × (next ≡ at + 1)
 StandsAtWord words at (Given flag) next = NamesOption words at (Nothing flag) None × (next ≡ at + 1)
 StandsAtWord words at (Set setting value) next =
-    (place : ℕ) × HasValue words at setting value place × IsSoundValue setting value × (next ≡ place + 1)
+    (place : ℕ) × HasValue words at setting value place × IsSoundValue setting value
+    × (next ≡ place + 1)
 StandsAtWord words at (Memory option value) next =
     NamesOption words at (OptionalValue option) value × (next ≡ at + 1)
 
 -- the items stand one behind the other, from this word to that one
 abbrev pub AreArgItems : List (List ℕ) → ℕ → List ArgItem → ℕ → Type 0
 AreArgItems words at [] end = at ≡ end
-AreArgItems words at (item ∷ items) end = (next : ℕ) × StandsAtWord words at item next × AreArgItems words next items end
+AreArgItems words at (item ∷ items) end =
+    (next : ℕ) × StandsAtWord words at item next × AreArgItems words next items end

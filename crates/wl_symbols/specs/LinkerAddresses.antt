@@ -5,14 +5,14 @@ use Rattle.wl_symbols.specs.declared.linker_symbol.TheConstants.{WASM_PAGE_SIZE,
 use Rattle.wl_symbols.specs.declared.linker_symbol.WasmLinkerSymbol.{WasmLinkerSymbol}
 use Rattle.wl_symbols.specs.declared.linker_symbol.WasmLinkerSymbol.TheVariants.{DataEnd, GlobalBase, HeapBase, HeapEnd, WasmFirstPageEnd, DsoHandle}
 
--- where the heap begins: at the end of the data, rounded up to the alignment of the stack, and behind
--- the stack where that doesn't stand first
+-- where the heap begins: at the end of the data, rounded up to the alignment of the stack, and
+-- behind the stack where that doesn't stand first
 abbrev pub heap_base : ℕ → ℕ → Bool → ℕ
 heap_base data_end stack_size stack_first =
     next_multiple_of data_end STACK_ALIGNMENT + (if stack_first then 0 else stack_size)
 
--- where the data begins and ends, the bytes of the stack, the heap's end if it is known, and whether the stack stands in
--- front of the data
+-- where the data begins and ends, the bytes of the stack, the heap's end if it is known, and
+-- whether the stack stands in front of the data
 pub record DataPlaces : Type 0 where
   pub data_start : ℕ
   pub data_end : ℕ

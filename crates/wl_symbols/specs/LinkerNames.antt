@@ -42,7 +42,8 @@ name_of made = (row_of made).name
 -- all of them
 abbrev pub all_made : List WasmLinkerSymbol
 all_made =
-    DataEnd ∷ GlobalBase ∷ HeapBase ∷ HeapEnd ∷ WasmFirstPageEnd ∷ DsoHandle ∷ MemoryBase ∷ TableBase
+    DataEnd ∷ GlobalBase ∷ HeapBase ∷ HeapEnd ∷ WasmFirstPageEnd ∷ DsoHandle ∷ MemoryBase
+    ∷ TableBase
     ∷ StackPointer ∷ TlsBase ∷ TlsSize ∷ TlsAlign ∷ CallCtors ∷ InitTls ∷ []
 
 -- ---- by name

@@ -43,7 +43,8 @@ options =
     ∷ option_row (codes "o") (Value setting.Output)
     ∷ []
 
--- a word of two or more bytes, of which the first is a dash, is an option's; any other names an object
+-- a word of two or more bytes, of which the first is a dash, is an option's; any other names an
+-- object
 abbrev pub is_option : List ℕ → Bool
 is_option [] = false
 is_option (a ∷ []) = false

@@ -10,7 +10,8 @@ use Rattle.wl_symbols.specs.declared.entry.Strength.TheVariants.{Strong}
 -- each name is that of one strong symbol at most
 abbrev pub HasOneStrong : List Object → Type 0
 HasOneStrong objects =
-    (name : List ℕ) (o k p l : ℕ) → HasSymbol objects name Strong o k → HasSymbol objects name Strong p l
+    (name : List ℕ) (o k p l : ℕ) → HasSymbol objects name Strong o k
+    → HasSymbol objects name Strong p l
     → (o ≡ p) × (k ≡ l)
 
 -- the second strong symbol repeats the name of the first
@@ -34,7 +35,8 @@ pub record IsFirstRepeat (objects : List Object) (pair : Pair) : Type 0 where
 -- the refusal of the two: their name, and where each stands
 abbrev pub refusal_of : Pair → LinkError
 refusal_of pair =
-    DuplicateSymbol pair.name pair.first.object pair.first.symbol pair.second.object pair.second.symbol
+    DuplicateSymbol pair.name pair.first.object pair.first.symbol pair.second.object
+    pair.second.symbol
 
 -- the refusal is of the earliest symbol of these objects that repeats a strong name
 abbrev pub IsDuplicate : List Object → LinkError → Type 0

@@ -17,7 +17,8 @@ pub record AddsItem (item : ArgItem) (old new : WasmArgs) : Type 0 where
   pub required_export_symbols : new.required_export_symbols
       ≡ put_behind old.required_export_symbols (required_export_symbol_of item)
   pub export_dynamic : new.export_dynamic ≡ unwrap_or (export_dynamic_of item) old.export_dynamic
-  pub allow_undefined : new.allow_undefined ≡ unwrap_or (allow_undefined_of item) old.allow_undefined
+  pub allow_undefined : new.allow_undefined
+      ≡ unwrap_or (allow_undefined_of item) old.allow_undefined
   pub shared_memory : new.shared_memory ≡ old.shared_memory
   pub stack_first : new.stack_first ≡ unwrap_or (stack_first_of item) old.stack_first
   pub gc_sections : new.gc_sections ≡ unwrap_or (gc_sections_of item) old.gc_sections

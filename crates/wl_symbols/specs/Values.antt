@@ -18,7 +18,8 @@ number_of bits text =
 
 -- the text behind stack-size and an equals sign
 abbrev pub stack_size_text : List ℕ → Option (List ℕ)
-stack_size_text value = if bytes_eq (front_of value) (codes "stack-size") then value_of value else None
+stack_size_text value =
+    if bytes_eq (front_of value) (codes "stack-size") then value_of value else None
 
 -- the bytes of the stack
 abbrev pub stack_size : List ℕ → Option ℕ
@@ -39,8 +40,8 @@ pub record MemoryName : Type 0 where
   pub origin : List ℕ
   pub name : List ℕ
 
--- the name of an imported memory: a value up to its first comma names the module; without one that is
--- env, and without a value the name is memory
+-- the name of an imported memory: a value up to its first comma names the module; without one that
+-- is env, and without a value the name is memory
 abbrev pub memory_name : Option (List ℕ) → MemoryName
 memory_name None = record { origin = codes "env"; name = codes "memory" }
 memory_name (Some value) =

@@ -1,7 +1,7 @@
 //! What the calls of the crates below give on small inputs.
 //!
-//! A crate with tests is proved twice, once with them. Here stand the tests of crates below, so that
-//! each of those is proved once.
+//! A crate with tests is proved twice, once with them. Here stand the tests of crates below, so
+//! that each of those is proved once.
 #![tactic(auto)]
 
 #[cfg(test)]

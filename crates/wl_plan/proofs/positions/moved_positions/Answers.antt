@@ -1,39 +1,71 @@
-use Rattle.std.proofs.Common.{◌≡◌, ◌∙◌, ◌++◌, List, take, drop, sym, subst, append_assoc}
+use Rattle.std.proofs.Common.{◌≡◌, ◌++◌, ◌∷◌, [], List, refl, sym, subst, true}
 use Rattle.std.specs.List.{AllZip}
-use Rattle.wl_bind.specs.Scan.{relocations}
+use Rattle.wl_bind.specs.KeptRelocations.{relocations_left}
 use Rattle.wl_bind.specs.declared.relocated.Relocated.{Relocated}
 use Rattle.wl_plan.specs.Bodies.{IsMovedIn}
-use Rattle.wl_plan.specs.PositionSteps.{AreKept}
-use Rattle.wl_plan.proofs.PositionLaws.{part_is_kept, done_more, moved_more}
+use Rattle.wl_plan.specs.PositionSteps.{AreKept, goes_on}
+use Rattle.wl_plan.proofs.PositionLaws.{after_run, all_done, in_run, part_is_kept}
 use Rattle.wl_plan.proofs.positions.moved_positions.Goals as goal
+use Rattle.wl_plan.proofs.positions.moved_positions.Goals.{then-not-goes_on+in_ok-moved+in_ok-append, else-not-goes_on}
 
 pub moved_run-requires-clause-kept : goal.moved_run-requires-clause-kept
 moved_run-requires-clause-kept c =
     let input = c.args.input.now in
-    let rest = c.loop-rest.rest.now in
-    let n = c.run_length.result in
-    let inv = c.loop-rest.invariant in
-    subst (λ (run : List Relocated). AreKept input run) (sym c.split_at.ensures.front)
-    (part_is_kept input inv.0 (take n rest) (drop n rest)
-    (done_more (relocations input) inv.0 rest n inv.1))
+    let at = c.loop-relocated in
+    subst (λ (run : List Relocated). AreKept input run) (sym c.as_slice-then-not-goes_on.ensures.value)
+    (part_is_kept input at.invariant.0 at.run.items (relocations_left at.relocated-iterator)
+    at.invariant.1)
 
-pub loop-rest-preserved : goal.loop-rest-preserved
-loop-rest-preserved c =
+pub moved_run-requires-2-clause-kept : goal.moved_run-requires-2-clause-kept
+moved_run-requires-2-clause-kept c =
+    let input = c.args.input.now in
+    let at = c.loop-relocated in
+    subst (λ (run : List Relocated). AreKept input run) (sym c.as_slice-2.ensures.value)
+    (part_is_kept input at.invariant.0 at.run.items (relocations_left at.relocated-iterator)
+    at.invariant.1)
+
+pub loop-relocated-preserved : goal.loop-relocated-preserved
+loop-relocated-preserved c =
     let input = c.args.input.now in
     let g = c.args.placing.now in
-    let rest = c.loop-rest.rest.now in
-    let n = c.run_length.result in
-    let inv = c.loop-rest.invariant in
-    let whole : (inv.0 ++ take n rest) ++ drop n rest ≡ relocations input =
-    append_assoc inv.0 (take n rest) (drop n rest)
-    ∙ done_more (relocations input) inv.0 rest n inv.1 in
-    let moved : AllZip (IsMovedIn input g) (take n rest) c.in_ok-moved.moved.items =
-    subst (λ (run : List Relocated). AllZip (IsMovedIn input g) run c.in_ok-moved.moved.items)
-    c.split_at.ensures.front c.in_ok-moved.ensures.ok in (
-      inv.0 ++ take n rest,
-      subst (λ (more : List Relocated). (inv.0 ++ take n rest) ++ more ≡ relocations input)
-          (sym c.split_at.ensures.back) whole,
-      rw c.in_ok-append.ensures.items
-          (moved_more input g inv.0 (take n rest) c.loop-rest.positions.items c.in_ok-moved.moved.items
-          inv.2 moved),
-    )
+    let at = c.loop-relocated in
+    let inv = at.invariant in
+    let left = relocations_left at.relocated-iterator in
+    let more = relocations_left c.next.new.self in
+    let r = c.in-Some.relocated in
+    let next = c.push.new.self.items in
+    let positions = c.if-not-goes_on.positions.items in
+    elim c.if-not-goes_on.branch [
+      | then-not-goes_on+in_ok-moved+in_ok-append w ↦ (
+          let new = w.in_ok-moved.moved.items in
+          let moved : AllZip (IsMovedIn input g) at.run.items new =
+          subst (λ (run : List Relocated). AllZip (IsMovedIn input g) run new)
+          w.as_slice-then-not-goes_on.ensures.value w.in_ok-moved.ensures.ok in
+          let is : next ≡ r ∷ [] =
+          rw (w.run-is, w.clear.ensures.items) at c.in_ok-push.ensures.items in
+          let are : positions ≡ at.positions.items ++ new =
+          rw w.positions-is w.in_ok-append.ensures.items in
+          after_run input g inv.0 at.run.items left more next r at.positions.items new positions
+          inv.1 c.in-Some.ensures.steps is are inv.3 moved)
+      | else-not-goes_on w ↦ (
+          let is : next ≡ at.run.items ++ r ∷ [] = rw w.run-is at c.in_ok-push.ensures.items in
+          let are : positions ≡ at.positions.items = rw w.positions-is refl in
+          let on : goes_on at.run.items r ≡ true =
+          rw c.as_slice.ensures.value at (sym w.if-not-goes_on.ensures) in
+          in_run input g inv.0 at.run.items left more next r at.positions.items positions
+          inv.1 c.in-Some.ensures.steps is are on inv.2 inv.3)
+    ]
+
+pub returns-clause-ok : goal.returns-clause-ok
+returns-clause-ok c =
+    let input = c.args.input.now in
+    let g = c.args.placing.now in
+    let at = c.loop-relocated in
+    let inv = at.invariant in
+    let new = c.in_ok-moved-2.moved.items in
+    let moved : AllZip (IsMovedIn input g) at.run.items new =
+    subst (λ (run : List Relocated). AllZip (IsMovedIn input g) run new)
+    c.as_slice-2.ensures.value c.in_ok-moved-2.ensures.ok in
+    all_done input g inv.0 at.run.items (relocations_left at.relocated-iterator) at.positions.items
+    new c.append-2.new.self.items inv.1 c.in-None.ensures.steps.0 c.in_ok-append-2.ensures.items
+    inv.3 moved

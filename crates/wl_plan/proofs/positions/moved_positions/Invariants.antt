@@ -1,14 +1,16 @@
-use Rattle.std.proofs.Common.{◌≡◌, ◌++◌, List, length}
+use Rattle.std.proofs.Common.{◌≡◌, ◌++◌, List}
 use Rattle.std.specs.List.{AllZip}
+use Rattle.wl_bind.specs.KeptRelocations.{relocations_left}
 use Rattle.wl_bind.specs.Scan.{relocations}
 use Rattle.wl_bind.specs.declared.relocated.Relocated.{Relocated}
 use Rattle.wl_plan.specs.Bodies.{IsMovedIn}
+use Rattle.wl_plan.specs.PositionSteps.{AreOfOneBody}
 use Rattle.wl_plan.proofs.positions.moved_positions.Given as goal
 
-abbrev pub invariant-loop-rest : goal.invariant-loop-rest
-invariant-loop-rest l =
-    (done : List Relocated) × (done ++ l.rest ≡ relocations l.input)
+-- what is done, the run, and what is left
+abbrev pub invariant-loop-relocated : goal.invariant-loop-relocated
+invariant-loop-relocated l =
+    (done : List Relocated)
+    × (done ++ (l.run.items ++ relocations_left l.relocated-iterator) ≡ relocations l.input)
+    × (AreOfOneBody l.run.items)
     × AllZip (IsMovedIn l.input l.placing) done l.positions.items
-
-abbrev pub decreases-loop-rest : goal.decreases-loop-rest
-decreases-loop-rest l = length l.rest
