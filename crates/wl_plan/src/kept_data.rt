@@ -92,7 +92,7 @@ fn kept_segments<'a>(
 {
     file.stands_for_an_object();
     let thread = thread_data(alloc, file)?;
-    let mut kept = Vec::new(alloc);
+    let mut kept = Vec::with_capacity(alloc, file.segments().len())?;
     for (number, segment) in file.segments().iter().enumerate() {
         let tls = thread[number];
         push_kept(&mut kept, input, object, file, number as u32, segment, tls)?;

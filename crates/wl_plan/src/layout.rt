@@ -138,16 +138,16 @@ pub enum FixupTo {
 pub struct Fixup {
     /// The object that the relocation is from.
     pub object: usize,
-    /// What the field lies in.
-    pub place: FixupPlace,
     /// The function or the segment of that object that holds the field.
     pub unit: u32,
     /// The first byte of the field in its body or its payload.
     pub position: u32,
-    /// The relocation's type.
-    pub ty: RelocationType,
     /// What the field takes.
     pub to: FixupTo,
+    /// What the field lies in.
+    pub place: FixupPlace,
+    /// The relocation's type.
+    pub ty: RelocationType,
 }
 
 /// What the output module holds, in the order of its spaces.
