@@ -80,7 +80,8 @@ impl<'c, 'i, 'a> TypeCheck<'c, 'i, 'a> {
 
     /// The first kept relocation that names such a symbol.
     fn find_relocation(&self) -> Option<Relocated>
-        ensures { result ≡ find (names_mismatch self.now.input.now) (relocations self.now.input.now) }
+        ensures { result
+            ≡ find (names_mismatch self.now.input.now) (relocations self.now.input.now) }
     {
         for relocated in kept_relocations(self.input) {
             if self.names_mismatch(&relocated) {

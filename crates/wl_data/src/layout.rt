@@ -173,7 +173,11 @@ pub(crate) fn lay_out<'a>(
     ensures clear { OnOk result (Clear (HasNoRoom pass segments.now frontier.old)) }
     ensures err { IfErr result (Refuses (HasNoRoom pass segments.now frontier.old)) }
 {
-    let mut layouts = Vec::new(alloc);
+    let chosen = segments
+        .iter()
+        .filter(|segment| is_chosen(pass, segment))
+        .count();
+    let mut layouts = Vec::with_capacity(alloc, chosen)?;
     for segment in segments {
         add(pass, segment, &mut layouts, frontier)?;
     }

@@ -127,21 +127,12 @@ fn collect_uses(alloc: Global, file: &File<'_>) -> Result<Vec<SymbolUse>, AllocE
 {
     file.stands_for_an_object();
     whole_objects();
-    let mut list = Vec::new(alloc);
+    let (code, data) = (file.code_relocations(), file.data_relocations());
+    let mut list = Vec::with_capacity(alloc, code.len().saturating_add(data.len()))?;
     let functions = WasmGcUnit::DefinedFunction(0);
-    push_uses(
-        &mut list,
-        functions,
-        file.code_relocations(),
-        file.code_sites(),
-    )?;
+    push_uses(&mut list, functions, code, file.code_sites())?;
     let segments = WasmGcUnit::DataSegment(0);
-    push_uses(
-        &mut list,
-        segments,
-        file.data_relocations(),
-        file.data_sites(),
-    )?;
+    push_uses(&mut list, segments, data, file.data_sites())?;
     Ok(list)
 }
 

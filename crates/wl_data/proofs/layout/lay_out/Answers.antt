@@ -6,7 +6,7 @@ use Rattle.wl_data.proofs.layout.lay_out.Goals as goal
 
 pub returns-in_err-add-clause-err : goal.returns-in_err-add-clause-err
 returns-in_err-add-clause-err c =
-    let p = err_from_is_err_and c.from_residual.result c.from_residual.ensures.1 in
+    let p = err_from_is_err_and c.from_residual-in_err-add.result c.from_residual-in_err-add.ensures.1 in
     let there = passes_there c.args.pass c.args.segments.now c.loop-segment.segment-index c.segment-item.result c.args.frontier.now c.loop-segment.frontier c.loop-segment.layouts.items c.loop-segment-test.true c.segment-item.is c.requires c.loop-segment.invariant in
     rw (p.1, p.2) (refuses_as _ _ _ (λ x. (x.0, there x.1)) c.in_err-add.ensures.err)
 
