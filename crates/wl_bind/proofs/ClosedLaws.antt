@@ -7,9 +7,9 @@ use Rattle.wl_module.specs.Imports.{Imported}
 use Rattle.wl_module.specs.declared.imports.ExternalKind.TheVariants as external
 use Rattle.wl_linking.specs.Object.{Object}
 use Rattle.wl_linking.specs.Spaces.{count_imports, is_of_kind}
-use Rattle.wl_linking.specs.Symbols.{Symbol as LinkedSymbol, is_undefined}
-use Rattle.wl_linking.specs.declared.symbols.WasmSymbolKind.{WasmSymbolKind}
-use Rattle.wl_linking.specs.declared.symbols.WasmSymbolKind.TheVariants.{Func, Data, Global, Section, Event, Table}
+use Rattle.wl_custom.specs.Symbols.{Symbol as LinkedSymbol, is_undefined}
+use Rattle.wl_custom.specs.declared.symbols.WasmSymbolKind.{WasmSymbolKind}
+use Rattle.wl_custom.specs.declared.symbols.WasmSymbolKind.TheVariants.{Func, Data, Global, Section, Event, Table}
 use Rattle.wl_symbols.specs.Link.{Link}
 use Rattle.wl_symbols.specs.Entries.{symbol_in}
 use Rattle.wl_symbols.specs.LinkerNames.{is_imported_as, matches_kind}

@@ -3,8 +3,8 @@ use Rattle.std.proofs.Common.{◌≡◌, ◌∙◌, ◌<◌, not, ℕ, zero, suc
 use Rattle.std.specs.Option.{option_map_or, is_none}
 use Rattle.std.proofs.lemmas.Bool.{ltb-true}
 use Rattle.wl_linking.specs.Object.{Object}
-use Rattle.wl_linking.specs.declared.symbols.WasmSymbolKind.{WasmSymbolKind}
-use Rattle.wl_linking.specs.declared.symbols.WasmSymbolKind.TheVariants.{Func}
+use Rattle.wl_custom.specs.declared.symbols.WasmSymbolKind.{WasmSymbolKind}
+use Rattle.wl_custom.specs.declared.symbols.WasmSymbolKind.TheVariants.{Func}
 use Rattle.wl_symbols.specs.LinkerNames.{row_of, matches_kind}
 use Rattle.wl_live.specs.Live.{IsLiveOf}
 use Rattle.wl_live.specs.Units.{units_of, units_at, no_units, exists, unit_number}

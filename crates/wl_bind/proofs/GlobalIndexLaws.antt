@@ -5,8 +5,8 @@ use Rattle.std.proofs.lemmas.List.FromFn.{length-map-range_with_len}
 use Rattle.std.specs.Option.{option_map, is_none}
 use Rattle.std.proofs.lemmas.Option.{slice_get_within}
 use Rattle.wl_linking.specs.Object.{Object}
-use Rattle.wl_linking.specs.declared.symbols.WasmSymbolKind.{WasmSymbolKind}
-use Rattle.wl_linking.specs.declared.symbols.WasmSymbolKind.TheVariants.{Global}
+use Rattle.wl_custom.specs.declared.symbols.WasmSymbolKind.{WasmSymbolKind}
+use Rattle.wl_custom.specs.declared.symbols.WasmSymbolKind.TheVariants.{Global}
 use Rattle.wl_symbols.specs.LinkerNames.{row_of, matches_kind}
 use Rattle.wl_symbols.specs.declared.linker_symbol.WasmLinkerSymbol.{WasmLinkerSymbol}
 use Rattle.wl_symbols.specs.declared.linker_symbol.WasmLinkerSymbol.TheVariants.{MemoryBase, TableBase, StackPointer, TlsBase, TlsSize, TlsAlign}

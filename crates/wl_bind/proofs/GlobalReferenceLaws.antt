@@ -7,14 +7,14 @@ use Rattle.std.proofs.lemmas.List.{length-map}
 use Rattle.std.proofs.lemmas.Option.{slice_get-map}
 use Rattle.wl_module.specs.declared.imports.ExternalKind.TheVariants as external
 use Rattle.wl_linking.specs.Object.{Object}
-use Rattle.wl_linking.specs.RelocationTypes.{names_a_type}
+use Rattle.wl_custom.specs.RelocationTypes.{names_a_type}
 use Rattle.wl_linking.specs.Spaces.{count_imports, spaces_of, symbol_exists}
-use Rattle.wl_linking.specs.Symbols.{Symbol as LinkedSymbol, is_data, is_undefined}
-use Rattle.wl_linking.specs.declared.relocation_type.RelocationType.{RelocationType}
-use Rattle.wl_linking.specs.declared.relocation_type.RelocationType.TheVariants as type
+use Rattle.wl_custom.specs.Symbols.{Symbol as LinkedSymbol, is_data, is_undefined}
+use Rattle.wl_custom.specs.declared.relocation_type.RelocationType.{RelocationType}
+use Rattle.wl_custom.specs.declared.relocation_type.RelocationType.TheVariants as type
 use Rattle.wl_linking.specs.declared.spaces.Counts.{Counts}
-use Rattle.wl_linking.specs.declared.symbols.WasmSymbolKind.{WasmSymbolKind}
-use Rattle.wl_linking.specs.declared.symbols.WasmSymbolKind.TheVariants.{Func, Data, Global, Section, Event, Table}
+use Rattle.wl_custom.specs.declared.symbols.WasmSymbolKind.{WasmSymbolKind}
+use Rattle.wl_custom.specs.declared.symbols.WasmSymbolKind.TheVariants.{Func, Data, Global, Section, Event, Table}
 use Rattle.wl_symbols.specs.LinkerNames.{is_imported_as}
 use Rattle.wl_symbols.specs.declared.entry.Definition.{Definition}
 use Rattle.wl_live.specs.Entry.{is_function_kind}

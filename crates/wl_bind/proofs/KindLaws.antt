@@ -4,12 +4,12 @@ use Rattle.std.specs.Option.{option_map}
 use Rattle.std.proofs.lemmas.Bool.{cases_Bool, true≢false}
 use Rattle.std.proofs.lemmas.Option.{same_Some}
 use Rattle.wl_linking.specs.Object.{Object}
-use Rattle.wl_linking.specs.RelocationTypes.{names_a_type}
+use Rattle.wl_custom.specs.RelocationTypes.{names_a_type}
 use Rattle.wl_linking.specs.Steps.{Clear}
-use Rattle.wl_linking.specs.Symbols.{Symbol, is_data}
+use Rattle.wl_custom.specs.Symbols.{Symbol, is_data}
 use Rattle.wl_linking.specs.declared.error.LinkError.{LinkError}
 use Rattle.wl_linking.specs.declared.error.LinkError.TheVariants.{WrongKind}
-use Rattle.wl_linking.specs.declared.infos.WasmInitFunc.{WasmInitFunc}
+use Rattle.wl_custom.specs.declared.infos.WasmInitFunc.{WasmInitFunc}
 use Rattle.wl_symbols.specs.Entries.{symbol_in}
 use Rattle.wl_symbols.specs.LinkerNames.{row_of, is_exported_as_data}
 use Rattle.wl_symbols.specs.declared.linker_symbol.WasmLinkerSymbol.{WasmLinkerSymbol}

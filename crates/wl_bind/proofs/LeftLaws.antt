@@ -7,7 +7,7 @@ use Rattle.std.proofs.lemmas.Option.{slice_get_past}
 use Rattle.std.proofs.lemmas.Slice.Eq.{bytes_eq-Decides}
 use Rattle.indexmap.specs.IndexSet.{insert_key, insert_all}
 use Rattle.wl_linking.specs.Object.{Object}
-use Rattle.wl_linking.specs.declared.symbols.WasmSymbolKind.TheVariants.{Func}
+use Rattle.wl_custom.specs.declared.symbols.WasmSymbolKind.TheVariants.{Func}
 use Rattle.wl_slots.specs.ImportSlots.{ImportSlot}
 use Rattle.wl_slots.specs.SlotTargets.{by_definition, by_symbol_name, by_field_name, slot_target}
 use Rattle.wl_slots.specs.declared.targets.SlotTarget.{SlotTarget}

@@ -5,8 +5,8 @@ use Rattle.std.proofs.lemmas.Bool.{cases_eq, eq-eqb, ne_eqb}
 use Rattle.std.proofs.lemmas.List.{get_or-set_same, get_or-set_other, length-set, take_all}
 use Rattle.std.proofs.lemmas.List.Folds.{list_any_more}
 use Rattle.std.proofs.lemmas.List.FromFn.{length-map-range_with_len, get_or-map-range_with_len, fill_by_all}
-use Rattle.wl_linking.specs.Infos.{SegmentInfo, is_tls}
-use Rattle.wl_linking.specs.Symbols.{Symbol}
+use Rattle.wl_custom.specs.Infos.{SegmentInfo, is_tls}
+use Rattle.wl_custom.specs.Symbols.{Symbol}
 use Rattle.wl_bind.specs.ThreadData.{is_thread_symbol_on, is_thread_data_by}
 use Rattle.wl_bind.specs.ThreadSteps.{is_thread_symbol, marked}
 use Rattle.wl_bind.proofs.ListLaws.{or_false, or_true}

@@ -7,8 +7,8 @@ use Rattle.std.proofs.lemmas.List.{get_or-set_same, get_or-set_other, get_or-rep
 use Rattle.indexmap.specs.IndexSet.{insert_all}
 use Rattle.wl_module.specs.Types.{FunctionType, same_type}
 use Rattle.wl_linking.specs.Object.{Object}
-use Rattle.wl_linking.specs.RelocationTypes.{names_a_type}
-use Rattle.wl_linking.specs.declared.symbols.WasmSymbolKind.TheVariants.{Func}
+use Rattle.wl_custom.specs.RelocationTypes.{names_a_type}
+use Rattle.wl_custom.specs.declared.symbols.WasmSymbolKind.TheVariants.{Func}
 use Rattle.wl_live.specs.declared.units.WasmGcUnit.TheVariants.{DefinedFunction}
 use Rattle.wl_slots.specs.ImportSlots.{ImportSlot, object_slots, import_slots}
 use Rattle.wl_bind.specs.Input.{Input, keeps}

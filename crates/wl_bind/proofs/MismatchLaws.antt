@@ -5,13 +5,13 @@ use Rattle.std.proofs.lemmas.Bool.{cases_Bool}
 use Rattle.std.proofs.lemmas.Option.{slice_get_within}
 use Rattle.wl_module.specs.Types.{FunctionType, same_type}
 use Rattle.wl_linking.specs.Object.{Object}
-use Rattle.wl_linking.specs.RelocationTypes.{names_a_type}
+use Rattle.wl_custom.specs.RelocationTypes.{names_a_type}
 use Rattle.wl_linking.specs.Steps.{Clear}
-use Rattle.wl_linking.specs.Symbols.{Symbol, is_undefined}
+use Rattle.wl_custom.specs.Symbols.{Symbol, is_undefined}
 use Rattle.wl_linking.specs.declared.error.LinkError.{LinkError}
 use Rattle.wl_linking.specs.declared.error.LinkError.TheVariants.{SignatureMismatch}
-use Rattle.wl_linking.specs.declared.infos.WasmInitFunc.{WasmInitFunc}
-use Rattle.wl_linking.specs.declared.symbols.WasmSymbolKind.TheVariants.{Func}
+use Rattle.wl_custom.specs.declared.infos.WasmInitFunc.{WasmInitFunc}
+use Rattle.wl_custom.specs.declared.symbols.WasmSymbolKind.TheVariants.{Func}
 use Rattle.wl_symbols.specs.Entries.{symbol_in}
 use Rattle.wl_live.specs.Entry.{is_function_kind}
 use Rattle.wl_bind.specs.Input.{Input, keeps_slot}

@@ -8,8 +8,8 @@ use Rattle.indexmap.proofs.SetLemmas.{AllZip-push}
 use Rattle.wl_bytes.specs.declared.reader.TheConstants.{MAX_LEN}
 use Rattle.wl_linking.specs.Object.{Object}
 use Rattle.wl_linking.specs.declared.error.LinkError.{LinkError}
-use Rattle.wl_linking.specs.declared.symbols.WasmSymbolKind.{WasmSymbolKind}
-use Rattle.wl_linking.specs.declared.symbols.WasmSymbolKind.TheVariants.{Func, Global}
+use Rattle.wl_custom.specs.declared.symbols.WasmSymbolKind.{WasmSymbolKind}
+use Rattle.wl_custom.specs.declared.symbols.WasmSymbolKind.TheVariants.{Func, Global}
 use Rattle.wl_live.specs.Live.{Live, is_live, ordinal_of, live_below, IsLiveOf}
 use Rattle.wl_live.specs.Units.{units_of, exists, unit_index, unit_number}
 use Rattle.wl_live.specs.declared.units.LinkUnit.{LinkUnit}

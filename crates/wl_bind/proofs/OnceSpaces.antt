@@ -5,9 +5,9 @@ use Rattle.std.specs.Option.{option_map_or, is_none}
 use Rattle.std.proofs.lemmas.List.{map-append}
 use Rattle.wl_module.specs.Imports.{Imported}
 use Rattle.wl_linking.specs.Object.{Object}
-use Rattle.wl_linking.specs.Symbols.{Symbol as LinkedSymbol}
-use Rattle.wl_linking.specs.declared.symbols.WasmSymbolKind.{WasmSymbolKind}
-use Rattle.wl_linking.specs.declared.symbols.WasmSymbolKind.TheVariants.{Func, Global as GlobalKind}
+use Rattle.wl_custom.specs.Symbols.{Symbol as LinkedSymbol}
+use Rattle.wl_custom.specs.declared.symbols.WasmSymbolKind.{WasmSymbolKind}
+use Rattle.wl_custom.specs.declared.symbols.WasmSymbolKind.TheVariants.{Func, Global as GlobalKind}
 use Rattle.wl_slots.specs.ImportSlots.{ImportSlot, numbered_slots, slot_imports, object_slots}
 use Rattle.wl_slots.specs.Left.{same_field, same_import, is_stub, stub_slots}
 use Rattle.wl_slots.specs.SlotTargets.{slot_target}

@@ -6,7 +6,7 @@ use Rattle.std.proofs.lemmas.Bool.{cases_Bool}
 use Rattle.std.proofs.lemmas.List.Elements.{Contains-push_cases}
 use Rattle.std.proofs.lemmas.Slice.Eq.{bytes_eq-Decides}
 use Rattle.indexmap.specs.IndexSet.{insert_key, insert_all}
-use Rattle.wl_linking.specs.declared.symbols.WasmSymbolKind.TheVariants.{Func}
+use Rattle.wl_custom.specs.declared.symbols.WasmSymbolKind.TheVariants.{Func}
 use Rattle.wl_slots.specs.ImportSlots.{ImportSlot}
 use Rattle.wl_slots.specs.SlotTargets.{slot_target}
 use Rattle.wl_slots.specs.Left.{same_field, same_import, is_stub, stub_slots, first_imports}

@@ -10,9 +10,9 @@ use Rattle.wl_module.specs.declared.imports.ImportEntity.TheVariants as entity
 use Rattle.wl_linking.specs.Fitting.{IsWhole, IsFitting}
 use Rattle.wl_linking.specs.Object.{Object}
 use Rattle.wl_linking.specs.Spaces.{spaces_of, import_exists}
-use Rattle.wl_linking.specs.Symbols.{Symbol}
-use Rattle.wl_linking.specs.declared.symbols.WasmSymbolKind.{WasmSymbolKind}
-use Rattle.wl_linking.specs.declared.symbols.WasmSymbolKind.TheVariants.{Func}
+use Rattle.wl_custom.specs.Symbols.{Symbol}
+use Rattle.wl_custom.specs.declared.symbols.WasmSymbolKind.{WasmSymbolKind}
+use Rattle.wl_custom.specs.declared.symbols.WasmSymbolKind.TheVariants.{Func}
 use Rattle.wl_slots.specs.ImportSlots.{ImportSlot, is_slot_of, slot_imports, numbered_slots, object_slots}
 use Rattle.wl_slots.specs.Left.{same_field, is_stub, stub_slots}
 use Rattle.wl_slots.specs.SlotTargets.{slot_target}

@@ -1,7 +1,7 @@
 -- What a kept import slot of a function is bound to: the first of the rules that applies.
 use Rattle.std.specs.Prelude.{if◌then◌else◌, List, Option, Some, None, unwrap_or}
 use Rattle.std.specs.Option.{option_or, option_map}
-use Rattle.wl_linking.specs.declared.symbols.WasmSymbolKind.TheVariants.{Func}
+use Rattle.wl_custom.specs.declared.symbols.WasmSymbolKind.TheVariants.{Func}
 use Rattle.wl_slots.specs.ImportSlots.{ImportSlot}
 use Rattle.wl_slots.specs.SlotTargets.{by_definition, by_symbol_name, by_field_name}
 use Rattle.wl_slots.specs.declared.targets.SlotTarget.{SlotTarget}

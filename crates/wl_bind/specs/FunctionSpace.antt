@@ -3,7 +3,7 @@
 use Rattle.std.specs.Prelude.{ℕ, List, [], ◌∷◌, ◌++◌, map, length, if◌then◌else◌, Option, Some, None}
 use Rattle.std.specs.List.{filter, range_with_len}
 use Rattle.wl_linking.specs.Object.{Object}
-use Rattle.wl_linking.specs.declared.symbols.WasmSymbolKind.TheVariants.{Func}
+use Rattle.wl_custom.specs.declared.symbols.WasmSymbolKind.TheVariants.{Func}
 use Rattle.wl_live.specs.declared.units.WasmGcUnit.TheVariants.{DefinedFunction}
 use Rattle.wl_symbols.specs.declared.linker_symbol.WasmLinkerSymbol.{WasmLinkerSymbol}
 use Rattle.wl_symbols.specs.declared.linker_symbol.WasmLinkerSymbol.TheVariants.{CallCtors, InitTls}

@@ -4,8 +4,8 @@ use Rattle.std.specs.Option.{option_or, option_map, option_map_or}
 use Rattle.std.specs.List.{filter}
 use Rattle.std.specs.Option.{is_none}
 use Rattle.std.specs.Str.{bytes_eq}
-use Rattle.wl_linking.specs.Symbols.{Symbol as LinkedSymbol, has_name}
-use Rattle.wl_linking.specs.declared.symbols.WasmSymbolKind.TheVariants.{Global}
+use Rattle.wl_custom.specs.Symbols.{Symbol as LinkedSymbol, has_name}
+use Rattle.wl_custom.specs.declared.symbols.WasmSymbolKind.TheVariants.{Global}
 use Rattle.wl_symbols.specs.Entries.{symbol_in}
 use Rattle.wl_symbols.specs.LinkerNames.{name_of}
 use Rattle.wl_symbols.specs.declared.entry.Definition.{Definition}

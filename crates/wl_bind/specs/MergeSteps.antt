@@ -3,8 +3,8 @@ use Rattle.std.specs.Prelude.{◌≡◌, ℕ, ◌+◌, Bool, true, false, nat_lt
 use Rattle.indexmap.specs.IndexSet.{insert_all}
 use Rattle.wl_module.specs.Types.{FunctionType, same_type}
 use Rattle.wl_module.specs.declared.types.ValType.{ValType}
-use Rattle.wl_linking.specs.RelocationTypes.{names_a_type}
-use Rattle.wl_linking.specs.declared.symbols.WasmSymbolKind.TheVariants.{Func}
+use Rattle.wl_custom.specs.RelocationTypes.{names_a_type}
+use Rattle.wl_custom.specs.declared.symbols.WasmSymbolKind.TheVariants.{Func}
 use Rattle.wl_live.specs.declared.units.WasmGcUnit.TheVariants.{DefinedFunction}
 use Rattle.wl_slots.specs.ImportSlots.{ImportSlot, import_slots}
 use Rattle.wl_symbols.specs.declared.linker_symbol.WasmLinkerSymbol.TheVariants.{CallCtors, InitTls}

@@ -1,7 +1,7 @@
 -- The relocations of the objects whose fields lie in units that are kept.
 use Rattle.std.specs.Prelude.{ℕ, ◌+◌, Bool, List, [], ◌∷◌, ◌++◌, if◌then◌else◌}
 use Rattle.wl_linking.specs.Object.{Object}
-use Rattle.wl_linking.specs.declared.relocations.WasmRelocation.{WasmRelocation}
+use Rattle.wl_custom.specs.declared.relocations.WasmRelocation.{WasmRelocation}
 use Rattle.wl_linking.specs.declared.sites.Site.{Site}
 use Rattle.wl_live.specs.Live.{Live, is_live}
 use Rattle.wl_live.specs.declared.units.WasmGcUnit.{WasmGcUnit}

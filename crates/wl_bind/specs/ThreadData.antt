@@ -3,8 +3,8 @@
 use Rattle.std.specs.Prelude.{ℕ, ◌==◌, ◌&&◌, Bool, not, List, map, length, Option, Some, None, slice_get}
 use Rattle.std.specs.List.{list_any, range_with_len}
 use Rattle.wl_linking.specs.Object.{Object}
-use Rattle.wl_linking.specs.Infos.{SegmentInfo, is_tls}
-use Rattle.wl_linking.specs.Symbols.{Symbol, is_data, is_undefined, is_absolute, has_flag}
+use Rattle.wl_custom.specs.Infos.{SegmentInfo, is_tls}
+use Rattle.wl_custom.specs.Symbols.{Symbol, is_data, is_undefined, is_absolute, has_flag}
 
 -- data of a thread, TLS, 0x100, that its object defines lies on the segment of that number; data at
 -- an absolute address lies on none

@@ -1,6 +1,6 @@
 -- How the segments that hold data of a thread are marked.
 use Rattle.std.specs.Prelude.{◌&&◌, Bool, true, not, List, if◌then◌else◌, slice_set}
-use Rattle.wl_linking.specs.Symbols.{Symbol, is_data, is_undefined, is_absolute, has_flag}
+use Rattle.wl_custom.specs.Symbols.{Symbol, is_data, is_undefined, is_absolute, has_flag}
 
 -- data of a thread that its object defines lies on a segment
 abbrev pub is_thread_symbol : Symbol → Bool

@@ -2,7 +2,7 @@
 use Rattle.std.specs.Prelude.{ℕ, ◌&&◌, Bool, List, Option, Some, None}
 use Rattle.std.specs.Borrow.{Bor}
 use Rattle.indexmap.specs.IndexSet.{insert_key}
-use Rattle.wl_linking.specs.Symbols.{Symbol, is_data}
+use Rattle.wl_custom.specs.Symbols.{Symbol, is_data}
 use Rattle.wl_linking.specs.declared.error.UndefinedSymbol.{UndefinedSymbol}
 use Rattle.wl_bind.specs.Input.{Input}
 use Rattle.wl_bind.specs.Scan.{definition_of}

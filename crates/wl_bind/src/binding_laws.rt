@@ -3,8 +3,8 @@
 ghost use Rattle.std.specs.Prelude.{◌≡◌, ℕ, Some, true, Contains};
 ghost use Rattle.wl_module.specs.Types.{FunctionType, same_type};
 ghost use Rattle.wl_linking.specs.Steps.{Clear};
-ghost use Rattle.wl_linking.specs.Symbols.{Symbol as LinkedSymbol};
-ghost use Rattle.wl_linking.specs.declared.symbols.WasmSymbolKind.TheVariants.{Func};
+ghost use Rattle.wl_custom.specs.Symbols.{Symbol as LinkedSymbol};
+ghost use Rattle.wl_custom.specs.declared.symbols.WasmSymbolKind.TheVariants.{Func};
 ghost use Rattle.wl_symbols.specs.Entries.{symbol_in};
 ghost use Rattle.wl_live.specs.Entry.{is_function_kind};
 ghost use Rattle.wl_slots.specs.ImportSlots.{ImportSlot as Slot};

@@ -1,7 +1,7 @@
 //! The indices of what the linker makes, and where the parts of the spaces begin.
 
 ghost use Rattle.std.specs.Prelude.{◌≡◌, if◌then◌else◌, true, false, IfOk, IfErr, MatchOption, Some, slice_get, length, position};
-ghost use Rattle.wl_linking.specs.Symbols.{is_data};
+ghost use Rattle.wl_custom.specs.Symbols.{is_data};
 ghost use Rattle.wl_symbols.specs.LinkerNames.{row_of};
 ghost use Rattle.wl_bind.specs.Input.{Input as Linked};
 ghost use Rattle.wl_bind.specs.FunctionBinding.{link_stubs};

@@ -2,7 +2,7 @@
 
 ghost use Rattle.std.specs.Prelude.{◌≡◌, Some, find, OnOk, IfErr};
 ghost use Rattle.wl_linking.specs.Steps.{Clear};
-ghost use Rattle.wl_linking.specs.Symbols.{is_data};
+ghost use Rattle.wl_custom.specs.Symbols.{is_data};
 ghost use Rattle.wl_symbols.specs.LinkerNames.{row_of};
 ghost use Rattle.wl_bind.specs.FunctionSymbols.{function_bindings};
 ghost use Rattle.wl_bind.specs.FunctionTypes.{target_type};

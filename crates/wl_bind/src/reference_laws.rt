@@ -2,7 +2,7 @@
 //! relocations name.
 
 ghost use Rattle.std.specs.Prelude.{◌≡◌, ◌||◌, ℕ, true, false, Some, Contains};
-ghost use Rattle.wl_linking.specs.RelocationTypes.{names_a_type};
+ghost use Rattle.wl_custom.specs.RelocationTypes.{names_a_type};
 ghost use Rattle.wl_bind.specs.Input.{Input};
 ghost use Rattle.wl_bind.specs.FunctionSymbols.{fun};
 ghost use Rattle.wl_bind.specs.EntryTypes.{HasOutputType};

@@ -1,7 +1,7 @@
 //! The functions that function slots are bound to, and that function symbols lead to.
 
 ghost use Rattle.std.specs.Prelude.{◌≡◌, find, map, option_map, IfOk, IsSome, Some, Contains, slice_get};
-ghost use Rattle.wl_linking.specs.declared.symbols.WasmSymbolKind.TheVariants.{Func};
+ghost use Rattle.wl_custom.specs.declared.symbols.WasmSymbolKind.TheVariants.{Func};
 ghost use Rattle.wl_symbols.specs.Entries.{symbol_in};
 ghost use Rattle.wl_slots.specs.ImportSlots.{import_slots};
 ghost use Rattle.wl_slots.specs.Left.{first_slot, first_imports};

@@ -5,7 +5,7 @@ ghost use Rattle.std.specs.Option.{option_map_or, option_and_then};
 ghost use Rattle.std.specs.Cmp.Lexicographic.{pointwise};
 ghost use Rattle.wl_module.specs.Types.{same_value, same_type};
 ghost use Rattle.wl_module.specs.declared.types.ValType.TheVariants.{I32};
-ghost use Rattle.wl_linking.specs.declared.symbols.WasmSymbolKind.TheVariants.{Func};
+ghost use Rattle.wl_custom.specs.declared.symbols.WasmSymbolKind.TheVariants.{Func};
 ghost use Rattle.wl_slots.specs.ImportSlots.{import_slots};
 ghost use Rattle.wl_bind.specs.FunctionTypes.{type_in, type_of_defined, type_number, type_of_made, slot_type, declared_type};
 ghost use Rattle.wl_bind.specs.BindingSteps.{numbers_in, slot_numbers, number_at, is_other_type};

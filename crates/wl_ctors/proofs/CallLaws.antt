@@ -11,11 +11,11 @@ use Rattle.wl_linking.specs.Fitting.{IsWhole}
 use Rattle.wl_linking.specs.Object.{Object}
 use Rattle.wl_linking.specs.Spaces.{count_imports}
 use Rattle.wl_linking.specs.Steps.{Clear}
-use Rattle.wl_linking.specs.Symbols.{Symbol as LinkedSymbol, is_undefined, is_weak}
+use Rattle.wl_custom.specs.Symbols.{Symbol as LinkedSymbol, is_undefined, is_weak}
 use Rattle.wl_linking.specs.declared.error.LinkError.TheVariants.{WrongKind, SignatureMismatch}
-use Rattle.wl_linking.specs.declared.infos.WasmInitFunc.{WasmInitFunc}
-use Rattle.wl_linking.specs.declared.symbols.WasmSymbolKind.{WasmSymbolKind}
-use Rattle.wl_linking.specs.declared.symbols.WasmSymbolKind.TheVariants.{Func, Data, Global, Section, Event, Table}
+use Rattle.wl_custom.specs.declared.infos.WasmInitFunc.{WasmInitFunc}
+use Rattle.wl_custom.specs.declared.symbols.WasmSymbolKind.{WasmSymbolKind}
+use Rattle.wl_custom.specs.declared.symbols.WasmSymbolKind.TheVariants.{Func, Data, Global, Section, Event, Table}
 use Rattle.wl_symbols.specs.Entries.{symbol_in}
 use Rattle.wl_symbols.specs.Link.{Link}
 use Rattle.wl_symbols.specs.LinkerNames.{is_imported_as}

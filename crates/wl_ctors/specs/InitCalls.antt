@@ -5,7 +5,7 @@ use Rattle.std.specs.List.Sorted.{IsNonDecreasingBy, IsStableByKey}
 use Rattle.std.specs.Ordering.{nat_cmp}
 use Rattle.wl_module.specs.Types.{FunctionType}
 use Rattle.wl_linking.specs.Object.{Object}
-use Rattle.wl_linking.specs.declared.infos.WasmInitFunc.{WasmInitFunc}
+use Rattle.wl_custom.specs.declared.infos.WasmInitFunc.{WasmInitFunc}
 use Rattle.wl_symbols.specs.Link.{Link}
 use Rattle.wl_bind.specs.FunctionSpace.{FunctionOf, function_space}
 use Rattle.wl_bind.specs.FunctionSymbols.{fun}

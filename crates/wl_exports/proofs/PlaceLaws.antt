@@ -10,7 +10,7 @@ use Rattle.wl_module.specs.Exports.{Exported}
 use Rattle.wl_module.specs.declared.imports.ExternalKind.TheVariants as external
 use Rattle.wl_linking.specs.Object.{Object}
 use Rattle.wl_linking.specs.Spaces.{count_imports}
-use Rattle.wl_linking.specs.declared.symbols.WasmSymbolKind.TheVariants as symbol
+use Rattle.wl_custom.specs.declared.symbols.WasmSymbolKind.TheVariants as symbol
 use Rattle.wl_live.specs.declared.units.WasmGcUnit.TheVariants.{DefinedFunction, DefinedGlobal}
 use Rattle.wl_reloc.specs.declared.index_map.WasmObjectIndexMap.{WasmObjectIndexMap}
 use Rattle.wl_slots.specs.ImportSlots.{object_slots}

@@ -7,9 +7,9 @@ use Rattle.wl_module.specs.Exports.{Exported}
 use Rattle.wl_module.specs.declared.imports.ExternalKind.{ExternalKind}
 use Rattle.wl_module.specs.declared.imports.ExternalKind.TheVariants as external
 use Rattle.wl_linking.specs.Object.{Object}
-use Rattle.wl_linking.specs.Symbols.{Symbol as LinkedSymbol, is_data, has_name, is_undefined}
-use Rattle.wl_linking.specs.declared.symbols.WasmSymbolKind.{WasmSymbolKind}
-use Rattle.wl_linking.specs.declared.symbols.WasmSymbolKind.TheVariants as symbol
+use Rattle.wl_custom.specs.Symbols.{Symbol as LinkedSymbol, is_data, has_name, is_undefined}
+use Rattle.wl_custom.specs.declared.symbols.WasmSymbolKind.{WasmSymbolKind}
+use Rattle.wl_custom.specs.declared.symbols.WasmSymbolKind.TheVariants as symbol
 use Rattle.wl_symbols.specs.Args.{export_name}
 use Rattle.wl_symbols.specs.LinkerNames.{row_of, name_of, symbol_named}
 use Rattle.wl_symbols.specs.Names.{named}

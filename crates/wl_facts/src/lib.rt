@@ -6,8 +6,8 @@ ghost use Rattle.std.specs.List.{Contains};
 ghost use Rattle.wl_bytes.specs.declared.reader.TheConstants.{MAX_LEN};
 ghost use Rattle.wl_linking.specs.Fitting.{IsWhole};
 ghost use Rattle.wl_linking.specs.Object.{Object};
-ghost use Rattle.wl_linking.specs.Symbols.{Symbol as LinkedSymbol};
-ghost use Rattle.wl_linking.specs.declared.infos.WasmInitFunc.{WasmInitFunc as InitRecord};
+ghost use Rattle.wl_custom.specs.Symbols.{Symbol as LinkedSymbol};
+ghost use Rattle.wl_custom.specs.declared.infos.WasmInitFunc.{WasmInitFunc as InitRecord};
 ghost use Rattle.wl_module.specs.Types.{FunctionType};
 
 /// A type of an object has no more parameters, and no more results, than the object may have bytes.

@@ -9,8 +9,8 @@ use Rattle.std.proofs.lemmas.List.Elements.{filter_more}
 use Rattle.std.proofs.lemmas.List.Folds.{list_any-append}
 use Rattle.std.proofs.lemmas.Map.Views.{Contains-from_any, list_any-from_Contains}
 use Rattle.std.proofs.lemmas.Option.{slice_get-map, slice_get-get_or, slice_get_read}
-use Rattle.wl_linking.specs.Features.{Feature}
-use Rattle.wl_linking.specs.declared.features.TheConstants.{TARGET_FEATURE_PREFIX_DISALLOWED}
+use Rattle.wl_custom.specs.Features.{Feature}
+use Rattle.wl_custom.specs.declared.features.TheConstants.{TARGET_FEATURE_PREFIX_DISALLOWED}
 use Rattle.wl_features.specs.Taken.{names_of}
 use Rattle.wl_features.specs.Faults.{is_disallowed}
 use Rattle.wl_features.proofs.AscendingLaws.{contains_none, contains_head, contains_behind, contains_cases, contains_at}

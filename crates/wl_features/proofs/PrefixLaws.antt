@@ -3,7 +3,7 @@ use Rattle.std.proofs.Common.{◌≡◌, ℕ, ◌+◌, ◌<◌, ◌≤◌, true,
 use Rattle.std.proofs.lemmas.Bool.{cases_lt}
 use Rattle.std.proofs.lemmas.List.Elements.{All-contains, All-more}
 use Rattle.std.proofs.lemmas.Option.{slice_get_within}
-use Rattle.wl_linking.specs.Features.{Feature}
+use Rattle.wl_custom.specs.Features.{Feature}
 use Rattle.wl_linking.specs.Object.{Object}
 use Rattle.wl_linking.specs.Steps.{Clear}
 use Rattle.wl_features.specs.Faults.{is_known, IsBadFeature}

@@ -3,14 +3,14 @@ use Rattle.std.specs.Prelude.{◌≡◌, ℕ, ◌==◌, ◌||◌, ◌<◌, Bool,
 use Rattle.std.specs.List.{list_any}
 use Rattle.std.specs.Str.{bytes_eq}
 use Rattle.std.specs.declared.cmp.Ordering.TheVariants.{Less}
-use Rattle.wl_linking.specs.Features.{Feature}
+use Rattle.wl_custom.specs.Features.{Feature}
 use Rattle.wl_linking.specs.Object.{Object}
 use Rattle.wl_linking.specs.Steps.{Step, NoStep}
 use Rattle.wl_linking.specs.declared.error.LinkError.{LinkError}
 use Rattle.wl_linking.specs.declared.error.LinkError.TheVariants.{BadFeature, SharedMemoryFeature, FeatureConflict}
 use Rattle.wl_linking.specs.declared.error.SharedMemoryNeed.{SharedMemoryNeed}
 use Rattle.wl_linking.specs.declared.error.SharedMemoryNeed.TheVariants.{Disallowed, Atomics, BulkMemory}
-use Rattle.wl_linking.specs.declared.features.TheConstants.{TARGET_FEATURE_PREFIX_DISALLOWED}
+use Rattle.wl_custom.specs.declared.features.TheConstants.{TARGET_FEATURE_PREFIX_DISALLOWED}
 use Rattle.wl_symbols.specs.Link.{Link}
 use Rattle.wl_features.specs.Taken.{is_used, names_of, taken_names, by_bytes}
 

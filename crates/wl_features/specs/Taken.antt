@@ -5,9 +5,9 @@ use Rattle.std.specs.List.Sorted.{IsStrictlySortedBy}
 use Rattle.std.specs.Cmp.Lexicographic.{slice_cmp}
 use Rattle.std.specs.Ordering.{nat_cmp}
 use Rattle.std.specs.declared.cmp.Ordering.{Ordering}
-use Rattle.wl_linking.specs.Features.{Feature}
+use Rattle.wl_custom.specs.Features.{Feature}
 use Rattle.wl_linking.specs.Object.{Object}
-use Rattle.wl_linking.specs.declared.features.TheConstants.{TARGET_FEATURE_PREFIX_USED}
+use Rattle.wl_custom.specs.declared.features.TheConstants.{TARGET_FEATURE_PREFIX_USED}
 use Rattle.wl_symbols.specs.Link.{Link}
 
 -- the object uses it

@@ -11,8 +11,8 @@ use Rattle.wl_module.specs.declared.error.ReadError.{ReadError}
 use Rattle.wl_module.specs.declared.error.ReadError.TheVariants.{Malformed}
 use Rattle.wl_module.specs.Sections.{Section, headers_of, IsModule, FrameFault}
 use Rattle.wl_module.proofs.SectionLaws.{module_alternatives}
-use Rattle.wl_linking.specs.RelocationTypes.{field_form}
-use Rattle.wl_linking.specs.Symbols.{Symbol}
+use Rattle.wl_custom.specs.RelocationTypes.{field_form}
+use Rattle.wl_custom.specs.Symbols.{Symbol}
 use Rattle.wl_linking.specs.Sections.{AreSound}
 use Rattle.wl_linking.specs.Object.{Object}
 use Rattle.wl_linking.specs.Parts.{no_parts}
@@ -22,11 +22,11 @@ use Rattle.wl_linking.specs.Slots.{claims, SharesSlot, HasOneName, HasTwoNames, 
 use Rattle.wl_linking.specs.Sites.{PieceOf, AreInOrder, IsSite, AreSites, LiesBefore, AreApart, HasNoSite, HasOverlap, LieApart, FieldsFault, field_len, body_piece, segment_piece}
 use Rattle.wl_linking.specs.Fitting.{Fields, object_of, HasItems, IsFitting, PartsFault, IsObject, FirstItemsFault, ObjectFault}
 use Rattle.wl_linking.specs.declared.parts.Parts.{Parts}
-use Rattle.wl_linking.specs.declared.relocations.WasmRelocation.{WasmRelocation}
+use Rattle.wl_custom.specs.declared.relocations.WasmRelocation.{WasmRelocation}
 use Rattle.wl_linking.specs.declared.sites.Site.{Site}
 use Rattle.wl_linking.specs.declared.spaces.Counts.{Counts}
-use Rattle.wl_linking.specs.declared.symbols.WasmSymbolKind.{WasmSymbolKind}
-use Rattle.wl_linking.specs.declared.symbols.WasmSymbolKind.TheVariants.{Func, Global, Table}
+use Rattle.wl_custom.specs.declared.symbols.WasmSymbolKind.{WasmSymbolKind}
+use Rattle.wl_custom.specs.declared.symbols.WasmSymbolKind.TheVariants.{Func, Global, Table}
 use Rattle.wl_linking.proofs.ExistLaws.{names_exist}
 use Rattle.wl_linking.proofs.OnceLaws.{code_ascends, data_ascends}
 use Rattle.wl_linking.proofs.OrderExists.{ordered, order_exists}

@@ -12,11 +12,11 @@ use Rattle.wl_module.specs.Chains.{Chain}
 use Rattle.wl_module.specs.Sections.{Section, IsContentOf, IsModule, IsSection, next, magic, sections_in_turn}
 use Rattle.wl_module.specs.SectionKinds.{is_custom}
 use Rattle.wl_module.proofs.CountLaws.{number_bytes, name_bytes, items_few, listed_few, modules_few, types_few, placed_imports_few, indices_few, memories_few, globals_few, exports_few, bodies_few, targeted_few}
-use Rattle.wl_linking.specs.Infos.{IsInfo, AreInfos, IsInit, AreInits}
-use Rattle.wl_linking.specs.Symbols.{Symbol, IsSymbol, AreSymbols}
-use Rattle.wl_linking.specs.Features.{IsFeature, AreFeatures}
-use Rattle.wl_linking.specs.Linking.{IsHeld, IsSubsection, seen_after, subsection_kind, linking_of, IsLinking, infos_in as infos_of_one, inits_in as inits_of_one, table_in, subsections_in_turn}
-use Rattle.wl_linking.specs.Relocations.{IsEntry, HoldsEntries, IsRelocSection}
+use Rattle.wl_custom.specs.Infos.{IsInfo, AreInfos, IsInit, AreInits}
+use Rattle.wl_custom.specs.Symbols.{Symbol, IsSymbol, AreSymbols}
+use Rattle.wl_custom.specs.Features.{IsFeature, AreFeatures}
+use Rattle.wl_custom.specs.Linking.{IsHeld, IsSubsection, seen_after, subsection_kind, linking_of, IsLinking, infos_in as infos_of_one, inits_in as inits_of_one, table_in, subsections_in_turn}
+use Rattle.wl_custom.specs.Relocations.{IsEntry, HoldsEntries, IsRelocSection}
 use Rattle.wl_linking.specs.Parts.{no_parts, join, code_of, data_of, part_of}
 use Rattle.wl_linking.specs.Sections.{base_of, AreSound, section_context}
 use Rattle.wl_module.specs.Imports.{Imported}
@@ -27,16 +27,16 @@ use Rattle.wl_linking.specs.Slots.{with_import_name}
 use Rattle.wl_linking.specs.Sites.{AreInOrder}
 use Rattle.wl_linking.specs.Fitting.{IsObject, IsWhole, HasFewItems}
 use Rattle.wl_linking.specs.declared.parts.Parts.{Parts}
-use Rattle.wl_linking.specs.declared.linking.Linking.{Linking as LinkingHeld}
-use Rattle.wl_linking.specs.declared.linking.SeenSubsections.{SeenSubsections}
-use Rattle.wl_linking.specs.declared.linking.Subsection.{Subsection}
-use Rattle.wl_linking.specs.declared.linking.Subsection.TheVariants as held
-use Rattle.wl_linking.specs.declared.linking.SubsectionKind.{SubsectionKind}
-use Rattle.wl_linking.specs.declared.linking.SubsectionKind.TheVariants as part
-use Rattle.wl_linking.specs.declared.relocations.RelocHeld.{RelocHeld}
-use Rattle.wl_linking.specs.declared.relocations.Target.{Target}
-use Rattle.wl_linking.specs.declared.relocations.Target.TheVariants as target
-use Rattle.wl_linking.specs.declared.relocations.WasmRelocation.{WasmRelocation}
+use Rattle.wl_custom.specs.declared.linking.Linking.{Linking as LinkingHeld}
+use Rattle.wl_custom.specs.declared.linking.SeenSubsections.{SeenSubsections}
+use Rattle.wl_custom.specs.declared.linking.Subsection.{Subsection}
+use Rattle.wl_custom.specs.declared.linking.Subsection.TheVariants as held
+use Rattle.wl_custom.specs.declared.linking.SubsectionKind.{SubsectionKind}
+use Rattle.wl_custom.specs.declared.linking.SubsectionKind.TheVariants as part
+use Rattle.wl_custom.specs.declared.relocations.RelocHeld.{RelocHeld}
+use Rattle.wl_custom.specs.declared.relocations.Target.{Target}
+use Rattle.wl_custom.specs.declared.relocations.Target.TheVariants as target
+use Rattle.wl_custom.specs.declared.relocations.WasmRelocation.{WasmRelocation}
 use Rattle.wl_linking.specs.declared.section.SectionItems.{SectionItems}
 use Rattle.wl_linking.specs.declared.section.SectionItems.TheVariants.{Types, Imports, Functions, Memories, Globals, Exports, DataCount, Code, Data, Linking, Reloc, Features, Debug, Nothing}
 use Rattle.wl_linking.proofs.HeldLaws.{Spelled, spelled}

@@ -12,16 +12,16 @@ use Rattle.wl_module.specs.Sections.{Section, SectionStands}
 use Rattle.wl_module.specs.declared.error.ReadError.{ReadError}
 use Rattle.wl_module.specs.declared.section_kind.SectionKind.{SectionKind}
 use Rattle.wl_module.specs.declared.section_kind.SectionKind.TheVariants as kind
-use Rattle.wl_linking.specs.Features.{AreFeatures}
-use Rattle.wl_linking.specs.Linking.{IsLinking}
+use Rattle.wl_custom.specs.Features.{AreFeatures}
+use Rattle.wl_custom.specs.Linking.{IsLinking}
 use Rattle.wl_linking.specs.Parts.{join, part_of}
-use Rattle.wl_linking.specs.Relocations.{IsRelocSection}
+use Rattle.wl_custom.specs.Relocations.{IsRelocSection}
 use Rattle.wl_linking.specs.Targets.{custom_kind, numbered_verdict}
 use Rattle.wl_linking.specs.Sections.{SectionContext, section_context, has_memory, base_of, LinkingItems, Holding, imports_at, HoldsCustom, HoldsItems, AreSound}
 use Rattle.wl_linking.specs.declared.kinds.CustomKind.{CustomKind}
 use Rattle.wl_linking.specs.declared.kinds.CustomKind.TheVariants as custom
 use Rattle.wl_linking.specs.declared.parts.Parts.{Parts}
-use Rattle.wl_linking.specs.declared.relocations.Target.{Target}
+use Rattle.wl_custom.specs.declared.relocations.Target.{Target}
 use Rattle.wl_linking.specs.declared.section.SectionItems.{SectionItems}
 use Rattle.wl_linking.specs.declared.section.SectionItems.TheVariants.{Types, Imports, Functions, Memories, Globals, Exports, DataCount, Code, Data, Linking, Reloc, Features, Debug, Nothing}
 

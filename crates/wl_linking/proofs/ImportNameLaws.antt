@@ -8,7 +8,7 @@ use Rattle.wl_module.proofs.SectionLaws.{module_stands}
 use Rattle.wl_module.specs.Sections.{Section, IsModule, SectionStands}
 use Rattle.wl_module.specs.declared.imports.ExternalKind.{ExternalKind}
 use Rattle.wl_module.specs.declared.imports.ExternalKind.TheVariants.{Func as FuncImport, Global as GlobalImport}
-use Rattle.wl_linking.specs.Symbols.{Symbol, is_undefined, has_name, range_of}
+use Rattle.wl_custom.specs.Symbols.{Symbol, is_undefined, has_name, range_of}
 use Rattle.wl_linking.specs.Spaces.{is_of_kind}
 use Rattle.wl_linking.specs.Slots.{Slot, slot_of, slots_of, with_slot, with_name_of, with_import_name}
 use Rattle.wl_linking.specs.Targets.{bytes_between}
@@ -19,8 +19,8 @@ use Rattle.wl_linking.specs.SlotsReading.{AreNamedByRange}
 use Rattle.wl_linking.specs.Fitting.{IsObject, NameStands, named_symbols}
 use Rattle.wl_linking.specs.declared.parts.Parts.{Parts}
 use Rattle.wl_linking.specs.declared.section.SectionItems.TheVariants.{Imports}
-use Rattle.wl_linking.specs.declared.symbols.WasmSymbolKind.{WasmSymbolKind}
-use Rattle.wl_linking.specs.declared.symbols.WasmSymbolKind.TheVariants.{Func, Data, Global, Section as SectionSymbol, Event, Table}
+use Rattle.wl_custom.specs.declared.symbols.WasmSymbolKind.{WasmSymbolKind}
+use Rattle.wl_custom.specs.declared.symbols.WasmSymbolKind.TheVariants.{Func, Data, Global, Section as SectionSymbol, Event, Table}
 use Rattle.wl_linking.proofs.HeldLaws.{HaveInEach, all_held, all_follow}
 use Rattle.wl_linking.proofs.NameLaws.{Stands, SymbolStands, outer_stands, name_stands, symbols_stand}
 

@@ -1,10 +1,4 @@
 pub mod OnceLaws
-pub mod Exact
-pub mod SymbolLaws
-pub mod InfoLaws
-pub mod FeatureLaws
-pub mod LinkingLaws
-pub mod RelocationLaws
 pub mod SiteLaws
 pub mod SectionLaws
 pub mod PartLaws

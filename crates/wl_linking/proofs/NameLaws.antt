@@ -7,20 +7,20 @@ use Rattle.wl_bytes.specs.Grammar.{Items}
 use Rattle.wl_module.specs.Chains.{Chain}
 use Rattle.wl_module.specs.Checks.{When}
 use Rattle.wl_module.specs.Sections.{Section, IsModule}
-use Rattle.wl_linking.specs.Symbols.{Symbol, SymbolDetails, range_of, IsBasedName, name_or_none, IsNameWhere, is_named, IsNumbered, IsLocated, SymbolContext, symbol_context, IsDetails, IsSymbol, AreSymbols}
-use Rattle.wl_linking.specs.Linking.{subsection_kind, IsHeld, IsSubsection, seen_after, nothing_seen as no_subsection_seen, table_in, linking_of, IsLinking, subsections_in_turn}
+use Rattle.wl_custom.specs.Symbols.{Symbol, SymbolDetails, range_of, IsBasedName, name_or_none, IsNameWhere, is_named, IsNumbered, IsLocated, SymbolContext, symbol_context, IsDetails, IsSymbol, AreSymbols}
+use Rattle.wl_custom.specs.Linking.{subsection_kind, IsHeld, IsSubsection, seen_after, nothing_seen as no_subsection_seen, table_in, linking_of, IsLinking, subsections_in_turn}
 use Rattle.wl_linking.specs.Targets.{bytes_between}
 use Rattle.wl_linking.specs.Parts.{no_parts}
 use Rattle.wl_linking.specs.Sections.{base_of, AreSound}
 use Rattle.wl_linking.specs.declared.parts.Parts.{Parts}
-use Rattle.wl_linking.specs.declared.linking.Linking.{Linking as LinkingHeld}
-use Rattle.wl_linking.specs.declared.linking.SeenSubsections.{SeenSubsections}
-use Rattle.wl_linking.specs.declared.linking.Subsection.{Subsection}
-use Rattle.wl_linking.specs.declared.linking.SubsectionKind.{SubsectionKind}
-use Rattle.wl_linking.specs.declared.linking.SubsectionKind.TheVariants as part
+use Rattle.wl_custom.specs.declared.linking.Linking.{Linking as LinkingHeld}
+use Rattle.wl_custom.specs.declared.linking.SeenSubsections.{SeenSubsections}
+use Rattle.wl_custom.specs.declared.linking.Subsection.{Subsection}
+use Rattle.wl_custom.specs.declared.linking.SubsectionKind.{SubsectionKind}
+use Rattle.wl_custom.specs.declared.linking.SubsectionKind.TheVariants as part
 use Rattle.wl_linking.specs.declared.section.SectionItems.TheVariants.{Linking}
-use Rattle.wl_linking.specs.declared.symbols.WasmSymbolKind.{WasmSymbolKind}
-use Rattle.wl_linking.specs.declared.symbols.WasmSymbolKind.TheVariants.{Func, Data, Global, Section as SectionSymbol, Event, Table}
+use Rattle.wl_custom.specs.declared.symbols.WasmSymbolKind.{WasmSymbolKind}
+use Rattle.wl_custom.specs.declared.symbols.WasmSymbolKind.TheVariants.{Func, Data, Global, Section as SectionSymbol, Event, Table}
 use Rattle.wl_module.specs.Places.{StandsAt}
 use Rattle.wl_module.proofs.PlaceLaws.{all_stands, before_stands, behind_stands}
 use Rattle.wl_module.proofs.SectionLaws.{module_stands}

@@ -8,7 +8,7 @@ use Rattle.wl_module.specs.declared.error.ReadError.TheVariants.{OutOfMemory, Ma
 use Rattle.wl_module.specs.Sections.{Section, headers_of, IsModule, FrameFault}
 use Rattle.wl_module.proofs.SectionLaws.{module_alternatives}
 use Rattle.wl_module.specs.Outcome.{HasCause}
-use Rattle.wl_linking.specs.Symbols.{Symbol}
+use Rattle.wl_custom.specs.Symbols.{Symbol}
 use Rattle.wl_linking.specs.Sections.{AreSound}
 use Rattle.wl_linking.specs.Object.{Object}
 use Rattle.wl_linking.specs.Parts.{no_parts}
@@ -20,8 +20,8 @@ use Rattle.wl_linking.specs.Fitting.{HasItems, IsFitting, CrossFault, PartsFault
 use Rattle.wl_linking.specs.declared.parts.Parts.{Parts}
 use Rattle.wl_linking.specs.declared.sites.Site.{Site}
 use Rattle.wl_linking.specs.declared.spaces.Counts.{Counts}
-use Rattle.wl_linking.specs.declared.symbols.WasmSymbolKind.{WasmSymbolKind}
-use Rattle.wl_linking.specs.declared.symbols.WasmSymbolKind.TheVariants.{Func, Data, Global, Section as SectionSymbol, Event, Table}
+use Rattle.wl_custom.specs.declared.symbols.WasmSymbolKind.{WasmSymbolKind}
+use Rattle.wl_custom.specs.declared.symbols.WasmSymbolKind.TheVariants.{Func, Data, Global, Section as SectionSymbol, Event, Table}
 use Rattle.wl_linking.proofs.SectionLaws.{sections_one, sections_either, sections_one_fault}
 use Rattle.wl_linking.proofs.OrderLaws.{order_one, lie_apart_one, lie_apart_either}
 use Rattle.wl_linking.proofs.OnceLaws.{code_ascends, data_ascends}

@@ -5,7 +5,7 @@ use Rattle.std.specs.List.Sorted.{IsNonDecreasingBy}
 use Rattle.std.specs.Ordering.{nat_cmp, is_lt}
 use Rattle.std.proofs.lemmas.Bool.{cases_lt, leb-true, leb-false, lt-ltb}
 use Rattle.wl_linking.specs.Sites.{AreInOrder, offset_of}
-use Rattle.wl_linking.specs.declared.relocations.WasmRelocation.{WasmRelocation}
+use Rattle.wl_custom.specs.declared.relocations.WasmRelocation.{WasmRelocation}
 use Rattle.wl_linking.proofs.OrderLaws.{ties_with, no_tie, Rises}
 
 -- one entry among others in order

@@ -9,7 +9,7 @@ use Rattle.wl_module.specs.declared.error.ReadError.TheVariants.{Malformed}
 use Rattle.wl_module.specs.declared.error.Why.TheVariants as why
 use Rattle.wl_linking.specs.Sites.{PieceOf, IsSite, AreSites, AreApart, AreInOrder, HasNoSite, HasOverlap, LieApart, FieldsFault, offset_of}
 use Rattle.wl_linking.specs.Placing.{Ascend}
-use Rattle.wl_linking.specs.declared.relocations.WasmRelocation.{WasmRelocation}
+use Rattle.wl_custom.specs.declared.relocations.WasmRelocation.{WasmRelocation}
 use Rattle.wl_linking.specs.declared.sites.Site.{Site}
 use Rattle.wl_linking.proofs.SiteLaws.{site_is_found, some_is}
 

@@ -10,7 +10,7 @@ use Rattle.wl_linking.specs.Parts.{no_parts, join, part_of}
 use Rattle.wl_linking.specs.Sections.{IsSound, IsFaulty, AreSound, AreFaulty}
 use Rattle.wl_linking.specs.declared.parts.Parts.{Parts}
 use Rattle.wl_linking.specs.declared.section.SectionItems.{SectionItems}
-use Rattle.wl_linking.proofs.Exact.{cause_follows}
+use Rattle.wl_custom.proofs.Exact.{cause_follows}
 
 sound_more : (sections : List Section) (before : Parts) (front : List Section) (mid : Parts) (s : Section) (items : SectionItems)
     → AreSound sections before front mid → IsSound sections mid s items → AreSound sections before (front ++ s ∷ []) (join mid (part_of items))

@@ -11,7 +11,7 @@ use Rattle.std.specs.Fmt.{digit_glyph, digits, format_spec, padded_integral}
 use Rattle.hex.specs.Hex.{lower_digits, encode_lower, encode_with}
 use Rattle.hex.proofs.Pairs.{encode_with-drop}
 use Rattle.wl_bytes.proofs.Steps.{false_from_not}
-use Rattle.wl_linking.specs.Symbols.{Symbol, has_name}
+use Rattle.wl_custom.specs.Symbols.{Symbol, has_name}
 use Rattle.wl_linking.specs.Targets.{bytes_between}
 use Rattle.wl_linking.specs.RawNames.{named_text, shown_name, text_of}
 

@@ -21,10 +21,10 @@ use Rattle.wl_module.proofs.ImportLaws.{placed_imports_reading, exports_reading}
 use Rattle.wl_module.proofs.BodyLaws.{indices_reading, bodies_reading}
 use Rattle.wl_module.proofs.GlobalLaws.{globals_reading, memories_reading, data_count_reading}
 use Rattle.wl_module.proofs.SegmentLaws.{targeted_reading}
-use Rattle.wl_linking.specs.Debug.{debug_of}
-use Rattle.wl_linking.specs.Features.{AreFeatures, FeaturesFault, features_of}
-use Rattle.wl_linking.specs.Linking.{IsLinking, LinkingFault}
-use Rattle.wl_linking.specs.Relocations.{IsRelocSection, RelocSectionFault, reloc_section_of}
+use Rattle.wl_custom.specs.Debug.{debug_of}
+use Rattle.wl_custom.specs.Features.{AreFeatures, FeaturesFault, features_of}
+use Rattle.wl_custom.specs.Linking.{IsLinking, LinkingFault}
+use Rattle.wl_custom.specs.Relocations.{IsRelocSection, RelocSectionFault, reloc_section_of}
 use Rattle.wl_linking.specs.Parts.{join, part_of}
 use Rattle.wl_linking.specs.Targets.{custom_kind, numbered_verdict}
 use Rattle.wl_linking.specs.Sections.{SectionContext, section_context, has_memory, base_of, LinkingItems, LinkingItemsFault, Holding, imports_at, HoldsCustom, CustomFault, HoldsItems, ItemsFault, IsSoundCustom, IsFaultyCustom, IsSound, IsFaulty, AreSound, AreFaulty}
@@ -32,15 +32,15 @@ use Rattle.wl_linking.specs.declared.kinds.CustomKind.{CustomKind}
 use Rattle.wl_linking.specs.declared.kinds.CustomKind.TheVariants as custom
 use Rattle.wl_module.specs.Outcome.{HasCause, Fails, AreAlternatives}
 use Rattle.wl_linking.specs.declared.parts.Parts.{Parts}
-use Rattle.wl_linking.specs.declared.relocations.RelocHeld.{RelocHeld}
-use Rattle.wl_linking.proofs.Exact.{failed}
-use Rattle.wl_linking.specs.declared.linking.Linking.{Linking as LinkingHeld}
+use Rattle.wl_custom.specs.declared.relocations.RelocHeld.{RelocHeld}
+use Rattle.wl_custom.proofs.Exact.{failed}
+use Rattle.wl_custom.specs.declared.linking.Linking.{Linking as LinkingHeld}
 use Rattle.wl_linking.specs.declared.section.SectionItems.{SectionItems}
 use Rattle.wl_linking.specs.declared.section.SectionItems.TheVariants.{Types, Functions, Memories, Globals, Exports, DataCount, Code, Data, Linking, Reloc, Features, Debug, Nothing}
 use Rattle.wl_module.proofs.ListLaws.{whole_alternatives}
-use Rattle.wl_linking.proofs.FeatureLaws.{features_reading}
-use Rattle.wl_linking.proofs.LinkingLaws.{linking_exact}
-use Rattle.wl_linking.proofs.RelocationLaws.{reloc_section_reading}
+use Rattle.wl_custom.proofs.FeatureLaws.{features_reading}
+use Rattle.wl_custom.proofs.LinkingLaws.{linking_exact}
+use Rattle.wl_custom.proofs.RelocationLaws.{reloc_section_reading}
 
 -- ---- the first linking section
 

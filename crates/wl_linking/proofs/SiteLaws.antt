@@ -6,12 +6,12 @@ use Rattle.std.proofs.lemmas.List.{length-take, length-drop, get_or_default}
 use Rattle.std.specs.List.Sorted.{IsNonDecreasingBy}
 use Rattle.std.proofs.lemmas.Option.{slice_get-get_or}
 use Rattle.wl_bytes.proofs.Steps.{chosen}
-use Rattle.wl_linking.specs.RelocationTypes.{field_form}
+use Rattle.wl_custom.specs.RelocationTypes.{field_form}
 use Rattle.wl_linking.specs.Sites.{PieceOf, IsSite, AreSites, AreApart, LiesBefore, HasNoSite, is_padded, has_form, field_len, offset_of}
 use Rattle.wl_linking.specs.Placing.{piece_end, Ascend, position_of, site_in, site_of}
-use Rattle.wl_linking.specs.declared.relocation_type.FieldForm.{FieldForm}
-use Rattle.wl_linking.specs.declared.relocation_type.FieldForm.TheVariants.{PaddedUnsigned, PaddedSigned, Word}
-use Rattle.wl_linking.specs.declared.relocations.WasmRelocation.{WasmRelocation}
+use Rattle.wl_custom.specs.declared.relocation_type.FieldForm.{FieldForm}
+use Rattle.wl_custom.specs.declared.relocation_type.FieldForm.TheVariants.{PaddedUnsigned, PaddedSigned, Word}
+use Rattle.wl_custom.specs.declared.relocations.WasmRelocation.{WasmRelocation}
 use Rattle.wl_linking.specs.declared.sites.Site.{Site}
 
 -- ---- fields that don't overlap

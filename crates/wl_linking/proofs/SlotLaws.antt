@@ -4,8 +4,8 @@ use Rattle.std.specs.List.{list_all, repeat, slice_get}
 use Rattle.std.proofs.lemmas.Option.{slice_get_within, slice_get_read}
 use Rattle.std.proofs.lemmas.Bool.{cases_lt, cases_eq}
 use Rattle.std.proofs.lemmas.Slice.Eq.{bytes_eq-Decides}
-use Rattle.wl_linking.specs.declared.symbols.WasmSymbolKind.{WasmSymbolKind}
-use Rattle.wl_linking.specs.Symbols.{Symbol}
+use Rattle.wl_custom.specs.declared.symbols.WasmSymbolKind.{WasmSymbolKind}
+use Rattle.wl_custom.specs.Symbols.{Symbol}
 use Rattle.wl_linking.specs.Slots.{Slot, claims, HasOneName, HasTwoNames}
 use Rattle.wl_linking.specs.SlotsReading.{AreNamedByRange, IsNamedByRange, is_name_of, named_as, Agrees}
 

@@ -7,18 +7,18 @@ use Rattle.wl_module.specs.Segments.{Targeted}
 use Rattle.wl_module.proofs.SectionLaws.{module_stands}
 use Rattle.wl_module.specs.Places.{StandsAt, IsPart, PartsStand, ImportStands, PlacedImportStands, ExportStands, GlobalStands, BodyStands, TargetedStands}
 use Rattle.wl_module.proofs.PlaceLaws.{before_stands, behind_stands, listed_stand, placed_imports_stand, exports_stand, globals_stand, bodies_stand, targeted_stand}
-use Rattle.wl_linking.specs.Infos.{SegmentInfo, IsInfo, AreInfos}
-use Rattle.wl_linking.specs.Features.{Feature, IsFeature, AreFeatures}
-use Rattle.wl_linking.specs.Linking.{infos_in as infos_of_part}
+use Rattle.wl_custom.specs.Infos.{SegmentInfo, IsInfo, AreInfos}
+use Rattle.wl_custom.specs.Features.{Feature, IsFeature, AreFeatures}
+use Rattle.wl_custom.specs.Linking.{infos_in as infos_of_part}
 use Rattle.wl_linking.specs.Parts.{no_parts, join}
 use Rattle.wl_linking.specs.Sections.{base_of}
 use Rattle.wl_linking.specs.Object.{Object}
 use Rattle.wl_linking.specs.Fitting.{IsObject}
 use Rattle.wl_linking.specs.Stretches.{BodyIsPart, PayloadIsPart, InfoStands, FeatureStands, PartsStandIn}
 use Rattle.wl_linking.specs.declared.parts.Parts.{Parts}
-use Rattle.wl_linking.specs.declared.linking.Linking.{Linking as LinkingHeld}
-use Rattle.wl_linking.specs.declared.linking.Subsection.{Subsection}
-use Rattle.wl_linking.specs.declared.linking.SubsectionKind.TheVariants as part
+use Rattle.wl_custom.specs.declared.linking.Linking.{Linking as LinkingHeld}
+use Rattle.wl_custom.specs.declared.linking.Subsection.{Subsection}
+use Rattle.wl_custom.specs.declared.linking.SubsectionKind.TheVariants as part
 use Rattle.wl_linking.specs.declared.section.SectionItems.TheVariants.{Imports, Globals, Exports, Code, Data, Linking, Features}
 use Rattle.wl_linking.proofs.HeldLaws.{HaveInEach, all_held, all_follow, all_mapped}
 use Rattle.wl_linking.proofs.NameLaws.{inside_stands, HaveInEachPart, linking_has}

@@ -9,7 +9,7 @@ use Rattle.wl_linking.specs.Object.{Object}
 use Rattle.wl_linking.specs.Spaces.{spaces_of, type_exists}
 use Rattle.wl_linking.specs.Sites.{PieceOf, AreSites, body_piece, segment_piece}
 use Rattle.wl_linking.specs.Fitting.{IsObject, IsFitting, IsWhole}
-use Rattle.wl_linking.specs.declared.relocations.WasmRelocation.{WasmRelocation}
+use Rattle.wl_custom.specs.declared.relocations.WasmRelocation.{WasmRelocation}
 use Rattle.wl_linking.specs.declared.sites.Site.{Site}
 use Rattle.wl_linking.proofs.SlotLaws.{all_at}
 

@@ -6,7 +6,7 @@ use Rattle.wl_module.specs.declared.sections.SectionHeader.{SectionHeader}
 use Rattle.wl_module.specs.declared.error.ReadError.{ReadError}
 use Rattle.wl_module.specs.Sections.{Section, headers_of, IsModule, FrameFault}
 use Rattle.wl_module.specs.Outcome.{Gives, HasCause}
-use Rattle.wl_linking.specs.Symbols.{Symbol}
+use Rattle.wl_custom.specs.Symbols.{Symbol}
 use Rattle.wl_linking.specs.Targets.{bytes_between}
 use Rattle.wl_linking.specs.Object.{Object}
 use Rattle.wl_linking.specs.Parts.{no_parts}
@@ -15,7 +15,7 @@ use Rattle.wl_linking.specs.Spaces.{NamesExist, NamesFault, spaces_of}
 use Rattle.wl_linking.specs.Slots.{with_import_name, AgreeOnNames, SlotFault}
 use Rattle.wl_linking.specs.Sites.{PieceOf, body_piece, segment_piece, AreInOrder, LieApart, FieldsFault}
 use Rattle.wl_linking.specs.declared.parts.Parts.{Parts}
-use Rattle.wl_linking.specs.declared.relocations.WasmRelocation.{WasmRelocation}
+use Rattle.wl_custom.specs.declared.relocations.WasmRelocation.{WasmRelocation}
 use Rattle.wl_linking.specs.declared.sites.Site.{Site}
 use Rattle.wl_linking.specs.declared.spaces.Counts.{Counts}
 

@@ -1,13 +1,3 @@
-pub mod Verdict
-pub mod Debug
-pub mod Infos
-pub mod Features
-pub mod Symbols
-pub mod SymbolsReading
-pub mod Linking
-pub mod RelocationRows
-pub mod RelocationTypes
-pub mod Relocations
 pub mod Targets
 pub mod Object
 pub mod Spaces

@@ -8,13 +8,13 @@ use Rattle.wl_module.specs.Globals.{DefinedGlobal}
 use Rattle.wl_module.specs.Exports.{Exported}
 use Rattle.wl_module.specs.Bodies.{Body}
 use Rattle.wl_module.specs.Segments.{Segment}
-use Rattle.wl_linking.specs.Infos.{SegmentInfo}
-use Rattle.wl_linking.specs.Symbols.{Symbol}
-use Rattle.wl_linking.specs.Features.{Feature}
-use Rattle.wl_linking.specs.Debug.{DebugInput}
-use Rattle.wl_linking.specs.declared.infos.WasmInitFunc.{WasmInitFunc}
-use Rattle.wl_linking.specs.declared.relocations.WasmRelocation.{WasmRelocation}
-use Rattle.wl_linking.specs.declared.relocations.WasmRelocSection.{WasmRelocSection}
+use Rattle.wl_custom.specs.Infos.{SegmentInfo}
+use Rattle.wl_custom.specs.Symbols.{Symbol}
+use Rattle.wl_custom.specs.Features.{Feature}
+use Rattle.wl_custom.specs.Debug.{DebugInput}
+use Rattle.wl_custom.specs.declared.infos.WasmInitFunc.{WasmInitFunc}
+use Rattle.wl_custom.specs.declared.relocations.WasmRelocation.{WasmRelocation}
+use Rattle.wl_custom.specs.declared.relocations.WasmRelocSection.{WasmRelocSection}
 use Rattle.wl_linking.specs.declared.sites.Site.{Site}
 
 -- What an object holds, in file order: its bytes, and the items of its sections. For each segment

@@ -8,9 +8,9 @@ use Rattle.wl_module.specs.Segments.{Targeted, plain_segments}
 use Rattle.wl_linking.specs.Slots.{slots_of}
 use Rattle.wl_linking.specs.SlotsReading.{IsNamedWithin}
 use Rattle.wl_linking.specs.declared.parts.Parts.{Parts}
-use Rattle.wl_linking.specs.declared.relocations.RelocHeld.{RelocHeld}
-use Rattle.wl_linking.specs.declared.relocations.Target.{Target}
-use Rattle.wl_linking.specs.declared.relocations.Target.TheVariants as target
+use Rattle.wl_custom.specs.declared.relocations.RelocHeld.{RelocHeld}
+use Rattle.wl_custom.specs.declared.relocations.Target.{Target}
+use Rattle.wl_custom.specs.declared.relocations.Target.TheVariants as target
 use Rattle.wl_linking.specs.declared.section.SectionItems.{SectionItems}
 use Rattle.wl_linking.specs.declared.section.SectionItems.TheVariants.{Types, Imports, Functions, Memories, Globals, Exports, DataCount, Code, Data, Linking, Reloc, Features, Debug, Nothing}
 

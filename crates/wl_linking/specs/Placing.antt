@@ -6,8 +6,8 @@ use Rattle.wl_module.specs.declared.error.ReadError.TheVariants.{Malformed}
 use Rattle.wl_module.specs.declared.error.Why.TheVariants.{Field}
 use Rattle.wl_module.specs.Segments.{Segment}
 use Rattle.wl_linking.specs.Sites.{PieceOf, has_form, field_len, HasNoSite}
-use Rattle.wl_linking.specs.declared.relocation_type.FieldForm.{FieldForm}
-use Rattle.wl_linking.specs.declared.relocations.WasmRelocation.{WasmRelocation}
+use Rattle.wl_custom.specs.declared.relocation_type.FieldForm.{FieldForm}
+use Rattle.wl_custom.specs.declared.relocations.WasmRelocation.{WasmRelocation}
 use Rattle.wl_linking.specs.declared.sites.Site.{Site}
 
 -- a segment ends with its bytes, within the limit of its section

@@ -2,7 +2,7 @@
 use Rattle.std.specs.Prelude.{ℕ, ◌++◌, ◌&&◌, nat_le, Bool, if◌then◌else◌, List, length, codes, Option, Some, None}
 use Rattle.std.specs.Str.{is_utf8}
 use Rattle.hex.specs.Hex.{encode_lower}
-use Rattle.wl_linking.specs.Symbols.{Symbol, has_name}
+use Rattle.wl_custom.specs.Symbols.{Symbol, has_name}
 use Rattle.wl_linking.specs.Targets.{bytes_between}
 
 -- a range lies within the bytes: it doesn't end before it begins, nor behind the last of them

@@ -17,15 +17,15 @@ use Rattle.wl_module.specs.Memories.{AreMemories, MemoriesFault, IsDataCount, Da
 use Rattle.wl_module.specs.Globals.{AreGlobals, GlobalsFault}
 use Rattle.wl_module.specs.Exports.{AreExports, ExportsFault}
 use Rattle.wl_module.specs.Segments.{AreTargeted, SegmentsFault}
-use Rattle.wl_linking.specs.Debug.{debug_of}
-use Rattle.wl_linking.specs.Features.{AreFeatures, FeaturesFault}
-use Rattle.wl_linking.specs.Linking.{IsLinking, LinkingFault}
-use Rattle.wl_linking.specs.Relocations.{IsRelocSection, RelocSectionFault}
+use Rattle.wl_custom.specs.Debug.{debug_of}
+use Rattle.wl_custom.specs.Features.{AreFeatures, FeaturesFault}
+use Rattle.wl_custom.specs.Linking.{IsLinking, LinkingFault}
+use Rattle.wl_custom.specs.Relocations.{IsRelocSection, RelocSectionFault}
 use Rattle.wl_linking.specs.Targets.{custom_kind, numbered_verdict}
 use Rattle.wl_linking.specs.Parts.{join, part_of}
 use Rattle.wl_linking.specs.declared.kinds.CustomKind.{CustomKind}
 use Rattle.wl_linking.specs.declared.kinds.CustomKind.TheVariants as custom
-use Rattle.wl_linking.specs.declared.linking.Linking.{Linking as LinkingHeld}
+use Rattle.wl_custom.specs.declared.linking.Linking.{Linking as LinkingHeld}
 use Rattle.wl_linking.specs.declared.parts.Parts.{Parts}
 use Rattle.wl_linking.specs.declared.section.SectionItems.{SectionItems}
 use Rattle.wl_linking.specs.declared.section.SectionItems.TheVariants.{Types, Imports, Functions, Memories, Globals, Exports, DataCount, Code, Data, Linking, Reloc, Features, Debug, Nothing}

@@ -7,10 +7,10 @@ use Rattle.wl_module.specs.declared.error.ReadError.TheVariants.{Malformed}
 use Rattle.wl_module.specs.declared.error.Why.TheVariants as why
 use Rattle.wl_module.specs.Bodies.{Body}
 use Rattle.wl_module.specs.Segments.{Segment}
-use Rattle.wl_linking.specs.RelocationTypes.{field_form}
-use Rattle.wl_linking.specs.declared.relocation_type.FieldForm.{FieldForm}
-use Rattle.wl_linking.specs.declared.relocation_type.FieldForm.TheVariants.{PaddedUnsigned, PaddedSigned, Word}
-use Rattle.wl_linking.specs.declared.relocations.WasmRelocation.{WasmRelocation}
+use Rattle.wl_custom.specs.RelocationTypes.{field_form}
+use Rattle.wl_custom.specs.declared.relocation_type.FieldForm.{FieldForm}
+use Rattle.wl_custom.specs.declared.relocation_type.FieldForm.TheVariants.{PaddedUnsigned, PaddedSigned, Word}
+use Rattle.wl_custom.specs.declared.relocations.WasmRelocation.{WasmRelocation}
 use Rattle.wl_linking.specs.declared.sites.Site.{Site}
 
 -- ---- fields

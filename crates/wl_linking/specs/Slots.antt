@@ -8,10 +8,10 @@ use Rattle.wl_module.specs.declared.error.ReadError.TheVariants.{Malformed}
 use Rattle.wl_module.specs.declared.error.Why.TheVariants.{SlotNames}
 use Rattle.wl_module.specs.Imports.{PlacedImported}
 use Rattle.wl_linking.specs.Spaces.{is_of_kind}
-use Rattle.wl_linking.specs.Symbols.{Symbol, is_undefined, has_name, with_name, range_of}
+use Rattle.wl_custom.specs.Symbols.{Symbol, is_undefined, has_name, with_name, range_of}
 use Rattle.wl_linking.specs.declared.spaces.Counts.{Counts}
-use Rattle.wl_linking.specs.declared.symbols.WasmSymbolKind.{WasmSymbolKind}
-use Rattle.wl_linking.specs.declared.symbols.WasmSymbolKind.TheVariants.{Func, Data, Global, Section, Event, Table}
+use Rattle.wl_custom.specs.declared.symbols.WasmSymbolKind.{WasmSymbolKind}
+use Rattle.wl_custom.specs.declared.symbols.WasmSymbolKind.TheVariants.{Func, Data, Global, Section, Event, Table}
 
 -- ---- the field names of imports
 

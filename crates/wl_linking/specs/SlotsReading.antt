@@ -6,7 +6,7 @@ use Rattle.wl_module.specs.declared.imports.ExternalKind.{ExternalKind}
 use Rattle.wl_module.specs.Imports.{PlacedImported}
 use Rattle.wl_linking.specs.Spaces.{is_of_kind}
 use Rattle.wl_linking.specs.Slots.{Slot, slot_of}
-use Rattle.wl_linking.specs.Symbols.{Symbol}
+use Rattle.wl_custom.specs.Symbols.{Symbol}
 
 -- ---- imports
 

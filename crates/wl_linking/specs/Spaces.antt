@@ -11,14 +11,14 @@ use Rattle.wl_module.specs.declared.error.ReadError.TheVariants.{Malformed}
 use Rattle.wl_module.specs.declared.error.Why.TheVariants as why
 use Rattle.wl_module.specs.Imports.{Imported}
 use Rattle.wl_module.specs.Exports.{Exported}
-use Rattle.wl_linking.specs.RelocationTypes.{names_a_type}
-use Rattle.wl_linking.specs.Symbols.{Symbol, is_undefined, is_absolute}
-use Rattle.wl_linking.specs.declared.infos.WasmInitFunc.{WasmInitFunc}
+use Rattle.wl_custom.specs.RelocationTypes.{names_a_type}
+use Rattle.wl_custom.specs.Symbols.{Symbol, is_undefined, is_absolute}
+use Rattle.wl_custom.specs.declared.infos.WasmInitFunc.{WasmInitFunc}
 use Rattle.wl_linking.specs.Object.{Object}
-use Rattle.wl_linking.specs.declared.relocations.WasmRelocation.{WasmRelocation}
+use Rattle.wl_custom.specs.declared.relocations.WasmRelocation.{WasmRelocation}
 use Rattle.wl_linking.specs.declared.spaces.Counts.{Counts}
-use Rattle.wl_linking.specs.declared.symbols.WasmSymbolKind.{WasmSymbolKind}
-use Rattle.wl_linking.specs.declared.symbols.WasmSymbolKind.TheVariants as symbol
+use Rattle.wl_custom.specs.declared.symbols.WasmSymbolKind.{WasmSymbolKind}
+use Rattle.wl_custom.specs.declared.symbols.WasmSymbolKind.TheVariants as symbol
 
 -- ---- how many there are
 

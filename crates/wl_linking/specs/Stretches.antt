@@ -4,8 +4,8 @@ use Rattle.std.specs.List.{AllByRecursion}
 use Rattle.wl_module.specs.Places.{IsPart, ImportStands, ExportStands, GlobalStands}
 use Rattle.wl_module.specs.Bodies.{Body}
 use Rattle.wl_module.specs.Segments.{Segment}
-use Rattle.wl_linking.specs.Infos.{SegmentInfo}
-use Rattle.wl_linking.specs.Features.{Feature}
+use Rattle.wl_custom.specs.Infos.{SegmentInfo}
+use Rattle.wl_custom.specs.Features.{Feature}
 use Rattle.wl_linking.specs.Object.{Object}
 
 -- the bytes of a body stand there

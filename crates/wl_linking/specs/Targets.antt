@@ -14,8 +14,8 @@ use Rattle.wl_module.specs.Sections.{Section}
 use Rattle.wl_linking.specs.declared.kinds.CustomKind.{CustomKind}
 use Rattle.wl_linking.specs.declared.kinds.CustomKind.TheVariants as custom
 use Rattle.wl_linking.specs.declared.parts.Parts.{Parts}
-use Rattle.wl_linking.specs.declared.relocations.Target.{Target}
-use Rattle.wl_linking.specs.declared.relocations.Target.TheVariants as target
+use Rattle.wl_custom.specs.declared.relocations.Target.{Target}
+use Rattle.wl_custom.specs.declared.relocations.Target.TheVariants as target
 
 -- the bytes from one place to another, as far as there are any
 abbrev pub bytes_between : List ℕ → ℕ × ℕ → List ℕ

@@ -1,9 +1,9 @@
 //! What the sections of an object hold.
 
-use crate::items::ItemList;
 use crate::parts::Parts;
 use crate::sites::Site;
 use std::marker::Model;
+use wl_custom::ItemList;
 use wl_module::SectionHeader;
 
 /// What an object holds, whether or not it fits together: its bytes, what its sections hold, with

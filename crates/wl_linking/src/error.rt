@@ -1,8 +1,8 @@
 //! Why there is no plan.
 
-use crate::items::ItemList;
 use crate::text::Text;
 use std::alloc::{AllocError, AllocFailed};
+use wl_custom::ItemList;
 use wl_module::{Form, Why};
 
 /// What is larger than it may be.

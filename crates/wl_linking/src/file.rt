@@ -8,15 +8,14 @@ ghost use Rattle.wl_linking.specs.Targets.{is_debug_at};
 ghost use Rattle.wl_linking.specs.Fitting.{HasFewItems, IsWhole};
 
 use crate::contents::Contents;
-use crate::debug::DebugSectionInput;
-use crate::features::WasmTargetFeature;
-use crate::infos::{WasmInitFunc, WasmSegmentInfo};
 use crate::kinds::is_debug;
-use crate::relocations::{WasmRelocSection, WasmRelocation};
 use crate::sites::Site;
 use crate::spaces::Counts;
-use crate::symbols::WasmSymbol;
 use std::marker::Model;
+use wl_custom::{
+    DebugSectionInput, WasmInitFunc, WasmRelocSection, WasmRelocation, WasmSegmentInfo, WasmSymbol,
+    WasmTargetFeature,
+};
 use wl_module::{
     FuncType, Import, MemoryType, OutputExport, OutputGlobal, SectionHeader, WasmDataSegment,
     WasmFunctionBody,

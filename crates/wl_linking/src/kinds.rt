@@ -6,7 +6,7 @@ ghost use Rattle.wl_module.specs.Outcome.{Gives};
 ghost use Rattle.wl_linking.specs.Targets.{bytes_between, custom_kind, target_verdict, numbered_verdict, is_debug};
 
 use crate::parts::Parts;
-use crate::relocations::Target;
+use wl_custom::Target;
 use wl_module::{Form, FramedSection, ReadError, SectionHeader, SectionKind, Why};
 
 /// The name of the section that tells of symbols and segments (object file linking, version 2,

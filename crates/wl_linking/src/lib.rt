@@ -12,21 +12,6 @@ mod object;
 mod kinds;
 mod section;
 
-// What the linking section holds.
-mod base;
-mod flags;
-mod infos;
-mod linking;
-mod symbols;
-
-// Relocation sections.
-mod relocation_type;
-mod relocations;
-
-// The other custom sections that are kept.
-mod debug;
-mod features;
-
 // What all sections hold, put together.
 mod parts;
 mod plain;
@@ -42,31 +27,25 @@ mod file;
 mod file_list;
 mod lists;
 
-// Refusals, and small types of lists and texts.
+// Refusals and texts.
 mod error;
-mod items;
 mod raw_name;
 mod text;
 
-pub use debug::DebugSectionInput;
 pub use error::{LinkError, MemoryBound, Quantity, SharedMemoryNeed, UndefinedSymbol};
-pub use features::{
-    TARGET_FEATURE_PREFIX_DISALLOWED, TARGET_FEATURE_PREFIX_USED, WasmTargetFeature,
-    features_or_fault, parse_target_features_payload,
-};
 pub use file::File;
 pub use file_list::FileList;
-pub use flags::SymbolFlags;
-pub use infos::{WasmInitFunc, WasmSegmentInfo};
-pub use items::ItemList;
 pub use kinds::{LINKING_SECTION_NAME, RELOC_SECTION_PREFIX, TARGET_FEATURES_SECTION_NAME};
 pub use object::{
     names_stand, object_lists_are_few, object_or_fault, parse_wasm_module, parts_of_objects_stand,
     whole_objects,
 };
 pub use raw_name::{RawSymbolName, wasm_symbol_name_str};
-pub use relocation_type::{FieldForm, RelocationType, relocation_type_to_string};
-pub use relocations::{RelocationList, WasmRelocSection, WasmRelocation};
 pub use sites::Site;
-pub use symbols::{WasmSymbol, WasmSymbolKind};
 pub use text::Text;
+pub use wl_custom::{
+    DebugSectionInput, FieldForm, ItemList, RelocationList, RelocationType, SymbolFlags,
+    TARGET_FEATURE_PREFIX_DISALLOWED, TARGET_FEATURE_PREFIX_USED, WasmInitFunc, WasmRelocSection,
+    WasmRelocation, WasmSegmentInfo, WasmSymbol, WasmSymbolKind, WasmTargetFeature,
+    features_or_fault, parse_target_features_payload, relocation_type_to_string,
+};

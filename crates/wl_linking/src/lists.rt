@@ -2,9 +2,9 @@
 
 ghost use Rattle.std.specs.Prelude.{◌≡◌, IfOk};
 
-use crate::debug::DebugSectionInput;
 use crate::file::File;
 use std::alloc::{AllocError, Global};
+use wl_custom::DebugSectionInput;
 use wl_module::{MemoryType, OutputGlobal, WasmDataSegment, WasmFunctionBody};
 
 /// Lists of what an object holds, for callers that keep or change them. Bytes that the object

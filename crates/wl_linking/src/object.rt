@@ -17,12 +17,12 @@ ghost use Rattle.wl_module.specs.Outcome.{HasCause};
 
 use crate::contents::Contents;
 use crate::file::File;
-use crate::items::ItemList;
 use crate::parts::{Parts, read_parts};
 use crate::sites::{code_sites, data_sites, in_order};
 use crate::slots::{check_slots, name_symbols};
 use crate::spaces::{check_indices, spaces_of};
 use std::alloc::Global;
+use wl_custom::ItemList;
 use wl_module::{ReadError, SectionHeader, read_sections, section_headers};
 
 /// The object of these parts: its symbols have the names that they take from imports, its

@@ -7,17 +7,14 @@ ghost use Rattle.wl_linking.specs.declared.section.SectionItems.TheVariants.{Imp
 ghost use Rattle.wl_linking.specs.Sections.{AreSound, AreFaulty, EndsWithin};
 ghost use Rattle.wl_module.specs.Outcome.{HasCause};
 
-use crate::debug::DebugSectionInput;
-use crate::features::WasmTargetFeature;
-use crate::infos::{WasmInitFunc, WasmSegmentInfo};
-use crate::items::ItemList;
-use crate::linking::Linking;
 use crate::plain::{plain_imports, plain_segments, segment_memories_of};
-use crate::relocations::{RelocHeld, Target, WasmRelocSection, WasmRelocation};
 use crate::section::{SectionItems, read_section_items};
 use crate::slots::{SlotName, slots_of};
-use crate::symbols::WasmSymbol;
 use std::alloc::{AllocError, Global};
+use wl_custom::{
+    DebugSectionInput, ItemList, Linking, RelocHeld, Target, WasmInitFunc, WasmRelocSection,
+    WasmRelocation, WasmSegmentInfo, WasmSymbol, WasmTargetFeature,
+};
 use wl_module::{
     ExternalKind, FramedSection, FuncType, Import, MemoryType, OutputExport, OutputGlobal,
     PlacedImport, ReadError, TargetedSegment, WasmDataSegment, WasmFunctionBody,

@@ -5,8 +5,8 @@ ghost use Rattle.wl_module.specs.Imports.{plain_imports};
 ghost use Rattle.wl_module.specs.Segments.{plain_segments};
 ghost use Rattle.wl_linking.specs.Parts.{segment_memories_of};
 
-use crate::items::ItemList;
 use std::alloc::{AllocError, Global};
+use wl_custom::ItemList;
 use wl_module::{Import, PlacedImport, TargetedSegment, WasmDataSegment};
 
 /// The imports without the places of their names.

@@ -5,9 +5,9 @@ ghost use Rattle.std.specs.Fmt.{WritesOnOk};
 ghost use Rattle.hex.specs.Hex.{encode_lower};
 ghost use Rattle.wl_linking.specs.RawNames.{named_text};
 
-use crate::symbols::WasmSymbol;
 use std::fmt;
 use std::marker::Model;
+use wl_custom::WasmSymbol;
 
 /// The name of a symbol as these bytes spell it: the text at its `name_range` (object file linking,
 /// version 2, "Symbol Table Subsection"). The bytes are those of the object that the symbol is

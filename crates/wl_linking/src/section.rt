@@ -4,19 +4,18 @@ ghost use Rattle.std.specs.Prelude.{◌≡◌, ◌≤◌, length, MatchResult};
 ghost use Rattle.wl_bytes.specs.declared.reader.TheConstants.{MAX_LEN};
 ghost use Rattle.wl_module.specs.Outcome.{Gives, ReadsWhole, HasCause};
 ghost use Rattle.wl_module.specs.Memories.{AreMemories, MemoriesFault};
-ghost use Rattle.wl_linking.specs.Relocations.{reloc_section_of};
+ghost use Rattle.wl_custom.specs.Relocations.{reloc_section_of};
 ghost use Rattle.wl_linking.specs.Sections.{IsSound, IsFaulty, IsSoundCustom, IsFaultyCustom, LinkingItems, LinkingItemsFault, EndsWithin, has_memory};
 ghost use Rattle.wl_linking.specs.Targets.{numbered_verdict};
 
-use crate::debug::DebugSectionInput;
-use crate::features::{WasmTargetFeature, parse_target_features_payload};
-use crate::items::ItemList;
 use crate::kinds::{CustomKind, custom_kind, target_of};
-use crate::linking::{Linking, read_linking};
 use crate::parts::Parts;
-use crate::relocations::{RelocHeld, WasmRelocSection, read_held_entries};
 use std::alloc::Global;
 use wl_bytes::Reader;
+use wl_custom::{
+    DebugSectionInput, ItemList, Linking, RelocHeld, WasmRelocSection, WasmTargetFeature,
+    parse_target_features_payload, read_held_entries, read_linking,
+};
 use wl_module::{
     Form, FramedSection, FuncType, Import, ImportEntity, MemoryType, OutputExport, OutputGlobal,
     PlacedImport, ReadError, SectionKind, TargetedSegment, WasmFunctionBody, Why, read_bodies,

@@ -8,11 +8,9 @@ ghost use Rattle.wl_linking.specs.Sites.{AreInOrder, AreSites, AreApart, HasOver
 ghost use Rattle.wl_linking.specs.Placing.{IsSpanned, piece_end, position_of, site_of, Ascend, FieldFault};
 ghost use Rattle.wl_module.specs.Outcome.{HasCause};
 
-use crate::items::ItemList;
-use crate::relocation_type::FieldForm;
-use crate::relocations::WasmRelocation;
 use std::alloc::{AllocError, Global};
 use std::marker::Model;
+use wl_custom::{FieldForm, ItemList, WasmRelocation};
 use wl_module::{ReadError, WasmDataSegment, WasmFunctionBody, Why};
 
 /// A place in a function's body or in the bytes of a segment.

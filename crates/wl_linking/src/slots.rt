@@ -8,11 +8,10 @@ ghost use Rattle.wl_linking.specs.Slots.{Slot, slot_of, slots_of, with_slot, wit
 ghost use Rattle.wl_linking.specs.SlotsReading.{IsNamedWithin, slots_from, AreNamedByRange, IsNamedByRange, is_name_of, Agrees};
 ghost use Rattle.wl_module.specs.Outcome.{HasCause};
 
-use crate::items::ItemList;
 use crate::spaces::{Counts, is_of_kind};
-use crate::symbols::{WasmSymbol, WasmSymbolKind, range_of};
 use std::alloc::{AllocError, Global};
 use std::marker::Model;
+use wl_custom::{ItemList, WasmSymbol, WasmSymbolKind, range_of};
 use wl_module::{ExternalKind, PlacedImport, ReadError, Why};
 
 /// The field name of an import. Clauses see it as a `Slot`, with the name as a list.

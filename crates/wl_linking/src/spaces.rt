@@ -4,13 +4,11 @@
 ghost use Rattle.std.specs.Prelude.{◌≡◌, ◌+◌, ◌==◌, nat_lt, MatchResult};
 ghost use Rattle.std.specs.List.{list_all};
 ghost use Rattle.wl_linking.specs.Spaces.{is_of_kind, count_imports, spaces_of, import_exists, export_exists, memory_exists, number_exists, thing_exists, symbol_exists, init_exists, relocation_exists, type_exists, counts_segments, core_names_exist, linked_names_exist, counts_hold, NamesExist, NamesFault};
-ghost use Rattle.wl_linking.specs.Symbols.{is_undefined};
+ghost use Rattle.wl_custom.specs.Symbols.{is_undefined};
 ghost use Rattle.wl_module.specs.Outcome.{HasCause};
 
 use crate::contents::Contents;
-use crate::infos::WasmInitFunc;
-use crate::relocations::WasmRelocation;
-use crate::symbols::{WasmSymbol, WasmSymbolKind};
+use wl_custom::{WasmInitFunc, WasmRelocation, WasmSymbol, WasmSymbolKind};
 use wl_module::{ExternalKind, Import, ImportEntity, OutputExport, ReadError, Why};
 
 /// How many things of each kind an object has.

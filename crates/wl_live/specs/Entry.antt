@@ -1,9 +1,9 @@
 -- The function at which the program starts.
 use Rattle.std.specs.Prelude.{◌≡◌, ℕ, ◌&&◌, Bool, true, false, not, List, Option, Some, None}
 use Rattle.std.specs.Option.{option_map_or}
-use Rattle.wl_linking.specs.Symbols.{Symbol as LinkedSymbol, is_undefined}
-use Rattle.wl_linking.specs.declared.symbols.WasmSymbolKind.{WasmSymbolKind}
-use Rattle.wl_linking.specs.declared.symbols.WasmSymbolKind.TheVariants as symbol
+use Rattle.wl_custom.specs.Symbols.{Symbol as LinkedSymbol, is_undefined}
+use Rattle.wl_custom.specs.declared.symbols.WasmSymbolKind.{WasmSymbolKind}
+use Rattle.wl_custom.specs.declared.symbols.WasmSymbolKind.TheVariants as symbol
 use Rattle.wl_linking.specs.declared.error.LinkError.{LinkError}
 use Rattle.wl_linking.specs.declared.error.LinkError.TheVariants.{EntryNotDefined}
 use Rattle.wl_symbols.specs.Link.{Link}

@@ -8,9 +8,9 @@ use Rattle.wl_module.specs.declared.error.ReadError.TheVariants as read
 use Rattle.wl_module.specs.declared.error.Why.TheVariants.{BadIndex, Overlap}
 use Rattle.wl_module.specs.declared.error.Form.TheVariants.{GlobalInit}
 use Rattle.wl_linking.specs.Object.{Object}
-use Rattle.wl_linking.specs.RelocationTypes.{field_form}
+use Rattle.wl_custom.specs.RelocationTypes.{field_form}
 use Rattle.wl_linking.specs.Sites.{field_len}
-use Rattle.wl_linking.specs.declared.relocations.WasmRelocation.{WasmRelocation}
+use Rattle.wl_custom.specs.declared.relocations.WasmRelocation.{WasmRelocation}
 use Rattle.wl_linking.specs.declared.error.LinkError.{LinkError}
 use Rattle.wl_linking.specs.declared.error.LinkError.TheVariants.{OutOfMemory, Malformed, Unsupported}
 use Rattle.wl_ops.specs.Expressions.{HasReference}

@@ -5,10 +5,10 @@ use Rattle.wl_module.specs.Exports.{Exported}
 use Rattle.wl_module.specs.declared.imports.ExternalKind.{ExternalKind}
 use Rattle.wl_module.specs.declared.imports.ExternalKind.TheVariants as external
 use Rattle.wl_linking.specs.Object.{Object}
-use Rattle.wl_linking.specs.Symbols.{Symbol as LinkedSymbol, is_undefined, is_weak, is_local, has_flag}
-use Rattle.wl_linking.specs.declared.infos.WasmInitFunc.{WasmInitFunc}
-use Rattle.wl_linking.specs.declared.symbols.WasmSymbolKind.{WasmSymbolKind}
-use Rattle.wl_linking.specs.declared.symbols.WasmSymbolKind.TheVariants as symbol
+use Rattle.wl_custom.specs.Symbols.{Symbol as LinkedSymbol, is_undefined, is_weak, is_local, has_flag}
+use Rattle.wl_custom.specs.declared.infos.WasmInitFunc.{WasmInitFunc}
+use Rattle.wl_custom.specs.declared.symbols.WasmSymbolKind.{WasmSymbolKind}
+use Rattle.wl_custom.specs.declared.symbols.WasmSymbolKind.TheVariants as symbol
 use Rattle.wl_symbols.specs.Link.{Link}
 use Rattle.wl_symbols.specs.declared.entry.Definition.{Definition}
 use Rattle.wl_symbols.specs.declared.entry.Definition.TheVariants.{Symbol, Made}

@@ -4,8 +4,8 @@ use Rattle.std.specs.Prelude.{◌≡◌, ℕ, ◌+◌, true, if◌then◌else◌
 use Rattle.std.specs.Option.{option_and_then, option_to_list}
 use Rattle.wl_module.specs.Exports.{Exported}
 use Rattle.wl_linking.specs.Object.{Object}
-use Rattle.wl_linking.specs.Symbols.{Symbol, is_weak}
-use Rattle.wl_linking.specs.declared.infos.WasmInitFunc.{WasmInitFunc}
+use Rattle.wl_custom.specs.Symbols.{Symbol, is_weak}
+use Rattle.wl_custom.specs.declared.infos.WasmInitFunc.{WasmInitFunc}
 use Rattle.wl_reach.specs.declared.graph.Edge.{Edge}
 use Rattle.wl_symbols.specs.Link.{Link}
 use Rattle.wl_symbols.specs.Entries.{symbol_in}

@@ -4,9 +4,9 @@ use Rattle.std.specs.Option.{option_map}
 use Rattle.wl_module.specs.declared.imports.ExternalKind.TheVariants.{Func as FuncKind, Global as GlobalKind}
 use Rattle.wl_linking.specs.Object.{Object}
 use Rattle.wl_linking.specs.Spaces.{count_imports}
-use Rattle.wl_linking.specs.Symbols.{Symbol, is_undefined, is_absolute}
-use Rattle.wl_linking.specs.declared.symbols.WasmSymbolKind.{WasmSymbolKind}
-use Rattle.wl_linking.specs.declared.symbols.WasmSymbolKind.TheVariants.{Func, Data, Global, Section, Event, Table}
+use Rattle.wl_custom.specs.Symbols.{Symbol, is_undefined, is_absolute}
+use Rattle.wl_custom.specs.declared.symbols.WasmSymbolKind.{WasmSymbolKind}
+use Rattle.wl_custom.specs.declared.symbols.WasmSymbolKind.TheVariants.{Func, Data, Global, Section, Event, Table}
 use Rattle.wl_live.specs.declared.units.WasmGcUnit.{WasmGcUnit}
 use Rattle.wl_live.specs.declared.units.WasmGcUnit.TheVariants.{DefinedFunction, DefinedGlobal, DataSegment, FunctionImport, GlobalImport}
 use Rattle.wl_live.specs.declared.units.LinkUnit.{LinkUnit}

@@ -4,7 +4,7 @@ ghost use Rattle.std.specs.Prelude.{◌≡◌, ◌↔◌, ℕ, ◌+◌, ◌<◌,
 ghost use Rattle.std.specs.Option.{option_to_list};
 ghost use Rattle.wl_bytes.specs.declared.reader.TheConstants.{MAX_LEN};
 ghost use Rattle.wl_module.specs.declared.error.ReadError.{ReadError as ErrorRecord};
-ghost use Rattle.wl_linking.specs.RelocationTypes.{field_form};
+ghost use Rattle.wl_custom.specs.RelocationTypes.{field_form};
 ghost use Rattle.wl_linking.specs.Sites.{AreApart, field_len};
 ghost use Rattle.wl_ops.specs.declared.op.DataIndexImm.{DataIndexImm as Number};
 ghost use Rattle.wl_live.specs.Faults.{HasFieldIn, SegmentNumberFault, HasSegmentNumberFault, HasBodyFault, HasGlobalFault};

@@ -2,7 +2,7 @@
 
 ghost use Rattle.std.specs.Prelude.{◌≡◌, ◌<◌, ◌^◌, ◌++◌, length, IfOk, OnOk, if◌then◌else◌, [], None, flat_map};
 ghost use Rattle.std.specs.Option.{option_to_list};
-ghost use Rattle.wl_linking.specs.Symbols.{has_flag, is_weak};
+ghost use Rattle.wl_custom.specs.Symbols.{has_flag, is_weak};
 ghost use Rattle.wl_module.specs.declared.imports.ExternalKind.TheVariants as ExternalKind;
 ghost use Rattle.wl_symbols.specs.Entries.{symbol_in};
 ghost use Rattle.wl_symbols.specs.Texts.{texts};

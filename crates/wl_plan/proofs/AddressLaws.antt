@@ -10,9 +10,9 @@ use Rattle.wl_module.specs.Segments.{Segment}
 use Rattle.wl_linking.specs.Fitting.{IsFitting}
 use Rattle.wl_linking.specs.Object.{Object}
 use Rattle.wl_linking.specs.Spaces.{spaces_of, symbol_exists, thing_exists}
-use Rattle.wl_linking.specs.Symbols.{Symbol as LinkedSymbol, is_data, is_undefined, is_absolute}
-use Rattle.wl_linking.specs.declared.symbols.WasmSymbolKind.{WasmSymbolKind}
-use Rattle.wl_linking.specs.declared.symbols.WasmSymbolKind.TheVariants.{Func, Data, Global, Section, Event, Table}
+use Rattle.wl_custom.specs.Symbols.{Symbol as LinkedSymbol, is_data, is_undefined, is_absolute}
+use Rattle.wl_custom.specs.declared.symbols.WasmSymbolKind.{WasmSymbolKind}
+use Rattle.wl_custom.specs.declared.symbols.WasmSymbolKind.TheVariants.{Func, Data, Global, Section, Event, Table}
 use Rattle.wl_symbols.specs.Entries.{symbol_in}
 use Rattle.wl_symbols.specs.Names.{def}
 use Rattle.wl_data.specs.DataPlaces.{DataInput, IsDataPlaces, HasLayout, HaveLayouts, in_output_order, is_thread_local}

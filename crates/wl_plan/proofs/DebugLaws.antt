@@ -1,6 +1,6 @@
 -- The debug sections of objects, one object after the other.
 use Rattle.std.proofs.Common.{◌≡◌, ◌∙◌, ◌<◌, ◌+◌, ℕ, suc, List, ◌∷◌, ◌++◌, length, map, get_or, drop, sym, ap, add-one, drop-cons, append_assoc}
-use Rattle.wl_linking.specs.Debug.{DebugInput}
+use Rattle.wl_custom.specs.Debug.{DebugInput}
 use Rattle.wl_linking.specs.Object.{Object}
 use Rattle.wl_plan.specs.Bodies.{object_debug_sections}
 use Rattle.wl_plan.specs.BodySteps.{debug_in}

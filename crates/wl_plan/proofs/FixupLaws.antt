@@ -8,14 +8,14 @@ use Rattle.std.proofs.lemmas.Int.{ints}
 use Rattle.std.proofs.lemmas.List.FromFn.{length-map-range_with_len}
 use Rattle.std.proofs.lemmas.Option.{slice_get-map, slice_get_past, slice_get_within, same_Some}
 use Rattle.wl_linking.specs.Object.{Object}
-use Rattle.wl_linking.specs.RelocationTypes.{names_a_type}
+use Rattle.wl_custom.specs.RelocationTypes.{names_a_type}
 use Rattle.wl_linking.specs.Steps.{Clear}
-use Rattle.wl_linking.specs.Symbols.{Symbol as LinkedSymbol, is_data}
-use Rattle.wl_linking.specs.declared.relocation_type.RelocationType.{RelocationType}
-use Rattle.wl_linking.specs.declared.relocation_type.RelocationType.TheVariants as type
-use Rattle.wl_linking.specs.declared.relocations.WasmRelocation.{WasmRelocation}
-use Rattle.wl_linking.specs.declared.symbols.WasmSymbolKind.{WasmSymbolKind}
-use Rattle.wl_linking.specs.declared.symbols.WasmSymbolKind.TheVariants as kind
+use Rattle.wl_custom.specs.Symbols.{Symbol as LinkedSymbol, is_data}
+use Rattle.wl_custom.specs.declared.relocation_type.RelocationType.{RelocationType}
+use Rattle.wl_custom.specs.declared.relocation_type.RelocationType.TheVariants as type
+use Rattle.wl_custom.specs.declared.relocations.WasmRelocation.{WasmRelocation}
+use Rattle.wl_custom.specs.declared.symbols.WasmSymbolKind.{WasmSymbolKind}
+use Rattle.wl_custom.specs.declared.symbols.WasmSymbolKind.TheVariants as kind
 use Rattle.wl_data.specs.declared.segments.WasmDataAddress.{WasmDataAddress}
 use Rattle.wl_data.specs.declared.segments.WasmDataAddress.TheVariants as address
 use Rattle.wl_types.specs.Types.{max_entries}

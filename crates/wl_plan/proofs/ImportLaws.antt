@@ -10,8 +10,8 @@ use Rattle.wl_module.specs.declared.globals.GlobalType.{GlobalType}
 use Rattle.wl_module.specs.declared.imports.ImportEntity.{ImportEntity}
 use Rattle.wl_module.specs.declared.imports.ImportEntity.TheVariants as imported
 use Rattle.wl_linking.specs.Object.{Object}
-use Rattle.wl_linking.specs.Symbols.{Symbol}
-use Rattle.wl_linking.specs.declared.symbols.WasmSymbolKind.TheVariants.{Global as GlobalKind}
+use Rattle.wl_custom.specs.Symbols.{Symbol}
+use Rattle.wl_custom.specs.declared.symbols.WasmSymbolKind.TheVariants.{Global as GlobalKind}
 use Rattle.wl_slots.specs.ImportSlots.{ImportSlot, is_slot_of, slot_at, numbered_slots, slot_imports}
 use Rattle.wl_slots.specs.Left.{HostImport, same_import, first_imports, first_slot}
 use Rattle.wl_bind.specs.FunctionBinding.{host_functions}

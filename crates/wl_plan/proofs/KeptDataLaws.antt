@@ -5,7 +5,7 @@ use Rattle.std.specs.List.{AllByRecursion}
 use Rattle.std.specs.Option.{option_map_or}
 use Rattle.wl_module.specs.Segments.{Segment}
 use Rattle.wl_linking.specs.Fitting.{IsWhole}
-use Rattle.wl_linking.specs.Infos.{SegmentInfo}
+use Rattle.wl_custom.specs.Infos.{SegmentInfo}
 use Rattle.wl_linking.specs.Object.{Object}
 use Rattle.wl_linking.specs.Placing.{IsSpanned}
 use Rattle.wl_data.specs.DataPlaces.{AllCanBePlaced}

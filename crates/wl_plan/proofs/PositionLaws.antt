@@ -8,11 +8,11 @@ use Rattle.std.proofs.lemmas.List.Elements.{Contains-append_left, Contains-appen
 use Rattle.wl_module.specs.Bodies.{Body}
 use Rattle.wl_linking.specs.Fitting.{IsWhole, IsFitting, code_pieces}
 use Rattle.wl_linking.specs.Object.{Object}
-use Rattle.wl_linking.specs.RelocationTypes.{field_form}
+use Rattle.wl_custom.specs.RelocationTypes.{field_form}
 use Rattle.wl_linking.specs.Sites.{IsSite, AreSites, PieceOf, body_piece, field_len, has_form}
-use Rattle.wl_linking.specs.declared.relocation_type.FieldForm.{FieldForm}
-use Rattle.wl_linking.specs.declared.relocation_type.FieldForm.TheVariants.{PaddedUnsigned, PaddedSigned, Word}
-use Rattle.wl_linking.specs.declared.relocations.WasmRelocation.{WasmRelocation}
+use Rattle.wl_custom.specs.declared.relocation_type.FieldForm.{FieldForm}
+use Rattle.wl_custom.specs.declared.relocation_type.FieldForm.TheVariants.{PaddedUnsigned, PaddedSigned, Word}
+use Rattle.wl_custom.specs.declared.relocations.WasmRelocation.{WasmRelocation}
 use Rattle.wl_linking.specs.declared.sites.Site.{Site}
 use Rattle.wl_live.specs.Live.{Live}
 use Rattle.wl_live.specs.declared.units.WasmGcUnit.TheVariants.{DefinedFunction}

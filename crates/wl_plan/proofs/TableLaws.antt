@@ -12,8 +12,8 @@ use Rattle.wl_module.specs.Imports.{Imported}
 use Rattle.wl_module.specs.declared.imports.ExternalKind.TheVariants as external
 use Rattle.wl_linking.specs.Object.{Object}
 use Rattle.wl_linking.specs.Spaces.{count_imports}
-use Rattle.wl_linking.specs.declared.symbols.WasmSymbolKind.{WasmSymbolKind}
-use Rattle.wl_linking.specs.declared.symbols.WasmSymbolKind.TheVariants.{Func}
+use Rattle.wl_custom.specs.declared.symbols.WasmSymbolKind.{WasmSymbolKind}
+use Rattle.wl_custom.specs.declared.symbols.WasmSymbolKind.TheVariants.{Func}
 use Rattle.wl_reloc.specs.declared.index_map.WasmObjectIndexMap.{WasmObjectIndexMap}
 use Rattle.wl_slots.specs.ImportSlots.{ImportSlot, object_slots, import_slots}
 use Rattle.wl_slots.specs.Left.{same_field, same_import, first_like, is_stub, first_imports}

@@ -4,7 +4,7 @@ use Rattle.std.proofs.Common.{◌≡◌, ◌∙◌, ℕ, ℤ, zero, suc, ◌+◌
 use Rattle.wl_bytes.specs.Leb.{IsShortest, IsShortestSleb}
 use Rattle.wl_module.specs.Bodies.{Body}
 use Rattle.wl_module.specs.Types.{FunctionType}
-use Rattle.wl_linking.specs.declared.relocation_type.RelocationType.{RelocationType}
+use Rattle.wl_custom.specs.declared.relocation_type.RelocationType.{RelocationType}
 use Rattle.wl_ops.specs.Numbers.{HasNumbers}
 use Rattle.wl_ops.specs.Rewriting.{IsShort, Rewrites, before, NewBytes, Moves}
 use Rattle.wl_ops.specs.declared.op.DataIndexImm.{DataIndexImm}

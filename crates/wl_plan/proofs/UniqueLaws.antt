@@ -5,7 +5,7 @@ use Rattle.wl_module.specs.Exports.{Exported}
 use Rattle.wl_module.specs.Types.{FunctionType}
 use Rattle.wl_module.specs.declared.limits.MemoryType.{MemoryType}
 use Rattle.wl_module.specs.declared.limits.TableType.{TableType}
-use Rattle.wl_linking.specs.Debug.{DebugInput}
+use Rattle.wl_custom.specs.Debug.{DebugInput}
 use Rattle.wl_data.specs.DataPlaces.{DataInput, IsDataPlaces}
 use Rattle.wl_data.specs.Segments.{SegmentLayout}
 use Rattle.wl_data.specs.Sizes.{segment_count, all_encoded_bytes}

@@ -27,16 +27,16 @@ use Rattle.wl_module.specs.declared.limits.MemoryType.{MemoryType}
 use Rattle.wl_module.specs.declared.section_kind.SectionKind.{SectionKind}
 use Rattle.wl_module.specs.declared.section_kind.SectionKind.TheVariants as kind
 use Rattle.wl_linking.specs.Fitting.{IsWhole}
-use Rattle.wl_linking.specs.Infos.{IsInfo, SegmentInfo}
-use Rattle.wl_linking.specs.Linking.{IsHeld, IsLinking, IsSubsection, infos_in, nothing_seen, subsection_kind, subsections_in_turn}
+use Rattle.wl_custom.specs.Infos.{IsInfo, SegmentInfo}
+use Rattle.wl_custom.specs.Linking.{IsHeld, IsLinking, IsSubsection, infos_in, nothing_seen, subsection_kind, subsections_in_turn}
 use Rattle.wl_linking.specs.Object.{Object}
 use Rattle.wl_linking.specs.Parts.{code_of, data_of, join, no_parts, part_of}
 use Rattle.wl_linking.specs.Placing.{IsSpanned}
-use Rattle.wl_linking.specs.Relocations.{AreEntries, HoldsEntries, IsAddendWhere, IsEntry, IsRelocSection}
+use Rattle.wl_custom.specs.Relocations.{AreEntries, HoldsEntries, IsAddendWhere, IsEntry, IsRelocSection}
 use Rattle.wl_linking.specs.Sections.{AreSound, HoldsCustom, HoldsItems, LinkingItems, SectionContext, base_of, section_context}
 use Rattle.wl_linking.specs.Sites.{AreInOrder, offset_of}
 use Rattle.wl_linking.specs.Targets.{custom_kind, custom_verdict, kind_verdict, numbered_verdict, verdict_on}
-use Rattle.wl_linking.specs.declared.relocations.WasmRelocation.{WasmRelocation}
+use Rattle.wl_custom.specs.declared.relocations.WasmRelocation.{WasmRelocation}
 use Rattle.wl_plan.specs.Placing.{memories_of, memory_in}
 use Rattle.wl_plan.proofs.SectionLaws.{IsShort, all_append, all_flat, all_in_turn, all_items, module_within}
 

@@ -2,7 +2,7 @@
 use Rattle.std.specs.Prelude.{◌≡◌, ◌<◌, ℕ, List, map, length, Some, slice_get}
 use Rattle.std.specs.List.{range_with_len}
 use Rattle.wl_linking.specs.Object.{Object}
-use Rattle.wl_linking.specs.Symbols.{Symbol as LinkedSymbol}
+use Rattle.wl_custom.specs.Symbols.{Symbol as LinkedSymbol}
 use Rattle.wl_linking.specs.declared.error.LinkError.{LinkError}
 use Rattle.wl_linking.specs.declared.error.LinkError.TheVariants.{TooLarge}
 use Rattle.wl_linking.specs.declared.error.Quantity.TheVariants.{Address}

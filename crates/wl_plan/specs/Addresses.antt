@@ -3,7 +3,7 @@ use Rattle.std.specs.Prelude.{◌≡◌, ◌⊎◌, ◌≤◌, ℕ, ◌+◌, ◌
 use Rattle.std.specs.List.{range_with_len, slice_index_or}
 use Rattle.std.specs.Option.{option_map_or}
 use Rattle.wl_linking.specs.Object.{Object}
-use Rattle.wl_linking.specs.Symbols.{Symbol as LinkedSymbol, is_data, is_undefined, is_absolute}
+use Rattle.wl_custom.specs.Symbols.{Symbol as LinkedSymbol, is_data, is_undefined, is_absolute}
 use Rattle.wl_linking.specs.declared.error.LinkError.{LinkError}
 use Rattle.wl_linking.specs.declared.error.LinkError.TheVariants.{TooLarge}
 use Rattle.wl_linking.specs.declared.error.Quantity.TheVariants.{Address}

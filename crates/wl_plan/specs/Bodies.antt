@@ -4,7 +4,7 @@ use Rattle.std.specs.List.{AllZip}
 use Rattle.std.specs.Option.{option_and_then}
 use Rattle.wl_module.specs.Bodies.{Body}
 use Rattle.wl_module.specs.Types.{FunctionType}
-use Rattle.wl_linking.specs.Debug.{DebugInput}
+use Rattle.wl_custom.specs.Debug.{DebugInput}
 use Rattle.wl_linking.specs.Object.{Object}
 use Rattle.wl_symbols.specs.declared.linker_symbol.WasmLinkerSymbol.{WasmLinkerSymbol}
 use Rattle.wl_symbols.specs.declared.linker_symbol.WasmLinkerSymbol.TheVariants.{CallCtors}

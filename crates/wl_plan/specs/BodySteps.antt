@@ -2,7 +2,7 @@
 use Rattle.std.specs.Prelude.{◌≡◌, ℕ, ◌==◌, [], ◌∷◌, ◌++◌, ◌||◌, true, not, List, length, if◌then◌else◌, Option, Some, None, slice_get}
 use Rattle.std.specs.List.{AllByRecursion, AllZip}
 use Rattle.wl_module.specs.Bodies.{Body}
-use Rattle.wl_linking.specs.Debug.{DebugInput}
+use Rattle.wl_custom.specs.Debug.{DebugInput}
 use Rattle.wl_linking.specs.Fitting.{IsWhole}
 use Rattle.wl_linking.specs.Steps.{Clear}
 use Rattle.wl_ops.specs.Rewriting.{new_index}

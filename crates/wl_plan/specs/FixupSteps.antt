@@ -3,9 +3,9 @@ use Rattle.std.specs.Prelude.{◌≡◌, ◌≤◌, length, ℕ, ℤ, pos, ◌+�
 use Rattle.std.specs.List.{AllByRecursion}
 use Rattle.wl_linking.specs.Steps.{Clear}
 use Rattle.wl_linking.specs.declared.error.LinkError.{LinkError}
-use Rattle.wl_linking.specs.declared.relocation_type.RelocationType.{RelocationType}
-use Rattle.wl_linking.specs.declared.relocation_type.RelocationType.TheVariants.{MemoryAddrLeb, MemoryAddrSleb, MemoryAddrI32, MemoryAddrRelSleb, MemoryAddrTlsSleb}
-use Rattle.wl_linking.specs.declared.relocations.WasmRelocation.{WasmRelocation}
+use Rattle.wl_custom.specs.declared.relocation_type.RelocationType.{RelocationType}
+use Rattle.wl_custom.specs.declared.relocation_type.RelocationType.TheVariants.{MemoryAddrLeb, MemoryAddrSleb, MemoryAddrI32, MemoryAddrRelSleb, MemoryAddrTlsSleb}
+use Rattle.wl_custom.specs.declared.relocations.WasmRelocation.{WasmRelocation}
 use Rattle.wl_data.specs.declared.segments.WasmDataAddress.{WasmDataAddress}
 use Rattle.wl_data.specs.declared.segments.WasmDataAddress.TheVariants.{Missing, Placed, Passive, TlsOffset}
 use Rattle.wl_types.specs.Types.{max_entries}

@@ -5,7 +5,7 @@ use Rattle.std.specs.Option.{option_and_then}
 use Rattle.wl_module.specs.Types.{FunctionType}
 use Rattle.wl_module.specs.declared.error.Form.TheVariants.{PassiveAddress, TlsAddress}
 use Rattle.wl_linking.specs.Object.{Object}
-use Rattle.wl_linking.specs.Symbols.{Symbol as LinkedSymbol}
+use Rattle.wl_custom.specs.Symbols.{Symbol as LinkedSymbol}
 use Rattle.wl_linking.specs.declared.error.LinkError.{LinkError}
 use Rattle.wl_linking.specs.declared.error.LinkError.TheVariants.{Unsupported, RelocationRange}
 use Rattle.wl_data.specs.declared.segments.WasmDataAddress.{WasmDataAddress}

@@ -9,7 +9,7 @@ use Rattle.wl_module.specs.declared.error.Form.TheVariants.{PassiveAddress, TlsA
 use Rattle.wl_module.specs.declared.globals.GlobalType.{GlobalType}
 use Rattle.wl_module.specs.declared.types.ValType.TheVariants.{I32}
 use Rattle.wl_linking.specs.Object.{Object}
-use Rattle.wl_linking.specs.Symbols.{Symbol as LinkedSymbol, has_flag}
+use Rattle.wl_custom.specs.Symbols.{Symbol as LinkedSymbol, has_flag}
 use Rattle.wl_linking.specs.declared.error.LinkError.{LinkError}
 use Rattle.wl_linking.specs.declared.error.LinkError.TheVariants.{Unsupported, ConstantRange}
 use Rattle.wl_symbols.specs.Entries.{symbol_in}

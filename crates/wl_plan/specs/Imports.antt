@@ -7,7 +7,7 @@ use Rattle.wl_module.specs.declared.globals.GlobalType.{GlobalType}
 use Rattle.wl_module.specs.declared.imports.ImportEntity.{ImportEntity}
 use Rattle.wl_module.specs.declared.imports.ImportEntity.TheVariants as imported
 use Rattle.wl_module.specs.declared.limits.MemoryType.{MemoryType}
-use Rattle.wl_linking.specs.declared.symbols.WasmSymbolKind.TheVariants.{Global as GlobalKind}
+use Rattle.wl_custom.specs.declared.symbols.WasmSymbolKind.TheVariants.{Global as GlobalKind}
 use Rattle.wl_symbols.specs.Values.{MemoryName}
 use Rattle.wl_slots.specs.ImportSlots.{ImportSlot, import_slots}
 use Rattle.wl_slots.specs.Left.{HostImport}

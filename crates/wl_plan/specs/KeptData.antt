@@ -2,7 +2,7 @@
 use Rattle.std.specs.Prelude.{ℕ, ◌+◌, ◌-◌, List, [], ◌∷◌, ◌++◌, length, if◌then◌else◌, slice_get}
 use Rattle.std.specs.Option.{option_map_or}
 use Rattle.wl_module.specs.Segments.{Segment}
-use Rattle.wl_linking.specs.Infos.{SegmentInfo}
+use Rattle.wl_custom.specs.Infos.{SegmentInfo}
 use Rattle.wl_linking.specs.Object.{Object}
 use Rattle.wl_data.specs.Segments.{KeptData}
 use Rattle.wl_live.specs.declared.units.WasmGcUnit.TheVariants.{DataSegment}

@@ -1,9 +1,9 @@
 -- What addresses of data become in fields.
 use Rattle.std.specs.Prelude.{◌≡◌, ℕ, ℤ, pos, negsuc, ◌+◌, ◌+ℤ◌, ◌-ℤ◌, ◌-◌, ◌^◌, ◌&&◌, Bool, true, false, nat_lt, int_le, if◌then◌else◌, List, Option, Some, None, Result, Ok, Err, slice_get}
-use Rattle.wl_linking.specs.RelocationTypes.{has_addend}
-use Rattle.wl_linking.specs.declared.relocation_type.RelocationType.{RelocationType}
-use Rattle.wl_linking.specs.declared.relocation_type.RelocationType.TheVariants.{MemoryAddrI32}
-use Rattle.wl_linking.specs.declared.relocations.WasmRelocation.{WasmRelocation}
+use Rattle.wl_custom.specs.RelocationTypes.{has_addend}
+use Rattle.wl_custom.specs.declared.relocation_type.RelocationType.{RelocationType}
+use Rattle.wl_custom.specs.declared.relocation_type.RelocationType.TheVariants.{MemoryAddrI32}
+use Rattle.wl_custom.specs.declared.relocations.WasmRelocation.{WasmRelocation}
 use Rattle.wl_data.specs.declared.segments.WasmDataAddress.{WasmDataAddress}
 use Rattle.wl_data.specs.declared.segments.WasmDataAddress.TheVariants.{Missing, Placed, Passive, TlsOffset}
 use Rattle.wl_reloc.specs.declared.error.RelocError.{RelocError}

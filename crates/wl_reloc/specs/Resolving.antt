@@ -1,9 +1,9 @@
 -- What the field of a relocation takes, by where the things of its object stand in the output.
 use Rattle.std.specs.Prelude.{◌≡◌, ℕ, ℤ, ◌-◌, ◌==◌, Bool, if◌then◌else◌, List, Option, Some, None, Result, Ok, Err, slice_get}
-use Rattle.wl_linking.specs.Symbols.{Symbol}
-use Rattle.wl_linking.specs.declared.relocations.WasmRelocation.{WasmRelocation}
-use Rattle.wl_linking.specs.declared.symbols.WasmSymbolKind.{WasmSymbolKind}
-use Rattle.wl_linking.specs.declared.symbols.WasmSymbolKind.TheVariants.{Func, Data, Global, Section, Event, Table}
+use Rattle.wl_custom.specs.Symbols.{Symbol}
+use Rattle.wl_custom.specs.declared.relocations.WasmRelocation.{WasmRelocation}
+use Rattle.wl_custom.specs.declared.symbols.WasmSymbolKind.{WasmSymbolKind}
+use Rattle.wl_custom.specs.declared.symbols.WasmSymbolKind.TheVariants.{Func, Data, Global, Section, Event, Table}
 use Rattle.wl_data.specs.declared.segments.WasmDataAddress.{WasmDataAddress}
 use Rattle.wl_types.specs.declared.types.TheConstants.{WASM_DEAD_INDEX}
 use Rattle.wl_reloc.specs.Addresses.{address_value, as_word}

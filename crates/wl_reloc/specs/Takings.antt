@@ -1,8 +1,8 @@
 -- What each type of relocation takes of the symbol that it names (object file linking, version 2,
 -- "Relocation Sections"), as one table.
 use Rattle.std.specs.Prelude.{Option, Some, None}
-use Rattle.wl_linking.specs.declared.relocation_type.RelocationType.{RelocationType}
-use Rattle.wl_linking.specs.declared.relocation_type.RelocationType.TheVariants as type
+use Rattle.wl_custom.specs.declared.relocation_type.RelocationType.{RelocationType}
+use Rattle.wl_custom.specs.declared.relocation_type.RelocationType.TheVariants as type
 use Rattle.wl_reloc.specs.declared.takings.AddressBase.TheVariants.{Memory, MemoryBase, ThreadData}
 use Rattle.wl_reloc.specs.declared.takings.Taking.{Taking}
 use Rattle.wl_reloc.specs.declared.takings.Taking.TheVariants.{FunctionIndex, Slot, SlotBehindBase, GlobalIndex, TableNumber, Address}

@@ -6,10 +6,10 @@ use Rattle.wl_module.specs.Imports.{Imported}
 use Rattle.wl_module.specs.declared.imports.ExternalKind.TheVariants as external
 use Rattle.wl_linking.specs.Object.{Object}
 use Rattle.wl_linking.specs.Spaces.{NamesExist, symbol_exists, number_exists, spaces_of, count_imports}
-use Rattle.wl_linking.specs.Symbols.{Symbol, is_undefined}
+use Rattle.wl_custom.specs.Symbols.{Symbol, is_undefined}
 use Rattle.wl_linking.specs.declared.spaces.Counts.{Counts}
-use Rattle.wl_linking.specs.declared.symbols.WasmSymbolKind.{WasmSymbolKind}
-use Rattle.wl_linking.specs.declared.symbols.WasmSymbolKind.TheVariants.{Func, Data, Global, Section, Event, Table}
+use Rattle.wl_custom.specs.declared.symbols.WasmSymbolKind.{WasmSymbolKind}
+use Rattle.wl_custom.specs.declared.symbols.WasmSymbolKind.TheVariants.{Func, Data, Global, Section, Event, Table}
 use Rattle.wl_symbols.specs.LinkerNames.{is_imported_as}
 use Rattle.wl_slots.specs.SlotTargets.{defined_under, own_number, is_definition_of}
 use Rattle.wl_slots.specs.ImportSlots.{ImportSlot, numbered_slots}

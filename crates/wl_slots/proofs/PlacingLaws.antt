@@ -4,8 +4,8 @@ use Rattle.std.proofs.lemmas.Bool.{cases_Bool, eqb-true, eqb-false}
 use Rattle.std.proofs.Math.Seq.{take-suc}
 use Rattle.std.proofs.lemmas.List.{map_more}
 use Rattle.wl_module.specs.Imports.{Imported}
-use Rattle.wl_linking.specs.Symbols.{Symbol, is_undefined}
-use Rattle.wl_linking.specs.declared.symbols.WasmSymbolKind.{WasmSymbolKind}
+use Rattle.wl_custom.specs.Symbols.{Symbol, is_undefined}
+use Rattle.wl_custom.specs.declared.symbols.WasmSymbolKind.{WasmSymbolKind}
 use Rattle.wl_symbols.specs.LinkerNames.{is_imported_as}
 use Rattle.wl_slots.specs.ImportSlots.{ImportSlot, is_on, numbered_slots}
 use Rattle.wl_slots.specs.SlotSteps.{with_symbol, with_symbol_at}

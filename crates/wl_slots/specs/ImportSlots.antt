@@ -9,9 +9,9 @@ use Rattle.wl_module.specs.declared.imports.ImportEntity.{ImportEntity}
 use Rattle.wl_module.specs.declared.imports.ExternalKind.TheVariants as external
 use Rattle.wl_linking.specs.Object.{Object}
 use Rattle.wl_linking.specs.Spaces.{is_of_kind}
-use Rattle.wl_linking.specs.Symbols.{Symbol, is_undefined, is_weak}
-use Rattle.wl_linking.specs.declared.symbols.WasmSymbolKind.{WasmSymbolKind}
-use Rattle.wl_linking.specs.declared.symbols.WasmSymbolKind.TheVariants.{Func, Data, Global, Section, Event, Table}
+use Rattle.wl_custom.specs.Symbols.{Symbol, is_undefined, is_weak}
+use Rattle.wl_custom.specs.declared.symbols.WasmSymbolKind.{WasmSymbolKind}
+use Rattle.wl_custom.specs.declared.symbols.WasmSymbolKind.TheVariants.{Func, Data, Global, Section, Event, Table}
 use Rattle.wl_symbols.specs.Entries.{symbol_in}
 use Rattle.wl_symbols.specs.LinkerNames.{is_imported_as}
 

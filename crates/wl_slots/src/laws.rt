@@ -6,9 +6,9 @@ ghost use Rattle.wl_module.specs.declared.imports.ExternalKind.TheVariants as Ex
 ghost use Rattle.wl_linking.specs.Object.{Object};
 ghost use Rattle.wl_linking.specs.Fitting.{IsWhole};
 ghost use Rattle.wl_linking.specs.Spaces.{count_imports};
-ghost use Rattle.wl_linking.specs.Symbols.{Symbol as LinkedSymbol};
-ghost use Rattle.wl_linking.specs.declared.symbols.WasmSymbolKind.{WasmSymbolKind};
-ghost use Rattle.wl_linking.specs.declared.symbols.WasmSymbolKind.TheVariants as Symbols;
+ghost use Rattle.wl_custom.specs.Symbols.{Symbol as LinkedSymbol};
+ghost use Rattle.wl_custom.specs.declared.symbols.WasmSymbolKind.{WasmSymbolKind};
+ghost use Rattle.wl_custom.specs.declared.symbols.WasmSymbolKind.TheVariants as Symbols;
 ghost use Rattle.wl_symbols.specs.Link.{Link};
 ghost use Rattle.wl_symbols.specs.declared.linker_symbol.WasmLinkerSymbol.{WasmLinkerSymbol};
 ghost use Rattle.wl_slots.specs.ImportSlots.{ImportSlot as Slot, object_slots};

@@ -2,7 +2,7 @@
 
 ghost use Rattle.std.specs.Prelude.{◌≡◌, [], IfOk, OnOk, if◌then◌else◌, ◌&&◌, false};
 ghost use Rattle.std.specs.Option.{option_map_or};
-ghost use Rattle.wl_linking.specs.Symbols.{is_undefined, is_weak};
+ghost use Rattle.wl_custom.specs.Symbols.{is_undefined, is_weak};
 ghost use Rattle.wl_symbols.specs.Entries.{symbol_in};
 ghost use Rattle.wl_symbols.specs.LinkerNames.{is_imported_as};
 ghost use Rattle.wl_slots.specs.ImportSlots.{is_slot_of, slot_imports, numbered_slots, object_slots, import_slots, has_symbols, are_symbols_weak};

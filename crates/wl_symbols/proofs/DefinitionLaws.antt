@@ -8,7 +8,7 @@ use Rattle.wl_symbols.proofs.MadeLaws.{parse_name}
 use Rattle.wl_symbols.proofs.PlaceLaws.{places_in_order}
 use Rattle.wl_symbols.proofs.NamedLaws.{named_cases, def_shared}
 use Rattle.std.proofs.lemmas.Bool.{cases_Bool}
-use Rattle.wl_linking.specs.Symbols.{Symbol as LinkedSymbol}
+use Rattle.wl_custom.specs.Symbols.{Symbol as LinkedSymbol}
 use Rattle.wl_symbols.specs.Entries.{is_private, symbol_in}
 use Rattle.wl_symbols.specs.declared.entry.Strength.{Strength}
 use Rattle.wl_symbols.specs.declared.entry.Strength.TheVariants.{Strong, Weak, Undefined}

@@ -1,6 +1,6 @@
 -- What a name stands for, in words.
 use Rattle.std.proofs.Common.{◌≡◌, ℕ, List, refl, inl, inr, Option, Some, None, MatchOption, unwrap_or, false}
-use Rattle.wl_linking.specs.Symbols.{Symbol as LinkedSymbol}
+use Rattle.wl_custom.specs.Symbols.{Symbol as LinkedSymbol}
 use Rattle.wl_symbols.specs.Link.{Link}
 use Rattle.wl_symbols.specs.LinkerNames.{made_of}
 use Rattle.wl_symbols.specs.Entries.{entries_of, symbol_in, is_private, strength_of, first_of}

@@ -1,6 +1,6 @@
 -- Each strong name is that of one symbol, or one refusal tells a repeat.
 use Rattle.std.proofs.Common.{◌≡◌, ◌⊎◌, ℕ, List, [], ◌∷◌, ◌++◌, refl, sym, ap, subst, ◌∙◌, inl, inr, Option, Some, None, append-nil, append_assoc}
-use Rattle.wl_linking.specs.Symbols.{Symbol as LinkedSymbol}
+use Rattle.wl_custom.specs.Symbols.{Symbol as LinkedSymbol}
 use Rattle.wl_linking.specs.Object.{Object}
 use Rattle.wl_linking.specs.declared.error.LinkError.{LinkError}
 use Rattle.wl_symbols.specs.Entries.{Entry, entries_of}

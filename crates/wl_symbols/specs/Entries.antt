@@ -2,7 +2,7 @@
 use Rattle.std.specs.Prelude.{ℕ, ◌+◌, Bool, true, false, not, ◌&&◌, ◌||◌, if◌then◌else◌, List, [], ◌∷◌, ◌++◌, length, sum_by, Option, slice_get, option_map, find}
 use Rattle.std.specs.Option.{option_and_then}
 use Rattle.std.specs.Str.{bytes_eq}
-use Rattle.wl_linking.specs.Symbols.{Symbol as LinkedSymbol, is_undefined, is_weak, is_local, has_name}
+use Rattle.wl_custom.specs.Symbols.{Symbol as LinkedSymbol, is_undefined, is_weak, is_local, has_name}
 use Rattle.wl_linking.specs.Object.{Object}
 use Rattle.wl_symbols.specs.declared.entry.Place.{Place}
 use Rattle.wl_symbols.specs.declared.entry.Firsts.{Firsts}

@@ -2,9 +2,9 @@
 use Rattle.std.specs.Prelude.{ℕ, Bool, true, false, if◌then◌else◌, List, [], ◌∷◌, codes, Option, Some, None, find}
 use Rattle.std.specs.Option.{option_and_then}
 use Rattle.std.specs.Str.{bytes_eq}
-use Rattle.wl_linking.specs.declared.symbols.WasmSymbolKind.{WasmSymbolKind}
-use Rattle.wl_linking.specs.declared.symbols.WasmSymbolKind.TheVariants.{Func, Data, Global}
-use Rattle.wl_linking.specs.Symbols.{is_data}
+use Rattle.wl_custom.specs.declared.symbols.WasmSymbolKind.{WasmSymbolKind}
+use Rattle.wl_custom.specs.declared.symbols.WasmSymbolKind.TheVariants.{Func, Data, Global}
+use Rattle.wl_custom.specs.Symbols.{is_data}
 use Rattle.wl_symbols.specs.LinkerRows.{LinkerRow}
 use Rattle.wl_symbols.specs.declared.args.WasmArgs.{WasmArgs}
 use Rattle.wl_symbols.specs.declared.linker_symbol.MadeUnder.{MadeUnder}

@@ -1,7 +1,7 @@
 //! What callers may count on: functions with an empty body, each of which states a law of names.
 
 ghost use Rattle.std.specs.Prelude.{◌≡◌, ◌⊎◌, ℕ, List, MatchOption, Some, None, true, false};
-ghost use Rattle.wl_linking.specs.Symbols.{Symbol as LinkedSymbol};
+ghost use Rattle.wl_custom.specs.Symbols.{Symbol as LinkedSymbol};
 ghost use Rattle.wl_linking.specs.Object.{Object};
 ghost use Rattle.wl_linking.specs.declared.error.LinkError.{LinkError as SpecError};
 ghost use Rattle.wl_symbols.specs.Link.{Link};

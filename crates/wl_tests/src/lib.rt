@@ -7,6 +7,8 @@
 #[cfg(test)]
 mod bytes;
 #[cfg(test)]
+mod custom;
+#[cfg(test)]
 mod data;
 #[cfg(test)]
 mod lists;

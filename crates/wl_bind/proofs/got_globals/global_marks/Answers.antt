@@ -1,6 +1,6 @@
 use Rattle.std.proofs.Common.{◌≡◌, ◌∙◌, ◌∷◌, [], ℕ, List, false, length, map, ap, sym, append-nil, append_assoc, rules}
 use Rattle.std.specs.List.{list_any, range_with_len}
-use Rattle.wl_linking.specs.Symbols.{Symbol}
+use Rattle.wl_custom.specs.Symbols.{Symbol}
 use Rattle.wl_bind.specs.IndexMaps.{is_global_of}
 use Rattle.wl_bind.specs.Relocations.{object_relocations}
 use Rattle.wl_bind.specs.declared.relocated.Relocated.{Relocated}

@@ -1,5 +1,5 @@
 use Rattle.std.proofs.Common.{◌≡◌, rules, map, sym, Contains}
-use Rattle.wl_linking.specs.declared.symbols.WasmSymbolKind.TheVariants.{Func}
+use Rattle.wl_custom.specs.declared.symbols.WasmSymbolKind.TheVariants.{Func}
 use Rattle.wl_slots.specs.ImportSlots.{import_slots}
 use Rattle.wl_bind.specs.FunctionSymbols.{kept_binding}
 use Rattle.wl_bind.proofs.RowLaws.{entry_pushed, slot_is_one}

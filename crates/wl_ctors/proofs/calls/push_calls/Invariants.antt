@@ -1,5 +1,5 @@
 use Rattle.std.proofs.Common.{map, take}
-use Rattle.wl_linking.specs.declared.infos.WasmInitFunc.{WasmInitFunc}
+use Rattle.wl_custom.specs.declared.infos.WasmInitFunc.{WasmInitFunc}
 use Rattle.wl_ctors.specs.CallSteps.{AddsCalls}
 use Rattle.wl_ctors.proofs.calls.push_calls.Given as goal
 

@@ -1,5 +1,5 @@
 use Rattle.std.proofs.Common.{◌≡◌, ◌∙◌, sym, ap, Some, false}
-use Rattle.wl_linking.specs.Symbols.{Symbol as LinkedSymbol, is_undefined}
+use Rattle.wl_custom.specs.Symbols.{Symbol as LinkedSymbol, is_undefined}
 use Rattle.wl_symbols.specs.Entries.{symbol_in}
 use Rattle.wl_symbols.specs.Link.{Link}
 use Rattle.wl_exports.proofs.FaultLaws.{sound_by, kind_of_three}

@@ -1,5 +1,5 @@
 use Rattle.std.proofs.Common.{◌≡◌, ◌∙◌, ◌<◌, List, length, get_or, ap, subst}
-use Rattle.wl_linking.specs.Symbols.{Symbol as LinkedSymbol}
+use Rattle.wl_custom.specs.Symbols.{Symbol as LinkedSymbol}
 use Rattle.wl_exports.specs.Exports.{candidate}
 use Rattle.wl_exports.specs.ExportSteps.{takes}
 use Rattle.wl_exports.proofs.EntryLaws.{candidates_next}

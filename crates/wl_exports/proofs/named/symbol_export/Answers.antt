@@ -1,7 +1,7 @@
 use Rattle.std.proofs.Common.{◌≡◌, ◌∙◌, ℕ, sym, ap, subst, false}
 use Rattle.std.specs.Option.{option_map}
-use Rattle.wl_linking.specs.Symbols.{Symbol as LinkedSymbol, is_undefined}
-use Rattle.wl_linking.specs.declared.symbols.WasmSymbolKind.TheVariants.{Func, Global}
+use Rattle.wl_custom.specs.Symbols.{Symbol as LinkedSymbol, is_undefined}
+use Rattle.wl_custom.specs.declared.symbols.WasmSymbolKind.TheVariants.{Func, Global}
 use Rattle.wl_bind.specs.FunctionSpace.{local_functions}
 use Rattle.wl_bind.specs.GlobalSpace.{local_globals}
 use Rattle.wl_bind.specs.References.{there}

@@ -3,7 +3,7 @@ use Rattle.std.proofs.lemmas.Result.{err_from_is_err_and}
 use Rattle.wl_linking.specs.Sites.{body_piece, segment_piece, FieldsFault}
 use Rattle.wl_linking.specs.Fitting.{PartsFault}
 use Rattle.wl_linking.proofs.AlternativeLaws.{code_fault, data_fault}
-use Rattle.wl_linking.proofs.Exact.{cause_follows}
+use Rattle.wl_custom.proofs.Exact.{cause_follows}
 use Rattle.wl_linking.proofs.object.place.Goals as goal
 
 pub code_sites-requires-clause-order : goal.code_sites-requires-clause-order

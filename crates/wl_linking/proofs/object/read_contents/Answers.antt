@@ -5,7 +5,7 @@ use Rattle.wl_bytes.specs.declared.reader.TheConstants.{MAX_LEN}
 use Rattle.wl_module.specs.Sections.{headers_of}
 use Rattle.wl_linking.specs.Object.{Object}
 use Rattle.wl_linking.specs.Fitting.{NameStands, NamingFault, PartsFault, ObjectFault}
-use Rattle.wl_linking.proofs.Exact.{cause_follows}
+use Rattle.wl_custom.proofs.Exact.{cause_follows}
 use Rattle.wl_linking.proofs.FewLaws.{few_bodies, few_segments}
 use Rattle.wl_linking.proofs.ImportNameLaws.{parts_names_stand}
 use Rattle.wl_linking.proofs.ImportPlaces.{parts_spanned}

@@ -1,8 +1,8 @@
 use Rattle.std.proofs.Common.{ap, inr}
 use Rattle.wl_module.specs.Sections.{Section}
-use Rattle.wl_linking.specs.Linking.{IsLinking, LinkingFault}
+use Rattle.wl_custom.specs.Linking.{IsLinking, LinkingFault}
 use Rattle.wl_linking.specs.Sections.{base_of, LinkingItems, LinkingItemsFault}
-use Rattle.wl_linking.proofs.Exact.{answer_follows}
+use Rattle.wl_custom.proofs.Exact.{answer_follows}
 use Rattle.wl_linking.proofs.section.read_first_linking.Goals as goal
 
 pub returns : goal.returns

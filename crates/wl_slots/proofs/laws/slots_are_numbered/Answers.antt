@@ -3,7 +3,7 @@ use Rattle.std.proofs.lemmas.List.Sums.{length-filter}
 use Rattle.wl_linking.specs.Spaces.{is_of_kind}
 use Rattle.wl_module.specs.Imports.{Imported}
 use Rattle.wl_module.specs.declared.imports.ExternalKind.TheVariants as external
-use Rattle.wl_linking.specs.declared.symbols.WasmSymbolKind.TheVariants.{Func, Global}
+use Rattle.wl_custom.specs.declared.symbols.WasmSymbolKind.TheVariants.{Func, Global}
 use Rattle.wl_slots.specs.ImportSlots.{slot_imports}
 use Rattle.wl_slots.proofs.NumberLaws.{slots_length, slot_number}
 use Rattle.wl_slots.proofs.laws.slots_are_numbered.Goals as goal

@@ -1,7 +1,7 @@
 use Rattle.std.proofs.Common.{◌∙◌, ℕ, List, map, ap, sym, subst, arith}
 use Rattle.std.proofs.lemmas.Option.{slice_get_within}
 use Rattle.wl_module.specs.declared.imports.ExternalKind.TheVariants as external
-use Rattle.wl_linking.specs.declared.symbols.WasmSymbolKind.TheVariants.{Global}
+use Rattle.wl_custom.specs.declared.symbols.WasmSymbolKind.TheVariants.{Global}
 use Rattle.wl_live.specs.declared.units.WasmGcUnit.TheVariants.{DefinedGlobal}
 use Rattle.wl_slots.specs.ImportSlots.{ImportSlot}
 use Rattle.wl_bind.specs.NumberingSteps.{FitsOwn, resolution_of}

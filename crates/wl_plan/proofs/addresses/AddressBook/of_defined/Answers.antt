@@ -1,5 +1,5 @@
 use Rattle.std.proofs.Common.{◌≡◌, ◌∙◌, ◌<◌, ℕ, true, length, sym, ap, subst, rules, OnOk}
-use Rattle.wl_linking.specs.Symbols.{Symbol as LinkedSymbol, is_data}
+use Rattle.wl_custom.specs.Symbols.{Symbol as LinkedSymbol, is_data}
 use Rattle.wl_data.specs.declared.segments.WasmDataAddress.{WasmDataAddress}
 use Rattle.wl_plan.specs.Addresses.{IsHigh}
 use Rattle.wl_plan.proofs.AddressLaws.{segment_within, data_found}

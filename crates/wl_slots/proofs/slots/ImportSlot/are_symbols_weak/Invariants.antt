@@ -1,7 +1,7 @@
 use Rattle.std.proofs.Common.{◌≡◌, drop, false}
 use Rattle.std.specs.List.{list_all}
 use Rattle.std.specs.Option.{option_map_or}
-use Rattle.wl_linking.specs.Symbols.{is_weak}
+use Rattle.wl_custom.specs.Symbols.{is_weak}
 use Rattle.wl_symbols.specs.Entries.{symbol_in}
 use Rattle.wl_slots.specs.ImportSlots.{are_symbols_weak}
 use Rattle.wl_slots.proofs.slots.ImportSlot.are_symbols_weak.Given as goal

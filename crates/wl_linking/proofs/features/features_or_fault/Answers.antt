@@ -1,6 +1,0 @@
-use Rattle.wl_module.proofs.ListLaws.{exact}
-use Rattle.wl_linking.proofs.FeatureLaws.{features_reading}
-use Rattle.wl_linking.proofs.features.features_or_fault.Goals as goal
-
-pub returns : goal.returns
-returns c = exact features_reading

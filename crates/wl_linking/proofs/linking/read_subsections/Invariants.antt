@@ -1,9 +1,0 @@
-use Rattle.std.proofs.Common.{length}
-use Rattle.wl_linking.proofs.LinkingLaws.{ReadsOn}
-use Rattle.wl_linking.proofs.linking.read_subsections.Given as goal
-
-abbrev pub invariant-loop-alloc : goal.invariant-loop-alloc
-invariant-loop-alloc l = ReadsOn l.base l.fn.reader l.reader l.seen l.linking
-
-abbrev pub decreases-loop-alloc : goal.decreases-loop-alloc
-decreases-loop-alloc l = length l.reader.rest
