@@ -4,9 +4,9 @@ use Rattle.std.specs.List.{cons_option, list_any}
 use Rattle.std.specs.Option.{is_none}
 use Rattle.std.proofs.lemmas.Bool.{cases_Bool}
 use Rattle.indexmap.specs.IndexSet.{insert_key, insert_all}
-use Rattle.wl_bind.proofs.LeftLaws.{cases_option, no_place, any_at, itself}
+use Rattle.wl_bind.proofs.LeftLaws.{cases_option, no_place, any_at}
 use Rattle.wl_bind.proofs.ListLaws.{find_in_front, none_found, or_left, or_right}
-use Rattle.wl_bind.proofs.OnceParts.{IsIn, in_split, passes}
+use Rattle.wl_bind.proofs.OnceParts.{IsIn, in_split}
 
 -- ---- tests
 

@@ -1,5 +1,5 @@
 -- Symbols that lead to functions of another type.
-use Rattle.std.proofs.Common.{◌≡◌, ◌∙◌, ◌⊎◌, ℕ, zero, suc, ◌+◌, ◌<◌, Bool, true, false, not, ◌&&◌, List, [], ◌∷◌, length, refl, sym, ap, subst, arith, inl, inr, Option, Some, None, find, slice_get, slice_index_or, Contains}
+use Rattle.std.proofs.Common.{◌≡◌, ◌∙◌, ◌⊎◌, ℕ, zero, suc, ◌+◌, ◌<◌, Bool, true, false, not, ◌&&◌, List, [], ◌∷◌, length, refl, sym, ap, subst, arith, inl, inr, Option, Some, None, find, slice_get, slice_index_or}
 use Rattle.std.specs.Option.{option_map_or}
 use Rattle.std.proofs.lemmas.Bool.{cases_Bool}
 use Rattle.std.proofs.lemmas.Option.{slice_get_within}
@@ -18,13 +18,12 @@ use Rattle.wl_bind.specs.Input.{Input, keeps_slot}
 use Rattle.wl_bind.specs.FunctionSymbols.{fun}
 use Rattle.wl_bind.specs.FunctionTypes.{declared_type, target_type}
 use Rattle.wl_bind.specs.Scan.{relocations}
-use Rattle.wl_bind.specs.Signatures.{NamedByRelocation, OnKeptSlot, NamedByInit, IsLookedAt, IsMismatch}
-use Rattle.wl_bind.specs.BindingSteps.{is_other_type, differs, is_mismatch, names_mismatch, TellsMismatch, AreOwnClear}
+use Rattle.wl_bind.specs.Signatures.{NamedByRelocation, OnKeptSlot, IsLookedAt, IsMismatch}
+use Rattle.wl_bind.specs.BindingSteps.{is_other_type, differs, is_mismatch, names_mismatch, TellsMismatch}
 use Rattle.wl_bind.specs.declared.binding.FunctionTarget.{FunctionTarget}
 use Rattle.wl_bind.specs.declared.relocated.Relocated.{Relocated}
 use Rattle.wl_bind.proofs.FindLaws.{find_none, find_some}
-use Rattle.wl_bind.proofs.LeftLaws.{cases_option}
-use Rattle.wl_bind.proofs.ListLaws.{and_both, both, is_not, left_and, right_and, some_same}
+use Rattle.wl_bind.proofs.ListLaws.{and_both, both, is_not, left_and, right_and}
 
 -- ---- what differs
 
@@ -147,22 +146,6 @@ a_relocation input r e =
     } in
     mismatch input r.object r.relocation.index _ (inl named) (record { so = parts.1; told = refl })
 
--- a symbol that is defined is on no slot
-pub defined_clear : (input : Input) (object number : ℕ) (s : Symbol) → symbol_in input.link.objects object number ≡ Some s → is_undefined s ≡ false
-    → OnKeptSlot input object number → is_mismatch input object number ≡ false
-defined_clear input object number s is defined on_slot =
-    let same : s ≡ on_slot.symbol = some_same s on_slot.symbol (sym is ∙ on_slot.is) in
-    let both : false ≡ true = sym defined ∙ (ap is_undefined same ∙ on_slot.undefined) in
-    absurd cc
-
--- and one whose slot isn't kept is on none that is kept
-pub unkept_clear : (input : Input) (object number : ℕ) (s : Symbol) → symbol_in input.link.objects object number ≡ Some s → keeps_slot input Func object s.index ≡ false
-    → OnKeptSlot input object number → is_mismatch input object number ≡ false
-unkept_clear input object number s is unkept on_slot =
-    let same : s ≡ on_slot.symbol = some_same s on_slot.symbol (sym is ∙ on_slot.is) in
-    let both : false ≡ true = sym unkept ∙ (ap (λ (x : Symbol). keeps_slot input Func object x.index) same ∙ on_slot.kept) in
-    absurd cc
-
 -- an undefined symbol on a kept slot that leads to another type is a cause
 pub slot_told : (input : Input) (object number : ℕ) (s : Symbol) (e : LinkError) → symbol_in input.link.objects object number ≡ Some s → is_undefined s ≡ true
     → keeps_slot input Func object s.index ≡ true → TellsMismatch input object number e → IsMismatch input e
@@ -186,16 +169,6 @@ slot_more input object k this before j below on_slot = elim (below_or_at j k bel
   | inr same ↦ (let e = this (subst (λ (i : ℕ). OnKeptSlot input object i) same on_slot) in ap (is_mismatch input object) same ∙ e)
 ]
 
--- the symbols of all functions of an object that run at the start
-pub inits_clear : (input : Input) (object : ℕ) (o : Object) → slice_get input.link.objects object ≡ Some o
-    → ((k : ℕ) (f : WasmInitFunc) → k < length o.init_funcs → slice_index_or o.init_funcs k f ≡ f → is_mismatch input object f.symbol_index ≡ false)
-    → (number : ℕ) → NamedByInit input object number → is_mismatch input object number ≡ false
-inits_clear input object o here none number named =
-    let same : o ≡ named.o = some_same o named.o (sym here ∙ named.here) in
-    let among : Contains o.init_funcs named.function = subst (λ (x : Object). Contains x.init_funcs named.function) (sym same) named.one in
-    let e = none among.0 named.function among.1 among.2 in
-    ap (is_mismatch input object) (sym named.number_is) ∙ e
-
 -- such a symbol of one of them is a cause
 pub init_told : (input : Input) (object : ℕ) (o : Object) (k : ℕ) (f : WasmInitFunc) (e : LinkError) → slice_get input.link.objects object ≡ Some o
     → k < length o.init_funcs → f ≡ slice_index_or o.init_funcs k f → TellsMismatch input object f.symbol_index e → IsMismatch input e
@@ -209,32 +182,6 @@ init_at input object o k d list e here same lt h =
     let f : WasmInitFunc = slice_index_or o.init_funcs k d in
     let e_is : TellsMismatch input object f.symbol_index e = subst (λ (l : List WasmInitFunc). TellsMismatch input object (slice_index_or l k d).symbol_index e) same h in
     init_told input object o k f e here there_is (stands_there o.init_funcs k d there_is) e_is
-
--- one more object
-pub own_more : (input : Input) (k : ℕ) → AreOwnClear input k → ((j : ℕ) → j < k → AreOwnClear input j) → (j : ℕ) → j < k + 1 → AreOwnClear input j
-own_more input k this before j below = elim (below_or_at j k below) [
-  | inl less ↦ before j less
-  | inr same ↦ subst (λ (i : ℕ). AreOwnClear input i) (sym same) this
-]
-
-own_object : (input : Input) (object number : ℕ) → OnKeptSlot input object number ⊎ NamedByInit input object number → object < length input.link.objects
-own_object input object number (inl on_slot) = elim (cases_option (slice_get input.link.objects object)) [
-  | inl none ↦ absurd (let e = on_slot.is in let told : None ≡ Some on_slot.symbol = rw none at e in cc)
-  | inr o ↦ slice_get_within input.link.objects object o.0 o.1
-]
-own_object input object number (inr named) = slice_get_within input.link.objects object named.o named.here
-
--- all objects
-pub own_all : (input : Input) → ((j : ℕ) → j < length input.link.objects → AreOwnClear input j) → (object : ℕ) → AreOwnClear input object
-own_all input none object number named = none object (own_object input object number named) number named
-
-pub none_mismatch : (input : Input) → ((object number : ℕ) → NamedByRelocation input object number → is_mismatch input object number ≡ false)
-    → ((object : ℕ) → AreOwnClear input object) → Clear (IsMismatch input)
-none_mismatch input relocations own = all_clear input looked
-  where
-    looked : (object number : ℕ) → IsLookedAt input object number → is_mismatch input object number ≡ false
-    looked object number (inl named) = relocations object number named
-    looked object number (inr named) = own object number named
 
 -- ---- the law
 

@@ -1,5 +1,5 @@
 -- The indices of what objects define, and of what their slots are resolved to.
-use Rattle.std.proofs.Common.{◌≡◌, ◌∙◌, ◌≤◌, ◌<◌, ◌^◌, ℕ, zero, suc, ◌+◌, true, false, if◌then◌else◌, List, [], ◌∷◌, ◌++◌, length, map, take, get_or, refl, sym, ap, subst, arith, inl, inr, Some, None, slice_get, slice_index_or, Result, Ok, Err, IfOk, IfErr, length-append, length-take-le}
+use Rattle.std.proofs.Common.{◌≡◌, ◌∙◌, ◌≤◌, ◌<◌, ◌^◌, ℕ, zero, suc, ◌+◌, true, false, if◌then◌else◌, List, [], ◌∷◌, ◌++◌, length, map, take, get_or, refl, sym, ap, subst, arith, inl, inr, Some, None, slice_get, slice_index_or, Result, Ok, Err, IfErr, length-append, length-take-le}
 use Rattle.std.specs.List.{AllZip, range_with_len}
 use Rattle.std.proofs.lemmas.Bool.{cases_Bool}
 use Rattle.std.proofs.lemmas.List.{take_more, length-map}
@@ -341,10 +341,6 @@ globals_long input = space_length input Globals (λ i k. GlobalOf (global.Define
 pub if_err : {A E : Type 0} (r : Result A E) (P Q : E → Type 0) → ((e : E) → P e → Q e) → IfErr r P → IfErr r Q
 if_err (Ok x) P Q step err = tt
 if_err (Err e) P Q step err = step e err
-
-pub if_ok : {A E : Type 0} (r : Result A E) (P Q : A → Type 0) → ((x : A) → P x → Q x) → IfOk r P → IfOk r Q
-if_ok (Ok x) P Q step ok = step x ok
-if_ok (Err e) P Q step ok = tt
 
 pub functions_over : (input : Input) (start : ℕ) (e : LinkError) → start ≡ total (lengths_of (function_parts input))
     → IsOver (start + kept_count input Functions 0 input.link.objects) e → IsSpaceOver input e

@@ -14,28 +14,6 @@ get_behind [] ys k n e = let e' : n ≡ k = omega (arith, e) in rw e'
 get_behind (x ∷ xs) ys k zero e = absurd (omega (arith, e))
 get_behind (x ∷ xs) ys k (suc n) e = get_behind xs ys k n (omega (arith, e))
 
-pub from_head : {X : Type 0} (space : List X) (n : ℕ) (x : X) (xs : List X)
-    → StandsFrom space n (x ∷ xs) → slice_get space n ≡ Some x
-from_head space n x xs s = let e : n + 0 ≡ n = omega arith in rw e at (s.is 0 x refl)
-
-pub from_tail : {X : Type 0} (space : List X) (n : ℕ) (x : X) (xs : List X)
-    → StandsFrom space n (x ∷ xs) → StandsFrom space (n + 1) xs
-from_tail space n x xs s = record {
-  is = λ k y e. let at : n + suc k ≡ (n + 1) + k = omega arith in rw at at (s.is (suc k) y e);
-}
-
-pub from_left : {X : Type 0} (space : List X) (n : ℕ) (xs ys : List X)
-    → StandsFrom space n (xs ++ ys) → StandsFrom space n xs
-from_left space n xs ys s = record { is = λ k x e. s.is k x (get_in_front xs ys k x e) }
-
-pub from_right : {X : Type 0} (space : List X) (n : ℕ) (xs ys : List X)
-    → StandsFrom space n (xs ++ ys) → StandsFrom space (n + length xs) ys
-from_right space n xs ys s = record {
-  is = λ k x e.
-      let at : n + (length xs + k) ≡ (n + length xs) + k = omega arith in
-      rw at at (s.is (length xs + k) x (get_behind xs ys k (length xs + k) refl ∙ e));
-}
-
 -- a list stands behind what is in front of it
 pub stands_behind : {X : Type 0} (front xs behind : List X)
     → StandsFrom (front ++ (xs ++ behind)) (length front) xs
@@ -73,11 +51,3 @@ part_stands parts rest k part start p s = part_stands_from [] parts rest k part 
 pub joined_length : {X : Type 0} (parts : List (List X)) → length (joined parts) ≡ total (lengths_of parts)
 joined_length [] = refl
 joined_length (xs ∷ parts) = length-append xs (joined parts) ∙ ap (λ n. length xs + n) (joined_length parts)
-
--- what comes behind all parts stands there
-pub rest_stands : {X : Type 0} (parts : List (List X)) (rest : List X)
-    → StandsFrom (joined parts ++ rest) (total (lengths_of parts)) rest
-rest_stands parts rest = record {
-  is = λ k x e. get_behind (joined parts) rest k (total (lengths_of parts) + k)
-      (ap (λ n. n + k) (joined_length parts)) ∙ e;
-}

@@ -55,7 +55,7 @@ use Rattle.wl_bind.specs.declared.relocated.FixupPlace.TheVariants.{Code, Segmen
 use Rattle.wl_bind.specs.declared.relocated.Relocated.{Relocated}
 use Rattle.wl_bind.proofs.ClosedLaws.{function_units, counts_at, definition_is, other_is}
 use Rattle.wl_bind.proofs.HostLaws.{IsAt, placed, kept_at}
-use Rattle.wl_bind.proofs.LeftLaws.{cases_option, itself}
+use Rattle.wl_bind.proofs.LeftLaws.{cases_option}
 use Rattle.wl_bind.proofs.MadeLaws.{BindingLaws}
 use Rattle.wl_bind.proofs.NumberingLaws.{slots_here}
 use Rattle.wl_bind.proofs.OnceParts.{IsIn, in_split, in_firsts, Given, given_by}

@@ -2,7 +2,7 @@
 use Rattle.std.proofs.Common.{◌≡◌, ◌∙◌, ℕ, zero, suc, ◌+◌, ◌<◌, ◌≤◌, List, [], ◌∷◌, Some, None, length, refl, sym, ap, get_or, drop, drop-cons, slice_get, slice_set, arith}
 use Rattle.std.proofs.lemmas.List.{drop_all}
 use Rattle.std.proofs.lemmas.Option.{slice_get-get_or}
-use Rattle.wl_bind.specs.Stepped.{stepped, stepped_behind, step_at}
+use Rattle.wl_bind.specs.Stepped.{stepped_behind, step_at}
 use Rattle.wl_bind.proofs.ListLaws.{next_is, some_same}
 
 module _ {X Y : Type 0} (step : ℕ → X → Y → Y) where

@@ -10,7 +10,7 @@ use Rattle.wl_custom.specs.Symbols.{Symbol as LinkedSymbol}
 use Rattle.wl_custom.specs.declared.symbols.WasmSymbolKind.TheVariants.{Func, Global}
 use Rattle.wl_slots.specs.ImportSlots.{ImportSlot, slot_imports, slot_at, numbered_slots, object_slots}
 use Rattle.wl_slots.specs.SlotTargets.{by_definition, by_symbol_name, by_field_name, slot_target}
-use Rattle.wl_slots.specs.Left.{HostImport, same_field, first_like, is_stub, stubs, first_slot, place_of_name}
+use Rattle.wl_slots.specs.Left.{HostImport, same_field, first_like, is_stub, first_slot, place_of_name}
 use Rattle.wl_slots.specs.declared.targets.SlotTarget.{SlotTarget}
 use Rattle.wl_slots.specs.declared.targets.SlotTarget.TheVariants as slot
 use Rattle.wl_bind.specs.Input.{Input, keeps_slot}

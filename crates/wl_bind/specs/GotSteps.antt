@@ -1,5 +1,5 @@
 -- Keys with names, each key once: how the two lists of the GOT are built and searched.
-use Rattle.std.specs.Prelude.{◌≡◌, ◌==◌, ◌&&◌, ℕ, Bool, not, List, [], ◌∷◌, ◌++◌, map, fold, length, position, Option, None, Some, bytes_eq, if◌then◌else◌}
+use Rattle.std.specs.Prelude.{◌≡◌, ◌==◌, ◌&&◌, ℕ, Bool, not, List, [], ◌∷◌, ◌++◌, fold, length, position, Option, None, Some, bytes_eq, if◌then◌else◌}
 use Rattle.std.specs.HashMap.{HashMap, get_by}
 use Rattle.std.specs.List.{list_any}
 use denote.Ref.{Bor}

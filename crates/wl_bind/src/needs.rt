@@ -278,8 +278,8 @@ pub(crate) struct LinkerNeeds {
     pub(crate) init_memory: bool,
 }
 
-/// Whether an object has functions that run at the start (object file linking, version 2, "Init Funcs
-/// Subsection").
+/// Whether an object has functions that run at the start (object file linking, version 2, "Init
+/// Funcs Subsection").
 pub fn has_init_functions(input: &LinkInput<'_, '_>) -> bool
     ensures { result ≡ has_init_functions input.now }
 {

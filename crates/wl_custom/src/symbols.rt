@@ -138,7 +138,9 @@ impl<'a> WasmSymbol<'a> {
         self.flags.bits()
     }
 
-    /// The same symbol under a name, which stands at that range of the object's bytes.
+    /// The same symbol under a name, which stands at that range of the object's bytes: that of its
+    /// import, where an undefined symbol has no name of its own (object file linking, version 2,
+    /// "Symbol Table Subsection").
     pub fn with_name(self, name: &'a str, name_range: (u32, u32)) -> Self
         ensures { result ≡ with_name self.entry name.now name_range }
     {
@@ -191,7 +193,7 @@ impl<'a> Model for Details<'a> {
 }
 
 /// Where a name of so many bytes stands in the object, by how many bytes of the object lie before
-/// the reader's, and how many of these before the end of the name.
+/// the reader's, and how many of these before the end of the name (core specification, "Names").
 pub fn range_of(base: u32, end: usize, len: usize) -> (u32, u32)
     requires end { base + end < 2 ^ 32 }
     requires len { len ≤ end }

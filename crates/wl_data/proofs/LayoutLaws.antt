@@ -253,9 +253,6 @@ laid_one pass s place a b l e p q = record {
   laid = (q, tt);
 }
 
-pub laid_none : (pass : Pass) (s : KeptData) (a : Frontier) → is_chosen pass s ≡ false → AreLaidOut pass (s ∷ []) a a []
-laid_none pass s a e = record { placed = []; stand = none_standing pass a s e; laid = tt }
-
 -- ---- the loop
 
 pub laid_more : (pass : Pass) (segments : List KeptData) (i : ℕ) (s : KeptData) (a b c : Frontier) (old new more : List SegmentLayout) → i < length segments → s ≡ get_or segments i s

@@ -40,11 +40,6 @@ sound_drop objects zero all = all
 sound_drop [] (suc i) all = tt
 sound_drop (o ∷ objects) (suc i) all = sound_drop objects i all.1
 
-pub sound_at : (objects : List (List KeptData)) (i : ℕ) (o : List KeptData) → AllByRecursion AllCanBePlaced objects → i < length objects → o ≡ get_or objects i o → AllByRecursion CanBePlaced o
-sound_at [] i o all lt is = absurd (omega arith)
-sound_at (x ∷ objects) zero o all lt is = subst AllCanBePlaced (sym is) all.0
-sound_at (x ∷ objects) (suc i) o all lt is = sound_at objects i o all.1 (omega arith) is
-
 -- ---- the loop
 
 objects_push : (pass : Pass) (objects : List (List KeptData)) (o : List KeptData) (a b c : Frontier) (ls : List (List SegmentLayout)) (l : List SegmentLayout)

@@ -1,14 +1,14 @@
 -- What wrappers call: what runs the constructors, and a function that isn't imported.
-use Rattle.std.proofs.Common.{◌≡◌, ◌∙◌, ◌≤◌, ◌⊎◌, ℕ, zero, suc, ◌&&◌, ◌||◌, Bool, true, false, not, nat_le, List, [], ◌∷◌, length, filter, refl, sym, subst, arith, inl, inr, Some, slice_get, if◌then◌else◌}
+use Rattle.std.proofs.Common.{◌≡◌, ◌∙◌, ◌≤◌, ◌⊎◌, ℕ, zero, suc, ◌&&◌, ◌||◌, Bool, true, false, not, nat_le, List, [], ◌∷◌, length, filter, refl, subst, arith, inl, inr, Some, slice_get, if◌then◌else◌}
 use Rattle.std.specs.List.{list_any}
 use Rattle.std.specs.Str.{bytes_eq}
 use Rattle.std.proofs.lemmas.Option.{same_Some}
 use Rattle.wl_symbols.specs.LinkerNames.{name_of}
 use Rattle.wl_symbols.specs.declared.linker_symbol.WasmLinkerSymbol.TheVariants.{CallCtors, InitTls}
-use Rattle.wl_bind.specs.FunctionSpace.{FunctionEntry, host_function_part}
+use Rattle.wl_bind.specs.FunctionSpace.{host_function_part}
 use Rattle.wl_bind.specs.Input.{Input}
 use Rattle.wl_bind.specs.Made.{is_made, is_bound, is_forced, has_init_functions}
-use Rattle.wl_exports.specs.Exports.{ExportEntry, Entity, OfFunction, exports}
+use Rattle.wl_exports.specs.Exports.{ExportEntry, Entity, exports}
 use Rattle.wl_exports.specs.Wrapped.{WrapperEntry, IsWrapper, AreWrappers}
 use Rattle.wl_exports.specs.Wrappers.{is_ctors_name, calls_ctors, wraps, can_wrap, is_own, is_own_function, wrapped}
 use Rattle.wl_exports.proofs.ListLaws.{zip_at}

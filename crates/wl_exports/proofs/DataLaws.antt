@@ -137,12 +137,6 @@ before_data input =
 abbrev pub data_start : Input → ℕ
 data_start input = total (lengths_of (before_data input))
 
-data_parts : Input → List (List GlobalEntry)
-data_parts input = dynamic_part input ∷ forced_part input ∷ []
-
-parts_are : (input : Input) → global_parts input ≡ before_data input ++ (dynamic_part input ∷ forced_part input ∷ [])
-parts_are input = refl
-
 -- where the parts end
 pub data_end : (input : Input) (s : PartStarts) → AreStarts (global_parts input) s
     → s.end ≡ data_start input + (length (dynamic_data input) + length (forced_data input))

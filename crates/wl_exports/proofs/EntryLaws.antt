@@ -1,9 +1,8 @@
 -- Exports by names and by symbols, one after the other.
-use Rattle.std.proofs.Common.{◌≡◌, ◌∙◌, ◌≤◌, ◌<◌, ℕ, zero, suc, ◌+◌, ◌&&◌, not, Bool, true, false, List, [], ◌∷◌, ◌++◌, length, map, filter_map, take, get_or, refl, sym, ap, subst, arith, inl, inr, Option, Some, None, slice_get, Contains, append_assoc, append-nil, add-one}
+use Rattle.std.proofs.Common.{◌≡◌, ◌∙◌, ◌≤◌, ◌<◌, ℕ, zero, suc, ◌+◌, ◌&&◌, not, Bool, true, false, List, [], ◌∷◌, ◌++◌, length, map, filter_map, take, get_or, refl, sym, ap, subst, arith, Option, Some, None, slice_get, Contains, append_assoc, append-nil, add-one}
 use Rattle.std.specs.Option.{option_map, option_and_then, option_to_list}
 use Rattle.std.specs.Prelude.{string_bytes, String}
 use Rattle.std.specs.declared.alloc.Global.{Global}
-use Rattle.std.proofs.lemmas.Bool.{cases_Bool}
 use Rattle.std.proofs.lemmas.List.{take_all, take_more}
 use Rattle.wl_module.specs.Exports.{Exported}
 use Rattle.wl_linking.specs.Object.{Object}
@@ -18,17 +17,15 @@ use Rattle.wl_live.specs.Entry.{is_function_kind, is_defined_function}
 use Rattle.wl_live.specs.Roots.{is_candidate}
 use Rattle.wl_bind.specs.ExportedData.{is_made_name}
 use Rattle.wl_bind.specs.FunctionSpace.{FunctionEntry, FunctionOf}
-use Rattle.wl_bind.specs.GlobalSpace.{GlobalEntry, GlobalOf}
 use Rattle.wl_bind.specs.Input.{Input}
 use Rattle.wl_bind.specs.declared.binding.FunctionTarget.TheVariants as function
 use Rattle.wl_bind.specs.declared.binding.GlobalTarget.TheVariants as global
 use Rattle.wl_slots.specs.SlotTargets.{own_number}
-use Rattle.wl_symbols.specs.Entries.{symbol_in}
-use Rattle.wl_exports.specs.Exports.{ExportEntry, Entity, OfFunction, OfGlobal, export_of, by_names, object_entity, defined_entity, defined_of_kind, named_entity, only_function, named_function, unless_made, candidate, candidates_from, candidates, is_code, stack_pointer_export, dynamic_exports}
+use Rattle.wl_exports.specs.Exports.{ExportEntry, Entity, OfFunction, export_of, by_names, object_entity, defined_entity, defined_of_kind, named_entity, only_function, named_function, unless_made, candidate, candidates_from, candidates, is_code, stack_pointer_export, dynamic_exports}
 use Rattle.wl_exports.specs.ExportSteps.{IsPlainIf, AddsExports, takes}
 use Rattle.wl_exports.specs.declared.dynamic.Wanted.{Wanted}
 use Rattle.wl_exports.proofs.GrowLaws.{adds_more, adds_same}
-use Rattle.wl_exports.proofs.ShownLaws.{Found, found, entity_found}
+use Rattle.wl_exports.proofs.ShownLaws.{Found, entity_found}
 use Rattle.wl_exports.proofs.ListLaws.{at_read, both, in_at, in_list, map_at, not_true, one_item}
 
 -- ---- by names
@@ -96,11 +93,6 @@ name_in items i s name names lt is named_so are =
 
 -- ---- what a name stands for
 
--- nothing
-pub plain_none : (input : Input) (name : List ℕ) (e : Option Entity) → e ≡ None
-    → IsPlainIf input (option_map (export_of name) e) None
-plain_none input name e none = rw none tt
-
 pub plain_same : (input : Input) (name : List ℕ) (e other : Option Entity) (x : Option Exported) → e ≡ other
     → IsPlainIf input (option_map (export_of name) other) x → IsPlainIf input (option_map (export_of name) e) x
 plain_same input name e other x same is =
@@ -113,9 +105,6 @@ entity_named input name d names = ap (option_and_then (object_entity input)) nam
 pub unless_is : (input : Input) (name : List ℕ) → is_made_name input name ≡ false
     → unless_made input name ≡ named_entity input name
 unless_is input name unmade = rw unmade refl
-
-pub unless_none : (input : Input) (name : List ℕ) → is_made_name input name ≡ true → unless_made input name ≡ None
-unless_none input name made = rw made refl
 
 -- ---- the entry's function
 
@@ -132,36 +121,10 @@ function_parts_of s e =
     let h = both (is_function_kind s.kind) (not (is_undefined s)) e in
     (function_kind s.kind h.0, not_true (is_undefined s) h.1)
 
-no_function : (f : ℕ → GlobalEntry) (n : Option ℕ)
-    → option_and_then only_function (option_map (λ k. OfGlobal (f k)) n) ≡ None
-no_function f None = refl
-no_function f (Some k) = refl
-
 all_functions : (f : ℕ → FunctionEntry) (n : Option ℕ)
     → option_and_then only_function (option_map (λ k. OfFunction (f k)) n) ≡ option_map (λ k. OfFunction (f k)) n
 all_functions f None = refl
 all_functions f (Some k) = refl
-
-only_none : (object number : ℕ) (o : Object) (kind : WasmSymbolKind) (index : ℕ) → is_function_kind kind ≡ false
-    → option_and_then only_function (defined_of_kind object number o kind index) ≡ None
-only_none object number o Func index fails = absurd cc
-only_none object number o Data index fails = refl
-only_none object number o GlobalKind index fails =
-    no_function (λ n. GlobalOf (global.Defined object n)) (own_number GlobalKind o index)
-only_none object number o Section index fails = refl
-only_none object number o Event index fails = refl
-only_none object number o Table index fails = refl
-
--- no function that the object defines
-entry_none : (input : Input) (object number : ℕ) (o : Object) (s : LinkedSymbol) → is_defined_function s ≡ false
-    → option_and_then only_function (defined_entity input object number o s) ≡ None
-entry_none input object number o s fails = elim (cases_Bool (is_undefined s)) [
-  | inl undefined ↦ rw undefined refl
-  | inr defined ↦ elim (cases_Bool (is_function_kind s.kind)) [
-    | inl holds ↦ let wrong : true ≡ false = rw (holds, defined) at fails in absurd cc
-    | inr other ↦ rw defined (only_none object number o s.kind s.index other)
-  ]
-]
 
 -- a function that it defines
 entry_same : (input : Input) (object number : ℕ) (o : Object) (s : LinkedSymbol) → is_defined_function s ≡ true
@@ -180,20 +143,6 @@ pub named_by : (input : Input) (name : List ℕ) (object number : ℕ) (s : Link
 named_by input name object number s names f =
     entity_named input name (Some (Symbol object number)) names ∙ entity_found input object number s f
 
-pub entry_absent : (input : Input) (name : List ℕ) (d : Option Definition) → named input.link name ≡ d
-    → option_and_then (object_entity input) d ≡ None → named_function input name ≡ None
-entry_absent input name d names none =
-    ap (option_and_then only_function) (entity_named input name d names ∙ none)
-
-pub entry_other : (input : Input) (name : List ℕ) (object number : ℕ) (s : LinkedSymbol)
-    → named input.link name ≡ Some (Symbol object number)
-    → symbol_in input.link.objects object number ≡ Some s → is_defined_function s ≡ false
-    → named_function input name ≡ None
-entry_other input name object number s names at fails =
-    let f = found input.link.objects object number s at in
-    ap (option_and_then only_function) (named_by input name object number s names f)
-    ∙ entry_none input object number f.owner s fails
-
 pub entry_is : (input : Input) (name : List ℕ) (object number : ℕ) (s : LinkedSymbol)
     → named input.link name ≡ Some (Symbol object number)
     → (f : Found input.link.objects object number s) → is_defined_function s ≡ true
@@ -201,10 +150,6 @@ pub entry_is : (input : Input) (name : List ℕ) (object number : ℕ) (s : Link
 entry_is input name object number s names f holds =
     ap (option_and_then only_function) (named_by input name object number s names f)
     ∙ entry_same input object number f.owner s holds
-
-pub forced_absent : (input : Input) (name : List ℕ) (d : Option Definition) → is_made_name input name ≡ false
-    → named input.link name ≡ d → option_and_then (object_entity input) d ≡ None → unless_made input name ≡ None
-forced_absent input name d unmade names none = unless_is input name unmade ∙ (entity_named input name d names ∙ none)
 
 pub forced_is : (input : Input) (name : List ℕ) (object number : ℕ) (s : LinkedSymbol)
     → is_made_name input name ≡ false → named input.link name ≡ Some (Symbol object number)
@@ -245,11 +190,6 @@ candidates_next input test object o symbols k s old middle new at a b =
     adds_same input (front ++ option_to_list (candidate input test object k o s))
     (candidates_from input test object o 0 (take (k + 1) symbols)) old new more
     (adds_more input front (option_to_list (candidate input test object k o s)) old middle new a b)
-
-pub candidate_none : (input : Input) (test : WasmSymbolKind → Bool) (object number : ℕ) (o : Object) (s : LinkedSymbol)
-    → (test s.kind && has_name s && is_candidate input.link object number s) ≡ false
-    → candidate input test object number o s ≡ None
-candidate_none input test object number o s fails = rw fails refl
 
 pub candidate_is : (input : Input) (test : WasmSymbolKind → Bool) (object number : ℕ) (o : Object) (s : LinkedSymbol)
     → (test s.kind && has_name s && is_candidate input.link object number s) ≡ true

@@ -20,7 +20,6 @@ use Rattle.wl_custom.specs.declared.symbols.WasmSymbolKind.TheVariants.{Func, Da
 use Rattle.wl_symbols.specs.Entries.{symbol_in}
 use Rattle.wl_symbols.specs.Names.{named}
 use Rattle.wl_symbols.specs.Texts.{texts}
-use Rattle.wl_symbols.specs.declared.entry.Definition.{Definition}
 use Rattle.wl_symbols.specs.declared.entry.Definition.TheVariants.{Symbol}
 use Rattle.wl_slots.specs.SlotTargets.{is_definition_of}
 use Rattle.wl_bind.specs.ExportedData.{is_made_name}
@@ -67,36 +66,6 @@ entity_by : (input : Input) (object number : ℕ) (s : LinkedSymbol)
     → (f : Found input.link.objects object number s) → is_undefined s ≡ false
     → object_entity input (Symbol object number) ≡ defined_of_kind object number f.owner s.kind s.index
 entity_by input object number s f defined = entity_found input object number s f ∙ rw defined refl
-
-pub undefined_fault : (input : Input) (name : List ℕ) (object number : ℕ) (s : LinkedSymbol)
-    → symbol_in input.link.objects object number ≡ Some s → is_undefined s ≡ true
-    → is_table_kind s.kind ≡ false → IsSymbolFault input name object number (ExportNotFound name)
-undefined_fault input name object number s at undefined kind =
-    let f = found input.link.objects object number s at in
-    let none : object_entity input (Symbol object number) ≡ None =
-    entity_found input object number s f ∙ rw undefined refl in
-    nothing (table_by input object number s at ∙ kind) none refl
-
-kind_none : (object number : ℕ) (o : Object) (kind other : WasmSymbolKind) (index : ℕ) → kind ≡ other
-    → defined_of_kind object number o other index ≡ None
-    → defined_of_kind object number o kind index ≡ None
-kind_none object number o kind other index is none =
-    ap (λ (k : WasmSymbolKind). defined_of_kind object number o k index) is ∙ none
-
--- a symbol of another kind
-pub other_fault : (input : Input) (name : List ℕ) (object number : ℕ) (s : LinkedSymbol) (kind : WasmSymbolKind)
-    → symbol_in input.link.objects object number ≡ Some s → s.kind ≡ kind
-    → is_table_kind kind ≡ false
-    → ((o : Object) → defined_of_kind object number o kind s.index ≡ None)
-    → IsSymbolFault input name object number (ExportNotFound name)
-other_fault input name object number s kind at is fails none = elim (cases_Bool (is_undefined s)) [
-  | inl undefined ↦ undefined_fault input name object number s at undefined (ap is_table_kind is ∙ fails)
-  | inr defined ↦
-      let f = found input.link.objects object number s at in
-      nothing (table_by input object number s at ∙ (ap is_table_kind is ∙ fails))
-      (entity_by input object number s f defined
-      ∙ kind_none object number f.owner s.kind kind s.index is (none f.owner)) refl
-]
 
 some_of : {X : Type 0} (o : Option X) (x : X) → o ≡ Some x → IsSome o
 some_of o x e = rw e refl
@@ -157,12 +126,6 @@ name_fault input name object number e unmade names (a_table holds told) =
     is_a_table unmade object number names (ap (is_table input) names ∙ holds) told
 name_fault input name object number e unmade names (nothing fails none told) =
     is_missing unmade (entity_named input name object number names ∙ none) (ap (is_table input) names ∙ fails) told
-
-pub name_gone : (input : Input) (name : List ℕ) (d : Option Definition) → is_made_name input name ≡ false
-    → named input.link name ≡ d → option_and_then (object_entity input) d ≡ None → is_table input d ≡ false
-    → IsNameFault input name (ExportNotFound name)
-name_gone input name d unmade names none fails =
-    is_missing unmade (ap (option_and_then (object_entity input)) names ∙ none) (ap (is_table input) names ∙ fails) refl
 
 -- what is told of a name that has to be exported is a fault
 pub required_fault : (input : Input) (name : List ℕ) (e : LinkError)
@@ -240,10 +203,6 @@ clear_of input names first = record {
     ]
   ];
 }
-
--- no two so far
-pub distinct_none : AreDistinct []
-distinct_none i k a b lt at_a at_b same = absurd cc
 
 any_at : (name : List ℕ) (xs : List Exported) (i : ℕ) (a : Exported) → slice_get xs i ≡ Some a → a.name ≡ name
     → has_export name xs ≡ true

@@ -1,26 +1,17 @@
 -- Lists of exports that grow.
-use Rattle.std.proofs.Common.{◌≡◌, ◌∙◌, ℕ, zero, suc, ◌+◌, ◌<◌, List, [], ◌∷◌, ◌++◌, length, filter_map, take, get_or, sym, ap, subst, arith, Option, Some, None, slice_get, append_assoc, append-nil, add-one, Result, Ok, Err, OnOk}
+use Rattle.std.proofs.Common.{◌≡◌, ◌∙◌, ℕ, zero, suc, ◌+◌, ◌<◌, List, [], ◌∷◌, ◌++◌, length, filter_map, take, get_or, sym, ap, subst, arith, Option, Some, slice_get, append_assoc, append-nil, add-one, Result, Ok, Err, OnOk}
 use Rattle.std.specs.Option.{option_map, option_to_list}
 use Rattle.wl_module.specs.Exports.{Exported}
 use Rattle.wl_linking.specs.Object.{Object}
 use Rattle.wl_bind.specs.Input.{Input}
 use Rattle.wl_bind.specs.Parts.{by_object}
 use Rattle.wl_exports.specs.Exports.{ExportEntry, export_of, own_entity}
-use Rattle.wl_exports.specs.ExportSteps.{IsPlainIf, AddsExports}
+use Rattle.wl_exports.specs.ExportSteps.{AddsExports}
 use Rattle.wl_exports.specs.Sources.{IsPlainExport}
 use Rattle.wl_exports.proofs.ListLaws.{zip_joined, filter_map_more}
 
 pub adds_none : (input : Input) (old : List Exported) → AddsExports input [] old old
 adds_none input old = record { more = []; are = tt; grown = sym (append-nil old) }
-
-pub adds_if : (input : Input) (entry : Option ExportEntry) (export : Option Exported) (old new : List Exported)
-    → IsPlainIf input entry export → new ≡ old ++ option_to_list export
-    → AddsExports input (option_to_list entry) old new
-adds_if input None None old new is grown = record { more = []; are = tt; grown = grown }
-adds_if input None (Some x) old new is grown = absurd is
-adds_if input (Some e) None old new is grown = absurd is
-adds_if input (Some e) (Some x) old new is grown =
-    record { more = x ∷ []; are = (is, tt); grown = grown }
 
 pub adds_more : (input : Input) (front behind : List ExportEntry) (old middle new : List Exported)
     → AddsExports input front old middle → AddsExports input behind middle new
@@ -77,13 +68,6 @@ adds_object input f objects k o old middle new at a b =
     rw add-one (sym (object_more f 0 k k objects o (omega arith) at)) in
     adds_same input (by_object f 0 (take k objects) ++ f k o) (by_object f 0 (take (k + 1) objects)) old new more
     (adds_more input (by_object f 0 (take k objects)) (f k o) old middle new a b)
-
-pub adds_objects : (input : Input) (f : ℕ → Object → List ExportEntry) (objects : List Object) (k : ℕ)
-    (old new : List Exported) → (take k objects ≡ objects)
-    → AddsExports input (by_object f 0 (take k objects)) old new
-    → AddsExports input (by_object f 0 objects) old new
-adds_objects input f objects k old new whole a =
-    subst (λ (os : List Object). AddsExports input (by_object f 0 os) old new) whole a
 
 -- the export of what an object exports
 abbrev pub own_export : Input → ℕ → Object → Exported → Option ExportEntry

@@ -66,9 +66,6 @@ any_append p (x ∷ xs) ys = elim (cases_Bool (p x)) [
 
 -- ---- sets of names
 
-pub holds_none : {S : Type 0} (taken : HashSet (Bor (List ℕ)) S) → taken.keys ≡ [] → HoldsNames taken []
-holds_none taken none wanted = ap (λ (ks : List (Bor (List ℕ))). list_any (λ (k : Bor (List ℕ)). bytes_eq wanted k.now) ks) none
-
 pub holds_more : {S : Type 0} (old new : HashSet (Bor (List ℕ)) S) (xs : List Exported) (x : Exported) (name : List ℕ)
     → x.name ≡ name
     → ((wanted : List ℕ) → holds_name new wanted ≡ (bytes_eq name wanted || holds_name old wanted))

@@ -124,10 +124,6 @@ has_map input maps object o are functions globals here =
           row.2.globals globals);
     }
 
-pub no_map : (input : Input) (maps : List WasmObjectIndexMap) (object : ℕ) (o : Object)
-    → HasMap input maps object o → slice_get maps object ≡ None → ⊥
-no_map input maps object o h none = let at = h.at in cc
-
 pub the_map : (input : Input) (maps : List WasmObjectIndexMap) (object : ℕ) (o : Object) (m : WasmObjectIndexMap)
     → (h : HasMap input maps object o) → slice_get maps object ≡ Some m → h.map_is ≡ m
 the_map input maps object o m h some = same_Some h.map_is m (sym h.at ∙ some)

@@ -310,14 +310,6 @@ entity_of input object number o s kind defined is =
     unless (is_undefined s) None (defined_of_kind object number o s.kind s.index) defined
     ∙ ap (λ (k : WasmSymbolKind). defined_of_kind object number o k s.index) is
 
-pub undefined_is : (input : Input) (object number : ℕ) (o : Object) (s : LinkedSymbol) (name : List ℕ)
-    → is_undefined s ≡ true
-    → IsPlainIf input (option_map (export_of name) (defined_entity input object number o s)) None
-undefined_is input object number o s name undefined =
-    let none : defined_entity input object number o s ≡ None =
-    when (is_undefined s) None (defined_of_kind object number o s.kind s.index) undefined in
-    subst (λ (e : Option Entity). IsPlainIf input (option_map (export_of name) e) None) (sym none) tt
-
 -- what is no function, global or data isn't exported
 pub other_is : (input : Input) (object number : ℕ) (o : Object) (s : LinkedSymbol) (name : List ℕ)
     (kind : WasmSymbolKind) → is_undefined s ≡ false → s.kind ≡ kind

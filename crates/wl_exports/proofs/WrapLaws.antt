@@ -109,14 +109,6 @@ own_by_index input i hosts f count at =
           le_true hosts i (omega (arith, count, place)) ∙ sym (own_behind input f (in_at rest behind.0 f behind.2))
     ]
 
--- an export of a kind that isn't a function's
-pub not_function : (input : Input) (entity : Entity) (x : Exported) → IsOf input entity x
-    → (x.kind ≡ external.Func → ⊥) → is_own_function entity ≡ false
-not_function input (OfFunction f) x is other = absurd (other is.0)
-not_function input (OfGlobal g) x is other = refl
-not_function input OfTable x is other = refl
-not_function input OfMemory x is other = refl
-
 pub own_function : (input : Input) (entity : Entity) (x : Exported) (hosts : ℕ) → IsOf input entity x
     → x.kind ≡ external.Func → hosts ≡ length (host_function_part input)
     → nat_le hosts x.index ≡ is_own_function entity
@@ -216,9 +208,6 @@ pub at_most_one : (b : Bool) (n : ℕ) → n ≡ one_if b → n ≤ 1
 at_most_one true n e = omega (arith, e)
 at_most_one false n e = omega (arith, e)
 
-pub count_none : (input : Input) → wraps input ≡ false → 0 ≡ length (wrapped input)
-count_none input free = rw free refl
-
 filter_short : {X : Type 0} (p : X → Bool) (i : ℕ) (xs : List X) → length (filter p (take i xs)) ≤ length (filter p xs)
 filter_short p zero xs = omega arith
 filter_short p (suc i) [] = omega arith
@@ -233,9 +222,6 @@ pub record IsWrappedSoFar (input : Input) (k : ℕ) (xs : List Exported) (ws : L
   pub each : (place : ℕ) (e : ExportEntry) (x : Exported) → slice_get (exports input) place ≡ Some e
       → slice_get xs place ≡ Some x → IsExportAt input place e x
   pub wrappers : AllZip (IsWrapper input) (filter (is_wrapped input) (take k (exports input))) ws
-
-pub none_wrapped : (input : Input) → IsWrappedSoFar input 0 [] []
-none_wrapped input = record { len = refl; each = λ place e x at here. absurd cc; wrappers = tt }
 
 pub wrapped_room : (input : Input) (k functions most : ℕ) (xs : List Exported) (ws : List WrapperEntry)
     → IsWrappedSoFar input k xs ws → functions + length (wrapped input) ≤ most → functions + length ws ≤ most

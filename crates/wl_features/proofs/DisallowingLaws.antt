@@ -1,5 +1,5 @@
 -- Objects that disallow features, and names that they disallow.
-use Rattle.std.proofs.Common.{◌≡◌, ℕ, ◌+◌, ◌<◌, ◌≤◌, true, false, List, length, Less, Some, slice_get, sym, ◌∙◌, inl, inr, arith}
+use Rattle.std.proofs.Common.{◌≡◌, ℕ, ◌+◌, ◌<◌, true, false, List, length, Less, Some, slice_get, sym, ◌∙◌, inl, inr, arith}
 use Rattle.std.specs.Cmp.Lexicographic.{nat_list_cmp_total}
 use Rattle.std.proofs.lemmas.Bool.{cases_lt}
 use Rattle.std.proofs.lemmas.Option.{slice_get_within}
@@ -25,9 +25,6 @@ not_here objects name k o at off (other, there, on) =
     let told : disallows name o ≡ true = rw same at on in
     cc
 
-pub none_below_none : (objects : List Object) (name : List ℕ) → NoneBelow objects name 0
-none_below_none objects name = record { none = λ object lt by. omega (arith, lt) }
-
 pub none_below_more : (objects : List Object) (name : List ℕ) (k : ℕ) (o : Object)
     → NoneBelow objects name k
     → slice_get objects k ≡ Some o → disallows name o ≡ false → NoneBelow objects name (k + 1)
@@ -39,21 +36,11 @@ none_below_more objects name k o before at off = record {
   ];
 }
 
-pub none_below_all : (objects : List Object) (name : List ℕ) (k : ℕ) → NoneBelow objects name k
-    → length objects ≤ k
-    → NoneDisallows objects name
-none_below_all objects name k before le = record {
-  none = λ object lt by. before.none object (omega (arith, lt, le)) by;
-}
-
 pub none_at_all : (objects : List Object) (name : List ℕ) (k : ℕ) → NoneDisallows objects name
     → DisallowedBy objects name k → ⊥
 none_at_all objects name k none by = none.none k (slice_get_within objects k by.0 by.1) by
 
 -- ---- names in order
-
-pub free_none : (objects : List Object) (names : List (List ℕ)) → AreFree objects names 0
-free_none objects names = record { free = λ place name lt at. absurd (omega (arith, lt)) }
 
 pub free_more : (objects : List Object) (names : List (List ℕ)) (k : ℕ) (name : List ℕ)
     → AreFree objects names k
@@ -66,12 +53,6 @@ free_more objects names k name before at none = record {
         let one : other ≡ name = cc in
         rw one none)
   ];
-}
-
-pub free_all : (objects : List Object) (names : List (List ℕ)) (k count : ℕ)
-    → AreFree objects names k → count ≤ k → AreFree objects names count
-free_all objects names k count before le = record {
-  free = λ place name lt at. before.free place name (omega (arith, lt, le)) at;
 }
 
 -- ---- conflicts

@@ -24,9 +24,6 @@ pub record KnownBelow (objects : List Object) (count : ℕ) : Type 0 where
   pub known : (object : ℕ) (o : Object) → object < count → slice_get objects object ≡ Some o
       → AreKnown o.features
 
-pub known_none : (objects : List Object) → KnownBelow objects 0
-known_none objects = record { known = λ object o lt at. absurd (omega (arith, lt)) }
-
 pub known_more : (objects : List Object) (k : ℕ) (o : Object) → KnownBelow objects k
     → slice_get objects k ≡ Some o
     → AreKnown o.features → KnownBelow objects (k + 1)

@@ -14,9 +14,6 @@ use Rattle.wl_features.proofs.TakenLaws.{has_taken, is_taken}
 
 -- ---- none
 
-pub not_shared : (link : Link) → link.args.shared_memory ≡ false → Clear (IsSharedFault link)
-not_shared link off = record { none = λ e h. let on = h.1 in cc }
-
 pub not_checked : (link : Link) → link.args.check_features ≡ false → Clear (IsSharedFault link)
 not_checked link off = record { none = λ e h. let on = h.0 in cc }
 

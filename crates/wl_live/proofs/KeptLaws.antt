@@ -22,10 +22,6 @@ use Rattle.wl_live.proofs.JoinLaws.{Contains-none}
 pub kept_root : (link : Link) (u : LinkUnit) → IsRoot link u → IsKept link u
 kept_root link u root = inr (IsReached-root (IsRoot link) (Refers link) u root)
 
-pub kept_next : (link : Link) (u v : LinkUnit) → IsKept link u → Refers link u v → IsKept link v
-kept_next link u v (inl off) refers = inl off
-kept_next link u v (inr reached) refers = inr (IsReached-step (IsRoot link) (Refers link) u v reached refers)
-
 pub reached_exists : (link : Link) (u : LinkUnit) → IsReached (IsRoot link) (Refers link) u → exists (units_of link.objects) u ≡ true
 reached_exists link u r =
     IsReached-closed (IsRoot link) (Refers link) (λ v. exists (units_of link.objects) v ≡ true)

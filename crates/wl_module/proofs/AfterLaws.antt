@@ -6,7 +6,7 @@ use Rattle.wl_bytes.specs.Leb.{IsU32}
 use Rattle.wl_bytes.proofs.Readings.{IsReading}
 use Rattle.wl_bytes.proofs.GrammarLaws.{map_reading}
 use Rattle.wl_module.specs.declared.error.ReadError.{ReadError}
-use Rattle.wl_module.specs.Chains.{Turns, Chain, after, times_after_at, ListedAfter, ListedAfterFault, list_after_at, Once, may_come, seen_then, once_in_turn, ListedOnce, ListedOnceFault, once_at, list_once_at}
+use Rattle.wl_module.specs.Chains.{Turns, Chain, after, times_after_at, ListedAfter, ListedAfterFault, list_after_at, Once, may_come, once_in_turn, ListedOnce, ListedOnceFault, once_at, list_once_at}
 use Rattle.wl_module.specs.Checks.{WhereFault, unless}
 use Rattle.wl_module.proofs.ReadingLaws.{respelled, either, reading_by, both}
 use Rattle.wl_module.proofs.ListLaws.{number_reading}

@@ -3,9 +3,8 @@ use Rattle.std.proofs.Common.{ℕ, Bool, true, false, List, [], ◌∷◌, Resul
 use Rattle.wl_bytes.specs.Leb.{IsU32}
 use Rattle.wl_bytes.proofs.Readings.{IsReading}
 use Rattle.wl_module.specs.declared.error.Why.TheVariants.{BadByte}
-use Rattle.wl_module.specs.declared.error.Form.TheVariants.{ManyMemories}
 use Rattle.wl_module.specs.declared.error.ReadError.{ReadError}
-use Rattle.wl_module.specs.declared.error.ReadError.TheVariants.{Malformed, Unsupported}
+use Rattle.wl_module.specs.declared.error.ReadError.TheVariants.{Malformed}
 use Rattle.wl_module.specs.Outcome.{Gives, ReadsWhole}
 use Rattle.wl_module.specs.Lists.{NumberFault, number_at, Listed, ListedFault, list_at}
 use Rattle.wl_module.specs.Globals.{mutability_code, IsMutability, MutabilityFault, mutability_at, global_type_from, IsGlobalType, GlobalTypeFault, global_type_at, global_from, IsGlobal, GlobalFault, global_at, AreGlobals, GlobalsFault, globals_of}

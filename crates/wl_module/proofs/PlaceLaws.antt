@@ -7,7 +7,7 @@ use Rattle.wl_bytes.specs.Leb.{IsU32}
 use Rattle.wl_bytes.specs.Grammar.{Then}
 use Rattle.wl_module.specs.Lists.{Listed, Whole, SeenAs}
 use Rattle.wl_module.specs.Chains.{Turns, Chain, ListedAfter, once_in_turn}
-use Rattle.wl_module.specs.Checks.{Where, Seen}
+use Rattle.wl_module.specs.Checks.{Seen}
 use Rattle.wl_module.specs.Words.{IsPlacedName}
 use Rattle.wl_module.specs.Constants.{IsExpression}
 use Rattle.wl_module.specs.Bodies.{Body, IsBody, AreBodies}

@@ -170,10 +170,6 @@ all_done is k front c total d so_far =
     let one : with_front front (immediates_at (drop k is) c) ≡ Ok (front, c) = rw d (ap (λ (zs : List ℤ). Ok (zs, c)) (append-nil front)) in
     sym so_far ∙ one
 
-pub all_begin : (read : Reading) → with_front [] read ≡ read
-all_begin (Ok p) = refl
-all_begin (Err e) = refl
-
 -- ---- one immediate
 
 pub one_is : (s : Single) (front : List ℤ) (c to : Cursor) (z : ℤ) → single_at s c ≡ Ok (z, to) → with_front front (immediate_at (One s) c) ≡ Ok (front ++ z ∷ [], to)

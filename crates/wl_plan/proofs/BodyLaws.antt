@@ -2,16 +2,15 @@
 use Rattle.std.proofs.Common.{◌≡◌, ◌∙◌, ◌≤◌, ◌<◌, ℕ, ◌+◌, Bool, true, false, not, ◌||◌, ◌==◌, List, [], ◌∷◌, ◌++◌, length, refl, sym, ap, subst, arith, inl, inr, Option, Some, None, slice_get, if◌then◌else◌, eqb-true, lt-ltb, length-append}
 use Rattle.std.specs.Option.{option_and_then}
 use Rattle.std.proofs.lemmas.Bool.{cases_lt}
-use Rattle.wl_bytes.specs.declared.reader.TheConstants.{MAX_LEN}
 use Rattle.wl_module.specs.Bodies.{Body}
 use Rattle.wl_module.specs.Outcome.{HasCause}
 use Rattle.wl_module.specs.Places.{IsPart}
 use Rattle.wl_module.specs.declared.error.ReadError.{ReadError}
 use Rattle.wl_module.specs.declared.error.ReadError.TheVariants as read
 use Rattle.wl_module.specs.declared.error.Why.TheVariants.{BadIndex}
-use Rattle.wl_linking.specs.Fitting.{IsWhole, IsObject}
+use Rattle.wl_linking.specs.Fitting.{IsObject}
 use Rattle.wl_linking.specs.Object.{Object}
-use Rattle.wl_linking.specs.Stretches.{PartsStandIn, BodyIsPart}
+use Rattle.wl_linking.specs.Stretches.{PartsStandIn}
 use Rattle.wl_linking.specs.declared.error.LinkError.TheVariants.{OutOfMemory}
 use Rattle.wl_symbols.specs.Link.{Link}
 use Rattle.wl_live.specs.Faults.{HasBodyFault, object_refusal}
@@ -25,10 +24,9 @@ use Rattle.wl_ops.specs.Rewriting.{new_index, Rewrites, LacksIndex, RemapFault, 
 use Rattle.wl_ops.specs.declared.op.DataIndexImm.{DataIndexImm}
 use Rattle.wl_bind.specs.Input.{Input, keeps}
 use Rattle.wl_plan.specs.Bodies.{body_in, new_number}
-use Rattle.wl_plan.specs.BodySteps.{AreNewNumbers, AreSoundBodies, HasSoundBody, IsBodyFrom}
+use Rattle.wl_plan.specs.BodySteps.{AreNewNumbers, HasSoundBody, IsBodyFrom}
 use Rattle.wl_plan.specs.Parsing.{link_error_of}
 use Rattle.wl_plan.specs.declared.placing.Placing.{Placing}
-use Rattle.wl_plan.proofs.ListLaws.{all_at}
 use Rattle.wl_plan.proofs.NumberLaws.{counts_at}
 
 -- ---- what lower crates say
@@ -72,19 +70,6 @@ part-le : (bytes text : List ℕ) → IsPart bytes text → length text ≤ leng
 part-le bytes text p =
     let s = p.1 in
     omega (arith, ap (λ (l : List ℕ). length l) s.whole, length-append s.front (text ++ s.back), length-append text s.back)
-
--- it has few bytes
-pub body_le : PartsStand → (input : Input) (object function : ℕ) (b : Body)
-    → AreSoundBodies input → body_in input object function ≡ Some b → length b.bytes ≤ MAX_LEN
-body_le law input object function b sound is =
-    let f : IsFound input object function b = found input object function b is in
-    let whole : IsWhole f.o = all_at IsWhole input.link.objects object f.o sound.whole f.here in
-    let parts : PartsStandIn (f.o).bytes f.o = law (f.o).bytes f.o whole.object in
-    let part : IsPart (f.o).bytes b.bytes =
-    all_at (BodyIsPart (f.o).bytes) (f.o).bodies function b parts.bodies f.there in
-    let less = part-le (f.o).bytes b.bytes part in
-    let within : length (f.o).bytes ≤ MAX_LEN = whole.within in
-    omega (arith, less, within)
 
 -- ---- no refusal but want of memory
 

@@ -159,11 +159,6 @@ left_addend (address.Placed place) r e = rw e refl
 left_addend address.Passive r e = refl
 left_addend (address.TlsOffset place) r e = refl
 
-left_none : (base : AddressBase) (a : WasmDataAddress) (r : WasmRelocation)
-    → is_absolute r.ty ≡ false → (addend_left base a r.addend ≡ pos 0)
-    → left_of a r ≡ addend_left base a r.addend
-left_none base a r e none = left_zero a r e ∙ sym none
-
 -- ---- the number that would stand there
 
 minus_zero : (n : ℕ) (z : ℤ) → (pos n -ℤ pos 0) +ℤ z ≡ pos n +ℤ z

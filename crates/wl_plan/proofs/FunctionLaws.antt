@@ -1,5 +1,5 @@
 -- Entries of the function space, their types, and the functions of the output that they are.
-use Rattle.std.proofs.Common.{◌≡◌, ◌⊎◌, ◌∙◌, ℕ, zero, suc, ◌+◌, ◌<◌, ◌≤◌, Bool, true, false, not, List, [], ◌∷◌, ◌++◌, length, refl, sym, ap, subst, arith, inl, inr, Option, Some, None, slice_get, filter, filter_map, map, take, get_or, is_some, if◌then◌else◌, Contains, Result, Ok, Err, OnOk}
+use Rattle.std.proofs.Common.{◌≡◌, ◌⊎◌, ◌∙◌, ℕ, zero, suc, ◌+◌, ◌<◌, ◌≤◌, Bool, true, false, List, [], ◌∷◌, ◌++◌, length, refl, sym, ap, subst, arith, inl, inr, Option, Some, None, slice_get, filter, filter_map, map, take, get_or, is_some, if◌then◌else◌, Contains, Result, Ok, Err, OnOk}
 use Rattle.std.specs.List.{AllByRecursion, AllZip, list_any, range_with_len}
 use Rattle.std.specs.Option.{option_map, option_map_or, option_and_then, is_none}
 use Rattle.std.proofs.lemmas.Bool.{cases_Bool, cases_eq}
@@ -18,7 +18,7 @@ use Rattle.wl_live.specs.declared.units.WasmGcUnit.TheVariants.{DefinedFunction}
 use Rattle.wl_symbols.specs.declared.linker_symbol.WasmLinkerSymbol.{WasmLinkerSymbol}
 use Rattle.wl_symbols.specs.declared.linker_symbol.WasmLinkerSymbol.TheVariants.{CallCtors, InitTls}
 use Rattle.wl_slots.specs.ImportSlots.{ImportSlot, numbered_slots, slot_imports, object_slots, import_slots}
-use Rattle.wl_slots.specs.Left.{HostImport, same_field, same_import, is_stub, stub_slots, first_imports, first_slot}
+use Rattle.wl_slots.specs.Left.{HostImport, same_field, is_stub, stub_slots, first_imports, first_slot}
 use Rattle.wl_slots.specs.SlotTargets.{slot_target}
 use Rattle.wl_bind.specs.EntryTypes.{type_of_slot, type_of_entry, HasOutputType}
 use Rattle.wl_bind.specs.FunctionBinding.{left_functions, link_stubs, host_functions}
@@ -493,13 +493,6 @@ stub_located input t h =
     left_located input Func t
     (in_filter (is_stub input.link.objects (left_functions input)) (left_functions input) t
     (in_firsts same_field (stub_slots input.link.objects (left_functions input)) t h))
-
-pub host_located : (input : Input) (t : ImportSlot) → IsIn (first_imports (host_functions input)) t
-    → IsLocated Func input.link.objects 0 t
-host_located input t h =
-    left_located input Func t
-    (in_filter (λ (s : ImportSlot). not (is_stub input.link.objects (left_functions input) s)) (left_functions input) t
-    (in_firsts same_import (host_functions input) t h))
 
 -- ---- stubs
 

@@ -1,6 +1,5 @@
 -- Lists of bodies that grow, and the function space behind the imports.
 use Rattle.std.proofs.Common.{◌≡◌, ◌∙◌, ◌<◌, ℕ, zero, suc, ◌+◌, Bool, true, false, List, [], ◌∷◌, ◌++◌, length, map, take, refl, sym, ap, subst, arith, Some, slice_get, append_assoc, append-nil}
-use Rattle.std.specs.List.{AllZip}
 use Rattle.wl_linking.specs.Object.{Object}
 use Rattle.wl_live.specs.Live.{Live, is_live}
 use Rattle.wl_live.specs.declared.units.LinkUnit.{LinkUnit}
@@ -13,16 +12,16 @@ use Rattle.wl_ctors.specs.declared.calls.InitCall.{InitCall}
 use Rattle.wl_synth.specs.Bodies.{call_sequence_ops}
 use Rattle.wl_synth.specs.Encoding.{IsEncoded}
 use Rattle.wl_synth.specs.declared.calls.TheConstants.{UNREACHABLE_FUNCTION_BODY}
-use Rattle.wl_bind.specs.FunctionSpace.{FunctionEntry, FunctionOf, made_function_part, stub_part, functions_of, object_functions, function_space}
+use Rattle.wl_bind.specs.FunctionSpace.{FunctionEntry, FunctionOf, made_function_part, stub_part, functions_of, function_space}
 use Rattle.wl_bind.specs.Input.{Input, keeps}
 use Rattle.wl_bind.specs.Made.{is_made}
 use Rattle.wl_bind.specs.Parts.{by_object}
 use Rattle.wl_bind.specs.declared.binding.FunctionTarget.TheVariants.{Defined, Made, Stub}
-use Rattle.wl_plan.specs.Bodies.{IsBodyOf, IsBodyIn, AreOwnBodies, body_in, called}
+use Rattle.wl_plan.specs.Bodies.{IsBodyOf, IsBodyIn, body_in, called}
 use Rattle.wl_plan.specs.BodySteps.{IsBodyFrom, AddsMadeBody, AddsBodies}
 use Rattle.wl_plan.specs.FunctionSteps.{own_function_part}
 use Rattle.wl_plan.specs.declared.placing.Placing.{Placing}
-use Rattle.wl_plan.proofs.FunctionLaws.{functions_below, no_ctors, own_is, one_own, no_own, made_is}
+use Rattle.wl_plan.proofs.FunctionLaws.{functions_below, one_own, made_is}
 use Rattle.wl_plan.proofs.ListLaws.{zip_joined, there_is, in_at}
 use Rattle.wl_plan.proofs.RowLaws.{by_object_more}
 
@@ -71,27 +70,11 @@ adds_kept input g object function own b old new kept here is grown =
     (own_function_part input object function) old new (sym (one_own input object function kept))
     (adds_one input g (FunctionOf (Defined object function)) old new b body grown)
 
-pub adds_left : (input : Input) (g : Placing) (object function : ℕ) (old : List Body)
-    → keeps input object (DefinedFunction function) ≡ false
-    → AddsBodies input g (own_function_part input object function) old old
-adds_left input g object function old left =
-    adds_same input g [] (own_function_part input object function) old old
-    (sym (no_own input object function left)) (adds_none input g old)
-
 -- ---- the space behind the imports
 
 -- what the linker makes, the stubs, and what objects define
 abbrev pub linker_part : Input → List FunctionEntry
 linker_part input = made_function_part input CallCtors ++ stub_part input
-
-pub bodies_are : (input : Input) (g : Placing) (bodies : List Body)
-    → input.link.args.shared_memory ≡ false
-    → AddsBodies input g (linker_part input ++ object_functions input) [] bodies
-    → AreOwnBodies input g bodies
-bodies_are input g bodies alone a =
-    subst (λ (es : List FunctionEntry). AllZip (IsBodyOf input g) es bodies) (own_is input alone)
-    (subst (λ (bs : List Body). AllZip (IsBodyOf input g) (linker_part input ++ object_functions input) bs)
-    (sym a.grown) a.are)
 
 -- ---- what the linker makes
 
@@ -129,13 +112,6 @@ pub ctors_encoded : (shown calls : List InitCall) (bytes : List ℕ) → shown �
     → IsEncoded (call_sequence_ops (map called calls)) bytes
 ctors_encoded shown calls bytes same encoded =
     subst (λ (cs : List InitCall). IsEncoded (call_sequence_ops (map called cs)) bytes) same encoded
-
-pub adds_no_ctors : (input : Input) (g : Placing) (old : List Body)
-    → is_made input CallCtors ≡ false
-    → AddsBodies input g (made_function_part input CallCtors) old old
-adds_no_ctors input g old left =
-    adds_same input g [] (made_function_part input CallCtors) old old (sym (no_ctors input left))
-    (adds_none input g old)
 
 -- the function of a stub
 abbrev pub stub_entry : ImportSlot → FunctionEntry
@@ -182,18 +158,6 @@ objects_more input g objects i o old middle new here so_far a =
     (front ++ by_object (functions_of input) 0 (take (i + 1) objects)) old new
     (append_assoc front done own ∙ ap (λ (es : List FunctionEntry). front ++ es) more)
     (adds_more input g (front ++ done) own old middle new so_far a)
-
--- before the first object
-pub objects_begin : (input : Input) (g : Placing) (empty middle new : List Body) → empty ≡ []
-    → AddsBodies input g (made_function_part input CallCtors) empty middle
-    → AddsBodies input g (stub_part input) middle new
-    → AddsBodies input g (linker_part input ++ []) [] new
-objects_begin input g empty middle new none a b =
-    adds_same input g (linker_part input) (linker_part input ++ []) [] new
-    (sym (append-nil (linker_part input)))
-    (adds_more input g (made_function_part input CallCtors) (stub_part input) [] middle new
-    (subst (λ (bs : List Body). AddsBodies input g (made_function_part input CallCtors) bs middle) none a)
-    b)
 
 -- behind the last function of an object
 pub functions_end : (input : Input) (g : Placing) (object : ℕ) (o : Object) (n : ℕ)

@@ -1,6 +1,5 @@
 -- The kept segments of objects, one by one.
-use Rattle.std.proofs.Common.{◌≡◌, ◌∙◌, ℕ, zero, suc, ◌+◌, ◌<◌, ◌≤◌, Bool, true, false, List, [], ◌∷◌, ◌++◌, length, get_or, drop, drop-cons, add-one, append_assoc, slice_get, Some, if◌then◌else◌, sym, ap, arith}
-use Rattle.std.proofs.lemmas.List.{append-nil, drop_all}
+use Rattle.std.proofs.Common.{◌≡◌, ◌∙◌, ℕ, zero, suc, ◌+◌, ◌<◌, Bool, true, false, List, [], ◌∷◌, ◌++◌, length, get_or, drop, drop-cons, add-one, append_assoc, slice_get, Some, if◌then◌else◌, sym, ap, arith}
 use Rattle.std.specs.List.{AllByRecursion}
 use Rattle.std.specs.Option.{option_map_or}
 use Rattle.wl_module.specs.Segments.{Segment}
@@ -13,7 +12,7 @@ use Rattle.wl_data.specs.Layouts.{CanBePlaced}
 use Rattle.wl_data.specs.Segments.{KeptData}
 use Rattle.wl_live.specs.declared.units.WasmGcUnit.TheVariants.{DataSegment}
 use Rattle.wl_bind.specs.Input.{Input, keeps}
-use Rattle.wl_plan.specs.KeptData.{kept_data, kept_from, kept_segments, segments_from}
+use Rattle.wl_plan.specs.KeptData.{kept_data, kept_from, segments_from}
 use Rattle.wl_plan.proofs.ListLaws.{all_at}
 use Rattle.wl_plan.proofs.SectionLaws.{all_append}
 use Rattle.wl_plan.proofs.WholeLaws.{HasAlignment, segments_are_aligned, segments_are_spanned}
@@ -44,32 +43,6 @@ kept_more input object o k s before after all within is more so_far =
     ∙ (append_assoc before here rest
     ∙ (ap (λ (ss : List Segment). before ++ kept_from input object o k ss) (sym (split_at o.segments k s within is))
     ∙ so_far))
-
--- the last one
-pub kept_end : (input : Input) (object : ℕ) (o : Object) (k : ℕ) (so_far all : List KeptData) → length o.segments ≤ k
-    → so_far ++ kept_from input object o k (drop k o.segments) ≡ all → so_far ≡ all
-kept_end input object o k so_far all past is =
-    sym (append-nil so_far) ∙ (ap (λ (ss : List Segment). so_far ++ kept_from input object o k ss) (sym (drop_all k o.segments past)) ∙ is)
-
--- ---- those of all objects
-
--- one object more
-pub segments_more : (input : Input) (objects : List Object) (k : ℕ) (o : Object) (before after all : List (List KeptData)) → k < length objects → o ≡ get_or objects k o
-    → after ≡ before ++ kept_segments input k o ∷ []
-    → before ++ segments_from input k (drop k objects) ≡ all
-    → after ++ segments_from input (k + 1) (drop (k + 1) objects) ≡ all
-segments_more input objects k o before after all within is more so_far =
-    let rest : List (List KeptData) = segments_from input (k + 1) (drop (k + 1) objects) in
-    ap (λ (xs : List (List KeptData)). xs ++ rest) more
-    ∙ (append_assoc before (kept_segments input k o ∷ []) rest
-    ∙ (ap (λ (os : List Object). before ++ segments_from input k os) (sym (split_at objects k o within is))
-    ∙ so_far))
-
--- the last one
-pub segments_end : (input : Input) (objects : List Object) (k : ℕ) (so_far all : List (List KeptData)) → length objects ≤ k
-    → so_far ++ segments_from input k (drop k objects) ≡ all → so_far ≡ all
-segments_end input objects k so_far all past is =
-    sym (append-nil so_far) ∙ (ap (λ (os : List Object). so_far ++ segments_from input k os) (sym (drop_all k objects past)) ∙ is)
 
 -- ---- they can be placed
 

@@ -3,7 +3,7 @@ use Rattle.std.proofs.Common.{◌≡◌, ◌∙◌, ℕ, suc, ◌+◌, ◌*◌, 
 use Rattle.std.specs.List.{AllByRecursion, AllZip, cons_option, flat_map, list_any}
 use Rattle.std.specs.Option.{option_map_or}
 use Rattle.std.proofs.lemmas.Bool.{cases_lt, ne_eqb}
-use Rattle.std.proofs.lemmas.List.{drop_all, length-map, map-append}
+use Rattle.std.proofs.lemmas.List.{length-map, map-append}
 use Rattle.wl_module.specs.Imports.{Imported}
 use Rattle.wl_module.specs.declared.limits.MemoryType.{MemoryType}
 use Rattle.wl_linking.specs.Fitting.{IsWhole}
@@ -47,9 +47,6 @@ pages_one (Some m) ms = refl
 pub imports_one : (i : Imported) (is : List Imported) → most_pages (imported_memories (i ∷ is)) ≡ max (import_pages i) (most_pages (imported_memories is))
 imports_one i is = pages_one (memory_in i.entity) (imported_memories is)
 
-pub memories_one : (m : MemoryType) (ms : List MemoryType) → most_pages (m ∷ ms) ≡ max m.initial (most_pages ms)
-memories_one m ms = refl
-
 pub objects_one : (o : Object) (os : List Object) → greatest (flat_map least_pages (o ∷ os)) ≡ max (greatest (least_pages o)) (greatest (flat_map least_pages os))
 objects_one o os = greatest-append (least_pages o) (flat_map least_pages os)
 
@@ -59,10 +56,6 @@ pub greatest_more : {X : Type 0} (most : List X → ℕ) (one : X → ℕ) → (
     → max before (most (drop k xs)) ≡ all → max after (most (drop (k + 1) xs)) ≡ all
 greatest_more most one step xs k x before after all within is more so_far =
     omega (arith, ap most (split_at xs k x within is), step x (drop (k + 1) xs), more, so_far)
-
--- the last one
-pub greatest_end : {X : Type 0} (most : List X → ℕ) → most [] ≡ 0 → (xs : List X) (k so_far all : ℕ) → length xs ≤ k → max so_far (most (drop k xs)) ≡ all → so_far ≡ all
-greatest_end most none xs k so_far all past is = omega (arith, ap most (drop_all k xs past), none, is)
 
 -- of the memories that an object imports and defines
 pub both_pages : (o : Object) → greatest (least_pages o) ≡ max (most_pages (imported_memories o.imports)) (most_pages o.memories)

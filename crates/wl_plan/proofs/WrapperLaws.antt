@@ -19,7 +19,6 @@ use Rattle.wl_bind.specs.EntryTypes.{function_slot, type_of_entry}
 use Rattle.wl_bind.specs.FunctionSpace.{FunctionEntry, FunctionOf, InitMemory, function_space, host_function_part}
 use Rattle.wl_bind.specs.FunctionTypes.{type_in, type_of_defined, type_number, slot_type, type_of_made}
 use Rattle.wl_bind.specs.Input.{Input}
-use Rattle.wl_bind.specs.Made.{is_made}
 use Rattle.wl_bind.specs.OutputTypes.{output_types}
 use Rattle.wl_bind.specs.declared.binding.FunctionTarget.TheVariants.{Defined, Made, Host, Stub}
 use Rattle.wl_bind.specs.Shared.{function_imports}
@@ -57,10 +56,6 @@ pub zip_next : {A B : Type 0} (R : A → B → Type 0) (xs : List A) (ys : List 
 zip_next {A} {B} R xs ys k x y zip at is =
     subst (λ (zs : List A). AllZip R zs (ys ++ y ∷ [])) (sym (take_plus xs k x at))
     (zip_joined R (take k xs) (x ∷ []) ys (y ∷ []) zip (is, tt))
-
-none_listed : {X : Type 0} (xs : List X) → ((i : ℕ) (x : X) → slice_get xs i ≡ Some x → ⊥) → xs ≡ []
-none_listed [] none = refl
-none_listed (x ∷ xs) none = absurd (none 0 x refl)
 
 -- ---- the function that a wrapper calls
 
@@ -326,23 +321,6 @@ bodies_done input g k own bodies ws are zip past so_far =
       are_wrappers = subst (λ (es : List ExportEntry). AllZip (IsWrapperBody input) es so_far.more) whole
           so_far.are;
     }
-
--- nothing is wrapped where there is nothing that runs constructors
-pub wrapped_none : (input : Input)
-    → ((i : ℕ) (e : ExportEntry) → slice_get (wrapped input) i ≡ Some e → is_made input CallCtors ≡ true)
-    → is_made input CallCtors ≡ false → wrapped input ≡ []
-wrapped_none input made none =
-    none_listed (wrapped input) (λ i e at. let yes = made i e at in absurd cc)
-
-pub own_alone : (input : Input) (g : Placing) (own : List Body) → wrapped input ≡ []
-    → AreOwnBodies input g own → AreBodies input g own
-own_alone input g own none are = record {
-  own = own;
-  wrappers = [];
-  parts = sym (append-nil own);
-  are_own = are;
-  are_wrappers = subst (λ (es : List ExportEntry). AllZip (IsWrapperBody input) es []) (sym none) tt;
-}
 
 -- ---- slots
 

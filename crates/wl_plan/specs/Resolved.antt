@@ -16,7 +16,6 @@ use Rattle.wl_bind.specs.Scan.{relocations}
 use Rattle.wl_bind.specs.SpaceFaults.{index_fault}
 use Rattle.wl_bind.specs.declared.relocated.Relocated.{Relocated}
 use Rattle.wl_plan.specs.Fixups.{address_taken, bases_of, IsAddressReason}
-use Rattle.wl_plan.specs.IndexedMaps.{AreWholeMaps}
 use Rattle.wl_plan.specs.Table.{space_slots}
 use Rattle.wl_plan.specs.declared.placing.Placing.{Placing}
 

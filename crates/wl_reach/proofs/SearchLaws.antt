@@ -10,9 +10,6 @@ use Rattle.wl_reach.specs.Marks.{IsMarked}
 use Rattle.wl_reach.specs.Search.{IsReached, MarksReached, steps_of, with_mark}
 use Rattle.wl_reach.proofs.ChainLaws.{IsReached-root, IsReached-step, IsReached-closed}
 
-pub IsMarked-within : (marks : List Bool) (v : ℕ) → IsMarked marks v → v < length marks
-IsMarked-within marks v h = elim (cases_lt v (length marks)) [ inl lt ↦ lt | inr le ↦ absurd (false≢true (sym (get_or_past marks v false le) ∙ h)) ]
-
 pub IsMarked-set_same : (marks : List Bool) (v : ℕ) → v < length marks → IsMarked (set marks v true) v
 IsMarked-set_same marks v lt = get_or-set_same marks v true false lt
 

@@ -7,7 +7,7 @@ use Rattle.wl_custom.specs.declared.relocations.WasmRelocation.{WasmRelocation}
 use Rattle.wl_data.specs.declared.segments.WasmDataAddress.{WasmDataAddress}
 use Rattle.wl_data.specs.declared.segments.WasmDataAddress.TheVariants.{Missing, Placed, Passive, TlsOffset}
 use Rattle.wl_reloc.specs.declared.error.RelocError.{RelocError}
-use Rattle.wl_reloc.specs.declared.error.RelocError.TheVariants.{OutOfRange, Unsupported, Range}
+use Rattle.wl_reloc.specs.declared.error.RelocError.TheVariants.{Unsupported, Range}
 use Rattle.wl_reloc.specs.declared.addresses.AddressBases.{AddressBases}
 use Rattle.wl_reloc.specs.declared.takings.AddressBase.{AddressBase}
 use Rattle.wl_reloc.specs.declared.takings.AddressBase.TheVariants.{Memory, MemoryBase, ThreadData}

@@ -1,6 +1,6 @@
 -- The first of each that are the same: what is among them, and that each stands once.
-use Rattle.std.proofs.Common.{◌≡◌, ◌∙◌, ◌⊎◌, ℕ, zero, suc, ◌+◌, ◌<◌, ◌&&◌, ◌||◌, Bool, true, false, not, List, [], ◌∷◌, ◌++◌, length, refl, sym, ap, arith, inl, inr, Option, Some, None, is_some, map, filter, slice_get, slice_index_or, Contains, unwrap_or, position, find}
-use Rattle.std.specs.List.{list_any, list_all, IsDistinct}
+use Rattle.std.proofs.Common.{◌≡◌, ◌∙◌, ◌⊎◌, ℕ, zero, suc, ◌+◌, ◌<◌, ◌&&◌, ◌||◌, Bool, true, false, List, [], ◌∷◌, ◌++◌, length, refl, sym, ap, arith, inl, inr, Option, Some, None, is_some, map, filter, slice_get, slice_index_or, Contains, unwrap_or, position, find}
+use Rattle.std.specs.List.{list_any, IsDistinct}
 use Rattle.std.specs.Option.{option_map}
 use Rattle.std.specs.Str.{bytes_eq}
 use Rattle.std.specs.Cmp.{IsEquivalence}
@@ -10,11 +10,10 @@ use Rattle.std.proofs.lemmas.List.Folds.{list_any-append}
 use Rattle.std.proofs.lemmas.Map.Keys.{IsDistinct-push, apart_from_distinct}
 use Rattle.std.proofs.lemmas.Option.{slice_get-map, slice_get_within, get_or_from_slice_get}
 use Rattle.std.proofs.lemmas.Slice.Eq.{bytes_eq-Decides}
-use Rattle.std.proofs.lemmas.Map.Views.{list_any-from_Contains}
 use Rattle.indexmap.specs.IndexSet.{insert_key, insert_all}
 use Rattle.wl_linking.specs.Object.{Object}
 use Rattle.wl_slots.specs.ImportSlots.{ImportSlot}
-use Rattle.wl_slots.specs.Left.{HostImport, same_field, same_import, first_like, first_slot, place_of_name, place_of_import, is_weak_slot, is_stub_name, is_stub, stub_slots, stubs, first_imports}
+use Rattle.wl_slots.specs.Left.{HostImport, same_field, same_import, first_like, first_slot, place_of_name, place_of_import, is_stub_name, is_stub, stub_slots, stubs, first_imports}
 use Rattle.wl_slots.proofs.PlaceLaws.{any_placed, place_of_map, found_at, find_some}
 use Rattle.wl_slots.proofs.TellingLaws.{stub_by_name}
 

@@ -1,5 +1,5 @@
 -- Numbers in decimal digits.
-use Rattle.std.proofs.Common.{◌≡◌, ◌<◌, ◌≤◌, ◌^◌, ℕ, List, length, Bool, true, false, nat_lt, ◌&&◌, if◌then◌else◌, Option, Some, None, Result, Ok, Err, sym, ap, ◌∙◌, refl, arith}
+use Rattle.std.proofs.Common.{◌≡◌, ◌<◌, ◌^◌, ℕ, List, length, Bool, true, false, nat_lt, ◌&&◌, if◌then◌else◌, Option, Some, None, Result, Ok, Err, sym, refl, arith}
 use Rattle.std.specs.Result.{OkIff, result_ok}
 use Rattle.std.proofs.lemmas.Bool.{ltb-true, lt-ltb}
 use Rattle.std.specs.Str.{all_ascii_digits}
@@ -32,29 +32,3 @@ number_read bits text (Err e) not = sym (picks_none (nat_lt 0 (length text)) (al
 
 some_none : {X : Type 0} (x : X) → Some x ≡ None → ⊥
 some_none x is = absurd cc
-
--- and back
-inverts : (some decimal below : Bool) (value limit n : ℕ) → nat_lt value limit ≡ below → pick some decimal value limit ≡ Some n → (some ≡ true) × (decimal ≡ true) × (value ≡ n)
-inverts true true true value limit n lt is = (refl, refl, cc)
-inverts true true false value limit n lt is = absurd cc
-inverts true false below value limit n lt is = absurd cc
-inverts false decimal below value limit n lt is = absurd cc
-
--- a number that fits fewer bits
-pub number_narrow : (text : List ℕ) (n : ℕ) → number_of 64 text ≡ Some n → n < 2 ^ 32 → number_of 32 text ≡ Some n
-number_narrow text n is below =
-    let h = inverts (nat_lt 0 (length text)) (all_ascii_digits text) (nat_lt (digits_value 10 text) (2 ^ 64)) (digits_value 10 text) (2 ^ 64) n refl is in
-    picks (nat_lt 0 (length text)) (all_ascii_digits text) (digits_value 10 text) (2 ^ 32) h.0 h.1 (omega (arith, h.2, below)) ∙ ap Some h.2
-
--- a number that doesn't
-pub number_wide : (text : List ℕ) (n : ℕ) → number_of 64 text ≡ Some n → 2 ^ 32 ≤ n → number_of 32 text ≡ None
-number_wide text n is above =
-    let h = inverts (nat_lt 0 (length text)) (all_ascii_digits text) (nat_lt (digits_value 10 text) (2 ^ 64)) (digits_value 10 text) (2 ^ 64) n refl is in
-    picks_none (nat_lt 0 (length text)) (all_ascii_digits text) (digits_value 10 text) (2 ^ 32) (λ some decimal below. absurd (omega (arith, h.2, above, below)))
-
--- no number
-pub number_neither : (text : List ℕ) → number_of 64 text ≡ None → number_of 32 text ≡ None
-number_neither text is =
-    picks_none (nat_lt 0 (length text)) (all_ascii_digits text) (digits_value 10 text) (2 ^ 32) (λ some decimal below.
-    let one = picks (nat_lt 0 (length text)) (all_ascii_digits text) (digits_value 10 text) (2 ^ 64) some decimal (omega (arith, below)) in
-    absurd (some_none (digits_value 10 text) (sym one ∙ is)))

@@ -1,12 +1,11 @@
 -- What is written one behind the other.
-use Rattle.std.proofs.Common.{◌≡◌, ℕ, ◌+◌, ◌<◌, ℤ, pos, List, [], ◌∷◌, ◌++◌, length, map, take, drop, get_or, Some, None, refl, sym, ap, subst, ◌∙◌, append_assoc, add-one, drop-cons}
+use Rattle.std.proofs.Common.{◌≡◌, ℕ, ◌+◌, ◌<◌, pos, List, [], ◌∷◌, ◌++◌, length, map, take, drop, get_or, None, refl, sym, ap, subst, ◌∙◌, append_assoc, add-one, drop-cons}
 use Rattle.std.proofs.lemmas.List.{append-nil}
-use Rattle.wl_bytes.specs.Leb.{IsWithin, AppendsSleb}
 use Rattle.wl_ops.specs.declared.op.Op.{Op}
 use Rattle.wl_synth.specs.declared.operator.Operator.{Operator}
 use Rattle.wl_synth.specs.declared.error.SynthError.{SynthError}
 use Rattle.wl_synth.specs.declared.error.SynthError.TheVariants.{OutOfMemory, Range}
-use Rattle.wl_synth.specs.Spelling.{IsShortImmediate, AreShortImmediates, StandBehind, IsSpelled, AreSpelled, IsSpelledBody, as_op, as_ops}
+use Rattle.wl_synth.specs.Spelling.{IsShortImmediate, AreShortImmediates, IsSpelled, AreSpelled, IsSpelledBody, as_op, as_ops}
 use Rattle.wl_synth.specs.Encoding.{great_constant, AreInRange, EncodeFault, AddsText, IsWritten}
 use Rattle.wl_synth.proofs.OpLaws.{ReadAgain, made_body}
 use Rattle.std.specs.List.{Contains}
@@ -28,24 +27,11 @@ number_more Q ns i now new lt f a y short =
     subst (λ (x : List ℕ). AreShortImmediates None (map (λ n. pos n) x) (a.text ++ y)) (sym front) (a.text, y, refl, a.spelled, short) in
     moved_on Q now new a.text y a.parts (f (a.text ++ y) all)
 
-pub numbers_start : (code : ℕ) (zs : List ℤ) (old now : List ℕ) → now ≡ old ++ code ∷ [] → (y : List ℕ) → AreShortImmediates None zs y → AddsText (StandBehind code None zs) old (now ++ y)
-numbers_start code zs old now e y short =
-    record { text = code ∷ y; spelled = (y, refl, short); parts = ap (λ (x : List ℕ). x ++ y) e ∙ append_assoc old (code ∷ []) y }
-
 pub numbers_done : (Q : List ℕ → Type 0) (ns : List ℕ) (i : ℕ) (now : List ℕ) → drop i ns ≡ []
     → ((y : List ℕ) → AreShortImmediates None (map (λ n. pos n) (drop i ns)) y → Q (now ++ y)) → Q now
 numbers_done Q ns i now e f =
     let none : AreShortImmediates None (map (λ n. pos n) (drop i ns)) [] = subst (λ (x : List ℕ). AreShortImmediates None (map (λ n. pos n) x) []) (sym e) refl in
     subst Q (append-nil now) (f [] none)
-
-pub signed_added : (code : ℕ) (z : ℤ) (old now new : List ℕ) → now ≡ old ++ code ∷ [] → AppendsSleb z now new
-    → (bits : ℕ) → IsWithin bits z → AddsText (StandBehind code (Some bits) (z ∷ [])) old new
-signed_added code z old now new e a bits within =
-    record {
-      text = code ∷ a.text;
-      spelled = (a.text, refl, (a.text, [], sym (append-nil a.text), (within, a.short), refl));
-      parts = a.parts ∙ ap (λ (x : List ℕ). x ++ a.text) e ∙ append_assoc old (code ∷ []) a.text;
-    }
 
 -- ---- a body
 

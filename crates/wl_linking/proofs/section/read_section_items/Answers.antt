@@ -1,6 +1,4 @@
 use Rattle.std.proofs.lemmas.Result.{err_from_is_err_and}
-use Rattle.wl_module.specs.Memories.{MemoriesFault}
-use Rattle.wl_module.specs.Segments.{SegmentsFault}
 use Rattle.wl_linking.specs.Sections.{has_memory}
 use Rattle.wl_linking.proofs.section.read_section_items.Goals as goal
 
