@@ -200,7 +200,7 @@ own_global laws input r settled n kind = elim (cases_Bool (is_undefined n.symbol
 stands_for_global : Laws → (input : Input) (r : Relocated) → IsSettled input → Contains (relocations input) r
     → is_global_index r.relocation.ty ≡ true → (n : Names input r) → (kind : WasmSymbolKind) → n.symbol.kind ≡ kind
     → may_be_global kind ≡ true
-    → HasGlobal (symbol_global input r.object n.from.object kind r.relocation.index n.symbol.index)
+    → HasGlobal (symbol_global input r n.from.object kind n.symbol.index)
 stands_for_global laws input r settled listed so n Global is one = own_global laws input r settled n is
 stands_for_global laws input r settled listed so n Data is one = data_global input r listed so n is
 stands_for_global laws input r settled listed so n Func is one = function_global laws input r settled listed so n is

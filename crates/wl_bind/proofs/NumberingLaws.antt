@@ -27,6 +27,7 @@ use Rattle.wl_bind.specs.NumberingSteps.{HasRoom, FitsOwn, own_indices_of, HasIn
 use Rattle.wl_bind.specs.OwnIndices.{own_unit, kept_own, firsts_from, function_firsts, global_firsts, own_index, kept_count}
 use Rattle.wl_bind.specs.Parts.{joined, lengths_of, total, by_object, IsIndexOf, AreIndicesOf, AreRows, IsOver}
 use Rattle.wl_bind.specs.Resolutions.{Resolving, rows_from, resolutions, by_all_rules}
+use Rattle.wl_bind.specs.Shared.{place_at}
 use Rattle.wl_bind.specs.SpaceFaults.{IsSpaceOver}
 use Rattle.wl_bind.specs.declared.binding.FunctionTarget.TheVariants as function
 use Rattle.wl_bind.specs.declared.binding.GlobalTarget.TheVariants as global
@@ -223,7 +224,7 @@ resolved_there input kind slots row k t d is at =
 
 -- a slot of that object, kind and number has an index
 abbrev HasAt : Numbering → WasmSymbolKind → WasmSymbolKind → ℕ → ℕ → ImportResolution → Type 0
-HasAt n kind of object slot r = keeps_slot n.input.now of object slot ≡ true → HasIndex n kind object slot r
+HasAt n kind of object slot r = keeps_slot n.input.now of object slot ≡ true → HasIndex n (place_at n.shared.now kind object slot) r
 
 pub has_index : (n : Numbering) (kind : WasmSymbolKind) (object k : ℕ) (row : List ImportResolution) (d : ImportResolution)
     → k < length row
@@ -247,7 +248,7 @@ has_index n kind object k row d lt is have =
 -- the index of a slot of that object, kind and number
 abbrev IsKeptAt : Numbering → ℕ → WasmSymbolKind → WasmSymbolKind → ℕ → ℕ → ImportResolution → Type 0
 IsKeptAt n index kind of object slot r =
-    keeps_slot n.input.now of object slot ≡ true → IsResolvedIndex n kind object slot r index
+    keeps_slot n.input.now of object slot ≡ true → IsResolvedIndex n (place_at n.shared.now kind object slot) r index
 
 abbrev IsDeadAt : Numbering → ℕ → WasmSymbolKind → ℕ → ℕ → Type 0
 IsDeadAt n index of object slot = keeps_slot n.input.now of object slot ≡ false → index ≡ WASM_DEAD_INDEX

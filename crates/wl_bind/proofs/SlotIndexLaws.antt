@@ -24,7 +24,7 @@ use Rattle.wl_bind.specs.Input.{Input, keeps_slot}
 use Rattle.wl_bind.specs.KeptSlots.{is_kept_slot, kept_slots, slots_from}
 use Rattle.wl_bind.specs.MadeIndices.{StandsAt}
 use Rattle.wl_bind.specs.Numbering.{IsNumbering}
-use Rattle.wl_bind.specs.NumberingSteps.{FitsPlace, HasIndex, IsResolvedIndex, resolution_of, own_indices_of, HaveSlotIndices, IsSlotIndex}
+use Rattle.wl_bind.specs.NumberingSteps.{FitsPlace, HasIndex, IsResolvedIndex, host_place, resolution_of, own_indices_of, HaveSlotIndices, IsSlotIndex}
 use Rattle.wl_bind.specs.Parts.{AreStarts, starts_from, total, lengths_of, joined, IsIndexOf, AreIndicesOf}
 use Rattle.wl_bind.specs.Resolutions.{kept_number, resolved_function, stub_place, as_function, function_resolution}
 use Rattle.wl_bind.specs.Shared.{function_imports, import_place, places_from, place_in, place_at, shared_of, Shared}
@@ -140,8 +140,8 @@ function_place input object k t here =
 
 pub record Leads {Y : Type 0} (n : Numbering) (kind : WasmSymbolKind) (t : ImportSlot) (r : ImportResolution)
     (space : List Y) (y : Y) : Type 0 where
-  pub has : HasIndex n kind t.object t.number r
-  pub stands : (index : ℕ) → IsResolvedIndex n kind t.object t.number r index → slice_get space index ≡ Some y
+  pub has : HasIndex n (host_place n kind t) r
+  pub stands : (index : ℕ) → IsResolvedIndex n (host_place n kind t) r index → slice_get space index ≡ Some y
 
 own_leads : (n : Numbering) → IsNumbering n.input.now n → IsLiveOf n.input.now.link n.input.now.live → (t : ImportSlot) (i j : ℕ)
     → is_live n.input.now.live (record { object = i; unit = DefinedFunction j }) ≡ true

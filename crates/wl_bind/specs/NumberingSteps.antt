@@ -57,35 +57,38 @@ abbrev pub FitsPlace : Option ℕ → Type 0
 FitsPlace None = ⊤
 FitsPlace (Some place) = place ≤ max_entries
 
--- there is an index for what a slot of that kind and number of an object is resolved to
-abbrev pub HasIndex : Numbering → WasmSymbolKind → ℕ → ℕ → ImportResolution → Type 0
-HasIndex n kind object slot Unresolved = FitsPlace (place_at n.shared.now kind object slot)
-HasIndex n kind object slot (ResolvedFunction i k) = HasRoom n.function_firsts.items i k
-HasIndex n kind object slot (ResolvedGlobal i k) = HasRoom n.global_firsts.items i k
-HasIndex n kind object slot (LinkerDefined m) = ⊤
-HasIndex n kind object slot (WeakUndefStub place) = HasEntry n.indices.now.functions 4 place
-HasIndex n kind object slot (GotMemSlot place) = HasEntry n.indices.now.globals 8 place
-HasIndex n kind object slot (GotFuncSlot place) = HasEntry n.indices.now.globals 9 place
+-- there is an index for what a slot is resolved to, for which the host's import has that place
+abbrev pub HasIndex : Numbering → Option ℕ → ImportResolution → Type 0
+HasIndex n host Unresolved = FitsPlace host
+HasIndex n host (ResolvedFunction i k) = HasRoom n.function_firsts.items i k
+HasIndex n host (ResolvedGlobal i k) = HasRoom n.global_firsts.items i k
+HasIndex n host (LinkerDefined m) = ⊤
+HasIndex n host (WeakUndefStub place) = HasEntry n.indices.now.functions 4 place
+HasIndex n host (GotMemSlot place) = HasEntry n.indices.now.globals 8 place
+HasIndex n host (GotFuncSlot place) = HasEntry n.indices.now.globals 9 place
 
 -- what the linker makes stands there, if the output has it
 abbrev pub IsIndexOfMade : Input → WasmLinkerSymbol → ℕ → Type 0
 IsIndexOfMade input m index = is_made input m ≡ true → StandsAt input m (row_of m).kind index
 
--- the index of what a slot of that kind and number of an object is resolved to
-abbrev pub IsResolvedIndex : Numbering → WasmSymbolKind → ℕ → ℕ → ImportResolution → ℕ → Type 0
-IsResolvedIndex n kind object slot Unresolved index =
-    index ≡ unwrap_or (place_at n.shared.now kind object slot) WASM_DEAD_INDEX
-IsResolvedIndex n kind object slot (ResolvedFunction i k) index =
+-- the index of what a slot is resolved to, for which the host's import has that place
+abbrev pub IsResolvedIndex : Numbering → Option ℕ → ImportResolution → ℕ → Type 0
+IsResolvedIndex n host Unresolved index = index ≡ unwrap_or host WASM_DEAD_INDEX
+IsResolvedIndex n host (ResolvedFunction i k) index =
     index ≡ behind_first n.function_firsts.items i k
-IsResolvedIndex n kind object slot (ResolvedGlobal i k) index =
+IsResolvedIndex n host (ResolvedGlobal i k) index =
     index ≡ behind_first n.global_firsts.items i k
-IsResolvedIndex n kind object slot (LinkerDefined m) index = IsIndexOfMade n.input.now m index
-IsResolvedIndex n kind object slot (WeakUndefStub place) index =
+IsResolvedIndex n host (LinkerDefined m) index = IsIndexOfMade n.input.now m index
+IsResolvedIndex n host (WeakUndefStub place) index =
     slice_get (function_space n.input.now) index ≡ slice_get (stub_part n.input.now) place
-IsResolvedIndex n kind object slot (GotMemSlot place) index =
+IsResolvedIndex n host (GotMemSlot place) index =
     slice_get (global_space n.input.now) index ≡ Some (GlobalOf (global.GotMem place))
-IsResolvedIndex n kind object slot (GotFuncSlot place) index =
+IsResolvedIndex n host (GotFuncSlot place) index =
     slice_get (global_space n.input.now) index ≡ Some (GlobalOf (global.GotFunc place))
+
+-- the place of the host's import for a slot of that kind
+abbrev pub host_place : Numbering → WasmSymbolKind → ImportSlot → Option ℕ
+host_place n kind t = place_at n.shared.now kind t.object t.number
 
 -- what a slot of that kind is resolved to by all rules
 abbrev pub resolution_of : Input → WasmSymbolKind → ImportSlot → ImportResolution
@@ -100,7 +103,7 @@ resolution_of input Table t = Unresolved
 abbrev pub HasSlotIndex : Numbering → WasmSymbolKind → ImportSlot → Type 0
 HasSlotIndex n kind t =
     is_kept_slot n.input.now t ≡ true
-    → HasIndex n kind t.object t.number (resolution_of n.input.now kind t)
+    → HasIndex n (host_place n kind t) (resolution_of n.input.now kind t)
 
 -- there is one for each of these slots that is kept
 abbrev pub HaveSlotIndices : Numbering → WasmSymbolKind → List ImportSlot → Type 0
@@ -111,5 +114,5 @@ HaveSlotIndices n kind slots =
 pub record IsSlotIndex (n : Numbering) (kind : WasmSymbolKind) (t : ImportSlot) (index : ℕ)
     : Type 0 where
   pub kept : is_kept_slot n.input.now t ≡ true
-      → IsResolvedIndex n kind t.object t.number (resolution_of n.input.now kind t) index
+      → IsResolvedIndex n (host_place n kind t) (resolution_of n.input.now kind t) index
   pub dead : is_kept_slot n.input.now t ≡ false → index ≡ WASM_DEAD_INDEX

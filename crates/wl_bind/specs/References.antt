@@ -44,15 +44,15 @@ local_global input object o number = there (local_globals input object o) number
 
 -- ---- symbols
 
--- the global whose number a symbol of that kind and number stands for: its own, of that index, or
--- the one that holds the address of data or the slot of a function
-abbrev pub symbol_global : Input → ℕ → Object → WasmSymbolKind → ℕ → ℕ → Option GlobalEntry
-symbol_global input object o Global number index = local_global input object o index
-symbol_global input object o Data number index = got_mem_global input object o number
-symbol_global input object o Func number index = got_func_global input object o number
-symbol_global input object o Section number index = None
-symbol_global input object o Event number index = None
-symbol_global input object o Table number index = None
+-- the global whose number the symbol that a relocation names stands for, which has that kind and
+-- index: its own, or the one that holds the address of data or the slot of a function
+abbrev pub symbol_global : Input → Relocated → Object → WasmSymbolKind → ℕ → Option GlobalEntry
+symbol_global input r o Global index = local_global input r.object o index
+symbol_global input r o Data index = got_mem_global input r.object o r.relocation.index
+symbol_global input r o Func index = got_func_global input r.object o r.relocation.index
+symbol_global input r o Section index = None
+symbol_global input r o Event index = None
+symbol_global input r o Table index = None
 
 -- the function has a slot in the table: a stub has the first one, and others their own
 abbrev pub HasSlot : Input → FunctionTarget → Type 0
@@ -123,5 +123,5 @@ pub record NamesFunction (input : Input) (r : Relocated) : Type 0 where
 pub record NamesGlobal (input : Input) (r : Relocated) : Type 0 where
   pub named : NamesSymbol input r
   pub global : GlobalEntry
-  pub stands : symbol_global input r.object named.object named.symbol.kind r.relocation.index
-      named.symbol.index ≡ Some global
+  pub stands : symbol_global input r named.object named.symbol.kind named.symbol.index
+      ≡ Some global

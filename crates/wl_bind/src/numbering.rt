@@ -181,8 +181,10 @@ impl<'n, 'i, 'a> Numbering<'n, 'i, 'a> {
         resolution: ImportResolution,
     ) -> u32
         requires indices { AreMadeIndices self.now.input.now self.now.indices.now }
-        requires there { HasIndex self.now kind object slot resolution }
-        ensures { IsResolvedIndex self.now kind object slot resolution result }
+        requires there { HasIndex self.now (place_at self.now.shared.now kind object slot)
+            resolution }
+        ensures { IsResolvedIndex self.now (place_at self.now.shared.now kind object slot)
+            resolution result }
     {
         match resolution {
             ImportResolution::Unresolved => self.host_index(kind, object, slot),
@@ -211,9 +213,10 @@ impl<'n, 'i, 'a> Numbering<'n, 'i, 'a> {
     ) -> u32
         requires indices { AreMadeIndices self.now.input.now self.now.indices.now }
         requires there { keeps_slot self.now.input.now kind object slot ≡ true
-            → HasIndex self.now kind object slot resolution }
+            → HasIndex self.now (place_at self.now.shared.now kind object slot) resolution }
         ensures kept { keeps_slot self.now.input.now kind object slot ≡ true
-            → IsResolvedIndex self.now kind object slot resolution result }
+            → IsResolvedIndex self.now (place_at self.now.shared.now kind object slot)
+            resolution result }
         ensures dead { keeps_slot self.now.input.now kind object slot ≡ false
             → result ≡ WASM_DEAD_INDEX }
     {

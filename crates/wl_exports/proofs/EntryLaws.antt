@@ -1,5 +1,5 @@
 -- Exports by names and by symbols, one after the other.
-use Rattle.std.proofs.Common.{◌≡◌, ◌∙◌, ◌≤◌, ◌<◌, ℕ, zero, suc, ◌+◌, ◌&&◌, not, Bool, true, false, List, [], ◌∷◌, ◌++◌, length, map, filter_map, take, get_or, refl, sym, ap, subst, arith, Option, Some, None, slice_get, Contains, append_assoc, append-nil, add-one}
+use Rattle.std.proofs.Common.{◌≡◌, ◌∙◌, ◌≤◌, ◌<◌, ℕ, zero, suc, ◌+◌, ◌&&◌, not, Bool, true, false, List, [], ◌∷◌, ◌++◌, length, map, filter_map, take, get_or, refl, sym, ap, subst, arith, Option, Some, None, slice_get, Contains, append_assoc, append-nil, add-one, if◌then◌else◌}
 use Rattle.std.specs.Option.{option_map, option_and_then, option_to_list}
 use Rattle.std.specs.Prelude.{string_bytes, String}
 use Rattle.std.specs.declared.alloc.Global.{Global}
@@ -21,7 +21,7 @@ use Rattle.wl_bind.specs.Input.{Input}
 use Rattle.wl_bind.specs.declared.binding.FunctionTarget.TheVariants as function
 use Rattle.wl_bind.specs.declared.binding.GlobalTarget.TheVariants as global
 use Rattle.wl_slots.specs.SlotTargets.{own_number}
-use Rattle.wl_exports.specs.Exports.{ExportEntry, Entity, OfFunction, export_of, by_names, object_entity, defined_entity, defined_of_kind, named_entity, only_function, named_function, unless_made, candidate, candidates_from, candidates, is_code, stack_pointer_export, dynamic_exports}
+use Rattle.wl_exports.specs.Exports.{ExportEntry, Entity, OfFunction, export_of, by_names, object_entity, defined_entity, defined_of_kind, named_entity, only_function, named_function, unless_made, candidate, by_symbol, candidates, is_code, stack_pointer_export, dynamic_exports}
 use Rattle.wl_exports.specs.ExportSteps.{IsPlainIf, AddsExports, takes}
 use Rattle.wl_exports.specs.declared.dynamic.Wanted.{Wanted}
 use Rattle.wl_exports.proofs.GrowLaws.{adds_more, adds_same}
@@ -160,45 +160,41 @@ forced_is input name object number s unmade names f =
 
 -- ---- symbol by symbol
 
-candidates_step : (input : Input) (test : WasmSymbolKind → Bool) (object : ℕ) (o : Object) (n k m : ℕ)
-    (symbols : List LinkedSymbol) (s : LinkedSymbol) → n + k ≡ m → slice_get symbols k ≡ Some s
-    → candidates_from input test object o n (take (suc k) symbols)
-    ≡ candidates_from input test object o n (take k symbols) ++ option_to_list (candidate input test object m o s)
-candidates_step input test object o n k m [] s same at = absurd cc
-candidates_step input test object o n zero m (x ∷ symbols) s same at =
+symbol_more : (f : ℕ → LinkedSymbol → Option ExportEntry) (n k m : ℕ) (symbols : List LinkedSymbol) (s : LinkedSymbol)
+    → n + k ≡ m → slice_get symbols k ≡ Some s
+    → by_symbol f n (take (suc k) symbols) ≡ by_symbol f n (take k symbols) ++ option_to_list (f m s)
+symbol_more f n k m [] s same at = absurd cc
+symbol_more f n zero m (x ∷ symbols) s same at =
     let is : x ≡ s = cc in
     let number : n ≡ m = omega (arith, same) in
-    append-nil (option_to_list (candidate input test object n o x))
-    ∙ (ap (λ (y : LinkedSymbol). option_to_list (candidate input test object n o y)) is
-    ∙ ap (λ (i : ℕ). option_to_list (candidate input test object i o s)) number)
-candidates_step input test object o n (suc k) m (x ∷ symbols) s same at =
-    ap (λ (es : List ExportEntry). option_to_list (candidate input test object n o x) ++ es)
-    (candidates_step input test object o (n + 1) k m symbols s (omega (arith, same)) at)
-    ∙ sym (append_assoc (option_to_list (candidate input test object n o x))
-    (candidates_from input test object o (n + 1) (take k symbols)) (option_to_list (candidate input test object m o s)))
+    append-nil (option_to_list (f n x))
+    ∙ (ap (λ (y : LinkedSymbol). option_to_list (f n y)) is ∙ ap (λ (i : ℕ). option_to_list (f i s)) number)
+symbol_more f n (suc k) m (x ∷ symbols) s same at =
+    ap (λ (es : List ExportEntry). option_to_list (f n x) ++ es)
+    (symbol_more f (n + 1) k m symbols s (omega (arith, same)) at)
+    ∙ sym (append_assoc (option_to_list (f n x)) (by_symbol f (n + 1) (take k symbols)) (option_to_list (f m s)))
 
-pub candidates_next : (input : Input) (test : WasmSymbolKind → Bool) (object : ℕ) (o : Object) (symbols : List LinkedSymbol)
-    (k : ℕ) (s : LinkedSymbol) (old middle new : List Exported) → slice_get symbols k ≡ Some s
-    → AddsExports input (candidates_from input test object o 0 (take k symbols)) old middle
-    → AddsExports input (option_to_list (candidate input test object k o s)) middle new
-    → AddsExports input (candidates_from input test object o 0 (take (k + 1) symbols)) old new
-candidates_next input test object o symbols k s old middle new at a b =
-    let front : List ExportEntry = candidates_from input test object o 0 (take k symbols) in
-    let more : front ++ option_to_list (candidate input test object k o s)
-    ≡ candidates_from input test object o 0 (take (k + 1) symbols) =
-    rw add-one (sym (candidates_step input test object o 0 k k symbols s (omega arith) at)) in
-    adds_same input (front ++ option_to_list (candidate input test object k o s))
-    (candidates_from input test object o 0 (take (k + 1) symbols)) old new more
-    (adds_more input front (option_to_list (candidate input test object k o s)) old middle new a b)
+pub adds_symbol : (input : Input) (f : ℕ → LinkedSymbol → Option ExportEntry) (symbols : List LinkedSymbol) (k : ℕ)
+    (s : LinkedSymbol) (old middle new : List Exported) → slice_get symbols k ≡ Some s
+    → AddsExports input (by_symbol f 0 (take k symbols)) old middle
+    → AddsExports input (option_to_list (f k s)) middle new
+    → AddsExports input (by_symbol f 0 (take (k + 1) symbols)) old new
+adds_symbol input f symbols k s old middle new at a b =
+    let more : by_symbol f 0 (take k symbols) ++ option_to_list (f k s) ≡ by_symbol f 0 (take (k + 1) symbols) =
+    rw add-one (sym (symbol_more f 0 k k symbols s (omega arith) at)) in
+    adds_same input (by_symbol f 0 (take k symbols) ++ option_to_list (f k s)) (by_symbol f 0 (take (k + 1) symbols))
+    old new more (adds_more input (by_symbol f 0 (take k symbols)) (option_to_list (f k s)) old middle new a b)
 
-pub candidate_is : (input : Input) (test : WasmSymbolKind → Bool) (object number : ℕ) (o : Object) (s : LinkedSymbol)
-    → (test s.kind && has_name s && is_candidate input.link object number s) ≡ true
-    → candidate input test object number o s ≡ option_map (export_of s.name) (defined_entity input object number o s)
-candidate_is input test object number o s holds = rw holds refl
+-- what a symbol gives, if its kind is wanted
+abbrev pub wanted_candidate : Input → Wanted → ℕ → Object → ℕ → LinkedSymbol → Option ExportEntry
+wanted_candidate input wanted object o number s =
+    if takes wanted s.kind then candidate input object number o s else None
 
--- those of an object
-abbrev pub candidates_in : Input → Wanted → ℕ → Object → List ExportEntry
-candidates_in input wanted object o = candidates_from input (takes wanted) object o 0 o.symbols
+pub candidate_is : (input : Input) (wanted : Wanted) (object number : ℕ) (o : Object) (s : LinkedSymbol)
+    → takes wanted s.kind ≡ true → (has_name s && is_candidate input.link object number s) ≡ true
+    → wanted_candidate input wanted object o number s
+    ≡ option_map (export_of s.name) (defined_entity input object number o s)
+candidate_is input wanted object number o s kind holds = rw (kind, holds) refl
 
 -- the one name, if it is asked for
 pub names_one : (entity : List ℕ → Option Entity) (asked : Option (List ℕ)) (name : List ℕ) → asked ≡ Some name
@@ -206,8 +202,8 @@ pub names_one : (entity : List ℕ → Option Entity) (asked : Option (List ℕ)
 names_one entity asked name e =
     sym (ap (λ (o : Option (List ℕ)). by_names entity (option_to_list o)) e ∙ one_item (name_entry entity name))
 
-pub three_true : (a b d : Bool) → a ≡ true → b ≡ true → d ≡ true → (a && b && d) ≡ true
-three_true a b d x y z = rw (x, y, z) refl
+pub both_true : (a b : Bool) → a ≡ true → b ≡ true → (a && b) ≡ true
+both_true a b x y = rw (x, y) refl
 
 pub dynamic_is : (input : Input) → input.link.args.export_dynamic ≡ true
     → (stack_pointer_export input ++ candidates input is_code) ++ candidates input is_data ≡ dynamic_exports input

@@ -22,7 +22,7 @@ use Rattle.wl_bind.specs.Parts.{by_object}
 use Rattle.wl_bind.specs.declared.binding.FunctionTarget.TheVariants.{Defined, Made, Host, Stub}
 use Rattle.wl_exports.specs.Exports.{ExportEntry, Entity, OfFunction, OfGlobal, OfTable, OfMemory, exports}
 use Rattle.wl_exports.specs.Sources.{IsOf, IsPlainExport}
-use Rattle.wl_exports.specs.WrapSteps.{AddsWrapped}
+use Rattle.wl_exports.specs.WrapSteps.{with_export, with_wrapper}
 use Rattle.wl_exports.specs.Wrapped.{WrapperEntry, is_wrapped, IsExportIf, IsExportAt, IsWrapper, AreOutputExports, AreWrappers}
 use Rattle.wl_exports.specs.Wrappers.{is_ctors_name, calls_ctors, wraps, can_wrap, is_own, is_own_function, wrapped}
 use Rattle.wl_exports.proofs.ListLaws.{IsIn, in_at, in_split, append_split, from_map, zip_at, zip_length, zip_joined}
@@ -282,10 +282,9 @@ and_left false b e = absurd cc
 pub wrapped_more : (input : Input) (k functions : ℕ) (e : ExportEntry) (x : Exported) (one : Bool)
     (old new : List Exported) (ws vs : List WrapperEntry) → slice_get (exports input) k ≡ Some e
     → IsPlainExport input e x → one ≡ is_wrapped input e → functions ≡ length (function_space input)
-    → AddsWrapped one functions x old new ws vs → IsWrappedSoFar input k old ws
-    → IsWrappedSoFar input (k + 1) new vs
-wrapped_more input k functions e x false old new ws vs at plain test count adds so_far =
-    let grown = adds.0 in
+    → new ≡ with_export one (functions + length ws) x old → vs ≡ with_wrapper one x ws
+    → IsWrappedSoFar input k old ws → IsWrappedSoFar input (k + 1) new vs
+wrapped_more input k functions e x false old new ws vs at plain test count grown more so_far =
     let same : IsExportAt input k e x =
     subst (λ (b : Bool). IsExportIf b input (length (filter (is_wrapped input) (take k (exports input)))) e x) test plain in
     let len : length (old ++ x ∷ []) ≡ k + 1 = let so = so_far.len in let l = length-append old (x ∷ []) in omega (arith, so, l) in
@@ -300,12 +299,12 @@ wrapped_more input k functions e x false old new ws vs at plain test count adds 
           (sym grown) (each_more input k old e x so_far.len at same so_far.each);
       wrappers = subst (λ (es : List ExportEntry). AllZip (IsWrapper input) es vs) (sym left)
           (subst (λ (us : List WrapperEntry). AllZip (IsWrapper input) (filter (is_wrapped input) (take k (exports input))) us)
-          (sym adds.1) so_far.wrappers);
+          (sym more) so_far.wrappers);
     }
-wrapped_more input k functions e x true old new ws vs at plain test count adds so_far =
+wrapped_more input k functions e x true old new ws vs at plain test count grows adds so_far =
     let y : Exported = record { name = x.name; kind = x.kind; index = functions + length ws } in
     let w : WrapperEntry = record { name = x.name; original = x.index } in
-    let grown : new ≡ old ++ y ∷ [] = adds.0 in
+    let grown : new ≡ old ++ y ∷ [] = grows in
     let can : can_wrap e ≡ true = and_right (wraps input) (can_wrap e) (sym test) in
     let own : is_own_function e.entity ≡ true =
     and_left (is_own_function e.entity) (not (bytes_eq (name_of InitTls) e.name)) can in
@@ -329,7 +328,7 @@ wrapped_more input k functions e x true old new ws vs at plain test count adds s
           (sym grown) (each_more input k old e y so_far.len at same so_far.each);
       wrappers = subst (λ (es : List ExportEntry). AllZip (IsWrapper input) es vs) more
           (subst (λ (us : List WrapperEntry). AllZip (IsWrapper input) (filter (is_wrapped input) (take k (exports input)) ++ e ∷ []) us)
-          (sym adds.1)
+          (sym adds)
           (zip_joined (IsWrapper input) (filter (is_wrapped input) (take k (exports input))) (e ∷ []) ws (w ∷ [])
           so_far.wrappers (wrapper_of input e x e.entity refl plain can plain.leads, tt)));
     }

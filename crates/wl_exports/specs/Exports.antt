@@ -177,25 +177,27 @@ stack_pointer_export input =
     if list_any (bytes_eq (codes "mutable-globals")) (taken_names input.link)
     then export_of (name_of made.StackPointer) (made_entity made.StackPointer) ∷ [] else []
 
--- a symbol that has a name, defines something that passes the test, and is exported by the option
-abbrev pub candidate : Input → (WasmSymbolKind → Bool) → ℕ → ℕ → Object → LinkedSymbol
-    → Option ExportEntry
-candidate input test object number o s =
-    if test s.kind && has_name s && is_candidate input.link object number s
+-- a symbol that has a name, defines something, and is exported by the option
+abbrev pub candidate : Input → ℕ → ℕ → Object → LinkedSymbol → Option ExportEntry
+candidate input object number o s =
+    if has_name s && is_candidate input.link object number s
     then option_map (export_of s.name) (defined_entity input object number o s) else None
 
--- those of these symbols of an object, the first of which has that number
-abbrev pub candidates_from : Input → (WasmSymbolKind → Bool) → ℕ → Object → ℕ → List LinkedSymbol
+-- what each of these symbols gives, the first of which has that number
+abbrev pub by_symbol : (ℕ → LinkedSymbol → Option ExportEntry) → ℕ → List LinkedSymbol
     → List ExportEntry
-candidates_from input test object o number [] = []
-candidates_from input test object o number (s ∷ symbols) =
-    option_to_list (candidate input test object number o s)
-    ++ candidates_from input test object o (number + 1) symbols
+by_symbol f number [] = []
+by_symbol f number (s ∷ symbols) = option_to_list (f number s) ++ by_symbol f (number + 1) symbols
+
+-- those of an object whose kind passes the test
+abbrev pub candidates_in : Input → (WasmSymbolKind → Bool) → ℕ → Object → List ExportEntry
+candidates_in input test object o =
+    by_symbol (λ number s. if test s.kind then candidate input object number o s else None) 0
+    o.symbols
 
 -- those of all objects
 abbrev pub candidates : Input → (WasmSymbolKind → Bool) → List ExportEntry
-candidates input test =
-    by_object (λ object o. candidates_from input test object o 0 o.symbols) 0 input.link.objects
+candidates input test = by_object (candidates_in input test) 0 input.link.objects
 
 -- a function or a global
 abbrev pub is_code : WasmSymbolKind → Bool

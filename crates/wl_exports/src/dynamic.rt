@@ -1,8 +1,8 @@
 //! What `--export-dynamic` exports.
 
-ghost use Rattle.std.specs.Prelude.{◌≡◌, true, Some, slice_get, OnOk};
+ghost use Rattle.std.specs.Prelude.{◌≡◌, true, Some, None, slice_get, OnOk, if◌then◌else◌};
 ghost use Rattle.wl_exports.specs.DataSteps.{AreDataPlaces};
-ghost use Rattle.wl_exports.specs.Exports.{candidate, candidates_from, candidates, dynamic_exports};
+ghost use Rattle.wl_exports.specs.Exports.{candidate, candidates_in, candidates, dynamic_exports};
 ghost use Rattle.wl_exports.specs.ExportSteps.{IsPlainIf, AddsExports, takes};
 ghost use Rattle.wl_exports.specs.Sources.{AreSources};
 
@@ -57,7 +57,8 @@ fn candidate_export<'a>(
     requires here { slice_get sources.now.input.now.link.objects object ≡ Some file.now }
     requires at { slice_get file.now.symbols number ≡ Some symbol.now }
     ensures { IsPlainIf sources.now.input.now
-        (candidate sources.now.input.now (takes wanted) object number file.now symbol.now) result }
+        (if takes wanted symbol.now.kind
+        then candidate sources.now.input.now object number file.now symbol.now else None) result }
 {
     live_units_are_closed();
     let symbols = sources.input.symbols();
@@ -85,7 +86,7 @@ fn push_symbols<'a>(
     requires dynamic { sources.now.input.now.link.args.export_dynamic ≡ true }
     requires here { slice_get sources.now.input.now.link.objects object ≡ Some file.now }
     ensures { OnOk result (AddsExports sources.now.input.now
-        (candidates_from sources.now.input.now (takes wanted) object file.now 0 file.now.symbols)
+        (candidates_in sources.now.input.now (takes wanted) object file.now)
         exports.old.items exports.new.items) }
 {
     file.stands_for_an_object();

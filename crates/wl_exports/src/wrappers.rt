@@ -7,7 +7,7 @@ ghost use Rattle.wl_bind.specs.FunctionSpace.{host_function_part, function_space
 ghost use Rattle.wl_bind.specs.Input.{Input as Linked};
 ghost use Rattle.wl_exports.specs.Exports.{ExportEntry};
 ghost use Rattle.wl_exports.specs.Sources.{IsPlainExport, ArePlainExports};
-ghost use Rattle.wl_exports.specs.WrapSteps.{AddsWrapped};
+ghost use Rattle.wl_exports.specs.WrapSteps.{with_export, with_wrapper};
 ghost use Rattle.wl_exports.specs.Wrapped.{AreOutputExports, AreWrappers};
 ghost use Rattle.wl_exports.specs.Wrappers.{is_ctors_name, is_function, calls_ctors, wraps, can_wrap, is_own_function, wrapped};
 
@@ -186,8 +186,9 @@ fn push_wrapped<'a>(
     wraps: bool,
 ) -> Result<(), AllocError>
     requires { functions + length wrappers.old < 2 ^ 32 }
-    ensures { OnOk result (AddsWrapped wraps functions export.now
-        wrapped.old wrapped.new wrappers.old wrappers.new) }
+    ensures export { OnOk result (wrapped.new
+        ≡ with_export wraps (functions + length wrappers.old) export.now wrapped.old) }
+    ensures wrapper { OnOk result (wrappers.new ≡ with_wrapper wraps export.now wrappers.old) }
 {
     let index = if wraps {
         push_wrapper(wrappers, functions, export)?

@@ -47,10 +47,11 @@ use Rattle.wl_bind.specs.declared.binding.FunctionTarget.{FunctionTarget}
 use Rattle.wl_bind.specs.declared.binding.FunctionTarget.TheVariants as function
 use Rattle.wl_bind.specs.declared.relocated.Relocated.{Relocated}
 use Rattle.wl_plan.specs.Addresses.{symbol_address}
-use Rattle.wl_plan.specs.FixupSteps.{AreFixupSources, Answers, AnswersFrom, HasRoom, is_absolute, left_of, counted_base, number_by, IsRefusedAt}
+use Rattle.wl_plan.specs.FixupSteps.{AreFixupSources, Answers, AnswersFrom, HasRoom, is_absolute, left_of, with_left, counted_base, number_by, IsRefusedAt}
 use Rattle.wl_plan.specs.Fixups.{type_named, global_named, slot_named, address_named, bases_of, address_taken, addend_left, number_taken, IsTaken, IsAddressReason}
 use Rattle.wl_plan.specs.IndexedMaps.{IsWholeMap, AreWholeMaps}
 use Rattle.wl_plan.specs.Table.{slot_of, slot_of_entry, space_slots}
+use Rattle.wl_plan.specs.declared.layout.FixupTo.TheVariants.{Value}
 use Rattle.wl_plan.specs.declared.fixups.FixupSources.{FixupSources}
 use Rattle.wl_plan.specs.declared.placing.Placing.{Placing}
 use Rattle.wl_plan.proofs.ListLaws.{of_range}
@@ -138,10 +139,10 @@ resolver_of input g o m = record {
 }
 
 pub answers_as : (input : Input) (g : Placing) (r : Relocated) (taking : Option Taking) (left : ℤ)
-    (result other : Result ℕ RelocError) → result ≡ other → Answers input g r taking left other
-    → Answers input g r taking left result
+    (result other : Result ℕ RelocError) → result ≡ other → Answers input g r taking (with_left left other)
+    → Answers input g r taking (with_left left result)
 answers_as input g r taking left result other is h =
-    subst (λ (x : Result ℕ RelocError). Answers input g r taking left x) (sym is) h
+    subst (λ (x : Result ℕ RelocError). Answers input g r taking (with_left left x)) (sym is) h
 
 -- ---- what is left to be added
 
@@ -266,7 +267,7 @@ module _ (input : Input) (g : Placing) (r : Relocated) (o : Object) (m : WasmObj
   same_object p here = same_Some p o (sym here ∙ known.here)
 
   type_answers : (left : ℤ) → left ≡ pos 0 → names_a_type r.relocation.ty ≡ true
-      → Answers input g r None left (taken (resolver_of input g o m) r.relocation None)
+      → Answers input g r None (with_left left (taken (resolver_of input g o m) r.relocation None))
   type_answers left no_rest names =
       let h = known.laws.types input r known.settled known.kept names in
       let live : live_type input r.object o r.relocation.index ≡ Some h.ty =
@@ -376,8 +377,8 @@ module _ (input : Input) (g : Placing) (r : Relocated) (o : Object) (m : WasmObj
 
   function_answers : (left : ℤ) → left ≡ pos 0 → names_a_type r.relocation.ty ≡ false
       → (n : Names) → is_function_kind n.symbol.kind ≡ true
-      → Answers input g r (Some FunctionIndex) left
-      (taken (resolver_of input g o m) r.relocation (Some FunctionIndex))
+      → Answers input g r (Some FunctionIndex) (with_left left
+      (taken (resolver_of input g o m) r.relocation (Some FunctionIndex)))
   function_answers left no_rest none n is =
       let l = leads_to n none is in
       answers_as input g r (Some FunctionIndex) left
@@ -422,8 +423,8 @@ module _ (input : Input) (g : Placing) (r : Relocated) (o : Object) (m : WasmObj
   slot_answers : (left : ℤ) → left ≡ pos 0 → names_a_type r.relocation.ty ≡ false
       → (n : Names) → is_function_kind n.symbol.kind ≡ true
       → (is_table_index r.relocation.ty || is_global_index r.relocation.ty) ≡ true
-      → Answers input g r (Some Slot) left
-      (taken (resolver_of input g o m) r.relocation (Some Slot))
+      → Answers input g r (Some Slot) (with_left left
+      (taken (resolver_of input g o m) r.relocation (Some Slot)))
   slot_answers left no_rest none n is asks =
       let s = slotted n none is asks in
       answers_as input g r (Some Slot) left
@@ -434,8 +435,8 @@ module _ (input : Input) (g : Placing) (r : Relocated) (o : Object) (m : WasmObj
   relative_answers : (left : ℤ) → left ≡ pos 0 → names_a_type r.relocation.ty ≡ false
       → (n : Names) → is_function_kind n.symbol.kind ≡ true
       → (is_table_index r.relocation.ty || is_global_index r.relocation.ty) ≡ true
-      → Answers input g r (Some SlotBehindBase) left
-      (taken (resolver_of input g o m) r.relocation (Some SlotBehindBase))
+      → Answers input g r (Some SlotBehindBase) (with_left left
+      (taken (resolver_of input g o m) r.relocation (Some SlotBehindBase)))
   relative_answers left no_rest none n is asks =
       let s = slotted n none is asks in
       answers_as input g r (Some SlotBehindBase) left
@@ -452,7 +453,7 @@ module _ (input : Input) (g : Placing) (r : Relocated) (o : Object) (m : WasmObj
 
   global_resolves : (k : WasmSymbolKind) (index : ℕ) (x : GlobalEntry)
       → r.relocation.index < length o.symbols
-      → symbol_global input r.object o k r.relocation.index index ≡ Some x
+      → symbol_global input r o k index ≡ Some x
       → Resolves k r.relocation.index index x
   global_resolves kind.Global index x within e =
       let at = index_at (global_space input) (local_globals input r.object o) m.global_indices index x
@@ -481,25 +482,25 @@ module _ (input : Input) (g : Placing) (r : Relocated) (o : Object) (m : WasmObj
   global_resolves kind.Table index x within e = absurd cc
 
   global_answers : (left : ℤ) → left ≡ pos 0 → is_global_index r.relocation.ty ≡ true
-      → Answers input g r (Some GlobalIndex) left
-      (taken (resolver_of input g o m) r.relocation (Some GlobalIndex))
+      → Answers input g r (Some GlobalIndex) (with_left left
+      (taken (resolver_of input g o m) r.relocation (Some GlobalIndex)))
   global_answers left no_rest is =
       let h = known.laws.globals input r known.settled known.kept is in
       let same = same_object h.named.object h.named.here in
       let s = h.named.symbol in
       let at : slice_get o.symbols r.relocation.index ≡ Some s =
       subst (λ (p : Object). slice_get p.symbols r.relocation.index ≡ Some s) same h.named.at in
-      let stands : symbol_global input r.object o s.kind r.relocation.index s.index ≡ Some h.global =
-      subst (λ (p : Object). symbol_global input r.object p s.kind r.relocation.index s.index
+      let stands : symbol_global input r o s.kind s.index ≡ Some h.global =
+      subst (λ (p : Object). symbol_global input r p s.kind s.index
       ≡ Some h.global) same h.stands in
       let found = global_resolves s.kind s.index h.global
       (slice_get_within o.symbols r.relocation.index s at) stands in
       let named_one : global_named input r ≡ Some h.global =
       ap (option_and_then (λ (p : Object). option_and_then
-      (λ (t : LinkedSymbol). symbol_global input r.object p t.kind r.relocation.index t.index)
+      (λ (t : LinkedSymbol). symbol_global input r p t.kind t.index)
       (slice_get p.symbols r.relocation.index))) known.here
       ∙ (ap (option_and_then
-      (λ (t : LinkedSymbol). symbol_global input r.object o t.kind r.relocation.index t.index)) at
+      (λ (t : LinkedSymbol). symbol_global input r o t.kind t.index)) at
       ∙ stands) in
       answers_as input g r (Some GlobalIndex) left
       (taken (resolver_of input g o m) r.relocation (Some GlobalIndex)) (Ok found.place)
@@ -517,8 +518,8 @@ module _ (input : Input) (g : Placing) (r : Relocated) (o : Object) (m : WasmObj
   table_kind kind.Event e = absurd cc
 
   table_answers : (left : ℤ) → left ≡ pos 0 → (n : Names) → is_table_kind n.symbol.kind ≡ true
-      → Answers input g r (Some TableNumber) left
-      (taken (resolver_of input g o m) r.relocation (Some TableNumber))
+      → Answers input g r (Some TableNumber) (with_left left
+      (taken (resolver_of input g o m) r.relocation (Some TableNumber)))
   table_answers left no_rest n is =
       answers_as input g r (Some TableNumber) left
       (taken (resolver_of input g o m) r.relocation (Some TableNumber)) (Ok 0)
@@ -538,15 +539,15 @@ module _ (input : Input) (g : Placing) (r : Relocated) (o : Object) (m : WasmObj
   value_answers : (base : AddressBase) (left : ℤ) (value : Result ℤ RelocError)
       → left ≡ addend_left base (address_named input g r) r.relocation.addend
       → address_taken input g r base ≡ value
-      → Answers input g r (Some (Address base)) left (as_word value)
+      → Answers input g r (Some (Address base)) (with_left left (as_word value))
   value_answers base left (Ok z) is at = (is, (z, at, refl))
   value_answers base left (Err why) is at = (base, refl, at)
 
   address_answers : (base : AddressBase) (left : ℤ)
       → left ≡ addend_left base (address_named input g r) r.relocation.addend
       → (n : Names) → is_data n.symbol.kind ≡ true
-      → Answers input g r (Some (Address base)) left
-      (taken (resolver_of input g o m) r.relocation (Some (Address base)))
+      → Answers input g r (Some (Address base)) (with_left left
+      (taken (resolver_of input g o m) r.relocation (Some (Address base))))
   address_answers base left is n data_is =
       let by = resolver_of input g o m in
       let listed : slice_get m.data_addresses r.relocation.index ≡ Some (address_named input g r) =
@@ -566,8 +567,8 @@ module _ (input : Input) (g : Placing) (r : Relocated) (o : Object) (m : WasmObj
   left_here = left_of (address_named input g r) r.relocation
 
   by_type : (ty : RelocationType) → r.relocation.ty ≡ ty
-      → Answers input g r (taking_of ty) left_here
-      (taken (resolver_of input g o m) r.relocation (taking_of ty))
+      → Answers input g r (taking_of ty) (with_left left_here
+      (taken (resolver_of input g o m) r.relocation (taking_of ty)))
   by_type ty is = by ty is (left_zero (address_named input g r) r.relocation)
     where
       takes_at : (ty : RelocationType) → r.relocation.ty ≡ ty → (n : Names)
@@ -585,8 +586,8 @@ module _ (input : Input) (g : Placing) (r : Relocated) (o : Object) (m : WasmObj
 
       by : (ty : RelocationType) → r.relocation.ty ≡ ty
           → (is_absolute r.relocation.ty ≡ false → left_here ≡ pos 0)
-          → Answers input g r (taking_of ty) left_here
-          (taken (resolver_of input g o m) r.relocation (taking_of ty))
+          → Answers input g r (taking_of ty) (with_left left_here
+          (taken (resolver_of input g o m) r.relocation (taking_of ty)))
       by type.FunctionIndexLeb is no_rest =
           let none = symbols type.FunctionIndexLeb is refl in
           function_answers left_here (no_rest (ap is_absolute is)) none (named none)
@@ -644,8 +645,8 @@ module _ (input : Input) (g : Placing) (r : Relocated) (o : Object) (m : WasmObj
 -- what a kept relocation takes, or why it can't take its address
 pub resolves_as : (input : Input) (g : Placing) (r : Relocated) (o : Object)
     (m : WasmObjectIndexMap) → IsKnown input g r o m
-    → Answers input g r (taking_of r.relocation.ty) (left_of (address_named input g r) r.relocation)
-    (resolved (resolver_of input g o m) r.relocation)
+    → Answers input g r (taking_of r.relocation.ty) (with_left (left_of (address_named input g r) r.relocation)
+    (resolved (resolver_of input g o m) r.relocation))
 resolves_as input g r o m known = by_type input g r o m known r.relocation.ty refl
 
 -- ---- why an address isn't taken
@@ -691,11 +692,11 @@ reason_of input g r base why e =
 
 -- what takes an address isn't refused one
 pub not_refused : (input : Input) (g : Placing) (r : Relocated) (value : ℕ) (left : ℤ)
-    (base : AddressBase) (why : RelocError) → IsTaken input g r (taking_of r.relocation.ty) value left
+    (base : AddressBase) (why : RelocError) → IsTaken input g r (taking_of r.relocation.ty) (Value value left)
     → taking_of r.relocation.ty ≡ Some (Address base) → address_taken input g r base ≡ Err why → ⊥
 not_refused input g r value left base why h takes fault =
-    let t : IsTaken input g r (Some (Address base)) value left =
-    subst (λ (x : Option Taking). IsTaken input g r x value left) takes h in
+    let t : IsTaken input g r (Some (Address base)) (Value value left) =
+    subst (λ (x : Option Taking). IsTaken input g r x (Value value left)) takes h in
     let is : address_taken input g r base ≡ Ok t.1.0 = t.1.1 in
     absurd (let e : ◌≡◌ {A = Result ℤ RelocError} (Ok t.1.0) (Err why) = sym is ∙ fault in cc)
 
@@ -707,8 +708,8 @@ given m symbols slots g =
 pub answers_by : (input : Input) (g : Placing) (r : Relocated) (o : Object)
     (m : WasmObjectIndexMap) (symbols : List LinkedSymbol) (slots : List ℕ)
     → IsKnown input g r o m → symbols ≡ o.symbols → slots ≡ space_slots input
-    → Answers input g r (taking_of r.relocation.ty) (left_of (address_named input g r) r.relocation)
-    (resolved (given m symbols slots g) r.relocation)
+    → Answers input g r (taking_of r.relocation.ty) (with_left (left_of (address_named input g r) r.relocation)
+    (resolved (given m symbols slots g) r.relocation))
 answers_by input g r o m symbols slots known symbols_are slots_are =
     answers_as input g r (taking_of r.relocation.ty)
     (left_of (address_named input g r) r.relocation)
@@ -751,7 +752,7 @@ answers_of s r o m symbols result laws table sources kept here at symbols_are is
 
 -- what takes an address isn't refused
 pub clear_of : (s : FixupSources) (r : Relocated) (value : ℕ) (left : ℤ)
-    → IsTaken s.input.now s.placing.now r (taking_of r.relocation.ty) value left
+    → IsTaken s.input.now s.placing.now r (taking_of r.relocation.ty) (Value value left)
     → Clear (IsRefusedAt s r)
 clear_of s r value left h = record {
   none = λ e f. not_refused s.input.now s.placing.now r value left f.base f.why h f.takes f.fault;

@@ -281,14 +281,14 @@ moved_at : (input : Input) (g : Placing) (object : ℕ) (body : Body) (numbers :
     → body_in input r.object r.site.unit ≡ Some body
     → Moves (new_index numbers) ns r.site.position new → IsMovedIn input g r new
 moved_at input g object body numbers ns r new are told code same here m =
-    let by : IsMovedBy input g object body.bytes r.site.position new = record {
+    let by : IsMovedBy (new_number input g object) body.bytes r.site.position new = record {
       numbers = ns;
       theirs = told;
       moved = moves_same (new_index numbers) (new_number input g object) are.each ns
           r.site.position new m;
     } in
     let moved : IsMovedAt input g Code r new =
-    (body, here, subst (λ i. IsMovedBy input g i body.bytes r.site.position new) (sym same) by) in
+    (body, here, subst (λ i. IsMovedBy (new_number input g i) body.bytes r.site.position new) (sym same) by) in
     subst (λ (p : FixupPlace). IsMovedAt input g p r new) (sym code) moved
 
 abbrev pub position_of : Relocated → ℕ

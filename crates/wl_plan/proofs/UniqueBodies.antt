@@ -99,7 +99,8 @@ renumbered_one forms input g object body x y p q =
     (subst (λ (ns : List DataIndexImm). Rewrites new 0 ns body x) same p.rewritten) q.rewritten
 
 moved_one : FormsAreOne → (input : Input) (g : Placing) (object : ℕ) (body : List ℕ)
-    (place x y : ℕ) → IsMovedBy input g object body place x → IsMovedBy input g object body place y
+    (place x y : ℕ) → IsMovedBy (new_number input g object) body place x
+    → IsMovedBy (new_number input g object) body place y
     → x ≡ y
 moved_one forms input g object body place x y p q =
     let new = new_number input g object in
@@ -241,7 +242,7 @@ moved_at_one forms input g Segment r x y p q = p ∙ sym q
 moved_at_one forms input g Code r x y p q =
     let own : p.0 ≡ q.0 = some_one (body_in input r.object r.site.unit) p.0 q.0 p.1 q.1 in
     moved_one forms input g r.object q.0.bytes r.site.position x y
-    (subst (λ (b : Body). IsMovedBy input g r.object b.bytes r.site.position x) own p.2) q.2
+    (subst (λ (b : Body). IsMovedBy (new_number input g r.object) b.bytes r.site.position x) own p.2) q.2
 
 -- ---- what fields take
 
@@ -258,7 +259,7 @@ value_is : (v w : ℕ) (x y : ℤ) → v ≡ w → x ≡ y → Value v x ≡ Val
 value_is v w x y e f = ap (λ (n : ℕ). Value n x) e ∙ ap (λ (z : ℤ). Value w z) f
 
 taken_one : (input : Input) (g : Placing) (r : Relocated) → AreOnce input g → (taking : Option Taking)
-    (v w : ℕ) (x y : ℤ) → IsTaken input g r taking v x → IsTaken input g r taking w y
+    (v w : ℕ) (x y : ℤ) → IsTaken input g r taking (Value v x) → IsTaken input g r taking (Value w y)
     → (v ≡ w) × (x ≡ y)
 taken_one input g r once None v w x y p q =
     (stands_one (output_types input) (type_named input r) v w once.types p.1 q.1, p.0 ∙ sym q.0)

@@ -49,12 +49,11 @@ pub record IsRenumbered (input : Input) (g : Placing) (object : ℕ) (body bytes
   pub theirs : AreTold numbers body
   pub rewritten : Rewrites (new_number input g object) 0 numbers body bytes
 
--- where what stands at a place of a body stands then
-pub record IsMovedBy (input : Input) (g : Placing) (object : ℕ) (body : List ℕ) (place new : ℕ)
-    : Type 0 where
+-- where what stands at a place of a body stands, where segments have these numbers instead
+pub record IsMovedBy (new_of : ℕ → Option ℕ) (body : List ℕ) (place new : ℕ) : Type 0 where
   pub numbers : List DataIndexImm
   pub theirs : AreTold numbers body
-  pub moved : Moves (new_number input g object) numbers place new
+  pub moved : Moves new_of numbers place new
 
 -- ---- bodies
 
@@ -139,7 +138,7 @@ abbrev pub IsMovedAt : Input → Placing → FixupPlace → Relocated → ℕ �
 IsMovedAt input g Segment r new = new ≡ r.site.position
 IsMovedAt input g Code r new =
     (body : Body) × (body_in input r.object r.site.unit ≡ Some body)
-    × IsMovedBy input g r.object body.bytes r.site.position new
+    × IsMovedBy (new_number input g r.object) body.bytes r.site.position new
 
 abbrev pub IsMovedIn : Input → Placing → Relocated → ℕ → Type 0
 IsMovedIn input g r new = IsMovedAt input g r.place r new

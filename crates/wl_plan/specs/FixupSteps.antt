@@ -25,6 +25,8 @@ use Rattle.wl_plan.specs.Fixups.{address_named, address_taken, address_refusal, 
 use Rattle.wl_plan.specs.IndexedMaps.{AreWholeMaps}
 use Rattle.wl_plan.specs.Table.{space_slots}
 use Rattle.wl_plan.specs.declared.fixups.FixupSources.{FixupSources}
+use Rattle.wl_plan.specs.declared.layout.FixupTo.{FixupTo}
+use Rattle.wl_plan.specs.declared.layout.FixupTo.TheVariants.{Value}
 use Rattle.wl_plan.specs.declared.placing.Placing.{Placing}
 
 -- there is room in the spaces of the output, and for the slots of the functions of the table
@@ -72,17 +74,23 @@ number_by base (Placed place) addend = (pos place -ℤ pos base) +ℤ addend
 number_by base Passive addend = pos 0
 number_by base (TlsOffset place) addend = (pos place -ℤ pos 0) +ℤ addend
 
+-- a field that takes the value, where so much is left to be added
+abbrev pub with_left : ℤ → Result ℕ RelocError → Result FixupTo RelocError
+with_left left (Ok value) = Ok (Value value left)
+with_left left (Err why) = Err why
+
 -- what the field of a kept relocation takes, or why it can't take the address of what it names
-abbrev pub Answers : Input → Placing → Relocated → Option Taking → ℤ → Result ℕ RelocError → Type 0
-Answers input g r taking left (Ok value) = IsTaken input g r taking value left
-Answers input g r taking left (Err why) =
+abbrev pub Answers : Input → Placing → Relocated → Option Taking → Result FixupTo RelocError
+    → Type 0
+Answers input g r taking (Ok to) = IsTaken input g r taking to
+Answers input g r taking (Err why) =
     (base : AddressBase) × (taking ≡ Some (Address base)) × (address_taken input g r base ≡ Err why)
 
 -- the same by what fixups are made from
 abbrev pub AnswersFrom : FixupSources → Relocated → Result ℕ RelocError → Type 0
 AnswersFrom s r answer =
     Answers s.input.now s.placing.now r (taking_of r.relocation.ty)
-    (left_of (address_named s.input.now s.placing.now r) r.relocation) answer
+    (with_left (left_of (address_named s.input.now s.placing.now r) r.relocation) answer)
 
 -- the kept relocation can't take its address
 pub record IsRefusedAt (s : FixupSources) (r : Relocated) (e : LinkError) : Type 0 where

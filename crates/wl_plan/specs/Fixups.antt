@@ -53,7 +53,7 @@ abbrev pub global_named : Input → Relocated → Option GlobalEntry
 global_named input r =
     option_and_then
     (λ (o : Object). option_and_then
-    (λ (s : LinkedSymbol). symbol_global input r.object o s.kind r.relocation.index s.index)
+    (λ (s : LinkedSymbol). symbol_global input r o s.kind s.index)
     (slice_get o.symbols r.relocation.index))
     (slice_get input.link.objects r.object)
 
@@ -84,26 +84,27 @@ addend_left base address addend = pos 0
 -- ---- fields
 
 -- what a field takes, and what is left to be added to it
-abbrev pub IsTaken : Input → Placing → Relocated → Option Taking → ℕ → ℤ → Type 0
-IsTaken input g r None value left =
+abbrev pub IsTaken : Input → Placing → Relocated → Option Taking → FixupTo → Type 0
+IsTaken input g r taking (Deferred offset) = ⊥
+IsTaken input g r None (Value value left) =
     (left ≡ pos 0) × StandsAt (output_types input) (type_named input r) value
-IsTaken input g r (Some FunctionIndex) value left =
+IsTaken input g r (Some FunctionIndex) (Value value left) =
     (left ≡ pos 0)
     × StandsAt (function_space input) (symbol_function input r.object r.relocation.index) value
-IsTaken input g r (Some Slot) value left = (left ≡ pos 0) × (slot_named input r ≡ Some value)
-IsTaken input g r (Some SlotBehindBase) value left =
+IsTaken input g r (Some Slot) (Value value left) =
+    (left ≡ pos 0) × (slot_named input r ≡ Some value)
+IsTaken input g r (Some SlotBehindBase) (Value value left) =
     (left ≡ pos 0) × (option_map (λ (slot : ℕ). slot - 1) (slot_named input r) ≡ Some value)
-IsTaken input g r (Some GlobalIndex) value left =
+IsTaken input g r (Some GlobalIndex) (Value value left) =
     (left ≡ pos 0) × StandsAt (global_space input) (global_named input r) value
-IsTaken input g r (Some TableNumber) value left = (left ≡ pos 0) × (value ≡ 0)
-IsTaken input g r (Some (Address base)) value left =
+IsTaken input g r (Some TableNumber) (Value value left) = (left ≡ pos 0) × (value ≡ 0)
+IsTaken input g r (Some (Address base)) (Value value left) =
     (left ≡ addend_left base (address_named input g r) r.relocation.addend)
     × ((z : ℤ) × (address_taken input g r base ≡ Ok z) × (value ≡ word_of z))
 
 -- what the field of a relocation takes
 abbrev pub IsFieldOf : Input → Placing → Relocated → FixupTo → Type 0
-IsFieldOf input g r (Value value left) = IsTaken input g r (taking_of r.relocation.ty) value left
-IsFieldOf input g r (Deferred offset) = ⊥
+IsFieldOf input g r to = IsTaken input g r (taking_of r.relocation.ty) to
 
 -- the fixup of a kept relocation: the field moves on with what grows before it in its body
 pub record IsFixup (input : Input) (g : Placing) (r : Relocated) (f : Fixup) : Type 0 where

@@ -6,7 +6,7 @@ use Rattle.wl_symbols.specs.Link.{Link}
 use Rattle.wl_live.specs.Roots.{is_candidate}
 use Rattle.wl_exports.specs.Exports.{ExportEntry, defined_entity, export_of}
 use Rattle.wl_exports.specs.ExportSteps.{IsPlainIf, takes}
-use Rattle.wl_exports.proofs.EntryLaws.{candidate_is, three_true}
+use Rattle.wl_exports.proofs.EntryLaws.{candidate_is, both_true}
 use Rattle.wl_exports.proofs.ShownLaws.{shown_candidate}
 use Rattle.wl_exports.proofs.dynamic.candidate_export.Goals as goal
 
@@ -32,6 +32,6 @@ returns-then-is_candidate c =
     let P : List ℕ → Type 0 = λ n. IsPlainIf input (option_map (export_of n) (defined_entity input object number o s))
     c.symbol_export.result in
     subst (λ (e : Option ExportEntry). IsPlainIf input e c.symbol_export.result)
-    (sym (candidate_is input (takes c.args.wanted) object number o s
-    (three_true (takes c.args.wanted s.kind) (has_name s) (is_candidate input.link object number s) wanted has candidate)))
+    (sym (candidate_is input c.args.wanted object number o s wanted
+    (both_true (has_name s) (is_candidate input.link object number s) has candidate)))
     (subst P name (c.symbol_export.ensures o shown))

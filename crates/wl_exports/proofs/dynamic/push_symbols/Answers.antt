@@ -1,8 +1,6 @@
 use Rattle.std.proofs.Common.{◌≡◌, ◌∙◌, ◌<◌, List, length, get_or, ap, subst}
 use Rattle.wl_custom.specs.Symbols.{Symbol as LinkedSymbol}
-use Rattle.wl_exports.specs.Exports.{candidate}
-use Rattle.wl_exports.specs.ExportSteps.{takes}
-use Rattle.wl_exports.proofs.EntryLaws.{candidates_next}
+use Rattle.wl_exports.proofs.EntryLaws.{adds_symbol, wanted_candidate}
 use Rattle.wl_exports.proofs.ListLaws.{at_read}
 use Rattle.wl_exports.proofs.dynamic.push_symbols.Goals as goal
 
@@ -16,8 +14,7 @@ loop-i-preserved c =
     subst (λ (xs : List LinkedSymbol). i < length xs) items c.loop-i-test.true in
     let is : s ≡ get_or c.args.file.now.symbols i s =
     c.symbol-item.is ∙ ap (λ (xs : List LinkedSymbol). get_or xs i s) items in
-    candidates_next input (takes c.args.wanted) c.args.object c.args.file.now c.args.file.now.symbols i s
-    c.args.exports.now.items c.loop-i.exports.items c.push_some.new.exports.items
-    (at_read c.args.file.now.symbols i s lt is) c.loop-i.invariant
-    (c.in_ok-push_some.ensures input (candidate input (takes c.args.wanted) c.args.object i c.args.file.now s)
-    c.candidate_export-export.ensures)
+    let f = wanted_candidate input c.args.wanted c.args.object c.args.file.now in
+    adds_symbol input f c.args.file.now.symbols i s c.args.exports.now.items c.loop-i.exports.items
+    c.push_some.new.exports.items (at_read c.args.file.now.symbols i s lt is) c.loop-i.invariant
+    (c.in_ok-push_some.ensures input (f i s) c.candidate_export-export.ensures)

@@ -34,7 +34,8 @@ loop-export-preserved c =
     ∙ ap (λ (b : Bool). b && can_wrap e.0) c.wraps-wraps.ensures in
     wrapped_more input i c.args.functions e.0 x c.is_wrapped-is_wrapped.result c.loop-export.wrapped
     c.push_wrapped.new.wrapped c.loop-export.wrappers c.push_wrapped.new.wrappers e.1 e.2 test
-    c.requires.functions c.in_ok-push_wrapped.ensures c.loop-export.invariant
+    c.requires.functions c.in_ok-push_wrapped.ensures.export c.in_ok-push_wrapped.ensures.wrapper
+    c.loop-export.invariant
 
 pub returns-clause-exports : goal.returns-clause-exports
 returns-clause-exports c =

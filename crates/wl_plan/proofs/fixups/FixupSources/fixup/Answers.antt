@@ -4,6 +4,7 @@ use Rattle.std.proofs.lemmas.Int.{to_z-of_z}
 use Rattle.wl_reloc.specs.Takings.{taking_of}
 use Rattle.wl_plan.specs.FixupSteps.{left_of}
 use Rattle.wl_plan.specs.Fixups.{address_named, IsTaken}
+use Rattle.wl_plan.specs.declared.layout.FixupTo.TheVariants.{Value}
 use Rattle.wl_plan.proofs.FixupLaws.{clear_of}
 use Rattle.wl_plan.proofs.fixups.FixupSources.fixup.Goals as goal
 
@@ -31,7 +32,7 @@ returns-clause-ok c =
       position = c.requires.moved;
       ty = refl;
       to = subst (λ (left : ℤ). IsTaken s.input.now s.placing.now r (taking_of r.relocation.ty)
-          c.in-Ok.value left) (sym same) c.in-Ok.ensures;
+          (Value c.in-Ok.value left)) (sym same) c.in-Ok.ensures;
     }
 
 pub returns-clause-clear : goal.returns-clause-clear
