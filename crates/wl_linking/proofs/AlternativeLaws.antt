@@ -20,7 +20,7 @@ use Rattle.wl_linking.specs.Placing.{Ascend}
 use Rattle.wl_linking.specs.Spaces.{NamesExist, NamesFault, spaces_of, counts_hold, core_names_exist, linked_names_exist}
 use Rattle.wl_linking.specs.Slots.{claims, SharesSlot, HasOneName, HasTwoNames, AgreeOnNames, SlotFault}
 use Rattle.wl_linking.specs.Sites.{PieceOf, AreInOrder, IsSite, AreSites, LiesBefore, AreApart, HasNoSite, HasOverlap, LieApart, FieldsFault, field_len, body_piece, segment_piece}
-use Rattle.wl_linking.specs.Fitting.{Fields, object_of, HasItems, IsFitting, PartsFault, IsObject, FirstItemsFault, ObjectFault}
+use Rattle.wl_linking.specs.Fitting.{Fields, object_of, HasItems, IsFitting, PartsFault, SettlingFault, IsObject, FirstItemsFault, ObjectFault}
 use Rattle.wl_linking.specs.declared.parts.Parts.{Parts}
 use Rattle.wl_custom.specs.declared.relocations.WasmRelocation.{WasmRelocation}
 use Rattle.wl_linking.specs.declared.sites.Site.{Site}
@@ -173,14 +173,19 @@ abbrev FitsOrNot : List ℕ → List SectionHeader → Parts → Type 0
 FitsOrNot bytes headers parts = ((o : Object) × HasItems bytes headers parts o × IsFitting o) ⊎ ((e : ReadError) × PartsFault bytes headers parts e)
 
 -- fields of code at fault are a fault of the parts
-pub code_fault : (bytes : List ℕ) (headers : List SectionHeader) (parts : Parts) (rs : List WasmRelocation) (e : ReadError) → AreInOrder parts.code_relocations rs → FieldsFault (map body_piece parts.bodies) rs e → PartsFault bytes headers parts e
+code_fault : (bytes : List ℕ) (headers : List SectionHeader) (parts : Parts) (rs : List WasmRelocation) (e : ReadError) → AreInOrder parts.code_relocations rs → FieldsFault (map body_piece parts.bodies) rs e → PartsFault bytes headers parts e
 code_fault bytes headers parts rs e order f =
     (object_of bytes headers parts (fields rs (ordered parts.data_relocations) [] []), record { items = refl; code = order; data_ = order_exists parts.data_relocations }, inr (inr (inl f)))
 
 -- and so are fields of data
-pub data_fault : (bytes : List ℕ) (headers : List SectionHeader) (parts : Parts) (rs : List WasmRelocation) (e : ReadError) → AreInOrder parts.data_relocations rs → FieldsFault (map segment_piece parts.segments) rs e → PartsFault bytes headers parts e
+data_fault : (bytes : List ℕ) (headers : List SectionHeader) (parts : Parts) (rs : List WasmRelocation) (e : ReadError) → AreInOrder parts.data_relocations rs → FieldsFault (map segment_piece parts.segments) rs e → PartsFault bytes headers parts e
 data_fault bytes headers parts rs e order f =
     (object_of bytes headers parts (fields (ordered parts.code_relocations) rs [] []), record { items = refl; code = order_exists parts.code_relocations; data_ = order }, inr (inr (inr f)))
+
+-- and so are fields of parts that can't be settled
+pub unsettled : (bytes : List ℕ) (headers : List SectionHeader) (parts : Parts) (e : ReadError) → SettlingFault parts e → PartsFault bytes headers parts e
+unsettled bytes headers parts e (inl (rs, order, f)) = code_fault bytes headers parts rs e order f
+unsettled bytes headers parts e (inr (rs, order, f)) = data_fault bytes headers parts rs e order f
 
 fits_or_fault : (bytes : List ℕ) (headers : List SectionHeader) (parts : Parts) → Ascend 0 (map body_piece parts.bodies) → Ascend 0 (map segment_piece parts.segments) → FitsOrNot bytes headers parts
 fits_or_fault bytes headers parts code_up data_up = by_fields (fields_or_fault (map body_piece parts.bodies) code code_up) (fields_or_fault (map segment_piece parts.segments) data' data_up)

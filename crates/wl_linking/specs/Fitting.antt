@@ -15,6 +15,7 @@ use Rattle.wl_linking.specs.Spaces.{NamesExist, NamesFault, spaces_of}
 use Rattle.wl_linking.specs.Slots.{with_import_name, AgreeOnNames, SlotFault}
 use Rattle.wl_linking.specs.Sites.{PieceOf, body_piece, segment_piece, AreInOrder, LieApart, FieldsFault}
 use Rattle.wl_linking.specs.declared.parts.Parts.{Parts}
+use Rattle.wl_linking.specs.declared.parts.FieldSites.{FieldSites}
 use Rattle.wl_custom.specs.declared.relocations.WasmRelocation.{WasmRelocation}
 use Rattle.wl_linking.specs.declared.sites.Site.{Site}
 use Rattle.wl_linking.specs.declared.spaces.Counts.{Counts}
@@ -109,6 +110,27 @@ abbrev pub NameStands : List ℕ → Symbol → Type 0
 NameStands bytes s = bytes_between bytes s.name_range ≡ s.name
 
 -- ---- the same in steps
+
+-- parts as their object holds them, and where the fields of their relocations lie, each by itself
+pub record AreSettled (given settled : Parts) (sites : FieldSites) : Type 0 where
+  pub items : settled ≡ record given {
+    symbols = named_symbols given;
+    code_relocations = settled.code_relocations;
+    data_relocations = settled.data_relocations;
+  }
+  pub code_order : AreInOrder given.code_relocations settled.code_relocations
+  pub data_order : AreInOrder given.data_relocations settled.data_relocations
+  pub code : LieApart (map body_piece given.bodies) settled.code_relocations sites.code_sites
+  pub data_ : LieApart (map segment_piece given.segments) settled.data_relocations sites.data_sites
+
+-- in order, the relocations of code or those of data have a field that lies nowhere, or not by
+-- itself
+abbrev pub SettlingFault : Parts → ReadError → Type 0
+SettlingFault parts e =
+    ((rs : List WasmRelocation) × AreInOrder parts.code_relocations rs
+    × FieldsFault (map body_piece parts.bodies) rs e)
+    ⊎ ((rs : List WasmRelocation) × AreInOrder parts.data_relocations rs
+    × FieldsFault (map segment_piece parts.segments) rs e)
 
 -- an object of these parts, each of whose fields lies by itself
 pub record IsPlacedObject (bytes : List ℕ) (headers : List SectionHeader) (parts : Parts)

@@ -18,8 +18,7 @@ ghost use Rattle.wl_module.specs.Outcome.{HasCause};
 use crate::contents::Contents;
 use crate::file::File;
 use crate::parts::{Parts, read_parts};
-use crate::sites::{code_sites, data_sites, in_order};
-use crate::slots::{check_slots, name_symbols};
+use crate::slots::check_slots;
 use crate::spaces::{check_indices, spaces_of};
 use std::alloc::Global;
 use wl_custom::ItemList;
@@ -31,7 +30,7 @@ fn place<'a>(
     alloc: Global,
     bytes: &'a [u8],
     sections: ItemList<SectionHeader>,
-    parts: Parts<'a>,
+    mut parts: Parts<'a>,
 ) -> Result<Contents<'a>, ReadError>
     requires bodies { Ascend 0 (map body_piece parts.bodies) }
     requires spans { AllByRecursion IsSpanned parts.segments }
@@ -41,30 +40,13 @@ fn place<'a>(
     ensures { MatchResult result (IsPlacedObject bytes.now sections parts.entry)
         (HasCause (PartsFault bytes.now sections parts.entry)) }
 {
-    let (function_names, global_names) = (parts.function_names, parts.global_names);
-    let (functions, globals) = (function_names.as_slice(), global_names.as_slice());
-    let symbols = name_symbols(alloc, functions, globals, parts.symbols)?;
-    let code_relocations = in_order(parts.code_relocations)?;
-    let data_relocations = in_order(parts.data_relocations)?;
-    let code_sites = code_sites(alloc, parts.bodies.as_slice(), code_relocations.as_slice())?;
-    let data_sites = data_sites(
-        alloc,
-        parts.segments.as_slice(),
-        data_relocations.as_slice(),
-    )?;
+    let sites = parts.settle(alloc)?;
     Ok(Contents {
         bytes,
         sections,
-        parts: Parts {
-            function_names,
-            global_names,
-            symbols,
-            code_relocations,
-            data_relocations,
-            ..parts
-        },
-        code_sites,
-        data_sites,
+        parts,
+        code_sites: sites.code_sites,
+        data_sites: sites.data_sites,
     })
 }
 

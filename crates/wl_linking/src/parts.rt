@@ -1,15 +1,20 @@
 //! What all sections of an object hold.
 
-ghost use Rattle.std.specs.Prelude.{◌≡◌, OnOk, MatchResult};
+ghost use Rattle.std.specs.Prelude.{◌≡◌, ◌≤◌, length, map, OnOk, MatchResult};
+ghost use Rattle.wl_bytes.specs.declared.reader.TheConstants.{MAX_LEN};
 ghost use Rattle.std.specs.List.{AllByRecursion};
 ghost use Rattle.wl_linking.specs.Parts.{no_parts, join, imports_part, reloc_part, part_of, AreNamedWithin};
 ghost use Rattle.wl_linking.specs.declared.section.SectionItems.TheVariants.{Imports, Data, Linking as LinkingSection};
+ghost use Rattle.wl_linking.specs.Fitting.{AreSettled, SettlingFault};
+ghost use Rattle.wl_linking.specs.Placing.{IsSpanned, Ascend};
 ghost use Rattle.wl_linking.specs.Sections.{AreSound, AreFaulty, EndsWithin};
+ghost use Rattle.wl_linking.specs.Sites.{body_piece, segment_piece};
 ghost use Rattle.wl_module.specs.Outcome.{HasCause};
 
 use crate::plain::{plain_imports, plain_segments, segment_memories_of};
 use crate::section::{SectionItems, read_section_items};
-use crate::slots::{SlotName, slots_of};
+use crate::sites::{Site, code_sites, data_sites, put_in_order};
+use crate::slots::{SlotName, name_symbols, slots_of};
 use std::alloc::{AllocError, Global};
 use wl_custom::{
     DebugSectionInput, ItemList, Linking, RelocHeld, Target, WasmInitFunc, WasmRelocSection,
@@ -49,6 +54,13 @@ pub(crate) struct Parts<'a> {
     pub has_linking: bool,
     pub has_code_relocations: bool,
     pub has_data_relocations: bool,
+}
+
+/// Where the fields of relocations lie, in order.
+#[derive(Drop)]
+pub(crate) struct FieldSites {
+    pub code_sites: ItemList<Site>,
+    pub data_sites: ItemList<Site>,
 }
 
 impl<'a> Parts<'a> {
@@ -164,6 +176,29 @@ impl<'a> Parts<'a> {
             SectionItems::Debug(section) => self.debug_sections.push(section),
             SectionItems::Nothing => Ok(()),
         }
+    }
+
+    /// Gives symbols the names that they take from imports, puts relocations in order of their
+    /// fields, and answers where these lie, each by itself in a body or a segment.
+    pub fn settle(&mut self, alloc: Global) -> Result<FieldSites, ReadError>
+        requires bodies { Ascend 0 (map body_piece self.old.bodies) }
+        requires spans { AllByRecursion IsSpanned self.old.segments }
+        requires segments { Ascend 0 (map segment_piece self.old.segments) }
+        requires few_bodies { length self.old.bodies ≤ MAX_LEN }
+        requires few_segments { length self.old.segments ≤ MAX_LEN }
+        ensures { MatchResult result (AreSettled self.old self.new)
+            (HasCause (SettlingFault self.old)) }
+    {
+        let (functions, globals) = (&self.function_names, &self.global_names);
+        let symbols = &mut self.symbols;
+        name_symbols(alloc, functions.as_slice(), globals.as_slice(), symbols)?;
+        put_in_order(alloc, &mut self.code_relocations)?;
+        put_in_order(alloc, &mut self.data_relocations)?;
+        let (code, data) = (&self.code_relocations, &self.data_relocations);
+        Ok(FieldSites {
+            code_sites: code_sites(alloc, self.bodies.as_slice(), code.as_slice())?,
+            data_sites: data_sites(alloc, self.segments.as_slice(), data.as_slice())?,
+        })
     }
 }
 

@@ -1,6 +1,6 @@
 //! Where the fields of relocations lie (object file linking, version 2, "Relocation Sections").
 
-ghost use Rattle.std.specs.Prelude.{◌≡◌, ◌≤◌, length, nat_le, take, drop, map, IfOk, MatchResult, MatchBool};
+ghost use Rattle.std.specs.Prelude.{◌≡◌, ◌≤◌, length, nat_le, take, drop, map, OnOk, IfOk, MatchResult, MatchBool};
 ghost use Rattle.wl_bytes.specs.declared.reader.TheConstants.{MAX_LEN};
 ghost use Rattle.std.specs.List.{AllByRecursion};
 ghost use Rattle.std.specs.List.Sorted.{IsNonDecreasingBy};
@@ -10,6 +10,7 @@ ghost use Rattle.wl_module.specs.Outcome.{HasCause};
 
 use std::alloc::{AllocError, Global};
 use std::marker::Model;
+use std::mem;
 use wl_custom::{FieldForm, ItemList, WasmRelocation};
 use wl_module::{ReadError, WasmDataSegment, WasmFunctionBody, Why};
 
@@ -89,15 +90,17 @@ fn segment_pieces<'a>(
     Ok(pieces)
 }
 
-/// The relocations in order of their fields, those of one place in file order.
-pub(crate) fn in_order(
-    entries: ItemList<WasmRelocation>,
-) -> Result<ItemList<WasmRelocation>, AllocError>
-    ensures { IfOk result (λ relocations. AreInOrder entries relocations) }
+/// Puts relocations in order of their fields, and those of one place in file order.
+pub(crate) fn put_in_order(
+    alloc: Global,
+    relocations: &mut ItemList<WasmRelocation>,
+) -> Result<(), AllocError>
+    ensures { OnOk result (AreInOrder relocations.old relocations.new) }
 {
-    let mut list = entries.into_vec();
+    let mut list = mem::replace(relocations, ItemList::empty(alloc)).into_vec();
     list.sort_by_key(|relocation| relocation.offset)?;
-    Ok(ItemList::new(list))
+    *relocations = ItemList::new(list);
+    Ok(())
 }
 
 /// How many bytes a field of that form has.

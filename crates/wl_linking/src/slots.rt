@@ -11,6 +11,7 @@ ghost use Rattle.wl_module.specs.Outcome.{HasCause};
 use crate::spaces::{Counts, is_of_kind};
 use std::alloc::{AllocError, Global};
 use std::marker::Model;
+use std::mem;
 use wl_custom::{ItemList, WasmSymbol, WasmSymbolKind, range_of};
 use wl_module::{ExternalKind, PlacedImport, ReadError, Why};
 
@@ -111,21 +112,20 @@ fn with_import_name<'a>(
     }
 }
 
-/// The symbols, where those without a name have that of their import.
+/// Gives each symbol without a name that of its import.
 pub(crate) fn name_symbols<'a>(
     alloc: Global,
     functions: &[SlotName<'a>],
     globals: &[SlotName<'a>],
-    symbols: ItemList<WasmSymbol<'a>>,
-) -> Result<ItemList<WasmSymbol<'a>>, AllocError>
+    symbols: &mut ItemList<WasmSymbol<'a>>,
+) -> Result<(), AllocError>
     ensures { let named = with_import_name functions.now globals.now in
-        IfOk result (λ list. list ≡ map named symbols.entry) }
+        OnOk result (symbols.new ≡ map named symbols.old) }
 {
-    let mut list = Vec::new(alloc);
-    for symbol in symbols.into_vec() {
-        list.push(with_import_name(functions, globals, symbol))?;
+    for symbol in mem::replace(symbols, ItemList::empty(alloc)).into_vec() {
+        symbols.push(with_import_name(functions, globals, symbol))?;
     }
-    Ok(ItemList::new(list))
+    Ok(())
 }
 
 /// Whether a symbol stands for an import of that kind, with a name to compare.
