@@ -9,6 +9,7 @@ use Rattle.wl_module.specs.Sections.{Section, headers_of, IsModule, FrameFault}
 use Rattle.wl_module.proofs.SectionLaws.{module_alternatives}
 use Rattle.wl_module.specs.Outcome.{HasCause}
 use Rattle.wl_custom.specs.Symbols.{Symbol}
+use Rattle.wl_custom.proofs.Exact.{answer_follows}
 use Rattle.wl_linking.specs.Sections.{AreSound}
 use Rattle.wl_linking.specs.Object.{Object}
 use Rattle.wl_linking.specs.Parts.{no_parts}
@@ -16,7 +17,7 @@ use Rattle.wl_linking.specs.Placing.{Ascend}
 use Rattle.wl_linking.specs.Spaces.{NamesExist, NamesFault, spaces_of, counts_hold, core_names_exist, linked_names_exist}
 use Rattle.wl_linking.specs.Slots.{AgreeOnNames, SlotFault, HasOneName, HasTwoNames}
 use Rattle.wl_linking.specs.Sites.{LieApart}
-use Rattle.wl_linking.specs.Fitting.{HasItems, IsFitting, CrossFault, PartsFault, IsPlacedObject, IsNamed, NamingFault, IsObject, IsUnfitting, FirstItemsFault, ObjectFault, ParsesObject, code_pieces, data_pieces}
+use Rattle.wl_linking.specs.Fitting.{HasItems, IsFitting, CrossFault, PartsFault, IsPlacedObject, HoldsObject, IsNamed, NamingFault, IsObject, IsUnfitting, FirstItemsFault, ObjectFault, ParsesObject, code_pieces, data_pieces}
 use Rattle.wl_linking.specs.declared.parts.Parts.{Parts}
 use Rattle.wl_linking.specs.declared.sites.Site.{Site}
 use Rattle.wl_linking.specs.declared.spaces.Counts.{Counts}
@@ -173,22 +174,32 @@ parses bytes (Err (Unsupported w)) h = record {
 
 -- ---- the steps of the call
 
--- an object whose fields are placed fits together where what it names is there
-pub object_from : (bytes : List ℕ) (sections : List Section) (parts : Parts) (o : Object) → IsModule sections bytes → AreSound sections no_parts sections parts → IsPlacedObject bytes (headers_of sections) parts o → IsNamed o → IsObject o bytes
-object_from bytes sections parts o framed sound h named = record {
-  sections = sections;
-  framed = framed;
-  parts = parts;
-  sound = sound;
-  items = h.items;
-  fitting = record { names = named.names; slots = named.slots; code = h.code; data_ = h.data_ };
-}
-
 -- parts that don't fit together are a fault of the object
-pub unfitting : (bytes : List ℕ) (sections : List Section) (parts : Parts) (e : ReadError) → IsModule sections bytes → AreSound sections no_parts sections parts → PartsFault bytes (headers_of sections) parts e → ObjectFault e bytes
+unfitting : (bytes : List ℕ) (sections : List Section) (parts : Parts) (e : ReadError) → IsModule sections bytes → AreSound sections no_parts sections parts → PartsFault bytes (headers_of sections) parts e → ObjectFault e bytes
 unfitting bytes sections parts e framed sound h = inr (sections, framed, inr (record { parts = parts; sound = sound; fault = h }))
 
--- and so is what isn't there
-pub unnamed : (bytes : List ℕ) (headers : List SectionHeader) (parts : Parts) (o : Object) (e : ReadError) → HasItems bytes headers parts o → NamingFault o e → PartsFault bytes headers parts e
-unnamed bytes headers parts o e h (inl f) = (o, h, inl f)
-unnamed bytes headers parts o e h (inr f) = (o, h, inr (inl f))
+-- what is answered of the parts of sound sections is answered of the bytes
+pub holds : (bytes : List ℕ) (sections : List Section) (parts : Parts) (r : Result Object ReadError) → IsModule sections bytes → AreSound sections no_parts sections parts
+    → MatchResult r (IsPlacedObject bytes (headers_of sections) parts) (HasCause (PartsFault bytes (headers_of sections) parts))
+    → MatchResult r (HoldsObject bytes) (HasCause (λ e. ObjectFault e bytes))
+holds bytes sections parts r framed sound h =
+    answer_follows (IsPlacedObject bytes (headers_of sections) parts) (HoldsObject bytes)
+    (PartsFault bytes (headers_of sections) parts) (λ e. ObjectFault e bytes)
+    (λ o placed. record { sections = sections; framed = framed; parts = parts; sound = sound; placed = placed })
+    (λ e f. unfitting bytes sections parts e framed sound f) r h
+
+-- an object whose fields are placed fits together where what it names is there
+pub object_from : (bytes : List ℕ) (o : Object) → HoldsObject bytes o → IsNamed o → IsObject o bytes
+object_from bytes o h named = record {
+  sections = h.sections;
+  framed = h.framed;
+  parts = h.parts;
+  sound = h.sound;
+  items = h.placed.items;
+  fitting = record { names = named.names; slots = named.slots; code = h.placed.code; data_ = h.placed.data_ };
+}
+
+-- and else what isn't there is a fault of the object
+pub unnamed : (bytes : List ℕ) (o : Object) (e : ReadError) → HoldsObject bytes o → NamingFault o e → ObjectFault e bytes
+unnamed bytes o e h (inl f) = unfitting bytes h.sections h.parts e h.framed h.sound (o, h.placed.items, inl f)
+unnamed bytes o e h (inr f) = unfitting bytes h.sections h.parts e h.framed h.sound (o, h.placed.items, inr (inl f))

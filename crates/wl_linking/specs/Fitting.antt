@@ -148,6 +148,14 @@ pub record IsNamed (o : Object) : Type 0 where
 abbrev pub NamingFault : Object → ReadError → Type 0
 NamingFault o e = NamesFault o e ⊎ SlotFault (spaces_of o) o.symbols e
 
+-- the bytes are sound sections whose parts make this object, each of whose fields lies by itself
+pub record HoldsObject (bytes : List ℕ) (o : Object) : Type 0 where
+  pub sections : List Section
+  pub framed : IsModule sections bytes
+  pub parts : Parts
+  pub sound : AreSound sections no_parts sections parts
+  pub placed : IsPlacedObject bytes (headers_of sections) parts o
+
 -- ---- the object of some bytes
 
 -- bytes that are an object: sound sections with these parts, which fit together

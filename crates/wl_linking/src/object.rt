@@ -7,7 +7,7 @@ ghost use Rattle.wl_module.specs.Sections.{Section, IsModule, FrameFault};
 ghost use Rattle.wl_module.specs.declared.error.ReadError.{ReadError as Fault};
 ghost use Rattle.wl_linking.specs.Object.{Object};
 ghost use Rattle.wl_linking.specs.Sites.{body_piece, segment_piece};
-ghost use Rattle.wl_linking.specs.Fitting.{NameStands, IsPlacedObject, IsNamed, NamingFault, PartsFault, FirstItemsFault, HasFewItems, IsFitting, IsObject, IsWhole, ObjectFault, ParsesObject};
+ghost use Rattle.wl_linking.specs.Fitting.{NameStands, IsPlacedObject, HoldsObject, IsNamed, NamingFault, PartsFault, FirstItemsFault, HasFewItems, IsFitting, IsObject, IsWhole, ObjectFault, ParsesObject};
 ghost use Rattle.wl_linking.specs.Spaces.{count_imports};
 ghost use Rattle.wl_module.specs.declared.imports.ExternalKind.{ExternalKind as Kind};
 ghost use Rattle.wl_linking.specs.declared.sites.Site.{Site as PlacedSite};
@@ -63,18 +63,16 @@ fn check_names(alloc: Global, contents: &Contents<'_>) -> Result<(), ReadError>
     )
 }
 
-/// The object that the bytes are.
+/// What the bytes hold as an object, where it isn't known yet whether what it names exists.
 fn read_contents(alloc: Global, bytes: &[u8]) -> Result<Contents<'_>, ReadError>
     requires { length bytes.now ≤ MAX_LEN }
-    ensures { MatchResult result (λ o. IsObject o bytes.now)
+    ensures { MatchResult result (HoldsObject bytes.now)
         (HasCause (λ e. ObjectFault e bytes.now)) }
 {
     let sections = read_sections(alloc, bytes)?;
     let headers = section_headers(alloc, &sections)?;
     let parts = read_parts(alloc, &sections)?;
-    let contents = place(alloc, bytes, ItemList::new(headers), parts)?;
-    check_names(alloc, &contents)?;
-    Ok(contents)
+    place(alloc, bytes, ItemList::new(headers), parts)
 }
 
 /// Reads a relocatable object (core specification, "Modules"; object file linking, version 2), of
@@ -89,6 +87,7 @@ pub fn parse_wasm_module(alloc: Global, bytes: &[u8]) -> Result<File<'_>, ReadEr
     ensures { ParsesObject bytes.now result }
 {
     let contents = read_contents(alloc, bytes)?;
+    check_names(alloc, &contents)?;
     let spaces = spaces_of(&contents);
     Ok(File { contents, spaces })
 }
