@@ -37,6 +37,6 @@ returns-in_err-check_names c =
 pub invariant_of-result : goal.invariant_of-result
 invariant_of-result c = record {
   whole = whole_from c.args.bytes.now c.in_ok-contents.contents
-  (object_from c.args.bytes.now c.in_ok-contents.contents c.in_ok-contents.ensures c.in_ok-check_names.ensures) c.requires;
+      (object_from c.args.bytes.now c.in_ok-contents.contents c.in_ok-contents.ensures c.in_ok-check_names.ensures) c.requires;
   counted = c.spaces_of-spaces.ensures;
 }
