@@ -1,5 +1,5 @@
 -- Lists of bodies that grow, and the function space behind the imports.
-use Rattle.std.proofs.Common.{◌≡◌, ◌∙◌, ◌<◌, ℕ, zero, suc, ◌+◌, Bool, true, false, List, [], ◌∷◌, ◌++◌, length, map, take, refl, sym, ap, subst, arith, Some, slice_get, append_assoc, append-nil}
+use Rattle.std.proofs.Common.{◌≡◌, ◌∙◌, ◌<◌, ℕ, zero, suc, ◌+◌, Bool, true, List, [], ◌∷◌, ◌++◌, length, map, take, refl, sym, ap, subst, arith, Some, slice_get, append_assoc, append-nil}
 use Rattle.wl_linking.specs.Object.{Object}
 use Rattle.wl_live.specs.Live.{Live, is_live}
 use Rattle.wl_live.specs.declared.units.LinkUnit.{LinkUnit}

@@ -12,7 +12,7 @@ use Rattle.wl_exports.specs.Faults.{IsExportFault}
 use Rattle.wl_exports.specs.Wrapped.{AreTooManyWrappers}
 use Rattle.wl_exports.specs.Wrappers.{wrapped}
 use Rattle.wl_plan.specs.Addresses.{HasHighExport, HasHighSymbol, IsAddressTooHigh}
-use Rattle.wl_plan.specs.Faults.{IsPlacedFault, kept_fault, placed_fault, value_steps}
+use Rattle.wl_plan.specs.Faults.{IsPlacedFault, kept_fault, laid_fault, placed_fault, value_steps}
 use Rattle.wl_plan.specs.Outline.{AreChecked, HasWrapperRoom}
 use Rattle.wl_plan.specs.Placing.{IsPlacing, place_fault}
 use Rattle.wl_plan.specs.declared.layout.LinkPlan.{LinkPlan}
@@ -22,12 +22,7 @@ use Rattle.wl_plan.proofs.StepLaws.{clear_end, clear_step, refuses_behind, refus
 
 -- what is judged behind the numbering of things
 abbrev behind_index : Input → LinkError → Type 0
-behind_index input =
-    Step (AreTooManyWrappers input) (place_row input (Step (IsPlacedFault input) NoStep))
-
--- what is judged behind the wrappers
-abbrev behind_wrappers : Input → LinkError → Type 0
-behind_wrappers input = place_row input (Step (IsPlacedFault input) NoStep)
+behind_index input = Step (AreTooManyWrappers input) (laid_fault input)
 
 pub index_refuses : (input : Input) (e : LinkError) → Refuses (index_fault input) e
     → Refuses (kept_fault input) e
@@ -38,7 +33,7 @@ pub wrapper_refuses : (input : Input) (e : LinkError) → Clear (index_fault inp
     → Refuses (AreTooManyWrappers input) e → Refuses (kept_fault input) e
 wrapper_refuses input e clear h =
     row_behind (index_row input) (index_is_row input) (behind_index input) e clear
-    (refuses_here (AreTooManyWrappers input) (behind_wrappers input) e h)
+    (refuses_here (AreTooManyWrappers input) (laid_fault input) e h)
 
 -- the wrappers have room where they aren't too many
 pub wrapper_room : (input : Input) → Clear (AreTooManyWrappers input) → HasWrapperRoom input
@@ -52,35 +47,42 @@ pub record AreNumbered (input : Input) : Type 0 where
   pub few : Clear (AreTooManyWrappers input)
 
 behind_refuses : (input : Input) (e : LinkError) → AreNumbered input
-    → Refuses (behind_wrappers input) e → Refuses (kept_fault input) e
+    → Refuses (laid_fault input) e → Refuses (kept_fault input) e
 behind_refuses input e clear h =
     row_behind (index_row input) (index_is_row input) (behind_index input) e clear.indexed
-    (refuses_behind (AreTooManyWrappers input) (behind_wrappers input) e clear.few h)
+    (refuses_behind (AreTooManyWrappers input) (laid_fault input) e clear.few h)
 
-pub place_refuses : (input : Input) (e : LinkError) → AreNumbered input
-    → Refuses (place_fault input) e → Refuses (kept_fault input) e
-place_refuses input e clear h =
-    behind_refuses input e clear
-    (row_refuses (place_row input) (place_is_row input) (Step (IsPlacedFault input) NoStep) e h)
+-- all that is answered from there on is answered of what is kept
+pub kept_err : (input : Input) (r : Result LinkPlan LinkError) → AreNumbered input
+    → IfErr r (Refuses (laid_fault input)) → IfErr r (Refuses (kept_fault input))
+kept_err input (Ok plan) indexed h = tt
+kept_err input (Err e) indexed h = behind_refuses input e indexed h
 
-pub kept_err : (input : Input) (g : Placing) (r : Result LinkPlan LinkError) → IsPlacing input g
-    → AreNumbered input → Clear (place_fault input)
-    → IfErr r (Refuses (placed_fault input g)) → IfErr r (Refuses (kept_fault input))
-kept_err input g (Ok plan) placed indexed clear h = tt
-kept_err input g (Err e) placed indexed clear h =
-    behind_refuses input e indexed
-    (row_behind (place_row input) (place_is_row input) (Step (IsPlacedFault input) NoStep) e clear
-    (refuses_here (IsPlacedFault input) NoStep e (placed_refuses input g e placed h)))
-
-pub kept_clear : OnePlacing → (input : Input) (g : Placing) (r : Result LinkPlan LinkError)
-    → IsPlacing input g → AreNumbered input → Clear (place_fault input)
-    → OnOk r (Clear (placed_fault input g)) → OnOk r (Clear (kept_fault input))
-kept_clear one input g (Err e) placed indexed clear h = tt
-kept_clear one input g (Ok plan) placed indexed clear h =
+pub kept_clear : (input : Input) (r : Result LinkPlan LinkError) → AreNumbered input
+    → OnOk r (Clear (laid_fault input)) → OnOk r (Clear (kept_fault input))
+kept_clear input (Err e) indexed h = tt
+kept_clear input (Ok plan) indexed h =
     row_clear (index_row input) (index_is_row input) (behind_index input) indexed.indexed
-    (clear_step (AreTooManyWrappers input) (behind_wrappers input) indexed.few
-    (row_clear (place_row input) (place_is_row input) (Step (IsPlacedFault input) NoStep) clear
-    (clear_step (IsPlacedFault input) NoStep (placed_clear one input g placed h) clear_end)))
+    (clear_step (AreTooManyWrappers input) (laid_fault input) indexed.few h)
+
+-- ---- from the placing of data on
+
+pub place_refuses : (input : Input) (e : LinkError) → Refuses (place_fault input) e
+    → Refuses (laid_fault input) e
+place_refuses input e h =
+    row_refuses (place_row input) (place_is_row input) (Step (IsPlacedFault input) NoStep) e h
+
+pub laid_refuses : (input : Input) (g : Placing) (e : LinkError) → IsPlacing input g
+    → Clear (place_fault input) → Refuses (placed_fault input g) e → Refuses (laid_fault input) e
+laid_refuses input g e placed clear h =
+    row_behind (place_row input) (place_is_row input) (Step (IsPlacedFault input) NoStep) e clear
+    (refuses_here (IsPlacedFault input) NoStep e (placed_refuses input g e placed h))
+
+pub laid_clear : OnePlacing → (input : Input) (g : Placing) → IsPlacing input g
+    → Clear (place_fault input) → Clear (placed_fault input g) → Clear (laid_fault input)
+laid_clear one input g placed clear h =
+    row_clear (place_row input) (place_is_row input) (Step (IsPlacedFault input) NoStep) clear
+    (clear_step (IsPlacedFault input) NoStep (placed_clear one input g placed h) clear_end)
 
 -- ---- addresses
 

@@ -61,6 +61,10 @@ pub record IsPlacedFault (input : Input) (e : LinkError) : Type 0 where
   pub placed : IsPlacing input placing
   pub fault : placed_fault input placing e
 
+-- the reasons that are judged from the placing of data on
+abbrev pub laid_fault : Input → LinkError → Type 0
+laid_fault input = place_steps input (Step (IsPlacedFault input) NoStep)
+
 -- ---- where it is known what is kept
 
 -- the reasons, in the order in which they are judged
@@ -69,9 +73,7 @@ kept_fault input =
     bind_steps input
     (Step (IsSpaceTooLarge input)
     (Step (AreTooManyWrappers input)
-    (place_steps input
-    (Step (IsPlacedFault input)
-    NoStep))))
+    (laid_fault input)))
 
 -- the link, and what is kept of it
 abbrev pub input_of : Link → Live → Input

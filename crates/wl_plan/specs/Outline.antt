@@ -1,5 +1,6 @@
 -- What of the output is known before it is known where its data lies.
-use Rattle.std.specs.Prelude.{◌≤◌, ◌+◌, length, Result, OnOk, IfErr}
+use Rattle.std.specs.Prelude.{◌≤◌, ◌+◌, List, length, Result, OnOk, IfErr}
+use Rattle.wl_module.specs.Types.{FunctionType}
 use Rattle.wl_linking.specs.Steps.{Clear, Refuses}
 use Rattle.wl_linking.specs.declared.error.LinkError.{LinkError}
 use Rattle.wl_types.specs.Types.{max_entries}
@@ -31,6 +32,10 @@ pub record HasOutline (input : Input) (o : Outline) : Type 0 where
   pub functions : AreOutputFunctions input (output_types input) o.functions
   pub interface : IsInterface input o.interface
   pub features : AreTaken input.link o.features
+
+-- the same outline with these types of the output
+abbrev pub with_types : Outline → List FunctionType → Outline
+with_types o types = record o { bindings = record o.bindings { types = types } }
 
 -- it tells whether there can be the exports
 pub record AreChecked (input : Input) (r : Result (Unit {0}) LinkError) : Type 0 where

@@ -22,6 +22,7 @@ use Rattle.wl_plan.specs.SizeSteps.{HasSizes}
 use Rattle.wl_plan.specs.Table.{AreElements, function_slots, output_table}
 use Rattle.wl_plan.specs.declared.addresses.AddressBook.{AddressBook}
 use Rattle.wl_plan.specs.declared.placing.Placing.{Placing}
+use Rattle.wl_plan.specs.declared.plan.LaidParts.{LaidParts}
 use Rattle.wl_plan.specs.declared.plan.OutputLists.{OutputLists}
 use Rattle.wl_plan.specs.declared.plan.OutputModule.{OutputModule}
 use Rattle.wl_plan.specs.declared.plan.OutputNames.{OutputNames}
@@ -81,3 +82,10 @@ pub record IsOutputModule (input : Input) (g : Placing) (m : OutputModule) : Typ
       (has_init_memory input ≡ false)
       (λ index. slice_get (function_space input) index ≡ Some InitMemory)
   pub shared_tls : m.shared_memory_tls ≡ has_shared_tls input
+
+-- where things lie, and what is made from that
+pub record AreLaid (input : Input) (l : LaidParts) : Type 0 where
+  pub placed : IsPlacing input l.placing
+  pub maps : AreWholeMaps input l.placing l.maps
+  pub parts : HasPartsOf input l.placing l.parts
+  pub whole : IsOutputModule input l.placing l.whole

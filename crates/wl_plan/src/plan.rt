@@ -12,12 +12,12 @@ ghost use Rattle.wl_plan.specs.Addresses.{segment_space, IsAddressTooHigh};
 ghost use Rattle.wl_plan.specs.Bodies.{AreBodies};
 ghost use Rattle.wl_plan.specs.BodySteps.{AreAllNumbers, AreSoundBodies};
 ghost use Rattle.wl_plan.specs.Bound.{AreBindings};
-ghost use Rattle.wl_plan.specs.Faults.{IsValueFault, value_steps, placed_fault, kept_fault};
+ghost use Rattle.wl_plan.specs.Faults.{IsValueFault, value_steps, placed_fault, laid_fault, kept_fault};
 ghost use Rattle.wl_plan.specs.IndexedMaps.{AreWholeMaps};
-ghost use Rattle.wl_plan.specs.Outline.{AreChecked, AreFew, HasOutline, HasWrapperRoom};
+ghost use Rattle.wl_plan.specs.Outline.{AreChecked, AreFew, HasOutline, HasWrapperRoom, with_types};
 ghost use Rattle.wl_plan.specs.Placing.{IsPlacing};
 ghost use Rattle.wl_plan.specs.Plan.{IsPlan};
-ghost use Rattle.wl_plan.specs.PlanSteps.{ArePlacedThings, IsBookOf, HasValues, HasNames, HasPartsOf, AreLists, IsOutputModule};
+ghost use Rattle.wl_plan.specs.PlanSteps.{ArePlacedThings, IsBookOf, HasValues, HasNames, HasPartsOf, AreLists, IsOutputModule, AreLaid};
 ghost use Rattle.wl_plan.specs.declared.placing.Placing.{Placing as Places};
 
 use crate::addresses::{AddressBook, all_starts, check_exported};
@@ -36,7 +36,8 @@ use crate::positions::moved_positions;
 use crate::sizes::{SectionSizes, section_sizes};
 use crate::table::{element_functions, output_table, space_slots};
 use crate::wrappers::{push_wrapper_bodies, push_wrapper_slots};
-use std::alloc::{AllocError, Global};
+use std::alloc::Global;
+use std::mem;
 use wl_bind::{
     LinkInput, WasmObjectIndexMap, build_index_maps, entries_stand_once, same_targets_are_one,
     table_functions_stand_once,
@@ -337,32 +338,26 @@ fn output_module(
     }
 }
 
-/// The lists of an outline, and these maps.
-fn lists_of<'a>(
+/// The lists of an outline, which are taken out of it, with these types and maps.
+fn take_lists<'a>(
     alloc: Global,
     args: &'a WasmArgs,
-    outline: Outline<'a>,
+    outline: &mut Outline<'a>,
+    types: ItemList<FuncType>,
     maps: ItemList<WasmObjectIndexMap>,
-) -> Result<OutputLists<'a>, AllocError>
+) -> OutputLists<'a>
     ensures { (input : Input) (placing : Places) → args.now ≡ input.link.args
-        → HasOutline input outline.entry → AreWholeMaps input placing maps
-        → IfOk result (AreLists input placing) }
+        → HasOutline input (with_types outline.old types)
+        → AreWholeMaps input placing maps → AreLists input placing result }
 {
-    let Outline {
-        bindings,
-        functions,
-        interface,
-        features,
-    } = outline;
-    let types = bindings.types.into_types()?;
-    let features = output_features(alloc, args, features);
-    Ok(OutputLists {
+    let features = mem::replace(&mut outline.features, FeatureList::empty(alloc));
+    OutputLists {
         types,
-        functions,
-        exports: interface.exports,
-        features,
+        functions: mem::replace(&mut outline.functions, ItemList::empty(alloc)),
+        exports: mem::replace(&mut outline.interface.exports, ItemList::empty(alloc)),
+        features: output_features(alloc, args, features),
         maps,
-    })
+    }
 }
 
 /// All parts that are made from where things lie, and the maps of the objects with their data, of a
@@ -411,34 +406,77 @@ fn placed_parts<'a>(
     Ok((maps, parts))
 }
 
-/// The plan of a link with that outline, whose data lies there.
-fn plan_placed<'a>(
+/// Where things lie, and what is made from that, with the types of the output.
+#[derive(Drop)]
+struct LaidParts<'a> {
+    placing: Placing<'a>,
+    maps: ItemList<WasmObjectIndexMap>,
+    parts: OutputParts<'a>,
+    whole: OutputModule,
+    types: ItemList<FuncType>,
+}
+
+/// Places data, and makes what needs to know where things lie. At the end the types are taken out
+/// of the outline.
+fn laid_parts<'a>(
     alloc: Global,
     input: &LinkInput<'_, 'a>,
     args: &'a WasmArgs,
-    outline: Outline<'a>,
+    outline: &mut Outline<'a>,
     maps: ItemList<WasmObjectIndexMap>,
     checked: Result<(), LinkError>,
-    placing: Placing<'a>,
-) -> Result<LinkPlan<'a>, LinkError>
+) -> Result<LaidParts<'a>, LinkError>
     requires sound { AreSoundBodies input.now }
-    requires outline { HasOutline input.now outline }
+    requires outline { HasOutline input.now outline.old }
     requires maps { AreIndexMaps input.now maps }
     requires checked { AreChecked input.now checked }
-    requires placed { IsPlacing input.now placing }
     requires few { AreFew input.now }
     requires wrapper_room { HasWrapperRoom input.now }
-    requires segments { length (segment_space placing) ≤ max_entries }
+    requires args { args.now ≡ input.now.link.args }
+    requires alone { input.now.link.args.shared_memory ≡ false }
+    ensures laid { IfOk result (AreLaid input.now) }
+    ensures outline { IfOk result (λ l. HasOutline input.now (with_types outline.new l.types)) }
+    ensures clear { OnOk result (Clear (laid_fault input.now)) }
+    ensures err { IfErr result (Refuses (laid_fault input.now)) }
+{
+    placings_are_one();
+    let placing = place_data(alloc, input, outline.bindings.indices.needs())?;
+    let (maps, parts) = placed_parts(alloc, input, args, outline, &placing, maps, checked)?;
+    let whole = output_module(input, &placing, &outline.bindings);
+    let types = outline.bindings.take_types(alloc)?;
+    Ok(LaidParts {
+        placing,
+        maps,
+        parts,
+        whole,
+        types,
+    })
+}
+
+/// The plan of a link with that outline, whose lists are taken out of it.
+fn plan_outlined<'a>(
+    alloc: Global,
+    input: &LinkInput<'_, 'a>,
+    args: &'a WasmArgs,
+    outline: &mut Outline<'a>,
+    maps: ItemList<WasmObjectIndexMap>,
+    checked: Result<(), LinkError>,
+) -> Result<LinkPlan<'a>, LinkError>
+    requires sound { AreSoundBodies input.now }
+    requires outline { HasOutline input.now outline.old }
+    requires maps { AreIndexMaps input.now maps }
+    requires checked { AreChecked input.now checked }
+    requires few { AreFew input.now }
+    requires wrapper_room { HasWrapperRoom input.now }
     requires args { args.now ≡ input.now.link.args }
     requires alone { input.now.link.args.shared_memory ≡ false }
     ensures ok { IfOk result (IsPlan input.now) }
-    ensures clear { OnOk result (Clear (placed_fault input.now placing.entry)) }
-    ensures err { IfErr result (Refuses (placed_fault input.now placing.entry)) }
+    ensures clear { OnOk result (Clear (laid_fault input.now)) }
+    ensures err { IfErr result (Refuses (laid_fault input.now)) }
 {
-    let (maps, parts) = placed_parts(alloc, input, args, &outline, &placing, maps, checked)?;
-    let whole = output_module(input, &placing, &outline.bindings);
-    let lists = lists_of(alloc, args, outline, maps)?;
-    Ok(plan_of(input, lists, parts, whole, placing))
+    let laid = laid_parts(alloc, input, args, outline, maps, checked)?;
+    let lists = take_lists(alloc, args, outline, laid.types, laid.maps);
+    Ok(plan_of(input, lists, laid.parts, laid.whole, laid.placing))
 }
 
 /// The plan of a link, of which it is known what is kept.
@@ -463,9 +501,7 @@ pub(crate) fn plan_kept<'a>(
     ensures clear { OnOk result (Clear (kept_fault input.now)) }
     ensures err { IfErr result (Refuses (kept_fault input.now)) }
 {
-    placings_are_one();
     let bound = build_index_maps(alloc, input)?;
-    let (outline, maps, checked) = outline_of(alloc, input, args, bound, features)?;
-    let placing = place_data(alloc, input, outline.bindings.indices.needs())?;
-    plan_placed(alloc, input, args, outline, maps, checked, placing)
+    let (mut outline, maps, checked) = outline_of(alloc, input, args, bound, features)?;
+    plan_outlined(alloc, input, args, &mut outline, maps, checked)
 }
