@@ -17,28 +17,26 @@ ghost use Rattle.wildplan.specs.Refusals.{
 
 use std::alloc::{AllocError, Global};
 use wl_linking::{LinkError, SharedMemoryNeed, UndefinedSymbol};
-use wl_text::{
-    bound_name, form_name, push_decimal, push_need, push_numbers, push_quoted, push_signed,
-    quantity_name, why_name,
-};
+use wl_text::{Page, bound_name, form_name, push_need, quantity_name, why_name};
 
 /// The line of a refusal by its name, as far as that.
-fn begin_line(alloc: Global, name: &str) -> Result<Vec<u8>, AllocError>
-    ensures { IfOk result (λ text. text.items ≡ codes "error: " ++ name.now) }
+fn begin_line(alloc: Global, name: &str) -> Result<Page, AllocError>
+    ensures { IfOk result (λ page. page ≡ codes "error: " ++ name.now) }
 {
-    let mut text = Vec::from_slice(alloc, b"error: ")?;
-    text.extend_from_slice(name.as_bytes())?;
-    Ok(text)
+    let mut page = Page::new(alloc);
+    page.push_word(b"error: ")?;
+    page.push_word(name.as_bytes())?;
+    Ok(page)
 }
 
 /// The line of a refusal that tells numbers.
 fn numbers_line(alloc: Global, refusal: &str, numbers: &[u64]) -> Result<Vec<u8>, AllocError>
     ensures { IfOk result (λ text. IsLine refusal.now (numbers_text numbers.now) text.items) }
 {
-    let mut text = begin_line(alloc, refusal)?;
-    push_numbers(&mut text, numbers)?;
-    text.push(b'\n')?;
-    Ok(text)
+    let mut page = begin_line(alloc, refusal)?;
+    page.push_numbers(numbers)?;
+    page.push_word(b"\n")?;
+    page.into_text()
 }
 
 /// The line of a refusal that tells a name and numbers.
@@ -51,12 +49,12 @@ fn named_line(
     ensures { IfOk result (λ text.
         IsLine refusal.now (name_text name.now numbers.now) text.items) }
 {
-    let mut text = begin_line(alloc, refusal)?;
-    text.push(b' ')?;
-    push_quoted(&mut text, name)?;
-    push_numbers(&mut text, numbers)?;
-    text.push(b'\n')?;
-    Ok(text)
+    let mut page = begin_line(alloc, refusal)?;
+    page.push_word(b" ")?;
+    page.push_quoted(name)?;
+    page.push_numbers(numbers)?;
+    page.push_word(b"\n")?;
+    page.into_text()
 }
 
 /// The line of two things under one name, each an object's number and its own there.
@@ -102,12 +100,12 @@ fn word_line(
     ensures { IfOk result (λ text.
         IsLine refusal.now (word_text word.now numbers.now) text.items) }
 {
-    let mut text = begin_line(alloc, refusal)?;
-    text.push(b' ')?;
-    text.extend_from_slice(word.as_bytes())?;
-    push_numbers(&mut text, numbers)?;
-    text.push(b'\n')?;
-    Ok(text)
+    let mut page = begin_line(alloc, refusal)?;
+    page.push_word(b" ")?;
+    page.push_word(word.as_bytes())?;
+    page.push_numbers(numbers)?;
+    page.push_word(b"\n")?;
+    page.into_text()
 }
 
 /// The line of a feature that an object disallows.
@@ -115,12 +113,12 @@ fn conflict_line(alloc: Global, object: usize, feature: &str) -> Result<Vec<u8>,
     ensures { IfOk result (λ text.
         IsLine (codes "FeatureConflict") (object_text object (quoted feature.now)) text.items) }
 {
-    let mut text = begin_line(alloc, "FeatureConflict")?;
-    push_decimal(&mut text, b" ", object as u64)?;
-    text.push(b' ')?;
-    push_quoted(&mut text, feature)?;
-    text.push(b'\n')?;
-    Ok(text)
+    let mut page = begin_line(alloc, "FeatureConflict")?;
+    page.push_decimal(b" ", object as u64)?;
+    page.push_word(b" ")?;
+    page.push_quoted(feature)?;
+    page.push_word(b"\n")?;
+    page.into_text()
 }
 
 /// The line of what shared memory lacks.
@@ -128,20 +126,20 @@ fn need_line(alloc: Global, need: SharedMemoryNeed) -> Result<Vec<u8>, AllocErro
     ensures { IfOk result (λ text.
         IsLine (codes "SharedMemoryFeature") (codes " " ++ need_text need) text.items) }
 {
-    let mut text = begin_line(alloc, "SharedMemoryFeature")?;
-    text.push(b' ')?;
-    push_need(&mut text, need)?;
-    text.push(b'\n')?;
-    Ok(text)
+    let mut page = begin_line(alloc, "SharedMemoryFeature")?;
+    page.push_word(b" ")?;
+    push_need(&mut page, need)?;
+    page.push_word(b"\n")?;
+    page.into_text()
 }
 
 /// An object's number and the name that it refers to.
-fn push_undefined(text: &mut Vec<u8>, symbol: &UndefinedSymbol) -> Result<(), AllocError>
-    ensures { OnOk result (text.new.items ≡ text.old.items ++ undefined_text symbol.now) }
+fn push_undefined(page: &mut Page, symbol: &UndefinedSymbol) -> Result<(), AllocError>
+    ensures { OnOk result (page.new ≡ page.old ++ undefined_text symbol.now) }
 {
-    push_decimal(text, b" ", symbol.object as u64)?;
-    text.push(b' ')?;
-    push_quoted(text, symbol.name.as_str())
+    page.push_decimal(b" ", symbol.object as u64)?;
+    page.push_word(b" ")?;
+    page.push_quoted(symbol.name.as_str())
 }
 
 /// The line of names that nothing defines.
@@ -149,12 +147,12 @@ fn undefined_line(alloc: Global, symbols: &[UndefinedSymbol]) -> Result<Vec<u8>,
     ensures { IfOk result (λ text.
         IsLine (codes "UndefinedSymbols") (flat_map undefined_text symbols.now) text.items) }
 {
-    let mut text = begin_line(alloc, "UndefinedSymbols")?;
+    let mut page = begin_line(alloc, "UndefinedSymbols")?;
     for symbol in symbols {
-        push_undefined(&mut text, symbol)?;
+        push_undefined(&mut page, symbol)?;
     }
-    text.push(b'\n')?;
-    Ok(text)
+    page.push_word(b"\n")?;
+    page.into_text()
 }
 
 /// The line of a value that doesn't fit its field.
@@ -162,11 +160,11 @@ fn range_line(alloc: Global, object: usize, offset: u32, value: i64) -> Result<V
     ensures { IfOk result (λ text.
         IsLine (codes "RelocationRange") (range_text object offset value) text.items) }
 {
-    let mut text = begin_line(alloc, "RelocationRange")?;
-    push_numbers(&mut text, &[object as u64, u64::from(offset)])?;
-    push_signed(&mut text, b" ", value)?;
-    text.push(b'\n')?;
-    Ok(text)
+    let mut page = begin_line(alloc, "RelocationRange")?;
+    page.push_numbers(&[object as u64, u64::from(offset)])?;
+    page.push_signed(b" ", value)?;
+    page.push_word(b"\n")?;
+    page.into_text()
 }
 
 /// The line of a refusal. When memory ran out there is none.

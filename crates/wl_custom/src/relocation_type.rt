@@ -145,32 +145,50 @@ impl RelocationType {
     pub fn field_form(self) -> FieldForm
         ensures { result ≡ field_form self }
     {
-        let row = &ROWS[self as usize];
-        row.form
+        match self {
+            Self::FunctionIndexLeb
+            | Self::MemoryAddrLeb
+            | Self::TypeIndexLeb
+            | Self::GlobalIndexLeb
+            | Self::TableNumberLeb => FieldForm::PaddedUnsigned,
+            Self::TableIndexSleb
+            | Self::MemoryAddrSleb
+            | Self::MemoryAddrRelSleb
+            | Self::TableIndexRelSleb
+            | Self::MemoryAddrTlsSleb => FieldForm::PaddedSigned,
+            Self::TableIndexI32
+            | Self::MemoryAddrI32
+            | Self::GlobalIndexI32
+            | Self::FunctionIndexI32 => FieldForm::Word,
+        }
     }
 
     /// Whether an entry of that type has an addend: those of addresses do.
     pub fn has_addend(self) -> bool
         ensures { result ≡ has_addend self }
     {
-        let row = &ROWS[self as usize];
-        row.has_addend
+        matches!(
+            self,
+            Self::MemoryAddrLeb
+                | Self::MemoryAddrSleb
+                | Self::MemoryAddrI32
+                | Self::MemoryAddrRelSleb
+                | Self::MemoryAddrTlsSleb
+        )
     }
 
     /// Whether its index is that of a type: all others are those of symbols.
     pub fn names_a_type(self) -> bool
         ensures { result ≡ names_a_type self }
     {
-        let row = &ROWS[self as usize];
-        row.index == Indexed::Type
+        matches!(self, Self::TypeIndexLeb)
     }
 
     /// Whether it may stand in the data section too.
     pub(crate) fn may_stand_in_data(self) -> bool
         ensures { result ≡ may_stand_in_data self }
     {
-        let row = &ROWS[self as usize];
-        row.allowed == Allowed::Anywhere
+        !matches!(self, Self::TableIndexRelSleb)
     }
 
     /// The type of that number, where there is a rule for it.
@@ -198,6 +216,20 @@ fn numbered_in(rows: &[RelocationRow], number: u8) -> Option<RelocationType>
 pub fn relocation_type_to_string(ty: RelocationType) -> &'static str
     ensures { result.now ≡ type_name ty }
 {
-    let row = &ROWS[ty as usize];
-    row.name
+    match ty {
+        RelocationType::FunctionIndexLeb => "R_WASM_FUNCTION_INDEX_LEB",
+        RelocationType::TableIndexSleb => "R_WASM_TABLE_INDEX_SLEB",
+        RelocationType::TableIndexI32 => "R_WASM_TABLE_INDEX_I32",
+        RelocationType::MemoryAddrLeb => "R_WASM_MEMORY_ADDR_LEB",
+        RelocationType::MemoryAddrSleb => "R_WASM_MEMORY_ADDR_SLEB",
+        RelocationType::MemoryAddrI32 => "R_WASM_MEMORY_ADDR_I32",
+        RelocationType::TypeIndexLeb => "R_WASM_TYPE_INDEX_LEB",
+        RelocationType::GlobalIndexLeb => "R_WASM_GLOBAL_INDEX_LEB",
+        RelocationType::MemoryAddrRelSleb => "R_WASM_MEMORY_ADDR_REL_SLEB",
+        RelocationType::TableIndexRelSleb => "R_WASM_TABLE_INDEX_REL_SLEB",
+        RelocationType::GlobalIndexI32 => "R_WASM_GLOBAL_INDEX_I32",
+        RelocationType::TableNumberLeb => "R_WASM_TABLE_NUMBER_LEB",
+        RelocationType::MemoryAddrTlsSleb => "R_WASM_MEMORY_ADDR_TLS_SLEB",
+        RelocationType::FunctionIndexI32 => "R_WASM_FUNCTION_INDEX_I32",
+    }
 }

@@ -9,7 +9,6 @@ use wl_module::SectionHeader;
 /// What an object holds, whether or not it fits together: its bytes, what its sections hold, with
 /// the names that symbols take and the relocations in order, and where their fields lie. Clauses
 /// see it as an `Object`.
-#[derive(Drop)]
 pub(crate) struct Contents<'a> {
     pub bytes: &'a [u8],
     pub sections: ItemList<SectionHeader>,
@@ -47,4 +46,16 @@ impl<'a> Model for Contents<'a> {
       data_relocations = c.parts.data_relocations;
       data_sites = c.data_sites;
     } };
+}
+
+impl<'a> Drop for Contents<'a> {
+    fn drop(self) {
+        let Self {
+            bytes: _,
+            sections: _,
+            parts: _,
+            code_sites: _,
+            data_sites: _,
+        } = self;
+    }
 }

@@ -26,7 +26,6 @@ use wl_module::{
 };
 
 /// What the sections of an object hold, in file order.
-#[derive(Drop)]
 pub(crate) struct Parts<'a> {
     pub types: ItemList<FuncType>,
     pub imports: ItemList<Import<'a>>,
@@ -54,6 +53,36 @@ pub(crate) struct Parts<'a> {
     pub has_linking: bool,
     pub has_code_relocations: bool,
     pub has_data_relocations: bool,
+}
+
+impl<'a> Drop for Parts<'a> {
+    fn drop(self) {
+        let Self {
+            types: _,
+            imports: _,
+            function_names: _,
+            global_names: _,
+            functions: _,
+            memories: _,
+            globals: _,
+            exports: _,
+            data_counts: _,
+            bodies: _,
+            segments: _,
+            segment_memories: _,
+            segment_infos: _,
+            init_funcs: _,
+            symbols: _,
+            reloc_sections: _,
+            code_relocations: _,
+            data_relocations: _,
+            features: _,
+            debug_sections: _,
+            has_linking: _,
+            has_code_relocations: _,
+            has_data_relocations: _,
+        } = self;
+    }
 }
 
 /// Where the fields of relocations lie, in order.

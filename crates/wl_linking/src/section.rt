@@ -60,7 +60,9 @@ fn read_first_linking<'a>(
     read_linking(alloc, section.header.payload_range.0, section.payload)
 }
 
-/// What a relocation section holds, after the sections with these items.
+/// What a relocation section holds, after the sections with these items. Apart from other sections,
+/// so that its reader stays in registers.
+#[inline(never)]
 fn read_reloc_section(
     alloc: Global,
     sections: &[FramedSection<'_>],

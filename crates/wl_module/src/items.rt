@@ -35,8 +35,11 @@ pub trait Item<'a>: Drop {
         ensures next { IfOk result (λ x. under.new ≡ after under.old x) };
 }
 
-/// So many items. The list grows as they are read: a count that the bytes don't bear out reserves
-/// nothing.
+/// For how many items room is made at once. Most lists are shorter, and take their room once; a
+/// count that the bytes don't bear out reserves no more.
+const FIRST_ROOM: usize = 32;
+
+/// So many items. The list grows as they are read.
 fn read_items<'a, T: Item<'a>>(
     alloc: Global,
     under: T::Under,
@@ -46,7 +49,7 @@ fn read_items<'a, T: Item<'a>>(
     ensures { Yields (λ v. v.items) result reader.new
         (times_after_at T.item_at T.after count under reader.old) }
 {
-    let mut items = Vec::new(alloc);
+    let mut items = Vec::with_capacity(alloc, FIRST_ROOM.min(count as usize))?;
     let mut under = under;
     for _ in 0..count {
         items.push(T::read(alloc, &mut under, reader)?)?;
@@ -80,6 +83,9 @@ pub fn expect_end(reader: &Reader<'_>) -> Result<(), ReadError>
 }
 
 /// Reads a payload that is one list. Bytes behind it are `Malformed(Trailing)`.
+///
+/// Each sort of item has a loop of its own with a reader of its own, which stay in registers.
+#[inline(never)]
 pub fn read_payload<'a, T: Item<'a>>(
     alloc: Global,
     under: T::Under,

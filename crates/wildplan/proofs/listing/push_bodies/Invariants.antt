@@ -4,4 +4,4 @@ use Rattle.wildplan.specs.Listing.{body_line}
 use Rattle.wildplan.proofs.listing.push_bodies.Given as goal
 
 abbrev pub invariant-loop-i : goal.invariant-loop-i
-invariant-loop-i l = l.text.items ++ numbered body_line (l.first + l.i) (drop l.i l.bodies) ≡ l.initial.text.items ++ numbered body_line l.first l.bodies
+invariant-loop-i l = l.page ++ numbered body_line (l.first + l.i) (drop l.i l.bodies) ≡ l.initial.page ++ numbered body_line l.first l.bodies

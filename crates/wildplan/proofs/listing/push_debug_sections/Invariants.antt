@@ -4,4 +4,4 @@ use Rattle.wildplan.specs.Listing.{debug_line}
 use Rattle.wildplan.proofs.listing.push_debug_sections.Given as goal
 
 abbrev pub invariant-loop-section : goal.invariant-loop-section
-invariant-loop-section l = l.text.items ++ flat_map debug_line (drop l.section-index l.sections) ≡ l.initial.text.items ++ flat_map debug_line l.sections
+invariant-loop-section l = l.page ++ flat_map debug_line (drop l.section-index l.sections) ≡ l.initial.page ++ flat_map debug_line l.sections

@@ -5,5 +5,5 @@ use Rattle.wildplan.proofs.listing.push_features.Given as goal
 
 abbrev pub invariant-loop-name : goal.invariant-loop-name
 invariant-loop-name l =
-    l.text.items ++ flat_map feature_line (map (λ n. n.now) (drop l.name-index l.names))
-    ≡ l.initial.text.items ++ flat_map feature_line (map (λ n. n.now) l.names)
+    l.page ++ flat_map feature_line (map (λ n. n.now) (drop l.name-index l.names))
+    ≡ l.initial.page ++ flat_map feature_line (map (λ n. n.now) l.names)

@@ -4,4 +4,4 @@ use Rattle.wildplan.specs.Listing.{fixup_line}
 use Rattle.wildplan.proofs.listing.push_fixups.Given as goal
 
 abbrev pub invariant-loop-fixup : goal.invariant-loop-fixup
-invariant-loop-fixup l = l.text.items ++ flat_map fixup_line (drop l.fixup-index l.fixups) ≡ l.initial.text.items ++ flat_map fixup_line l.fixups
+invariant-loop-fixup l = l.page ++ flat_map fixup_line (drop l.fixup-index l.fixups) ≡ l.initial.page ++ flat_map fixup_line l.fixups

@@ -4,4 +4,4 @@ use Rattle.wildplan.specs.Refusals.{undefined_text}
 use Rattle.wildplan.proofs.refusal.undefined_line.Given as goal
 
 abbrev pub invariant-loop-symbol : goal.invariant-loop-symbol
-invariant-loop-symbol l = l.text.items ++ flat_map undefined_text (drop l.symbol-index l.symbols) ≡ codes "error: UndefinedSymbols" ++ flat_map undefined_text l.symbols
+invariant-loop-symbol l = l.page ++ flat_map undefined_text (drop l.symbol-index l.symbols) ≡ codes "error: UndefinedSymbols" ++ flat_map undefined_text l.symbols

@@ -5,7 +5,7 @@ use Rattle.wl_module.proofs.items.read_items.Goals as goal
 
 pub returns-in_err-read : goal.returns-in_err-read
 returns-in_err-read t c =
-    let p = err_from_is_err_and c.from_residual.result c.from_residual.ensures.1 in
+    let p = err_from_is_err_and c.from_residual-in_err-read.result c.from_residual-in_err-read.ensures.1 in
     rw (p.1, p.2) (ends_after t.T.Item.item_at t.T.Item.after c.loop.under c.in_err-read.field-0.0 c.loop.items.items c.args.count c.loop.counter c.loop.reader (times_after_at t.T.Item.item_at t.T.Item.after c.args.count c.args.under c.args.reader.now) c.loop-test.true c.in_err-read.ensures.value c.loop.invariant)
 
 pub loop-preserved : goal.loop-preserved
