@@ -277,12 +277,12 @@ def table_of(document, title):
     return rows
 
 
-def note(title, sound):
-    """Counts a comparison of the documents with the program."""
+def note(title, sound, of="the documents"):
+    """Counts a comparison of the documents, or of other texts, with the program."""
     global passed, failed
     passed, failed = (passed + 1, failed) if sound else (passed, failed + 1)
     if not sound:
-        print(f"the documents: {title}")
+        print(f"{of}: {title}")
 
 
 def documented_names():
@@ -476,6 +476,39 @@ def objects_as_written():
     sys.stdout.write(made.stderr.decode())
 
 
+def misplaced(edit, crate):
+    """What of an edit can't be applied to the crate: each text that it replaces has to stand in its file once,
+    when those before it are replaced."""
+    texts, path, old, changes = {}, None, None, 0
+    for line in edit.read_text().splitlines():
+        kind, _, rest = line.partition(" ")
+        if kind == "file:":
+            path = rest.strip()
+            if not (crate / path).is_file():
+                return f"there is no file {path}"
+            texts.setdefault(path, (crate / path).read_text())
+        elif kind == "old:":
+            old = rest
+        elif kind == "new:":
+            if path is None or not old:
+                return "a new text stands for no old one"
+            times = texts[path].count(old)
+            if times != 1:
+                return f"{path} has {times} times: {old.strip()}"
+            texts[path] = texts[path].replace(old, rest)
+            changes, old = changes + (old != rest), None
+    return "" if changes else "it changes nothing"
+
+
+def wrong_bodies():
+    """Each wrong body that the proofs have to refuse can be made: those of must-fail/ and of tests/wrong."""
+    for folder in sorted([*ROOT.glob("crates/*/must-fail"), *ROOT.glob("tests/wrong/*")]):
+        name = folder.parent.name if folder.name == "must-fail" else folder.name
+        for edit in sorted(folder.glob("*.edit")):
+            fault = misplaced(edit, ROOT / "crates" / name)
+            note(f"{name}, {edit.stem}: {fault}", not fault, "wrong bodies")
+
+
 def launched(folder):
     """The launcher runs the proved program, and where there is none the sources, and says so."""
     ended = subprocess.run([ROOT / "wildplan"], stdin=subprocess.DEVNULL, capture_output=True, timeout=600)
@@ -494,6 +527,7 @@ def main():
     if not PROGRAM.exists():
         sys.exit("the program isn't built yet, .ci/run does: 0 passed, 1 failed")
     objects_as_written()
+    wrong_bodies()
     documented_names()
     documented_options()
     documented_words()

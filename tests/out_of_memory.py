@@ -1,0 +1,104 @@
+#!/usr/bin/env python3
+"""Refuses each allocation of the program in turn. Each time it has to end with status 5 and write nothing, and
+where the number passes that of the last allocation, with its usual answer.
+
+    tests/out_of_memory.py [--program PATH]
+
+It is no part of the gate: it takes a C compiler, and runs the program some thousand times. The program is the
+proved one unless another is named. It has to call the C library's malloc from its own code."""
+
+import argparse
+import os
+import pathlib
+import subprocess
+import sys
+import tempfile
+
+ROOT = pathlib.Path(__file__).resolve().parent.parent
+PROGRAM = ROOT / "crates" / "wildplan" / "out" / "wildplan"
+EXAMPLES = ROOT / "examples"
+OBJECTS = ROOT / "tests" / "objects"
+REFUSER = ROOT / "tests" / "refuse_allocations.c"
+WHOLE = ["--no-gc-sections", "--no-entry"]
+NO_MEMORY = (5, b"", b"")
+
+
+def cases(folder):
+    """What is tried: a title, the words, and the status and the listing, or the line, that are the usual answer."""
+    sound = EXAMPLES / "two_functions.o"
+    for made in sorted(EXAMPLES.glob("*.o")):
+        yield made.name, [*WHOLE, made], 0, made.with_suffix(".plan").read_bytes()
+    counter = [EXAMPLES / "counter" / name for name in ("counter.o", "setup.o")]
+    exports = [word for name in ("count", "last", "chosen") for word in ("--export", name)]
+    yield "the counter", ["--no-entry", *exports, *counter], 0, (EXAMPLES / "counter" / "counter.plan").read_bytes()
+    together = sorted(OBJECTS.glob("planned_*.o"))
+    yield "several, whole", [*WHOLE, *together], 0, (OBJECTS / "planned_whole.plan").read_bytes()
+    yield "several, what is kept", together, 0, (OBJECTS / "planned_kept.plan").read_bytes()
+    for made in sorted(set(OBJECTS.glob("*.o")) - set(together)):
+        yield made.name, [*WHOLE, "--allow-undefined", made], 0, made.with_suffix(".plan").read_bytes()
+    cut, odd = folder / "cut.o", folder / "odd.o"
+    content = sound.read_bytes()
+    cut.write_bytes(content[:-1])
+    yield "a cut object", [*WHOLE, cut], 1, b"error: Malformed 0 Truncated\n"
+    # The object ends with its one relocation: type, offset and index.
+    odd.write_bytes(content[:-3] + b"\xff" + content[-2:])
+    yield "a relocation of no type", [*WHOLE, odd], 1, b"error: Malformed 0 RelocType\n"
+    yield "a name twice", [*WHOLE, sound, sound], 1, b'error: DuplicateSymbol "a" 0 0 1 0\n'
+    yield "a value is missing", [*WHOLE, sound, "--entry"], 2, b"error: BadWords MissingValue 3\n"
+
+
+def usual(status, text):
+    """How a run ends that writes this text: a listing goes to one stream, a line to the other."""
+    return (status, text, b"") if status == 0 else (status, b"", text)
+
+
+def ended(program, refuser, words, number):
+    """How the program ends where the allocation of that number is refused, and how many it asked for."""
+    reader, writer = os.pipe()
+    given = {**os.environ, "LD_PRELOAD": str(refuser), "REFUSED": str(number), "COUNTED": str(writer)}
+    streams = {"stdin": subprocess.DEVNULL, "capture_output": True, "pass_fds": [writer]}
+    run = subprocess.run([program, *words], env=given, timeout=120, **streams)
+    os.close(writer)
+    with os.fdopen(reader, "rb") as told:
+        count = int(told.read() or 0)
+    return (run.returncode, run.stdout, run.stderr), count
+
+
+def refuse_each(program, refuser, words, answer):
+    """How many allocations a run has, and what is wrong with it, a line each."""
+    whole, count = ended(program, refuser, words, 0)
+    if whole != answer:
+        return count, [f"wanted {answer}, got {whole}"]
+    if count == 0:
+        return 0, ["it asks for no memory by malloc"]
+    wrong = []
+    for number in range(1, count + 1):
+        got, _ = ended(program, refuser, words, number)
+        if got != NO_MEMORY:
+            wrong.append(f"number {number} refused: {got}")
+    if ended(program, refuser, words, count + 1)[0] != whole:
+        wrong.append("none refused, and another answer")
+    return count, wrong
+
+
+def main():
+    parser = argparse.ArgumentParser(description="Refuses each allocation of the program in turn.")
+    parser.add_argument("--program", type=pathlib.Path, default=PROGRAM)
+    program = parser.parse_args().program
+    if not program.exists():
+        sys.exit(f"there is no program {program}: 0 passed, 1 failed")
+    passed = failed = 0
+    with tempfile.TemporaryDirectory() as name:
+        folder = pathlib.Path(name)
+        refuser = folder / "refuse.so"
+        subprocess.run(["cc", "-O2", "-shared", "-fPIC", "-o", refuser, REFUSER, "-ldl"], check=True)
+        for title, words, status, text in cases(folder):
+            count, wrong = refuse_each(program, refuser, words, usual(status, text))
+            print(f"{title}: {count} allocations, {len(wrong)} wrong", *wrong, sep="\n    ")
+            passed, failed = passed + (not wrong), failed + bool(wrong)
+    print(f"{passed} passed, {failed} failed")
+    return 1 if failed else 0
+
+
+if __name__ == "__main__":
+    sys.exit(main())

@@ -1,0 +1,71 @@
+// Loaded into a program in front of the C library, it refuses one of the program's allocations: that of the
+// number REFUSED, counted from 1. Where that is 0, or beyond the last one, it refuses none. At the end it
+// writes how many there were to the descriptor COUNTED. Only calls from the program's own code count: those
+// of the C library go through.
+#define _GNU_SOURCE
+#include <dlfcn.h>
+#include <link.h>
+#include <stdint.h>
+#include <stdio.h>
+#include <stdlib.h>
+
+static void *(*real_malloc)(size_t);
+static void *(*real_realloc)(void *, size_t);
+static void *(*real_calloc)(size_t, size_t);
+
+// The addresses of the program's own code and data, from the first to the one behind the last.
+static uintptr_t first, behind;
+static long seen, refused;
+
+// Of what is loaded the program is told first, and nothing else is asked for.
+static int note_program(struct dl_phdr_info *info, size_t size, void *unused) {
+    (void)size;
+    (void)unused;
+    for (int i = 0; i < info->dlpi_phnum; i++) {
+        const ElfW(Phdr) *part = &info->dlpi_phdr[i];
+        if (part->p_type != PT_LOAD) continue;
+        uintptr_t from = info->dlpi_addr + part->p_vaddr;
+        if (!behind || from < first) first = from;
+        if (from + part->p_memsz > behind) behind = from + part->p_memsz;
+    }
+    return 1;
+}
+
+static void find_real(void) {
+    real_malloc = dlsym(RTLD_NEXT, "malloc");
+    real_realloc = dlsym(RTLD_NEXT, "realloc");
+    real_calloc = dlsym(RTLD_NEXT, "calloc");
+}
+
+__attribute__((constructor)) static void begin(void) {
+    find_real();
+    const char *number = getenv("REFUSED");
+    refused = number ? atol(number) : 0;
+    dl_iterate_phdr(note_program, 0);
+}
+
+__attribute__((destructor)) static void end(void) {
+    const char *to = getenv("COUNTED");
+    if (to) dprintf(atoi(to), "%ld\n", seen);
+}
+
+static int is_refused(void *caller) {
+    uintptr_t at = (uintptr_t)caller;
+    return first <= at && at < behind && ++seen == refused;
+}
+
+void *malloc(size_t size) {
+    if (!real_malloc) find_real();
+    return is_refused(__builtin_return_address(0)) ? 0 : real_malloc(size);
+}
+
+void *realloc(void *old, size_t size) {
+    if (!real_realloc) find_real();
+    return is_refused(__builtin_return_address(0)) ? 0 : real_realloc(old, size);
+}
+
+void *calloc(size_t count, size_t size) {
+    // dlsym itself may ask, and does without.
+    if (!real_calloc) return 0;
+    return is_refused(__builtin_return_address(0)) ? 0 : real_calloc(count, size);
+}
