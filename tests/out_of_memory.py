@@ -75,7 +75,8 @@ def refuse_each(program, refuser, words, answer):
     for number in range(1, count + 1):
         got, _ = ended(program, refuser, words, number)
         if got != NO_MEMORY:
-            wrong.append(f"number {number} refused: {got}")
+            status, out, err = got
+            wrong.append(f"number {number} refused: status {status}, {len(out)} and {len(err)} bytes written")
     if ended(program, refuser, words, count + 1)[0] != whole:
         wrong.append("none refused, and another answer")
     return count, wrong
