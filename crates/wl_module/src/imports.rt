@@ -237,10 +237,11 @@ fn without_places<'a>(
 ) -> Result<Vec<Import<'a>>, AllocError>
     ensures { IfOk result (λ v. v.items ≡ plain_imports placed.entry.items) }
 {
-    placed
-        .into_iter()
-        .map(|placed| placed.import)
-        .collect(alloc)
+    let mut imports = Vec::with_capacity(alloc, placed.len())?;
+    for placed in placed {
+        imports.push(placed.import)?;
+    }
+    Ok(imports)
 }
 
 /// Reads the payload of an import section (core specification, "Import Section"): the imports in

@@ -170,10 +170,11 @@ fn without_memories<'a>(
 ) -> Result<Vec<WasmDataSegment<'a>>, AllocError>
     ensures { IfOk result (λ v. v.items ≡ plain_segments targeted.entry.items) }
 {
-    targeted
-        .into_iter()
-        .map(|targeted| targeted.segment)
-        .collect(alloc)
+    let mut segments = Vec::with_capacity(alloc, targeted.len())?;
+    for targeted in targeted {
+        segments.push(targeted.segment)?;
+    }
+    Ok(segments)
 }
 
 /// Reads the payload of a data section (core specification, "Data Section"): the segments in
