@@ -1,7 +1,7 @@
 -- Objects that disallow features, and names that they disallow.
-use Rattle.std.proofs.Common.{◌≡◌, ℕ, ◌+◌, ◌<◌, true, false, List, length, Less, Some, slice_get, sym, ◌∙◌, inl, inr, arith}
-use Rattle.std.specs.Cmp.Lexicographic.{nat_list_cmp_total}
-use Rattle.std.proofs.lemmas.Bool.{cases_lt}
+use Rattle.std.proofs.Common.{◌≡◌, ℕ, ◌+◌, ◌<◌, true, false, Bool, List, length, Less, Option, Some, None, ◌||◌, MatchOption, is_some, cond, bytes_eq, refl, slice_get, sym, ◌∙◌, inl, inr, arith}
+use Rattle.std.specs.Cmp.Lexicographic.{nat_list_cmp_total, same_text}
+use Rattle.std.proofs.lemmas.Bool.{cases_Bool, cases_lt}
 use Rattle.std.proofs.lemmas.Option.{slice_get_within}
 use Rattle.std.proofs.lemmas.List.{length-map}
 use Rattle.wl_linking.specs.Object.{Object}
@@ -10,7 +10,7 @@ use Rattle.wl_linking.specs.declared.error.LinkError.{LinkError}
 use Rattle.wl_symbols.specs.Link.{Link}
 use Rattle.wl_features.specs.Taken.{AreTaken, by_bytes}
 use Rattle.wl_features.specs.Faults.{disallows, DisallowedBy, Clashes, IsConflict}
-use Rattle.wl_features.specs.Disallowing.{NoneBelow, NoneDisallows, AreFree, IsFirstClash}
+use Rattle.wl_features.specs.Disallowing.{NoneBelow, NoneDisallows, IsFirstBy, with_object, AreFree, IsFirstClash}
 use Rattle.wl_features.proofs.AscendingLaws.{contains_at, place_of, not_less}
 use Rattle.wl_features.proofs.TakenLaws.{Name, bytes_of, has_taken, is_taken}
 
@@ -25,7 +25,7 @@ not_here objects name k o at off (other, there, on) =
     let told : disallows name o ≡ true = rw same at on in
     cc
 
-pub none_below_more : (objects : List Object) (name : List ℕ) (k : ℕ) (o : Object)
+none_below_more : (objects : List Object) (name : List ℕ) (k : ℕ) (o : Object)
     → NoneBelow objects name k
     → slice_get objects k ≡ Some o → disallows name o ≡ false → NoneBelow objects name (k + 1)
 none_below_more objects name k o before at off = record {
@@ -35,6 +35,59 @@ none_below_more objects name k o before at off = record {
         not_here objects name k o at off (rw same at by))
   ];
 }
+
+-- ---- the first object
+
+pub first_more : (objects : List Object) (name : List ℕ) (k : ℕ) (o : Object)
+    → slice_get objects k ≡ Some o → (first : Option ℕ)
+    → MatchOption first (NoneBelow objects name k) (IsFirstBy objects name)
+    → MatchOption (with_object first (disallows name o) k) (NoneBelow objects name (k + 1))
+    (IsFirstBy objects name)
+first_more objects name k o at (Some object) before = before
+first_more objects name k o at None before = elim (cases_Bool (disallows name o)) [
+  | inl on ↦ rw on (record { by = (o, at, on); before = before })
+  | inr off ↦ rw off (none_below_more objects name k o before at off)
+]
+
+-- one object that may disallow it by either of two features
+pub with_both : (first : Option ℕ) (a b : Bool) (object : ℕ)
+    → with_object (with_object first a object) b object ≡ with_object first (a || b) object
+with_both (Some x) a b object = refl
+with_both None true b object = refl
+with_both None false b object = refl
+
+with_none : (first : Option ℕ) (object : ℕ) → first ≡ with_object first false object
+with_none (Some x) object = refl
+with_none None object = refl
+
+kept_some : (first : Option ℕ) (object : ℕ) → is_some first ≡ true
+    → first ≡ with_object first true object
+kept_some (Some x) object there = refl
+kept_some None object there = absurd cc
+
+is_none_from : (first : Option ℕ) → is_some first ≡ false → first ≡ None
+is_none_from None absent = refl
+is_none_from (Some x) absent = absurd cc
+
+-- what a map finds after a name was added
+pub name_kept : (found : List ℕ → Option ℕ) (name q : List ℕ) (object : ℕ)
+    → is_some (found name) ≡ true
+    → found q ≡ with_object (found q) (bytes_eq name q) object
+name_kept found name q object there = elim (cases_Bool (bytes_eq name q)) [
+  | inl same ↦ rw (same, ← same_text name q (sym same)) (kept_some (found name) object there)
+  | inr other ↦ rw other (with_none (found q) object)
+]
+
+pub name_added : (found : List ℕ → Option ℕ) (name q : List ℕ) (object : ℕ) (new : Option ℕ)
+    → is_some (found name) ≡ false
+    → new ≡ cond (bytes_eq name q) (Some object) (found q)
+    → new ≡ with_object (found q) (bytes_eq name q) object
+name_added found name q object new absent is = is ∙ elim (cases_Bool (bytes_eq name q)) [
+  | inl same ↦ rw (same, ← same_text name q (sym same), is_none_from (found name) absent) refl
+  | inr other ↦ rw other (with_none (found q) object)
+]
+
+-- ---- none
 
 pub none_at_all : (objects : List Object) (name : List ℕ) (k : ℕ) → NoneDisallows objects name
     → DisallowedBy objects name k → ⊥

@@ -1,19 +1,19 @@
 -- Whether a name is among those of a list.
-use Rattle.std.proofs.Common.{◌≡◌, ◌+◌, ◌<◌, ℕ, Bool, true, false, List, [], ◌∷◌, ◌++◌, cond, append-nil, filter, length, get_or, take, Contains, Some, slice_get, bytes_eq, refl, sym, ap, ◌∙◌, subst, inl, inr, eq-eqb}
+use Rattle.std.proofs.Common.{◌≡◌, ◌+◌, ◌<◌, ℕ, Bool, true, false, List, [], ◌∷◌, ◌++◌, cond, append-nil, ◌||◌, filter, length, get_or, take, Contains, Some, slice_get, bytes_eq, refl, sym, ap, ◌∙◌, subst, eq-eqb}
 use Rattle.std.specs.Cmp.Lexicographic.{nat_list_eq_equiv, same_text}
 use Rattle.std.specs.List.{list_any}
 use Rattle.std.specs.Option.{option_map}
-use Rattle.std.proofs.lemmas.Bool.{cases_Bool, or_from, ne_eqb}
+use Rattle.std.proofs.lemmas.Bool.{or_from, ne_eqb}
 use Rattle.std.proofs.lemmas.List.{map_more, map-append}
 use Rattle.std.proofs.lemmas.List.Elements.{filter_more}
 use Rattle.std.proofs.lemmas.List.Folds.{list_any-append}
 use Rattle.std.proofs.lemmas.Map.Views.{Contains-from_any, list_any-from_Contains}
-use Rattle.std.proofs.lemmas.Option.{slice_get-map, slice_get-get_or, slice_get_read}
+use Rattle.std.proofs.lemmas.Option.{slice_get-map, slice_get-get_or}
 use Rattle.wl_custom.specs.Features.{Feature}
 use Rattle.wl_custom.specs.declared.features.TheConstants.{TARGET_FEATURE_PREFIX_DISALLOWED}
 use Rattle.wl_features.specs.Taken.{names_of}
 use Rattle.wl_features.specs.Faults.{is_disallowed}
-use Rattle.wl_features.proofs.AscendingLaws.{contains_none, contains_head, contains_behind, contains_cases, contains_at}
+use Rattle.wl_features.proofs.AscendingLaws.{contains_at}
 use Rattle.wl_features.proofs.TakenLaws.{Name, bytes_of}
 
 -- ---- by tests
@@ -67,40 +67,17 @@ none_next names name k d lt other before =
 
 -- ---- among features
 
-contains_names : (test : Feature → Bool) (features : List Feature) (f : Feature) → test f ≡ true
-    → Contains features f
-    → Contains (names_of test features) f.name
-contains_names test [] f on at = absurd (contains_none f at)
-contains_names test (x ∷ xs) f on at = elim (contains_cases x xs f at) [
-  | inl same ↦ (let own : test x ≡ true = ap test same ∙ on in
-      rw (own, ← same) (contains_head x.name (names_of test xs)))
-  | inr behind ↦ elim (cases_Bool (test x)) [
-    | inl t ↦ (let there = contains_names test xs f on behind in
-        rw t (contains_behind x.name (names_of test xs) f.name there))
-    | inr t ↦ rw t (contains_names test xs f on behind)
-  ]
-]
-
 -- an object's feature as its fields
 abbrev pub feature_of : ℕ → List ℕ → Feature
 feature_of prefix name = record { prefix = prefix; name = name }
 
+or-false : (b : Bool) → (b || false) ≡ b
+or-false true = refl
+or-false false = refl
+
 module _ (features : List Feature) (k : ℕ) (f : Feature) (lt : k < length features)
     (is : f ≡ get_or features k f)
     (prefix : ℕ) (own : List ℕ) (seen : feature_of prefix own ≡ f) (name : List ℕ) where
-  here : slice_get features k ≡ Some (feature_of prefix own)
-  here =
-      slice_get_read features (length features) k f refl lt is
-      ∙ ap (λ (g : Feature). Some g) (sym seen)
-
-  pub feature_found : prefix ≡ TARGET_FEATURE_PREFIX_DISALLOWED → true ≡ bytes_eq own name
-      → true ≡ list_any (bytes_eq name) (names_of is_disallowed features)
-  feature_found off same =
-      let at = contains_names is_disallowed features (feature_of prefix own)
-      (eq-eqb prefix TARGET_FEATURE_PREFIX_DISALLOWED off)
-      (contains_at features k (feature_of prefix own) here) in
-      sym (name_found (names_of is_disallowed features) name (rw (same_text own name same) at at))
-
   more : filter is_disallowed (take (k + 1) features)
       ≡ filter is_disallowed (take k features)
       ++ cond (is_disallowed (feature_of prefix own)) (feature_of prefix own ∷ []) []
@@ -108,15 +85,18 @@ module _ (features : List Feature) (k : ℕ) (f : Feature) (lt : k < length feat
       ≡ filter is_disallowed (take k features) ++ cond (is_disallowed g) (g ∷ []) [])
       (sym (seen ∙ is)) (filter_more is_disallowed features k f lt)
 
-  pub name_differs : prefix ≡ TARGET_FEATURE_PREFIX_DISALLOWED → false ≡ bytes_eq own name
-      → list_any (bytes_eq name) (names_of is_disallowed (take k features)) ≡ false
-      → list_any (bytes_eq name) (names_of is_disallowed (take (k + 1) features)) ≡ false
-  name_differs off other before =
+  pub disallowed_more : prefix ≡ TARGET_FEATURE_PREFIX_DISALLOWED
+      → list_any (bytes_eq name) (names_of is_disallowed (take (k + 1) features))
+      ≡ (list_any (bytes_eq name) (names_of is_disallowed (take k features)) || bytes_eq own name)
+  disallowed_more off =
+      let test = bytes_eq name in
+      let before = names_of is_disallowed (take k features) in
+      let one : list_any test (own ∷ []) ≡ bytes_eq own name = or-false (bytes_eq name own)
+      ∙ nat_list_eq_equiv.symm name own in
       rw (more, eq-eqb prefix TARGET_FEATURE_PREFIX_DISALLOWED off, map-append)
-      (none_more (names_of is_disallowed (take k features)) name own before (sym other))
+      (list_any-append test before (own ∷ []) ∙ ap (λ b. list_any test before || b) one)
 
-  pub prefix_differs : (prefix ≡ TARGET_FEATURE_PREFIX_DISALLOWED → ⊥)
-      → list_any (bytes_eq name) (names_of is_disallowed (take k features)) ≡ false
-      → list_any (bytes_eq name) (names_of is_disallowed (take (k + 1) features)) ≡ false
-  prefix_differs off before =
-      rw (more, ne_eqb prefix TARGET_FEATURE_PREFIX_DISALLOWED off, append-nil) before
+  pub other_more : (prefix ≡ TARGET_FEATURE_PREFIX_DISALLOWED → ⊥)
+      → list_any (bytes_eq name) (names_of is_disallowed (take (k + 1) features))
+      ≡ list_any (bytes_eq name) (names_of is_disallowed (take k features))
+  other_more off = rw (more, ne_eqb prefix TARGET_FEATURE_PREFIX_DISALLOWED off, append-nil) refl

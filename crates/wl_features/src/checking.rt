@@ -1,18 +1,22 @@
 //! Features that don't fit together.
 
-ghost use Rattle.std.specs.Prelude.{◌≡◌, length, map, true, MatchOption, OnOk, IfOk, IfErr};
+ghost use Rattle.std.specs.Prelude.{◌≡◌, length, map, true, OnOk, IfOk, IfErr};
 ghost use Rattle.std.specs.List.{list_any};
 ghost use Rattle.std.specs.Str.{bytes_eq};
 ghost use Rattle.wl_linking.specs.Steps.{Clear, Refuses};
 ghost use Rattle.wl_symbols.specs.Link.{link_of};
 ghost use Rattle.wl_features.specs.Taken.{AreTaken};
-ghost use Rattle.wl_features.specs.Faults.{is_known, disallows, IsBadFeature, IsSharedFault, feature_fault};
-ghost use Rattle.wl_features.specs.Disallowing.{NoneDisallows, IsFirstBy, AreFree, IsFirstClash};
+ghost use Rattle.wl_features.specs.Faults.{is_known, IsBadFeature, IsSharedFault, feature_fault};
+ghost use Rattle.wl_features.specs.Disallowing.{AreFree, IsFirstClash};
 
-use crate::taken::{FeatureList, taken_features};
+use crate::disallowed::DisallowedFeatures;
+use crate::taken::{
+    FeatureList, TARGET_FEATURE_ATOMICS, TARGET_FEATURE_BULK_MEMORY, TARGET_FEATURE_SHARED_MEM,
+    taken_features,
+};
 use std::alloc::Global;
 use wl_linking::{
-    File, FileList, LinkError, SharedMemoryNeed, TARGET_FEATURE_PREFIX_DISALLOWED,
+    FileList, LinkError, SharedMemoryNeed, TARGET_FEATURE_PREFIX_DISALLOWED,
     TARGET_FEATURE_PREFIX_USED, Text, WasmTargetFeature,
 };
 use wl_symbols::WasmArgs;
@@ -46,31 +50,6 @@ fn check_prefixes(files: &FileList<'_>) -> Result<(), LinkError>
     Ok(())
 }
 
-/// The object disallows the feature of that name.
-fn disallows(file: &File<'_>, name: &str) -> bool
-    ensures { result ≡ disallows name.now file.now }
-{
-    for feature in file.target_features() {
-        if feature.prefix == TARGET_FEATURE_PREFIX_DISALLOWED && feature.name == name {
-            return true;
-        }
-    }
-    false
-}
-
-/// The first object that disallows the feature of that name.
-fn disallowing(files: &FileList<'_>, name: &str) -> Option<usize>
-    ensures { MatchOption result (NoneDisallows files.now name.now)
-        (λ object. IsFirstBy files.now name.now object) }
-{
-    for (object, file) in files.as_slice().iter().enumerate() {
-        if disallows(file, name) {
-            return Some(object);
-        }
-    }
-    None
-}
-
 /// One of the names is this one.
 fn has_name(names: &[&str], name: &str) -> bool
     ensures { result ≡ list_any (bytes_eq name.now) (map (λ n. n.now) names.now) }
@@ -87,20 +66,24 @@ fn has_name(names: &[&str], name: &str) -> bool
 ///
 /// # Errors
 /// `SharedMemoryFeature` where an object disallows it, or a feature that it needs isn't used.
-fn check_shared(files: &FileList<'_>, args: &WasmArgs, names: &[&str]) -> Result<(), LinkError>
-    requires taken { AreTaken (link_of files.now args.now) (map (λ n. n.now) names.now) }
+fn check_shared(
+    disallowed: &DisallowedFeatures<'_, '_>,
+    args: &WasmArgs,
+    names: &[&str],
+) -> Result<(), LinkError>
+    requires taken { AreTaken (link_of disallowed.now args.now) (map (λ n. n.now) names.now) }
     requires checked { args.now.check_features ≡ true }
-    ensures ok { OnOk result (Clear (IsSharedFault (link_of files.now args.now))) }
-    ensures err { IfErr result (Refuses (IsSharedFault (link_of files.now args.now))) }
+    ensures ok { OnOk result (Clear (IsSharedFault (link_of disallowed.now args.now))) }
+    ensures err { IfErr result (Refuses (IsSharedFault (link_of disallowed.now args.now))) }
 {
     if !args.shared_memory {
         return Ok(());
     }
-    let need = if let Some(object) = disallowing(files, "shared-mem") {
+    let need = if let Some(object) = disallowed.first(TARGET_FEATURE_SHARED_MEM) {
         SharedMemoryNeed::Disallowed(object)
-    } else if !has_name(names, "atomics") {
+    } else if !has_name(names, TARGET_FEATURE_ATOMICS) {
         SharedMemoryNeed::Atomics
-    } else if !has_name(names, "bulk-memory") {
+    } else if !has_name(names, TARGET_FEATURE_BULK_MEMORY) {
         SharedMemoryNeed::BulkMemory
     } else {
         return Ok(());
@@ -112,14 +95,18 @@ fn check_shared(files: &FileList<'_>, args: &WasmArgs, names: &[&str]) -> Result
 ///
 /// # Errors
 /// `FeatureConflict` with the least such name and the first such object.
-fn check_conflicts(alloc: Global, files: &FileList<'_>, names: &[&str]) -> Result<(), LinkError>
+fn check_conflicts(
+    alloc: Global,
+    disallowed: &DisallowedFeatures<'_, '_>,
+    names: &[&str],
+) -> Result<(), LinkError>
     ensures ok { OnOk result
-        (AreFree files.now (map (λ n. n.now) names.now) (length names.now)) }
+        (AreFree disallowed.now (map (λ n. n.now) names.now) (length names.now)) }
     ensures err { IfErr result
-        (Refuses (IsFirstClash files.now (map (λ n. n.now) names.now))) }
+        (Refuses (IsFirstClash disallowed.now (map (λ n. n.now) names.now))) }
 {
     for name in names {
-        if let Some(object) = disallowing(files, name) {
+        if let Some(object) = disallowed.first(name) {
             return Err(LinkError::FeatureConflict {
                 object,
                 feature: Text::new(String::from_str(alloc, name)?),
@@ -150,8 +137,9 @@ pub fn check_features<'a>(
     check_prefixes(files)?;
     let names = taken_features(alloc, files, args)?;
     if args.check_features {
-        check_shared(files, args, names.as_slice())?;
-        check_conflicts(alloc, files, names.as_slice())?;
+        let disallowed = DisallowedFeatures::of(alloc, files)?;
+        check_shared(&disallowed, args, names.as_slice())?;
+        check_conflicts(alloc, &disallowed, names.as_slice())?;
     }
     Ok(names)
 }

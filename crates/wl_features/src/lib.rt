@@ -3,9 +3,13 @@
 #![tactic(auto)]
 
 mod checking;
+mod disallowed;
 mod laws;
 mod taken;
 
 pub use checking::check_features;
 pub use laws::features_are_one;
-pub use taken::{FeatureList, taken_features};
+pub use taken::{
+    FeatureList, TARGET_FEATURE_ATOMICS, TARGET_FEATURE_BULK_MEMORY,
+    TARGET_FEATURE_MUTABLE_GLOBALS, TARGET_FEATURE_SHARED_MEM, taken_features,
+};

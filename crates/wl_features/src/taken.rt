@@ -9,6 +9,18 @@ use std::marker::Model;
 use wl_linking::{FileList, TARGET_FEATURE_PREFIX_USED, WasmTargetFeature};
 use wl_symbols::{Texts, WasmArgs};
 
+/// Threads may share memory.
+pub const TARGET_FEATURE_SHARED_MEM: &str = "shared-mem";
+
+/// Memory is read and written in one step.
+pub const TARGET_FEATURE_ATOMICS: &str = "atomics";
+
+/// Memory is filled and copied by one operator, from passive segments too.
+pub const TARGET_FEATURE_BULK_MEMORY: &str = "bulk-memory";
+
+/// Globals that change are imported and exported.
+pub const TARGET_FEATURE_MUTABLE_GLOBALS: &str = "mutable-globals";
+
 /// The names of features. Clauses see them as a list, and each as its bytes.
 #[derive(Drop)]
 pub struct FeatureList<'a> {

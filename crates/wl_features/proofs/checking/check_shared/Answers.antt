@@ -9,16 +9,16 @@ use Rattle.wl_features.proofs.checking.check_shared.Goals.{in-Some, in_default+t
 pub returns-else-not-has_name-2-clause-ok : goal.returns-else-not-has_name-2-clause-ok
 returns-else-not-has_name-2-clause-ok c =
     let names = bytes_of c.args.names.now in
-    can_share (link_of c.args.files.now c.args.args.now) names c.requires.taken c.in_default.ensures
+    can_share (link_of c.args.disallowed.now c.args.args.now) names c.requires.taken c.in_default.ensures
     (has_name names (codes "atomics") (sym c.has_name.ensures ∙ c.if-not-has_name.false))
     (has_name names (codes "bulk-memory")
     (sym c.has_name-else-not-has_name.ensures ∙ c.if-not-has_name-2.false))
 
 pub returns-clause-err : goal.returns-clause-err
 returns-clause-err c =
-    let link = link_of c.args.files.now c.args.args.now in
+    let link = link_of c.args.disallowed.now c.args.args.now in
     let names = bytes_of c.args.names.now in
-    elim c.match-disallowing.branch [
+    elim c.match-first.branch [
       | in-Some w ↦
           rw w.need-is (shared_refuses link names c.requires.taken _ c.requires.checked
           c.if-not-args.false (shared_disallowed link names c.requires.taken w.in-Some.object
