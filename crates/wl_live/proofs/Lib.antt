@@ -11,3 +11,4 @@ pub mod RefusalLaws
 pub mod KeptLaws
 pub mod OneLaws
 pub mod DenseLaws
+pub mod GraphLaws

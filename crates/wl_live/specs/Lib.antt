@@ -8,3 +8,4 @@ pub mod Faults
 pub mod Facts
 pub mod Table
 pub mod Live
+pub mod UnitGraph

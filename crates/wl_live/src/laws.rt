@@ -5,12 +5,13 @@ ghost use Rattle.std.specs.Prelude.{◌≡◌, ℕ, ◌<◌, List, Some, true};
 ghost use Rattle.wl_ops.specs.declared.op.Op.{Op as OpRecord};
 ghost use Rattle.wl_ops.specs.Decoding.{AreTaken};
 ghost use Rattle.wl_symbols.specs.Link.{Link};
-ghost use Rattle.wl_live.specs.Units.{units_of, exists};
+ghost use Rattle.wl_live.specs.Units.{units_of, exists, unit_number, total_of};
 ghost use Rattle.wl_live.specs.Roots.{IsRoot};
 ghost use Rattle.wl_live.specs.References.{RefersBySymbol, RefersByNumber, RefersBySlot};
 ghost use Rattle.wl_live.specs.Kept.{IsKept};
 ghost use Rattle.wl_live.specs.Live.{Live, is_live, ordinal_of, IsLiveOf, AreOfOneKind};
 ghost use Rattle.wl_live.specs.declared.units.LinkUnit.{LinkUnit as UnitRecord};
+ghost use Rattle.wl_live.specs.declared.units.UnitCounts.{UnitCounts as Counts};
 
 use wl_ops::numbers_are_one;
 
@@ -59,6 +60,19 @@ pub fn ordinals_are_dense()
         → ordinal_of live u ≡ Some n → ordinal_of live v ≡ Some n → u ≡ v }
     ensures before { (live : Live) (u : UnitRecord) (k n : ℕ) → ordinal_of live u ≡ Some n → k < n
         → (v : UnitRecord) × AreOfOneKind u v × (ordinal_of live v ≡ Some k) }
+{}
+
+/// Each unit that exists has a number of its own, each number below their count is a unit's, and
+/// roots exist.
+pub fn units_are_numbered()
+    ensures below { (ns : List Counts) (u : UnitRecord) → exists ns u ≡ true
+        → unit_number ns u < total_of ns }
+    ensures own { (ns : List Counts) (u v : UnitRecord) → exists ns u ≡ true → exists ns v ≡ true
+        → unit_number ns u ≡ unit_number ns v → u ≡ v }
+    ensures each { (ns : List Counts) (n : ℕ) → n < total_of ns
+        → (u : UnitRecord) × (exists ns u ≡ true) × (unit_number ns u ≡ n) }
+    ensures roots { (link : Link) (u : UnitRecord) → IsRoot link u
+        → exists (units_of link.objects) u ≡ true }
 {}
 
 /// A body that isn't decoded refers to no segment.

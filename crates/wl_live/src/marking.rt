@@ -39,7 +39,7 @@ fn push_edge(edges: &mut Vec<Edge>, edge: Option<Edge>) -> Result<(), AllocError
 }
 
 /// The edges of the references.
-fn collect_edges(
+pub(crate) fn collect_edges(
     alloc: Global,
     numbers: &UnitNumbers,
     references: &[Reference],
@@ -64,7 +64,7 @@ fn push_number(list: &mut Vec<usize>, number: Option<usize>) -> Result<(), Alloc
 }
 
 /// The numbers of the units that exist.
-fn collect_numbers(
+pub(crate) fn collect_numbers(
     alloc: Global,
     numbers: &UnitNumbers,
     units: &[LinkUnit],

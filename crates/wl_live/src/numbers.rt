@@ -20,7 +20,7 @@ const NO_UNITS: UnitCounts = UnitCounts {
 /// A number for each unit of all objects: object by object, kind by kind. Clauses see it as how
 /// many units of each kind each object has.
 #[derive(Drop)]
-pub(crate) struct UnitNumbers {
+pub struct UnitNumbers {
     counts: Vec<UnitCounts>,
     bases: Vec<usize>,
     total: usize,
@@ -50,7 +50,7 @@ fn total_with(total: usize, counts: UnitCounts) -> Result<usize, AllocError>
 
 impl UnitNumbers {
     /// Numbers the units of these objects.
-    pub(crate) fn new(alloc: Global, files: &FileList<'_>) -> Result<Self, AllocError>
+    pub fn new(alloc: Global, files: &FileList<'_>) -> Result<Self, AllocError>
         ensures { IfOk result (λ n. n ≡ units_of files.now) }
     {
         let mut counts: Vec<UnitCounts> = Vec::new(alloc);
@@ -70,14 +70,14 @@ impl UnitNumbers {
     }
 
     /// How many units there are.
-    pub(crate) fn total(&self) -> usize
+    pub fn total(&self) -> usize
         ensures { result ≡ total_of self.now }
     {
         self.total
     }
 
     /// The number of a unit, if it exists.
-    pub(crate) fn number(&self, unit: LinkUnit) -> Option<usize>
+    pub fn number(&self, unit: LinkUnit) -> Option<usize>
         ensures { result ≡ unit_number_if self.now unit }
     {
         let counts = self.counts(unit.object);

@@ -56,7 +56,7 @@ pub(crate) fn counts_of(file: &File<'_>) -> UnitCounts
 }
 
 /// The unit's number among those of its kind.
-pub(crate) fn unit_index(unit: WasmGcUnit) -> u32
+pub fn unit_index(unit: WasmGcUnit) -> u32
     ensures { result ≡ unit_index unit }
 {
     match unit {
@@ -199,7 +199,7 @@ pub fn wasm_gc_unit_for_symbol(file: &File<'_>, symbol: &WasmSymbol<'_>) -> Opti
 }
 
 /// The unit of the same kind with another number.
-pub(crate) fn sibling_of(unit: WasmGcUnit, index: u32) -> WasmGcUnit
+pub fn sibling_of(unit: WasmGcUnit, index: u32) -> WasmGcUnit
     ensures { result ≡ sibling_of unit index }
 {
     match unit {

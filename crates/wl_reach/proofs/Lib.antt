@@ -3,3 +3,4 @@ pub mod MarkLaws
 pub mod RankLaws
 pub mod ChainLaws
 pub mod SearchLaws
+pub mod StepLaws

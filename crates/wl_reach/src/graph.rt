@@ -92,13 +92,15 @@ fn fill(alloc: Global, starts: Vec<usize>, edges: &[Edge]) -> Result<Graph, Allo
 }
 
 impl Graph {
-    /// The graph of these edges, in time that is linear in nodes and edges.
+    /// The graph of these edges: for each node where its edges lead, in their order and repeats
+    /// kept.
     pub fn new(alloc: Global, nodes: usize, edges: &[Edge]) -> Result<Self, AllocError>
         requires from { All (λ e. e.from < nodes) edges.now }
         requires to { All (λ e. e.to < nodes) edges.now }
         ensures nodes { IfOk result (λ g. length g ≡ nodes) }
         ensures edges { IfOk result (HasEdges edges.now) }
         ensures count { IfOk result (λ g. sum_by length g ≡ length edges.now) }
+        ensures laid { IfOk result (λ g. g ≡ graph_of nodes edges.now) }
     {
         let starts = starts_of(alloc, nodes, edges)?;
         fill(alloc, starts, edges)

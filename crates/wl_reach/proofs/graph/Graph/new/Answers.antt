@@ -14,4 +14,5 @@ returns c =
       nodes = IfOk-weaker {X = List (List ℕ)} c.fill.result (λ g. g ≡ graph_of n edges) (λ g. length g ≡ c.args.nodes) (λ g e. ap (λ (x : List (List ℕ)). length x) e ∙ (length-graph_of n edges ∙ size)) c.fill.ensures;
       edges = IfOk-weaker {X = List (List ℕ)} c.fill.result (λ g. g ≡ graph_of n edges) (λ g. HasEdges edges g) (λ g e. subst (HasEdges edges) (sym e) (HasEdge-graph_of n edges from)) c.fill.ensures;
       count = IfOk-weaker {X = List (List ℕ)} c.fill.result (λ g. g ≡ graph_of n edges) (λ g. sum_by length g ≡ length edges) (λ g e. ap (sum_by (λ (x : List ℕ). length x)) e ∙ c.in_ok-starts.ensures.starts.count) c.fill.ensures;
+      laid = IfOk-weaker {X = List (List ℕ)} c.fill.result (λ g. g ≡ graph_of n edges) (λ g. g ≡ graph_of c.args.nodes edges) (λ g e. e ∙ ap (λ (m : ℕ). graph_of m edges) size) c.fill.ensures;
     }
