@@ -247,12 +247,14 @@ fn without_places<'a>(
 /// Reads the payload of an import section (core specification, "Import Section"): the imports in
 /// order, their names slices of the payload. The indices of types aren't looked at.
 ///
+/// # Errors
 /// Of an import the names are judged first, then its kind (`Malformed(BadByte)`, and
 /// `Unsupported(Tag)` for an exception tag), then its type. A table of other elements than
 /// `funcref` is `Unsupported(TableType)`, a shared or 64-bit one `Unsupported(TableForm)`; a memory
 /// with addresses of 64 bits `Unsupported(Memory64)`, with pages of another size
 /// `Unsupported(PageSize)`; limits that can't be are `Malformed(BadLimits)`. A second memory is
-/// `Unsupported(ManyMemories)`, once its limits are read.
+/// `Unsupported(ManyMemories)`, once its limits are read. `OutOfMemory` comes where memory
+/// runs out.
 pub fn read_imports(alloc: Global, payload: &[u8]) -> Result<Vec<Import<'_>>, ReadError>
     requires { length payload.now ≤ MAX_LEN }
     ensures reads { ReadsWhole (λ v. v.items) AreImports ImportsFault payload.now result }
@@ -264,6 +266,9 @@ pub fn read_imports(alloc: Global, payload: &[u8]) -> Result<Vec<Import<'_>>, Re
 
 /// Reads the same as [`read_imports`], and tells for each import where its name stands in the
 /// payload.
+///
+/// # Errors
+/// Those of [`read_imports`].
 pub fn read_placed_imports(
     alloc: Global,
     payload: &[u8],

@@ -181,9 +181,10 @@ fn without_memories<'a>(
 /// order, each with its place in the payload. Their bytes are slices of the payload. The number of
 /// a memory isn't looked at, nor what the expression of a place computes.
 ///
+/// # Errors
 /// A flag above 2 is `Malformed(BadByte)`. Another operator than those of constant expressions is
 /// `Unsupported(ConstOperator)`, a null reference of another type than `funcref` and `externref`
-/// `Unsupported(Operator)`.
+/// `Unsupported(Operator)`. `OutOfMemory` comes where memory runs out.
 pub fn read_segments(alloc: Global, payload: &[u8]) -> Result<Vec<WasmDataSegment<'_>>, ReadError>
     requires { length payload.now ≤ MAX_LEN }
     ensures reads { ReadsWhole (λ v. v.items) AreSegments SegmentsFault payload.now result }
@@ -194,6 +195,9 @@ pub fn read_segments(alloc: Global, payload: &[u8]) -> Result<Vec<WasmDataSegmen
 }
 
 /// Reads the same as [`read_segments`], and tells for each segment which memory it is written to.
+///
+/// # Errors
+/// Those of [`read_segments`].
 pub fn read_targeted_segments(
     alloc: Global,
     payload: &[u8],

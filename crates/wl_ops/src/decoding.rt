@@ -105,12 +105,14 @@ fn decode(alloc: Global, body: &[u8]) -> Result<Vec<Op>, ReadError>
 /// declarations its operators, the last of which is `end` and ends the bytes. How they nest, and
 /// what they are applied to, isn't looked at.
 ///
+/// Operators and immediates are together no more than the bytes, so a body bounds the memory.
+///
+/// # Errors
 /// The first thing that is no operator of the table decides: `Unsupported(ElementOperator)` for
 /// `table.init` and `elem.drop`; `Unsupported(Operator)` for an operator that the table lacks and
 /// the format knows, an alignment of 0x40 or more, the type of a block or of a null reference that
-/// isn't taken; `Malformed(Body)` for everything else, as bytes that end too early.
-///
-/// Operators and immediates are together no more than the bytes, so a body bounds the memory.
+/// isn't taken; `Malformed(Body)` for everything else, as bytes that end too early. `OutOfMemory`
+/// comes where memory runs out.
 pub fn decode_body(alloc: Global, body: &[u8]) -> Result<Vec<Op>, ReadError>
     requires { length body.now ≤ MAX_LEN }
     ensures reads { ReadsWhole (λ v. v.items) AreTaken DecodeFault body.now result }

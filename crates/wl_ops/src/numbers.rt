@@ -148,8 +148,11 @@ fn holds_prefix(body: &[u8]) -> bool
 /// The numbers of data segments in a body: those of the operators `memory.init` and `data.drop`,
 /// in order (core specification, "Memory Instructions"). Places and lengths are in bytes.
 ///
-/// A body without a byte 0xfc has none, and isn't decoded. On another the errors are those of
-/// `decode_body`.
+/// Whoever removes or reorders segments rewrites these numbers. A body without a byte 0xfc has
+/// none, and isn't decoded.
+///
+/// # Errors
+/// Those of [`decode_body`](crate::decode_body), on a body with a byte 0xfc.
 pub fn data_index_immediates(alloc: Global, body: &[u8]) -> Result<Vec<DataIndexImm>, ReadError>
     requires { length body.now ≤ MAX_LEN }
     ensures reads { ReadsWhole (λ v. v.items) AreTold NumbersFault body.now result }
