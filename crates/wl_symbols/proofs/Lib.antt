@@ -7,10 +7,12 @@ pub mod WordLaws
 pub mod SomeLaws
 pub mod FirstLaws
 pub mod AdditionLaws
+pub mod CountLaws
 pub mod PlaceLaws
 pub mod CaseLaws
 pub mod MadeLaws
 pub mod NamedLaws
 pub mod DefinitionLaws
+pub mod RowLaws
 pub mod RepeatLaws
 pub mod RefusalLaws

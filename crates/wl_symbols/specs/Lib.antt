@@ -14,3 +14,4 @@ pub mod Entries
 pub mod Names
 pub mod Repeats
 pub mod Adding
+pub mod Definitions

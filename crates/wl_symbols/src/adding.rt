@@ -1,6 +1,6 @@
 //! The names of the objects, gathered symbol by symbol.
 
-ghost use Rattle.std.specs.Prelude.{◌≡◌, ◌+◌, ◌*◌, ◌<◌, ◌≤◌, ◌^◌, length, IfOk};
+ghost use Rattle.std.specs.Prelude.{◌≡◌, ◌+◌, ◌*◌, ◌<◌, ◌≤◌, ◌^◌, length, IfOk, IfNone};
 ghost use Rattle.wl_symbols.specs.Entries.{entries_at, entries_from, entries_of, symbol_count};
 ghost use Rattle.wl_symbols.specs.Adding.{firsts_in, repeat_in, AddsOne, AddsAll};
 
@@ -50,6 +50,7 @@ fn add<'a, L: Ledger>(
     ensures adds { IfOk result (AddsOne
         (firsts_in names.old.names.firsts) (firsts_in names.new.names.firsts)
         (record { name = name.now; strength = strength; place = place })) }
+    ensures counted { IfOk result (λ told. IfNone told (steps.new ≡ steps.old + 2)) }
     ensures cost { steps.new ≤ steps.old + 2 }
 {
     let firsts = names.firsts(name, steps);
@@ -71,6 +72,8 @@ fn add_symbol<'a, L: Ledger>(
     ensures adds { IfOk result (AddsAll
         (firsts_in names.old.names.firsts) (firsts_in names.new.names.firsts)
         (entries_at place.object place.symbol symbol.now)) }
+    ensures counted { IfOk result (λ told. IfNone told (steps.new
+        ≡ steps.old + 2 * length (entries_at place.object place.symbol symbol.now))) }
     ensures cost { steps.new ≤ steps.old + 2 }
 {
     if is_private(symbol) {
@@ -98,6 +101,8 @@ fn add_symbols<'a, L: Ledger>(
     ensures adds { IfOk result (AddsAll
         (firsts_in names.old.names.firsts) (firsts_in names.new.names.firsts)
         (entries_from object 0 symbols.now)) }
+    ensures counted { IfOk result (λ told. IfNone told (steps.new
+        ≡ steps.old + 2 * length (entries_from object 0 symbols.now))) }
     ensures cost { steps.new ≤ steps.old + 2 * length symbols.now }
 {
     for (i, symbol) in symbols.iter().enumerate() {
@@ -121,6 +126,8 @@ pub(crate) fn add_files<'a, L: Ledger>(
     ensures adds { IfOk result (AddsAll
         (firsts_in names.old.names.firsts) (firsts_in names.new.names.firsts)
         (entries_of 0 files.now)) }
+    ensures counted { IfOk result (λ told. IfNone told (steps.new
+        ≡ steps.old + 2 * length (entries_of 0 files.now))) }
     ensures cost { steps.new ≤ steps.old + 2 * symbol_count files.now }
 {
     for (object, file) in files.iter().enumerate() {

@@ -2,9 +2,11 @@
 
 ghost use Rattle.std.specs.Prelude.{◌≡◌};
 ghost use Rattle.wl_symbols.specs.Entries.{strength_of, is_private};
+ghost use Rattle.wl_symbols.specs.LinkerNames.{made_of};
 ghost use Rattle.wl_symbols.specs.Names.{at_place, chosen};
 ghost use Rattle.wl_symbols.specs.Adding.{no_firsts, with_place};
 
+use crate::args::WasmArgs;
 use crate::linker_symbol::WasmLinkerSymbol;
 use wl_linking::WasmSymbol;
 
@@ -67,7 +69,7 @@ pub(crate) fn is_private(symbol: &WasmSymbol<'_>) -> bool
 
 impl Definition {
     /// The symbol of a place.
-    fn at(place: Place) -> Self
+    pub(crate) fn at(place: Place) -> Self
         ensures { result ≡ at_place place }
     {
         Definition::Symbol {
@@ -109,14 +111,17 @@ impl Firsts {
         }
     }
 
-    /// What their name stands for, where the linker makes this under it.
-    pub(crate) fn choose(self, made: Option<WasmLinkerSymbol>) -> Option<Definition>
-        ensures { result ≡ chosen self made }
+    /// What their name stands for under these options.
+    pub(crate) fn choose(self, name: &str, args: &WasmArgs) -> Option<Definition>
+        ensures { result ≡ chosen self (made_of args.now name.now) }
     {
-        match (self.strong.or(self.weak), made) {
-            (Some(place), _) => Some(Definition::at(place)),
-            (None, Some(made)) => Some(Definition::Made(made)),
-            (None, None) => self.undefined.map(Definition::at),
+        // Most names are defined: what the linker makes is looked for where one isn't.
+        if let Some(place) = self.strong.or(self.weak) {
+            return Some(Definition::at(place));
         }
+        if let Some(made) = WasmLinkerSymbol::parse_existing(name, args) {
+            return Some(Definition::Made(made));
+        }
+        self.undefined.map(Definition::at)
     }
 }

@@ -9,6 +9,7 @@
 
 mod adding;
 mod args;
+mod definitions;
 mod entry;
 mod error;
 mod laws;

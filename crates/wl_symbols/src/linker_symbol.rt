@@ -1,6 +1,6 @@
 //! The names that the linker makes.
 
-ghost use Rattle.std.specs.Prelude.{◌≡◌, ◌≤◌, ◌^◌, find, bytes_eq, IfOk, IfErr, OnErr, IfSome, IfNone};
+ghost use Rattle.std.specs.Prelude.{◌≡◌, ◌≤◌, ◌^◌, IfOk, IfErr, OnErr, IfSome, IfNone};
 ghost use Rattle.wl_symbols.specs.LinkerNames.{row_of, name_of, symbol_named, exists_under, made_of, materializes_on_export, is_exported_as_data, matches_kind};
 ghost use Rattle.wl_symbols.specs.LinkerAddresses.{heap_base, data_places, address_of, IsTooHigh};
 ghost use Rattle.wl_linking.specs.declared.error.Quantity.TheVariants.{Address};
@@ -88,18 +88,6 @@ pub enum WasmLinkerSymbol {
     InitTls,
 }
 
-/// The first of these that has the name.
-fn find_named(symbols: &[WasmLinkerSymbol], name: &str) -> Option<WasmLinkerSymbol>
-    ensures { result ≡ find (λ made. bytes_eq (name_of made) name.now) symbols.now }
-{
-    for symbol in symbols {
-        if symbol.name() == name.as_bytes() {
-            return Some(*symbol);
-        }
-    }
-    None
-}
-
 /// Where the heap begins, if that is an address.
 fn heap_base(data_end: u32, stack_size: u32, stack_first: bool) -> Option<u32>
     ensures value { IfSome result (λ base. base ≡ heap_base data_end stack_size stack_first) }
@@ -113,24 +101,6 @@ fn heap_base(data_end: u32, stack_size: u32, stack_first: bool) -> Option<u32>
 }
 
 impl WasmLinkerSymbol {
-    /// All of them.
-    const ALL: [WasmLinkerSymbol; 14] = [
-        WasmLinkerSymbol::DataEnd,
-        WasmLinkerSymbol::GlobalBase,
-        WasmLinkerSymbol::HeapBase,
-        WasmLinkerSymbol::HeapEnd,
-        WasmLinkerSymbol::WasmFirstPageEnd,
-        WasmLinkerSymbol::DsoHandle,
-        WasmLinkerSymbol::MemoryBase,
-        WasmLinkerSymbol::TableBase,
-        WasmLinkerSymbol::StackPointer,
-        WasmLinkerSymbol::TlsBase,
-        WasmLinkerSymbol::TlsSize,
-        WasmLinkerSymbol::TlsAlign,
-        WasmLinkerSymbol::CallCtors,
-        WasmLinkerSymbol::InitTls,
-    ];
-
     /// Its row in the table of names.
     fn row(self) -> LinkerRow
         ensures { result ≡ row_of self }
@@ -166,7 +136,23 @@ impl WasmLinkerSymbol {
     pub fn parse(name: &str) -> Option<Self>
         ensures { result ≡ symbol_named name.now }
     {
-        find_named(&Self::ALL, name)
+        match name {
+            "__data_end" => Some(Self::DataEnd),
+            "__global_base" => Some(Self::GlobalBase),
+            "__heap_base" => Some(Self::HeapBase),
+            "__heap_end" => Some(Self::HeapEnd),
+            "__wasm_first_page_end" => Some(Self::WasmFirstPageEnd),
+            "__dso_handle" => Some(Self::DsoHandle),
+            "__memory_base" => Some(Self::MemoryBase),
+            "__table_base" => Some(Self::TableBase),
+            "__stack_pointer" => Some(Self::StackPointer),
+            "__tls_base" => Some(Self::TlsBase),
+            "__tls_size" => Some(Self::TlsSize),
+            "__tls_align" => Some(Self::TlsAlign),
+            "__wasm_call_ctors" => Some(Self::CallCtors),
+            "__wasm_init_tls" => Some(Self::InitTls),
+            _ => None,
+        }
     }
 
     /// Whether the linker makes it under these options, where something asks for it.

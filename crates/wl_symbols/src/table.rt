@@ -1,16 +1,16 @@
 //! Which definition each name has.
 
-ghost use Rattle.std.specs.Prelude.{◌≡◌, ◌↔◌, ◌+◌, ◌*◌, ◌<◌, ◌≤◌, IfOk, OnOk, IfErr, IsTrue, IsSome, is_some, option_map};
+ghost use Rattle.std.specs.Prelude.{◌≡◌, ◌↔◌, ◌+◌, ◌*◌, ◌<◌, ◌≤◌, length, IfOk, OnOk, IfErr, IsTrue, IsSome, is_some, option_map};
 ghost use Rattle.wl_linking.specs.Steps.{Clear, Refuses};
 ghost use Rattle.wl_symbols.specs.Link.{link_of};
-ghost use Rattle.wl_symbols.specs.Entries.{symbol_in, symbol_count};
-ghost use Rattle.wl_symbols.specs.Names.{named, def_for, def};
+ghost use Rattle.wl_symbols.specs.Entries.{symbol_in, symbol_count, entries_of};
+ghost use Rattle.wl_symbols.specs.Names.{named, def};
 ghost use Rattle.wl_symbols.specs.Repeats.{HasOneStrong, refusal_of, IsDuplicate};
 
 use crate::adding::{Repeat, add_files};
 use crate::args::WasmArgs;
-use crate::entry::{Definition, is_private};
-use crate::linker_symbol::WasmLinkerSymbol;
+use crate::definitions::DefinitionRows;
+use crate::entry::Definition;
 use crate::names::{CountedNames, NameMap};
 use std::alloc::{AllocError, Global};
 use std::marker::{Brand, Model};
@@ -25,18 +25,20 @@ pub struct SymbolTable<'f, 'a> {
     files: &'f FileList<'a>,
     args: &'f WasmArgs,
     names: NameMap<'a>,
+    definitions: DefinitionRows,
 }
 
 impl<'f, 'a> Model for SymbolTable<'f, 'a> {
     ghost use Rattle.wl_symbols.specs.Link.{Link, link_of};
-    ghost use Rattle.wl_symbols.specs.Entries.{entries_of};
-    ghost use Rattle.wl_symbols.specs.Adding.{Holds, firsts_in};
+    ghost use Rattle.wl_symbols.specs.Adding.{firsts_in};
+    ghost use Rattle.wl_symbols.specs.Definitions.{IsTable};
 
     ghost Value = { Link };
 
     ghost view = { λ t. link_of t.files.now t.args.now };
 
-    ghost invariant = { λ t. Holds (firsts_in t.names.firsts) (entries_of 0 t.files.now) };
+    ghost invariant = { λ t. IsTable (link_of t.files.now t.args.now) (firsts_in t.names.firsts)
+        t.definitions.rows.items };
 }
 
 /// The refusal of two strong symbols of one name.
@@ -71,8 +73,9 @@ impl<'f, 'a> SymbolTable<'f, 'a> {
         build_uncounted::<Brand>(alloc, files, args, Blank::new(1))
     }
 
-    /// The same in steps that are counted: each is a call on the map of names, and there are at
-    /// most two for each symbol.
+    /// The same in steps that are counted: each is a call on the map of names. There are three for
+    /// each symbol that other objects know by a name: what the name has is asked for, one more
+    /// symbol is put to it, and once all are there it is asked what the name stands for.
     ///
     /// # Errors
     /// As [`SymbolTable::build`].
@@ -86,16 +89,20 @@ impl<'f, 'a> SymbolTable<'f, 'a> {
         ensures one { OnOk result (HasOneStrong files.now) }
         ensures clear { OnOk result (Clear (IsDuplicate files.now)) }
         ensures err { IfErr result (Refuses (IsDuplicate files.now)) }
-        ensures cost { steps.new ≤ steps.old + 2 * symbol_count files.now }
+        ensures counted { OnOk result
+            (steps.new ≡ steps.old + 3 * length (entries_of 0 files.now)) }
+        ensures cost { steps.new ≤ steps.old + 3 * symbol_count files.now }
     {
         let mut names = CountedNames::new(alloc);
         if let Some(repeat) = add_files(&mut names, files.as_slice(), steps)? {
             return Err(duplicate(alloc, &repeat)?);
         }
+        let definitions = DefinitionRows::of(alloc, &names, files, args, steps)?;
         Ok(SymbolTable {
             files,
             args,
             names: names.finish(),
+            definitions,
         })
     }
 
@@ -118,22 +125,7 @@ impl<'f, 'a> SymbolTable<'f, 'a> {
     pub fn lookup(&self, name: &str) -> Option<Definition>
         ensures { result ≡ named self.now name.now }
     {
-        let made = WasmLinkerSymbol::parse_existing(name, self.args);
-        self.names.firsts(name).choose(made)
-    }
-
-    /// What this symbol, of those numbers, stands for.
-    fn definition_of(&self, object: usize, number: u32, symbol: &WasmSymbol<'_>) -> Definition
-        ensures { result ≡ def_for self.now object number symbol.now }
-    {
-        let itself = Definition::Symbol {
-            object,
-            symbol: number,
-        };
-        if is_private(symbol) {
-            return itself;
-        }
-        self.lookup(symbol.name).unwrap_or(itself)
+        self.names.firsts(name).choose(name, self.args)
     }
 
     /// The symbol of that number in the object of that number, if there is one.
@@ -152,22 +144,29 @@ impl<'f, 'a> SymbolTable<'f, 'a> {
         object < files.len() && (symbol as usize) < files[object].symbols().len()
     }
 
+    /// What the symbol of those numbers stands for. Where there is none, it is told itself.
+    fn definition_or_itself(&self, object: usize, symbol: u32) -> Definition
+        ensures { result ≡ def self.now object symbol }
+    {
+        self.definitions
+            .get(object, symbol)
+            .unwrap_or(Definition::Symbol { object, symbol })
+    }
+
     /// What a symbol stands for: itself, where it is local or has no name, and else what its name
     /// does.
     pub fn definition(&self, object: usize, symbol: u32) -> Definition
         requires { IsSome (symbol_in self.now.objects object symbol) }
         ensures { result ≡ def self.now object symbol }
     {
-        let symbols = self.files.as_slice()[object].symbols();
-        self.definition_of(object, symbol, &symbols[symbol as usize])
+        self.definition_or_itself(object, symbol)
     }
 
-    /// Whether a symbol stands for itself.
+    /// Whether a symbol stands for itself. Where there is none of those numbers, it does.
     pub fn is_canonical(&self, object: usize, symbol: u32) -> bool
-        requires { IsSome (symbol_in self.now.objects object symbol) }
         ensures { IsTrue result ↔ (def self.now object symbol ≡ Definition.Symbol object symbol) }
     {
-        self.definition(object, symbol) == Definition::Symbol { object, symbol }
+        self.definition_or_itself(object, symbol) == Definition::Symbol { object, symbol }
     }
 }
 

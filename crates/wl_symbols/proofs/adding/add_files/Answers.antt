@@ -4,6 +4,7 @@ use Rattle.wl_linking.specs.Object.{Object}
 use Rattle.wl_symbols.specs.Entries.{entries_from, entries_of, symbol_count}
 use Rattle.wl_symbols.specs.Adding.{firsts_in}
 use Rattle.wl_symbols.proofs.AdditionLaws.{adds_all, meets_all, objects_split, objects_more}
+use Rattle.wl_symbols.proofs.CountLaws.{objects_counted}
 use Rattle.wl_symbols.proofs.adding.add_files.Goals as goal
 
 pub returns-in-Some-clause-adds : goal.returns-in-Some-clause-adds
@@ -34,5 +35,8 @@ loop-object-preserved g c =
       adds = rw (objects_more k files o c.loop-object-test.true c.index-files-object.is)
           (adds_all (firsts_in c.args.names.now.names.firsts) (firsts_in c.loop-object.names.names.firsts) (firsts_in c.add_symbols.new.names.names.firsts) (entries_of 0 (take k files)) (entries_from k 0 o.symbols) c.loop-object.invariant.adds
           (rw (c.in_default.is, c.symbols.ensures) at c.in_ok-repeat.ensures.adds));
+      counted = (let told = rw (c.in_default.is, c.symbols.ensures) at c.in_ok-repeat.ensures.counted in
+          let all = objects_counted k files o c.loop-object-test.true c.index-files-object.is in
+          omega (arith, told, all));
       cost = omega arith;
     }

@@ -1,7 +1,9 @@
-use Rattle.std.proofs.Common.{[]}
+use Rattle.std.proofs.Common.{[], ◌∙◌}
+use Rattle.wl_symbols.specs.Link.{link_of}
 use Rattle.wl_symbols.specs.Entries.{entries_of}
 use Rattle.wl_symbols.specs.Adding.{firsts_in, Adds, Meets}
 use Rattle.wl_symbols.proofs.AdditionLaws.{none_none}
+use Rattle.wl_symbols.proofs.RowLaws.{rows_by}
 use Rattle.wl_symbols.proofs.RepeatLaws.{one_strong, none_twice, first_repeat}
 use Rattle.wl_symbols.proofs.table.SymbolTable.build_counted.Goals as goal
 
@@ -13,7 +15,12 @@ returns-in-Some-clause-err g c =
 pub invariant_of-result : goal.invariant_of-result
 invariant_of-result g c =
     let adds : Adds (firsts_in c.new-names.result.names.firsts) (firsts_in c.add_files.new.names.names.firsts) (entries_of 0 c.args.files.now) = rw (c.in_default.is, c.as_slice.ensures.objects) at c.in_ok-repeat.ensures.adds in
-    rw c.finish.ensures (adds.found [] c.new-names.ensures)
+    let holds = adds.found [] c.new-names.ensures in
+    let link = link_of c.args.files.now c.args.args.now in
+    rw c.finish.ensures (record {
+      holds = holds;
+      rows_are = c.in_ok-definitions.ensures.rows ∙ rows_by link (firsts_in c.add_files.new.names.names.firsts) holds;
+    })
 
 pub returns-clause-one : goal.returns-clause-one
 returns-clause-one g c =

@@ -4,5 +4,5 @@ use Rattle.wl_symbols.proofs.table.SymbolTable.lookup.Goals as goal
 
 pub returns : goal.returns
 returns c =
-    let found : c.firsts.result ≡ firsts_of c.args.name.now (entries_of 0 c.self.inside.files.now) = c.firsts.ensures ∙ c.self.invariant c.args.name.now in
-    c.choose.ensures ∙ rw (found, c.parse_existing-made.ensures, ← c.self.view_is) refl
+    let found : c.firsts.result ≡ firsts_of c.args.name.now (entries_of 0 c.self.inside.files.now) = c.firsts.ensures ∙ c.self.invariant.holds c.args.name.now in
+    c.choose.ensures ∙ rw (found, ← c.self.view_is) refl
