@@ -1,8 +1,7 @@
 -- There are facts of any objects: that there are none is impossible.
 use Rattle.std.specs.Prelude.{MatchOption}
-use Rattle.std.proofs.Common.{◌≡◌, ◌⊎◌, ℕ, zero, suc, ◌+◌, ◌<◌, ◌≤◌, List, [], ◌∷◌, ◌++◌, length, inl, inr, refl, subst, arith, Option, Some, None, slice_get, Contains}
+use Rattle.std.proofs.Common.{◌≡◌, ◌⊎◌, ℕ, zero, suc, ◌+◌, ◌<◌, ◌≤◌, List, [], ◌∷◌, ◌++◌, length, inl, inr, refl, subst, arith, Option, Some, None, slice_get}
 use Rattle.wl_module.specs.Bodies.{Body}
-use Rattle.wl_module.specs.Globals.{DefinedGlobal as GlobalRecord}
 use Rattle.wl_module.specs.declared.error.ReadError.{ReadError}
 use Rattle.wl_linking.specs.Object.{Object}
 use Rattle.wl_ops.specs.Decoding.{AreTaken}
@@ -11,7 +10,7 @@ use Rattle.wl_ops.specs.declared.op.Op.{Op}
 use Rattle.wl_ops.specs.declared.op.DataIndexImm.{DataIndexImm}
 use Rattle.wl_ops.proofs.NumberLaws.{marked_body}
 use Rattle.wl_live.specs.Faults.{HasBodyFault, HasGlobalFault}
-use Rattle.wl_live.specs.Facts.{Facts, uses_of, slot_uses, segment_uses, faults_of, AreSegmentUses, AreFaults, FaultsOfBodies, AreFacts, AreAllFacts}
+use Rattle.wl_live.specs.Facts.{Facts, uses_of, slot_uses, segment_uses, faults_of, AreSegmentUses, FaultsOfBodies, AreFacts, AreAllFacts}
 use Rattle.wl_live.specs.declared.object_facts.SegmentUse.{SegmentUse}
 use Rattle.wl_live.specs.declared.object_facts.UnitFault.{UnitFault}
 use Rattle.wl_live.specs.declared.units.WasmGcUnit.TheVariants.{DefinedFunction, DefinedGlobal}
