@@ -1,7 +1,7 @@
 -- The edges of the table are the references, and its roots are the roots.
-use Rattle.std.proofs.Common.{◌≡◌, ℕ, ◌↔◌, true, List, sym, ◌∙◌, subst, ap, All, Contains}
+use Rattle.std.proofs.Common.{◌≡◌, ◌↔◌, true, List, subst, Contains}
 use Rattle.wl_symbols.specs.Link.{Link}
-use Rattle.wl_live.specs.Units.{units_of, exists, unit_number, unit_number_if, total_of}
+use Rattle.wl_live.specs.Units.{units_of, exists, unit_number, unit_number_if}
 use Rattle.wl_live.specs.References.{Refers}
 use Rattle.wl_live.specs.Roots.{IsRoot}
 use Rattle.wl_live.specs.Facts.{Facts, AreAllFacts}

@@ -12,3 +12,5 @@ pub mod KeptLaws
 pub mod OneLaws
 pub mod DenseLaws
 pub mod GraphLaws
+pub mod StepLaws
+pub mod WitnessLaws

@@ -1,11 +1,13 @@
 -- What a live set knows.
-use Rattle.std.specs.Prelude.{◌≡◌, ℕ, zero, suc, ◌+◌, ◌&&◌, Bool, true, false, if◌then◌else◌, List, Option, Some, None, Contains, length, slice_index_or}
+use Rattle.std.specs.Prelude.{◌≡◌, ℕ, zero, suc, ◌+◌, ◌&&◌, Bool, true, false, if◌then◌else◌, List, Option, Some, None, Contains, length, count_by, slice_index_or}
 use Rattle.wl_module.specs.declared.error.ReadError.{ReadError}
+use Rattle.wl_reach.specs.Marks.{count_set}
 use Rattle.wl_reach.specs.Search.{IsReached}
 use Rattle.wl_symbols.specs.Link.{Link}
 use Rattle.wl_live.specs.Units.{units_of, total_of, exists, unit_number, unit_index, sibling_of}
 use Rattle.wl_live.specs.Kept.{IsKept}
-use Rattle.wl_live.specs.Table.{Begins, Leads}
+use Rattle.wl_live.specs.Facts.{Facts}
+use Rattle.wl_live.specs.Table.{Begins, Leads, references}
 use Rattle.wl_live.specs.declared.object_facts.UnitFault.{UnitFault}
 use Rattle.wl_live.specs.declared.references.Reference.{Reference}
 use Rattle.wl_live.specs.declared.units.LinkUnit.{LinkUnit}
@@ -54,6 +56,21 @@ pub record UnitsReached
       → IsReached (Begins ns begins) (Leads ns refs) u
   pub every : (u : LinkUnit) → exists ns u ≡ true → IsReached (Begins ns begins) (Leads ns refs) u
       → slice_index_or marks (unit_number ns u) false ≡ true
+
+-- ---- steps
+
+-- the reference leads from a live unit to one that exists
+abbrev pub is_followed : Live → Reference → Bool
+is_followed live r = exists live.units r.to && is_live live r.from
+
+-- a step for each unit that is live, and one for each of the references that lead from one
+abbrev pub search_steps : Live → List Reference → ℕ
+search_steps live refs = count_set live.marks + count_by (is_followed live) refs
+
+-- the steps in which the live units are found; none where all are kept without a search
+abbrev pub steps_to : Link → List Facts → Live → ℕ
+steps_to link facts live =
+    if link.args.gc_sections then search_steps live (references link live.units facts) else 0
 
 -- ---- refusals
 

@@ -6,7 +6,7 @@ ghost use Rattle.wl_symbols.specs.Link.{link_of};
 ghost use Rattle.wl_live.specs.Faults.{IsKeptFault};
 ghost use Rattle.wl_live.specs.Facts.{Facts, AreAllFacts};
 ghost use Rattle.wl_live.specs.Table.{most_steps};
-ghost use Rattle.wl_live.specs.Live.{IsLiveOf};
+ghost use Rattle.wl_live.specs.Live.{IsLiveOf, steps_to};
 
 use crate::live_set::LiveSet;
 use crate::marking::mark_units;
@@ -36,6 +36,8 @@ fn collect_from_counted<L: Ledger>(
     ensures live { IfOk result (IsLiveOf symbols.now) }
     ensures clear { OnOk result (Clear (IsKeptFault symbols.now)) }
     ensures err { IfErr result (Refuses (IsKeptFault symbols.now)) }
+    ensures steps { IfOk result
+        (λ live. steps.new ≡ steps.old + steps_to symbols.now facts.now live) }
     ensures cost { steps.new ≤ steps.old + most_steps symbols.now facts.now }
 {
     let numbers = UnitNumbers::new(alloc, files)?;
@@ -62,6 +64,8 @@ pub fn collect_live_counted<L: Ledger>(
     ensures live { IfOk result (IsLiveOf symbols.now) }
     ensures clear { OnOk result (Clear (IsKeptFault symbols.now)) }
     ensures err { IfErr result (Refuses (IsKeptFault symbols.now)) }
+    ensures steps { IfOk result (λ live. (facts : List Facts) × AreAllFacts files.now facts
+        × (steps.new ≡ steps.old + steps_to symbols.now facts live)) }
     ensures cost { (facts : List Facts) → AreAllFacts files.now facts
         → steps.new ≤ steps.old + most_steps symbols.now facts }
 {
@@ -113,6 +117,26 @@ pub fn collect_live_from(
     collect_from_uncounted::<Brand>(alloc, files, facts, symbols, args, Blank::new(1))
 }
 
+/// The same where nobody asks for the steps.
+fn collect_live_uncounted<L: Ledger>(
+    alloc: Global,
+    files: &FileList<'_>,
+    symbols: &SymbolTable<'_, '_>,
+    args: &WasmArgs,
+    blank: Blank,
+) -> Result<LiveSet, LinkError>
+    requires name { blank.name ≡ L.name }
+    requires parts { blank.parts ≡ L.parts }
+    requires some { 0 < blank.parts }
+    requires fit { symbols.now ≡ link_of files.now args.now }
+    ensures live { IfOk result (IsLiveOf symbols.now) }
+    ensures clear { OnOk result (Clear (IsKeptFault symbols.now)) }
+    ensures err { IfErr result (Refuses (IsKeptFault symbols.now)) }
+{
+    let mut steps = Steps::<L>::start(blank);
+    collect_live_counted(alloc, files, symbols, args, &mut steps)
+}
+
 /// The units that are kept: all where collection is off, and else those to which a chain of
 /// references leads from what is kept by itself.
 ///
@@ -132,6 +156,5 @@ pub fn collect_live(
     ensures clear { OnOk result (Clear (IsKeptFault symbols.now)) }
     ensures err { IfErr result (Refuses (IsKeptFault symbols.now)) }
 {
-    let facts = all_facts(alloc, files)?;
-    collect_live_from(alloc, files, &facts, symbols, args)
+    collect_live_uncounted::<Brand>(alloc, files, symbols, args, Blank::new(1))
 }

@@ -26,8 +26,8 @@ pub use collecting::{collect_live, collect_live_counted, collect_live_from};
 pub use entry::{check_entry, is_defined_function, is_function_kind};
 pub use graphing::{UnitGraph, unit_graph};
 pub use laws::{
-    kept_units_are_closed, live_sets_are_one, live_units_are_closed, ordinals_are_dense,
-    undecoded_bodies_refer_to_none, units_are_numbered,
+    facts_exist, kept_units_are_closed, live_sets_are_one, live_units_are_closed,
+    ordinals_are_dense, references_are_listed, undecoded_bodies_refer_to_none, units_are_numbered,
 };
 pub use live_set::LiveSet;
 pub use numbers::UnitNumbers;

@@ -5,7 +5,7 @@ ghost use Rattle.std.specs.Option.{option_to_list};
 ghost use Rattle.wl_live.specs.Units.{units_of, unit_number_if, total_of};
 ghost use Rattle.wl_live.specs.Facts.{AreAllFacts};
 ghost use Rattle.wl_live.specs.Table.{edge_of, found, most_steps};
-ghost use Rattle.wl_live.specs.Live.{IsLiveOf, UnitsReached};
+ghost use Rattle.wl_live.specs.Live.{IsLiveOf, UnitsReached, search_steps, steps_to};
 
 use crate::numbers::UnitNumbers;
 use crate::object_facts::ObjectFacts;
@@ -88,6 +88,8 @@ fn reach_units<L: Ledger>(
 ) -> Result<Marks, AllocError>
     ensures each { IfOk result (λ m. length m ≡ total_of numbers.now) }
     ensures marks { IfOk result (UnitsReached numbers.now references.now roots.now) }
+    ensures steps { IfOk result (λ m. steps.new ≡ steps.old
+        + search_steps (record { units = numbers.now; marks = m }) references.now) }
     ensures cost { steps.new ≤ steps.old + (total_of numbers.now
         + length (found (edge_of numbers.now) references.now)) }
 {
@@ -113,6 +115,8 @@ pub(crate) fn mark_units<L: Ledger>(
     ensures each { IfOk result (λ m. length m ≡ total_of numbers.now) }
     ensures marks { IfOk result
         (λ m. IsLiveOf symbols.now (record { units = numbers.now; marks = m })) }
+    ensures steps { IfOk result (λ m. steps.new ≡ steps.old
+        + steps_to symbols.now facts.now (record { units = numbers.now; marks = m })) }
     ensures cost { steps.new ≤ steps.old + most_steps symbols.now facts.now }
 {
     numbers_are_one();

@@ -4,7 +4,7 @@ use Rattle.std.proofs.lemmas.Bool.{cases_eq}
 use Rattle.std.proofs.lemmas.List.{length-set, length-replicate, get_or-replicate, same_lists}
 use Rattle.std.proofs.lemmas.List.Sums.{sum_by-cons}
 use Rattle.wl_reach.specs.declared.graph.Edge.{Edge}
-use Rattle.wl_reach.specs.Graph.{targets_of, graph_of}
+use Rattle.wl_reach.specs.Graph.{graph_of}
 use Rattle.wl_reach.specs.Marks.{count_set}
 use Rattle.wl_reach.specs.Search.{steps_of}
 use Rattle.wl_reach.proofs.GraphLaws.{targets_of_none, targets_of-cons_same, targets_of-cons_other, length-graph_of, get_or-graph_of}

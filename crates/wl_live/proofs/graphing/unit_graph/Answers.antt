@@ -1,4 +1,3 @@
-use Rattle.std.proofs.Common.{◌≡◌}
 use Rattle.wl_live.specs.Facts.{AreAllFacts}
 use Rattle.wl_live.proofs.GraphLaws.{graph_is}
 use Rattle.wl_live.proofs.graphing.unit_graph.Goals as goal

@@ -1,4 +1,4 @@
-use Rattle.std.proofs.Common.{◌≡◌, ◌∙◌, ap, true, false, rules, replicate, ℕ}
+use Rattle.std.proofs.Common.{◌≡◌, ◌∙◌, ap, arith, true, false, rules, replicate, ℕ}
 use Rattle.wl_live.proofs.ReferenceLaws.{live_all, live_reached}
 use Rattle.wl_live.proofs.marking.mark_units.Goals as goal
 
@@ -12,3 +12,15 @@ returns-clause-marks g c =
     let on : c.args.args.now.gc_sections ≡ true = search rules in
     live_reached c.numbers_are_one.ensures.one c.args.symbols.now c.args.numbers.now c.args.facts.now c.in_ok-marks-2.marks c.requires.units c.requires.facts (rw c.requires.args at on) c.in_ok-marks-2.ensures.each
     (rw (c.deref.ensures.value, c.in_ok-references.ensures, c.deref-2.ensures.value, c.in_ok-roots.ensures) at c.in_ok-marks-2.ensures.marks)
+
+pub returns-then-not-args-clause-steps : goal.returns-then-not-args-clause-steps
+returns-then-not-args-clause-steps g c =
+    let off : c.args.args.now.gc_sections ≡ false = search rules in
+    let here : c.args.symbols.now.args.gc_sections ≡ false = rw c.requires.args at off in
+    rw here (omega arith)
+
+pub returns-clause-steps : goal.returns-clause-steps
+returns-clause-steps g c =
+    let on : c.args.args.now.gc_sections ≡ true = search rules in
+    let here : c.args.symbols.now.args.gc_sections ≡ true = rw c.requires.args at on in
+    rw here (rw (c.deref.ensures.value, c.in_ok-references.ensures) at c.in_ok-marks-2.ensures.steps)
