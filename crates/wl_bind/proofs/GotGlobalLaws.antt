@@ -1,8 +1,9 @@
 -- The globals of the symbols of an object.
-use Rattle.std.proofs.Common.{◌≡◌, ◌∙◌, ◌||◌, ◌<◌, ◌≤◌, ◌^◌, ℕ, ◌+◌, Bool, List, [], ◌∷◌, ◌++◌, length, map, get_or, take, position, refl, sym, ap, subst, arith, Option, Some, None, slice_get}
+use Rattle.std.proofs.Common.{◌≡◌, ◌∙◌, ◌||◌, ◌&&◌, ◌<◌, ◌≤◌, ◌^◌, ℕ, zero, suc, ◌+◌, Bool, true, false, if◌then◌else◌, List, [], ◌∷◌, ◌++◌, length, map, replicate, get_or, take, position, refl, sym, ap, subst, arith, Option, Some, None, slice_get, ◌==◌, Result, Ok, Err, IfOk}
 use Rattle.std.specs.List.{list_any, range_with_len}
-use Rattle.std.specs.Option.{IsSome, option_and_then}
-use Rattle.std.proofs.lemmas.List.{take_more}
+use Rattle.std.specs.Option.{IsSome, option_map, option_and_then}
+use Rattle.std.proofs.lemmas.Bool.{eqb-true}
+use Rattle.std.proofs.lemmas.List.{take_more, nil_from_length}
 use Rattle.std.proofs.lemmas.List.Folds.{list_any-append}
 use Rattle.std.proofs.lemmas.List.FromFn.{length-map-range_with_len, get_or-map-range_with_len}
 use Rattle.std.proofs.lemmas.Option.{get_or_from_slice_get}
@@ -13,14 +14,14 @@ use Rattle.wl_symbols.specs.Entries.{symbol_in}
 use Rattle.wl_symbols.specs.Names.{def}
 use Rattle.wl_symbols.specs.declared.entry.Definition.{Definition}
 use Rattle.wl_bind.specs.FunctionSymbols.{fun}
-use Rattle.wl_bind.specs.GlobalSpace.{GlobalOf, global_parts, got_mem_part, got_func_part}
+use Rattle.wl_bind.specs.GlobalSpace.{GlobalOf, global_space, global_parts, got_mem_part, got_func_part}
 use Rattle.wl_bind.specs.GlobalSteps.{marked}
-use Rattle.wl_bind.specs.IndexMaps.{is_global_of, mem_place, func_place}
+use Rattle.wl_bind.specs.IndexMaps.{is_global_of, has_global, is_data_symbol, mem_place, got_mem_global, got_mem_globals, func_place, got_func_global, got_func_globals}
 use Rattle.wl_bind.specs.Input.{Input}
 use Rattle.wl_bind.specs.Numbering.{IsNumbering}
 use Rattle.wl_bind.specs.Parts.{IsPlaceOf, ArePlacesOf, HasEntry}
 use Rattle.wl_bind.specs.Sameness.{same_definition, same_pair}
-use Rattle.wl_bind.specs.Scan.{is_global_index, got_mem, got_func, got_mem_entry, got_func_entry, GotMemEntry, GotFuncEntry}
+use Rattle.wl_bind.specs.Scan.{Scanned, is_global_index, got_mem, got_func, got_mem_entry, got_func_entry, GotMemEntry, GotFuncEntry}
 use Rattle.wl_bind.specs.declared.binding.FunctionTarget.{FunctionTarget}
 use Rattle.wl_bind.specs.declared.binding.GlobalTarget.TheVariants.{GotMem, GotFunc}
 use Rattle.wl_bind.specs.declared.numbering.Numbering.{Numbering}
@@ -97,6 +98,58 @@ func_has n is object number place at =
     (fun input object number) place at in
     has_entry (global_parts input) n.indices.now.globals 9 10 place (length (got_func_part input))
     is.indices.globals refl refl (omega (arith, lt, long))
+
+-- ---- where a GOT list is empty
+
+-- no index is one of none
+all_none : {X : Type 0} (space : List X) (f : ℕ → Option X) (from n : ℕ)
+    → ((k : ℕ) → f k ≡ None) → ArePlacesOf space (map f (range_with_len from n)) (replicate n None)
+all_none space f from zero none = tt
+all_none {X} space f from (suc n) none = (
+  subst (λ (o : Option X). IsPlaceOf space o None) (sym (none from)) refl,
+  all_none space f (from + 1) n none,
+)
+
+at_none : {X : Type 0} (b : Bool) (f : ℕ → X) (place : Option ℕ) → place ≡ None
+    → (if b then option_map f place else None) ≡ None
+at_none true f place e = ap (option_map f) e
+at_none false f place e = refl
+
+no_func_place : (input : Input) (d : Definition) (o : Option FunctionTarget)
+    → [] ≡ map (got_func_entry input) (got_func input)
+    → option_and_then (λ f. position (same_pair (d, f)) (got_func input)) o ≡ None
+no_func_place input d None empty = refl
+no_func_place input d (Some f) empty = sym (func_placed input [] d f empty)
+
+-- an empty list has no place, so no symbol has a global
+pub mem_none : (input : Input) (object : ℕ) (o : Object) (mems : List GotMemEntry)
+    → mems ≡ map (got_mem_entry input) (got_mem input) → (length mems == 0) ≡ true
+    → ArePlacesOf (global_space input) (got_mem_globals input object o)
+    (replicate (length o.symbols) None)
+mem_none input object o mems are empty =
+    let none : [] ≡ map (got_mem_entry input) (got_mem input) =
+    sym (nil_from_length mems (eqb-true (length mems) 0 empty)) ∙ are in
+    all_none (global_space input) (got_mem_global input object o) 0 (length o.symbols) (λ k.
+    at_none (is_data_symbol input object k && has_global input object o k)
+    (λ p. GlobalOf (GotMem p)) (mem_place input object k)
+    (sym (mem_placed input [] (def input.link object k) none)))
+
+pub func_none : (input : Input) (object : ℕ) (o : Object) (funcs : List GotFuncEntry)
+    → funcs ≡ map (got_func_entry input) (got_func input) → (length funcs == 0) ≡ true
+    → ArePlacesOf (global_space input) (got_func_globals input object o)
+    (replicate (length o.symbols) None)
+func_none input object o funcs are empty =
+    let none : [] ≡ map (got_func_entry input) (got_func input) =
+    sym (nil_from_length funcs (eqb-true (length funcs) 0 empty)) ∙ are in
+    all_none (global_space input) (got_func_global input object o) 0 (length o.symbols) (λ k.
+    at_none (has_global input object o k) (λ p. GlobalOf (GotFunc p)) (func_place input object k)
+    (no_func_place input (def input.link object k) (fun input object k) none))
+
+-- what is so of the one thing that a call may answer is so of what it answers
+pub so_of_answer : {X E : Type 0} (P : X → Type 0) (r : Result X E) (x : X)
+    → IfOk r (λ y. y ≡ x) → P x → IfOk r P
+so_of_answer P (Ok y) x same p = subst P (sym same) p
+so_of_answer P (Err e) x same p = tt
 
 -- ---- by symbols
 

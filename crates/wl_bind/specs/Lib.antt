@@ -5,6 +5,7 @@ pub mod FunctionBinding
 pub mod FunctionSymbols
 pub mod FunctionTypes
 pub mod Relocations
+pub mod KeptUnits
 pub mod KeptRelocations
 pub mod Scan
 pub mod GlobalBinding

@@ -1,6 +1,6 @@
 //! The globals that hold the addresses and slots of the symbols of an object.
 
-ghost use Rattle.std.specs.Prelude.{◌≡◌, map, length, IfOk, IsSome, Some, slice_get};
+ghost use Rattle.std.specs.Prelude.{◌≡◌, map, length, replicate, IfOk, IsSome, Some, None, slice_get};
 ghost use Rattle.std.specs.List.{range_with_len};
 ghost use Rattle.wl_symbols.specs.Entries.{symbol_in};
 ghost use Rattle.wl_bind.specs.FunctionSymbols.{function_bindings};
@@ -48,6 +48,16 @@ fn global_marks(
         mark_symbol(&mut marks, &relocated);
     }
     Ok(marks)
+}
+
+// ---- where nothing asks for a global
+
+/// No global for each of so many symbols.
+fn no_globals(alloc: Global, count: usize) -> Result<ItemList<Option<u32>>, AllocError>
+    ensures { IfOk result (λ globals. globals ≡ replicate count None) }
+{
+    let globals: Vec<Option<u32>> = vec![in alloc; None; count]?;
+    Ok(ItemList::new(globals))
 }
 
 // ---- data
@@ -120,6 +130,10 @@ pub(crate) fn got_mem_globals(
     ensures { let input = numbering.now.input.now in IfOk result
         (ArePlacesOf (global_space input) (got_mem_globals input object file.now)) }
 {
+    let scan = numbering.scan;
+    if scan.got_mem.is_empty() {
+        return no_globals(alloc, file.symbols().len());
+    }
     file.stands_for_an_object();
     let marks = global_marks(alloc, numbering.input, object, file)?;
     let mut globals = ItemList::empty(alloc);
@@ -208,6 +222,10 @@ pub(crate) fn got_func_globals(
     ensures { let input = numbering.now.input.now in IfOk result
         (ArePlacesOf (global_space input) (got_func_globals input object file.now)) }
 {
+    let scan = numbering.scan;
+    if scan.got_func.is_empty() {
+        return no_globals(alloc, file.symbols().len());
+    }
     file.stands_for_an_object();
     let marks = global_marks(alloc, numbering.input, object, file)?;
     let mut globals = ItemList::empty(alloc);

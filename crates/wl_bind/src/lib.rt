@@ -19,6 +19,7 @@ mod got_globals;
 mod index_maps;
 mod indices;
 mod input;
+mod kept_units;
 mod kinds;
 mod later;
 mod laws;

@@ -2,12 +2,12 @@
 
 ghost use Rattle.std.specs.Prelude.{◌≡◌, []};
 ghost use Rattle.std.specs.Iterator.{YieldsFirst};
-ghost use Rattle.wl_live.specs.Live.{Live};
 ghost use Rattle.wl_bind.specs.KeptRelocations.{object_left, section_left, relocations_left};
-ghost use Rattle.wl_bind.specs.Relocations.{unit_in, object_relocations};
+ghost use Rattle.wl_bind.specs.Relocations.{unit_in, relocated_in, object_relocations};
 ghost use Rattle.wl_bind.specs.Scan.{relocations};
 
 use crate::input::LinkInput;
+use crate::kept_units::SectionUnits;
 use wl_linking::{File, Site, WasmRelocation};
 use wl_live::{LiveSet, WasmGcUnit};
 
@@ -34,7 +34,7 @@ pub struct Relocated {
 }
 
 /// The unit of that number: a function's in code, a segment's in data.
-fn unit_in(place: FixupPlace, unit: u32) -> WasmGcUnit
+pub(crate) fn unit_in(place: FixupPlace, unit: u32) -> WasmGcUnit
     ensures { result ≡ unit_in place unit }
 {
     match place {
@@ -45,90 +45,87 @@ fn unit_in(place: FixupPlace, unit: u32) -> WasmGcUnit
 
 // ---- one after the other
 
-/// What is left of the relocations of a section, and where their fields lie.
+/// What is left of the relocations of a section of an object, and where their fields lie.
 #[derive(Drop)]
 struct SectionRest<'k> {
+    units: SectionUnits<'k>,
     listed: &'k [WasmRelocation],
     sites: &'k [Site],
 }
 
-/// Takes relocations of a section off up to the first that is kept, and gives that.
-fn next_in(
-    live: &LiveSet,
-    place: FixupPlace,
-    object: usize,
-    section: &mut SectionRest<'_>,
-) -> Option<Relocated>
-    ensures { YieldsFirst (section_left live.now place object) section.old result section.new }
-{
-    while let Some((relocation, listed)) = section.listed.split_first() {
-        let (site, sites) = section.sites.split_first()?;
-        section.listed = listed;
-        section.sites = sites;
-        if live.is_live(object, unit_in(place, site.unit)) {
-            return Some(Relocated {
-                object,
-                place,
-                relocation: *relocation,
-                site: *site,
-            });
+impl<'k> SectionRest<'k> {
+    /// All relocations of a section.
+    fn new(units: SectionUnits<'k>, listed: &'k [WasmRelocation], sites: &'k [Site]) -> Self
+        ensures { let u = units.entry in section_left result
+            ≡ relocated_in u.live.now u.place u.object listed.now sites.now }
+    {
+        SectionRest {
+            units,
+            listed,
+            sites,
         }
     }
-    None
+
+    /// Takes relocations off up to the first that is kept, and gives that.
+    fn next_in(&mut self) -> Option<Relocated>
+        ensures { YieldsFirst section_left self.old result self.new }
+    {
+        while let Some((relocation, listed)) = self.listed.split_first() {
+            let (site, sites) = self.sites.split_first()?;
+            self.listed = listed;
+            self.sites = sites;
+            if self.units.keeps(site.unit) {
+                return Some(Relocated {
+                    object: self.units.object,
+                    place: self.units.place,
+                    relocation: *relocation,
+                    site: *site,
+                });
+            }
+        }
+        None
+    }
 }
 
 /// What is left of the relocations of an object.
 #[derive(Drop)]
 struct ObjectRest<'k> {
-    object: usize,
     code: SectionRest<'k>,
     data: SectionRest<'k>,
 }
 
 impl<'k> ObjectRest<'k> {
     /// All relocations of an object.
-    fn new(object: usize, file: &'k File<'_>) -> Self
-        ensures { (live : Live)
-            → object_left live result ≡ object_relocations live object file.now }
+    fn new(live: &'k LiveSet, object: usize, file: &'k File<'_>) -> Self
+        ensures { object_left result ≡ object_relocations live.now object file.now }
     {
+        let code = SectionUnits::new(live, FixupPlace::Code, object);
+        let data = SectionUnits::new(live, FixupPlace::Segment, object);
         ObjectRest {
-            object,
-            code: SectionRest {
-                listed: file.code_relocations(),
-                sites: file.code_sites(),
-            },
-            data: SectionRest {
-                listed: file.data_relocations(),
-                sites: file.data_sites(),
-            },
+            code: SectionRest::new(code, file.code_relocations(), file.code_sites()),
+            data: SectionRest::new(data, file.data_relocations(), file.data_sites()),
         }
     }
 
     /// No relocations.
-    fn none() -> Self
-        ensures { (live : Live) → object_left live result ≡ [] }
+    fn none(live: &'k LiveSet) -> Self
+        ensures { object_left result ≡ [] }
     {
+        let code = SectionUnits::new(live, FixupPlace::Code, 0);
+        let data = SectionUnits::new(live, FixupPlace::Segment, 0);
         ObjectRest {
-            object: 0,
-            code: SectionRest {
-                listed: &[],
-                sites: &[],
-            },
-            data: SectionRest {
-                listed: &[],
-                sites: &[],
-            },
+            code: SectionRest::new(code, &[], &[]),
+            data: SectionRest::new(data, &[], &[]),
         }
     }
 
     /// Takes relocations off up to the first that is kept, and gives that.
-    fn next_kept(&mut self, live: &LiveSet) -> Option<Relocated>
-        ensures { YieldsFirst (object_left live.now) self.old result self.new }
+    fn next_kept(&mut self) -> Option<Relocated>
+        ensures { YieldsFirst object_left self.old result self.new }
     {
-        let object = self.object;
-        match next_in(live, FixupPlace::Code, object, &mut self.code) {
+        match self.code.next_in() {
             Some(relocated) => Some(relocated),
-            None => next_in(live, FixupPlace::Segment, object, &mut self.data),
+            None => self.data.next_in(),
         }
     }
 }
@@ -155,14 +152,14 @@ impl<'k, 'a> Iterator for KeptRelocations<'k, 'a> {
 
     fn next(&mut self) -> Option<Relocated> {
         'objects: loop {
-            if let Some(relocated) = self.current.next_kept(self.live) {
+            if let Some(relocated) = self.current.next_kept() {
                 return Some(relocated);
             }
             let (files, next) = (self.files, self.next);
             if next >= files.len() {
                 return None;
             }
-            self.current = ObjectRest::new(next, &files[next]);
+            self.current = ObjectRest::new(self.live, next, &files[next]);
             self.next = next + 1;
         }
     }
@@ -176,12 +173,12 @@ pub(crate) fn kept_of_object<'k, 'a>(
 ) -> KeptRelocations<'k, 'a>
     ensures { relocations_left result ≡ object_relocations input.now.live object file.now }
 {
-    let files = input.files().as_slice();
+    let (live, files) = (input.live(), input.files().as_slice());
     KeptRelocations {
-        live: input.live(),
+        live,
         files,
         next: files.len(),
-        current: ObjectRest::new(object, file),
+        current: ObjectRest::new(live, object, file),
     }
 }
 
@@ -189,10 +186,11 @@ pub(crate) fn kept_of_object<'k, 'a>(
 pub fn kept_relocations<'k, 'a>(input: &LinkInput<'k, 'a>) -> KeptRelocations<'k, 'a>
     ensures { relocations_left result ≡ relocations input.now }
 {
+    let live = input.live();
     KeptRelocations {
-        live: input.live(),
+        live,
         files: input.files().as_slice(),
         next: 0,
-        current: ObjectRest::none(),
+        current: ObjectRest::none(live),
     }
 }

@@ -11,3 +11,5 @@ pub mod QuestionLaws
 pub mod ObjectLaws
 pub mod EndLaws
 pub mod PlacesLaws
+pub mod ApartLaws
+pub mod CopiedLaws

@@ -152,7 +152,7 @@ four {X} a b c d =
     let right : (a ++ c) ++ (b ++ d) ≡ a ++ ((c ++ b) ++ d) = simp append_assoc in
     rw (left, right) (IsPermutation-append_right a ((b ++ c) ++ d) ((c ++ b) ++ d) (IsPermutation-append_left d (b ++ c) (c ++ b) (IsPermutation-append_comm b c)))
 
-by_object_taken : (test : SegmentLayout → Bool) (cs os : List (List SegmentLayout)) → length cs ≡ length os → IsPermutation (taken test (in_one_row (by_object cs os))) (taken test (in_one_row cs) ++ taken test (in_one_row os))
+pub by_object_taken : (test : SegmentLayout → Bool) (cs os : List (List SegmentLayout)) → length cs ≡ length os → IsPermutation (taken test (in_one_row (by_object cs os))) (taken test (in_one_row cs) ++ taken test (in_one_row os))
 by_object_taken test [] [] e = IsPermutation-refl []
 by_object_taken test [] (o ∷ os) e = absurd (omega arith)
 by_object_taken test (c ∷ cs) [] e = absurd (omega arith)
@@ -164,7 +164,7 @@ by_object_taken test (c ∷ cs) (o ∷ os) e =
     let two = four (taken test c) (taken test o) (taken test (in_one_row cs)) (taken test (in_one_row os)) in
     rw (left, taken-append test c (in_one_row cs), taken-append test o (in_one_row os)) (IsPermutation-trans _ _ _ one two)
 
-same_count : (d : DataInput) (p : DataPlaces) (h : IsDataPlaces d p) → length h.common ≡ length h.own
+pub same_count : (d : DataInput) (p : DataPlaces) (h : IsDataPlaces d p) → length h.common ≡ length h.own
 same_count d p h =
     objects_count (pass_over d.options false) d.objects (record { memory = data_start d.options; block = 0 }) h.middle h.common h.places.common_laid
     ∙ sym (objects_count (pass_over d.options true) d.objects (record { memory = tls_start d h.middle.memory; block = h.middle.block }) h.end h.own h.places.own_laid)

@@ -52,10 +52,10 @@ memory_test false true false f g = refl
 memory_test false false true f g = let z : false ≡ true = g refl in absurd cc
 memory_test false false false f g = refl
 
-not_both : (pass : Pass) (s : KeptData) → goes_to_block pass s ≡ true → goes_to_memory pass s ≡ false
+pub not_both : (pass : Pass) (s : KeptData) → goes_to_block pass s ≡ true → goes_to_memory pass s ≡ false
 not_both pass s e = rw e refl
 
-shared_in_memory : (pass : Pass) (s : KeptData) → is_shared_init pass s ≡ true → goes_to_memory pass s ≡ true
+pub shared_in_memory : (pass : Pass) (s : KeptData) → is_shared_init pass s ≡ true → goes_to_memory pass s ≡ true
 shared_in_memory pass s e = at pass.has_block s.tls s.active pass.shared_init (length s.payload == 0) e
   where
     at : (block tls active shared empty : Bool) → (shared && ((active && not tls) && not empty)) ≡ true → (not (block && tls) && active) ≡ true

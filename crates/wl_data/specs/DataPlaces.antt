@@ -255,3 +255,31 @@ last_stack o end =
 abbrev pub memory_ranges : DataOptions → List SegmentLayout → Option ℕ → ℕ → List AddressRange
 memory_ranges o layouts flag end =
     first_stack o ++ segment_ranges layouts ++ flag_ranges flag ++ last_stack o end
+
+-- ---- each segment by its place in the output
+
+-- one of the two ends where the other begins, or before it
+abbrev pub LieApart : AddressRange → AddressRange → Type 0
+LieApart r s = (r.behind ≤ s.first) ⊎ (s.behind ≤ r.first)
+
+-- those of the segments that pass the test lie apart, whichever comes first
+abbrev pub AreSeparate : (SegmentLayout → Bool) → List SegmentLayout → Type 0
+AreSeparate test layouts =
+    (i k : ℕ) (l m : SegmentLayout) → i ≢ k → slice_get layouts i ≡ Some l
+    → slice_get layouts k ≡ Some m → test l ≡ true → test m ≡ true
+    → LieApart (addresses_of l) (addresses_of m)
+
+-- they end there or before
+abbrev pub EndBy : (SegmentLayout → Bool) → ℕ → List SegmentLayout → Type 0
+EndBy test end layouts =
+    (i : ℕ) (l : SegmentLayout) → slice_get layouts i ≡ Some l → test l ≡ true
+    → l.output_memory_offset + length l.payload ≤ end
+
+-- a segment of the block of each thread
+abbrev pub is_template : SegmentLayout → Bool
+is_template l = l.tls_template
+
+-- the word at that place is the last of the data
+pub record IsLastWord (place end : ℕ) : Type 0 where
+  pub aligned : place % 4 ≡ 0
+  pub last : place + 4 ≡ end

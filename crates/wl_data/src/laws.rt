@@ -1,11 +1,11 @@
 //! What callers may count on: functions with an empty body, each of which states a law of places.
 
-ghost use Rattle.std.specs.Prelude.{◌≡◌, ◌++◌, ℕ, List};
+ghost use Rattle.std.specs.Prelude.{◌≡◌, ◌++◌, ℕ, List, Some, true, slice_get};
 ghost use Rattle.std.specs.List.{AllZip};
 ghost use Rattle.wl_data.specs.Segments.{KeptData, SegmentLayout};
 ghost use Rattle.wl_data.specs.Spans.{Span, AreInRow, IsApart};
 ghost use Rattle.wl_data.specs.Layouts.{PlacedData, ArePlaced, AreLaidOut, memory_spans, block_spans};
-ghost use Rattle.wl_data.specs.DataPlaces.{AreObjectsLaid, in_one_row, DataInput, ArePlaces, IsDataPlaces, HaveLayouts, memory_ranges, block_ranges, flag_of, data_end, ComeInOrder, StandApart, ShareNothing, AddressRange};
+ghost use Rattle.wl_data.specs.DataPlaces.{AreObjectsLaid, in_one_row, DataInput, ArePlaces, IsDataPlaces, HaveLayouts, memory_ranges, block_ranges, flag_of, data_end, ComeInOrder, StandApart, ShareNothing, AddressRange, lies_in_memory, is_template, AreSeparate, EndBy, IsLastWord};
 ghost use Rattle.wl_data.specs.declared.pass.Frontier.{Frontier as SpecFrontier};
 ghost use Rattle.wl_data.specs.declared.pass.Pass.{Pass as SpecPass};
 ghost use Rattle.wl_data.specs.declared.places.DataPlaces.{DataPlaces as SpecPlaces};
@@ -83,4 +83,33 @@ pub fn places_stand_apart()
         → StandApart (block_ranges (in_one_row places.layouts)) }
     ensures nothing { (start end : ℕ) (ranges : List AddressRange)
         → ComeInOrder start ranges end → ShareNothing ranges }
+{}
+
+/// The segments in the memory end before the flag, or where the data ends, and those of a block
+/// where the block does; the flag is the last word of the data. Whichever two segments there are,
+/// they lie apart.
+pub fn places_end_in_time()
+    ensures memory { (d : DataInput) (places : SpecPlaces) → IsDataPlaces d places
+        → EndBy lies_in_memory places.data_end (in_one_row places.layouts) }
+    ensures before_flag { (d : DataInput) (places : SpecPlaces) (flag : ℕ) → IsDataPlaces d places
+        → places.flag ≡ Some flag → EndBy lies_in_memory flag (in_one_row places.layouts) }
+    ensures flag { (d : DataInput) (places : SpecPlaces) (flag : ℕ) → IsDataPlaces d places
+        → places.flag ≡ Some flag → IsLastWord flag places.data_end }
+    ensures block { (d : DataInput) (places : SpecPlaces) → IsDataPlaces d places
+        → EndBy is_template places.tls_size (in_one_row places.layouts) }
+    ensures apart { (d : DataInput) (places : SpecPlaces) → IsDataPlaces d places
+        → AreSeparate lies_in_memory (in_one_row places.layouts) }
+    ensures block_apart { (d : DataInput) (places : SpecPlaces) → IsDataPlaces d places
+        → AreSeparate is_template (in_one_row places.layouts) }
+{}
+
+/// What someone copies is passive: what the first thread copies has bytes and lies in the memory,
+/// and what each thread copies lies in its block, which there is.
+pub fn copied_segments_are_passive()
+    ensures shared { (d : DataInput) (places : SpecPlaces) (i : ℕ) (l : SegmentLayout)
+        → IsDataPlaces d places → slice_get (in_one_row places.layouts) i ≡ Some l
+        → l.shared_init ≡ true → (l.passive ≡ true) × (lies_in_memory l ≡ true) }
+    ensures own { (d : DataInput) (places : SpecPlaces) (i : ℕ) (l : SegmentLayout)
+        → IsDataPlaces d places → slice_get (in_one_row places.layouts) i ≡ Some l
+        → l.tls_template ≡ true → (l.passive ≡ true) × (d.options.shared_tls ≡ true) }
 {}

@@ -23,8 +23,9 @@ mod stack;
 
 pub use align::{align_up, least_multiple_is_one, past_last_address};
 pub use laws::{
-    layout_is_one, objects_are_laid_as_one, places_are_one, places_stand_apart, segments_are_apart,
-    segments_have_layouts, spans_are_apart,
+    copied_segments_are_passive, layout_is_one, objects_are_laid_as_one, places_are_one,
+    places_end_in_time, places_stand_apart, segments_are_apart, segments_have_layouts,
+    spans_are_apart,
 };
 pub use layout::layout_object_data;
 pub use memory::ensure_memory_covers;

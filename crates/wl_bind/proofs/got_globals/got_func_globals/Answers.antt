@@ -1,8 +1,11 @@
-use Rattle.std.proofs.Common.{rules, arith, length}
+use Rattle.std.proofs.Common.{◌∙◌, ap, sym, subst, rules, arith, List, Option, None, length, replicate, ℕ}
 use Rattle.wl_bind.specs.GlobalSpace.{global_space}
 use Rattle.wl_bind.specs.GlobalSteps.{func_global_if}
-use Rattle.wl_bind.specs.IndexMaps.{has_global}
-use Rattle.wl_bind.proofs.GotGlobalLaws.{few_marks, symbol_there, symbol_more}
+use Rattle.wl_custom.specs.Symbols.{Symbol}
+use Rattle.wl_bind.specs.IndexMaps.{has_global, got_func_globals}
+use Rattle.wl_bind.specs.Parts.{ArePlacesOf}
+use Rattle.wl_bind.specs.Scan.{Scanned}
+use Rattle.wl_bind.proofs.GotGlobalLaws.{few_marks, symbol_there, symbol_more, func_none, so_of_answer}
 use Rattle.wl_bind.proofs.got_globals.got_func_globals.Goals as goal
 
 pub overflow_cast-number : goal.overflow_cast-number
@@ -28,3 +31,16 @@ loop-number-preserved c =
     c.loop-number.number c.deref-mark-items.result.now _ c.loop-number.globals c.push.new.self
     c.got_func_global.result (search rules) c.loop-number-test.true c.got_func_global.ensures
     (search rules) c.in_ok-push.ensures.ok c.loop-number.invariant
+
+pub returns-then-is_empty : goal.returns-then-is_empty
+returns-then-is_empty c =
+    let input = c.args.numbering.now.input.now in
+    let o = c.args.file.now in
+    let all = func_none input c.args.object o c.scan.inside.got_func
+    (ap (λ (s : Scanned). s.got_func) (c.scan.view_is ∙ c.requires.numbering.scan))
+    (sym c.is_empty.ensures ∙ c.if-is_empty.true) in
+    so_of_answer (ArePlacesOf (global_space input) (got_func_globals input c.args.object o))
+    c.no_globals.result (replicate (length c.symbols.result.now) None) c.no_globals.ensures
+    (subst (λ (ss : List Symbol). ArePlacesOf (global_space input)
+    (got_func_globals input c.args.object o) (replicate (length ss) None)) (sym c.symbols.ensures)
+    all)
