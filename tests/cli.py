@@ -340,7 +340,7 @@ def documented_operators(folder):
 
 def documented_options():
     """The options of the README and of docs/OPTIONS.md are those of the program's table."""
-    code = (ROOT / "crates" / "wl_symbols" / "src" / "options.rt").read_text()
+    code = (ROOT / "crates" / "wl_words" / "src" / "options.rt").read_text()
     wanted = set(re.findall(r'name: "([\w-]+)"', code))
     tables = [
         (OPTIONS, "| option | value | what it does | given again | without it |"),
@@ -355,7 +355,7 @@ def documented_refusals():
     """The refusals of docs/ERRORS.md are those that the program has lines for."""
     folder = ROOT / "crates"
     refusals = (folder / "wl_linking" / "src" / "error.rt").read_text().split("pub enum LinkError {")[1].split("\n}")[0]
-    faults = (folder / "wl_symbols" / "src" / "error.rt").read_text().split("pub enum ArgError {")[1].split("\n}")[0]
+    faults = (folder / "wl_words" / "src" / "error.rt").read_text().split("pub enum ArgError {")[1].split("\n}")[0]
     wanted = {name for text in [refusals, faults] for name in re.findall(r"^    (\w+)", text, re.M)} - {"OutOfMemory"}
     told = re.findall(r"^\|.*", ERRORS.read_text(), re.M)
     lines = {words[-1] for row in told for words in re.findall(r"`error: (BadWords )?(\w+)", row.split("|")[1])}

@@ -3,7 +3,8 @@
 ghost use Rattle.std.specs.Prelude.{◌≡◌};
 ghost use Rattle.wildplan.specs.Listing.{made_name, place_name};
 
-use wl_plan::{FixupPlace, MadeGlobal};
+use wl_plan::MadeGlobal;
+use wl_symbols::FixupPlace;
 
 /// What a global that the linker makes stands for.
 pub fn made_name(made: MadeGlobal) -> &'static str

@@ -4,7 +4,8 @@ use crate::refusal::error_text;
 use std::alloc::{AllocError, Global};
 use std::process::Abort;
 use std::test::Fail;
-use wl_linking::{ItemList, LinkError, Text, UndefinedSymbol};
+use wl_linking::{LinkError, UndefinedSymbol};
+use wl_lists::{ItemList, Text};
 
 // The line of a refusal is this one.
 fn assert_line(

@@ -17,19 +17,19 @@ use Rattle.wl_symbols.specs.Names.{def, def_for}
 use Rattle.wl_symbols.specs.declared.entry.Definition.{Definition}
 use Rattle.wl_symbols.specs.declared.entry.Definition.TheVariants.{Symbol}
 use Rattle.wl_symbols.specs.declared.linker_symbol.WasmLinkerSymbol.{WasmLinkerSymbol}
-use Rattle.wl_live.specs.Definitions.{definition_unit, other_unit, defined_unit, unit_at}
-use Rattle.wl_live.specs.Live.{Live, is_live, IsLiveOf}
-use Rattle.wl_live.specs.References.{RefersBySlot}
-use Rattle.wl_live.specs.Units.{units_of, counts_of, units_at, unit_in, unit_of}
-use Rattle.wl_live.specs.declared.units.LinkUnit.{LinkUnit}
-use Rattle.wl_live.specs.declared.units.UnitCounts.{UnitCounts}
-use Rattle.wl_live.specs.declared.units.WasmGcUnit.{WasmGcUnit}
-use Rattle.wl_live.specs.declared.units.WasmGcUnit.TheVariants.{DefinedFunction, DefinedGlobal, FunctionImport, GlobalImport}
-use Rattle.wl_slots.specs.ImportSlots.{ImportSlot, numbers_where, is_on, symbols_on, numbered_slots, slot_imports, object_slots}
-use Rattle.wl_slots.specs.SlotCases.{IsLeft, IsBoundTo, HasDefinition}
-use Rattle.wl_slots.specs.SlotTargets.{own_number, is_definition_of, slot_target}
-use Rattle.wl_slots.specs.declared.targets.SlotTarget.{SlotTarget}
-use Rattle.wl_slots.specs.declared.targets.SlotTarget.TheVariants as slot
+use Rattle.wl_symbols.specs.DefinedUnits.{definition_unit, other_unit, defined_unit, unit_at}
+use Rattle.wl_symbols.specs.Live.{Live, is_live, IsLiveOf}
+use Rattle.wl_symbols.specs.References.{RefersBySlot}
+use Rattle.wl_symbols.specs.Units.{units_of, counts_of, units_at, unit_in, unit_of}
+use Rattle.wl_symbols.specs.declared.units.LinkUnit.{LinkUnit}
+use Rattle.wl_symbols.specs.declared.units.UnitCounts.{UnitCounts}
+use Rattle.wl_symbols.specs.declared.units.WasmGcUnit.{WasmGcUnit}
+use Rattle.wl_symbols.specs.declared.units.WasmGcUnit.TheVariants.{DefinedFunction, DefinedGlobal, FunctionImport, GlobalImport}
+use Rattle.wl_symbols.specs.ImportSlots.{ImportSlot, numbers_where, is_on, symbols_on, numbered_slots, slot_imports, object_slots}
+use Rattle.wl_symbols.specs.SlotCases.{IsLeft, IsBoundTo, HasDefinition}
+use Rattle.wl_symbols.specs.SlotTargets.{own_number, is_definition_of, slot_target}
+use Rattle.wl_symbols.specs.declared.targets.SlotTarget.{SlotTarget}
+use Rattle.wl_symbols.specs.declared.targets.SlotTarget.TheVariants as slot
 use Rattle.wl_bind.proofs.HostLaws.{IsAt}
 use Rattle.wl_bind.proofs.ListLaws.{both, is_not}
 use Rattle.wl_bind.proofs.MemberLaws.{first_or_behind}

@@ -15,8 +15,8 @@ use Rattle.wl_module.specs.Types.{FunctionType, value_type_code}
 use Rattle.wl_module.specs.declared.globals.GlobalType.{GlobalType}
 use Rattle.wl_linking.specs.Object.{Object}
 use Rattle.wl_linking.specs.Steps.{Clear, Refuses}
-use Rattle.wl_slots.specs.ImportSlots.{ImportSlot}
-use Rattle.wl_slots.specs.Left.{HostImport, same_field, same_import, first_imports, first_slot, place_of_name, place_of_import}
+use Rattle.wl_symbols.specs.ImportSlots.{ImportSlot}
+use Rattle.wl_symbols.specs.Left.{HostImport, same_field, same_import, first_imports, first_slot, place_of_name, place_of_import}
 use Rattle.wl_bind.specs.Conflicts.{same_function_type, global_type, same_global_type, same_slot_type, differs, IsConflict}
 use Rattle.wl_bind.specs.ConflictSteps.{SlotPair, slot_at, conflicting, with_first, conflict_from, conflict_of}
 use Rattle.wl_bind.specs.FunctionTypes.{slot_type}

@@ -12,20 +12,20 @@ use Rattle.wl_linking.specs.Spaces.{spaces_of, type_exists}
 use Rattle.wl_custom.specs.declared.symbols.WasmSymbolKind.TheVariants.{Func}
 use Rattle.wl_symbols.specs.declared.linker_symbol.WasmLinkerSymbol.{WasmLinkerSymbol}
 use Rattle.wl_symbols.specs.declared.linker_symbol.WasmLinkerSymbol.TheVariants.{CallCtors, InitTls}
-use Rattle.wl_live.specs.declared.units.WasmGcUnit.TheVariants.{DefinedFunction}
-use Rattle.wl_slots.specs.ImportSlots.{ImportSlot, object_slots}
-use Rattle.wl_slots.specs.Left.{first_imports}
+use Rattle.wl_symbols.specs.declared.units.WasmGcUnit.TheVariants.{DefinedFunction}
+use Rattle.wl_symbols.specs.ImportSlots.{ImportSlot, object_slots}
+use Rattle.wl_symbols.specs.Left.{first_imports}
 use Rattle.wl_bind.specs.EntryTypes.{type_of_slot, HasOutputType}
 use Rattle.wl_bind.specs.FunctionBinding.{link_stubs, host_functions, binds_function}
 use Rattle.wl_bind.specs.FunctionSpace.{FunctionEntry, FunctionOf, InitMemory, host_function_part, made_function_part, init_memory_part, stub_part, kept_functions, functions_of, object_functions, function_parts, function_space}
 use Rattle.wl_bind.specs.FunctionTypes.{type_in, type_number, slot_type, type_of_made, stub_types}
-use Rattle.wl_bind.specs.Input.{Input, keeps}
-use Rattle.wl_bind.specs.KeptSlots.{is_kept_slot}
+use Rattle.wl_symbols.specs.Input.{Input, keeps}
+use Rattle.wl_symbols.specs.KeptSlots.{is_kept_slot}
 use Rattle.wl_bind.specs.Made.{is_made, has_init_memory}
 use Rattle.wl_bind.specs.OutputTypes.{is_type_of_function, is_type_of_host, names_type, is_live_type, local_types, live_types, made_type, init_memory_type, made_types, output_types}
 use Rattle.wl_bind.specs.Parts.{joined, by_object}
 use Rattle.wl_bind.specs.References.{IsSettled}
-use Rattle.wl_bind.specs.Relocations.{object_relocations}
+use Rattle.wl_symbols.specs.Relocations.{object_relocations}
 use Rattle.wl_bind.specs.Undefined.{is_host_function, is_host_slot}
 use Rattle.wl_bind.specs.declared.binding.FunctionTarget.TheVariants.{Defined, Made, Host, Stub}
 use Rattle.wl_bind.proofs.FirstSlotLaws.{LeftSlot, IsFirst, stub_itself, host_itself}

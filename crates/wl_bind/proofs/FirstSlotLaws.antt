@@ -6,19 +6,19 @@ use Rattle.wl_linking.specs.Object.{Object}
 use Rattle.wl_custom.specs.declared.symbols.WasmSymbolKind.{WasmSymbolKind}
 use Rattle.wl_custom.specs.declared.symbols.WasmSymbolKind.TheVariants.{Func}
 use Rattle.wl_symbols.specs.LinkerNames.{row_of, matches_kind}
-use Rattle.wl_live.specs.Live.{IsLiveOf}
-use Rattle.wl_live.specs.Units.{units_of, units_at, no_units, exists, unit_number}
-use Rattle.wl_live.specs.declared.units.LinkUnit.{LinkUnit}
-use Rattle.wl_live.specs.declared.units.UnitCounts.{UnitCounts}
-use Rattle.wl_live.specs.declared.units.WasmGcUnit.TheVariants.{DefinedFunction}
-use Rattle.wl_slots.specs.ImportSlots.{ImportSlot, object_slots, import_slots}
-use Rattle.wl_slots.specs.Left.{same_field, same_import, is_stub, stub_slots, first_imports}
-use Rattle.wl_slots.specs.SlotTargets.{slot_target}
-use Rattle.wl_slots.specs.declared.targets.SlotTarget.{SlotTarget}
-use Rattle.wl_slots.specs.declared.targets.SlotTarget.TheVariants as slot
+use Rattle.wl_symbols.specs.Live.{IsLiveOf}
+use Rattle.wl_symbols.specs.Units.{units_of, units_at, no_units, exists, unit_number}
+use Rattle.wl_symbols.specs.declared.units.LinkUnit.{LinkUnit}
+use Rattle.wl_symbols.specs.declared.units.UnitCounts.{UnitCounts}
+use Rattle.wl_symbols.specs.declared.units.WasmGcUnit.TheVariants.{DefinedFunction}
+use Rattle.wl_symbols.specs.ImportSlots.{ImportSlot, object_slots, import_slots}
+use Rattle.wl_symbols.specs.Left.{same_field, same_import, is_stub, stub_slots, first_imports}
+use Rattle.wl_symbols.specs.SlotTargets.{slot_target}
+use Rattle.wl_symbols.specs.declared.targets.SlotTarget.{SlotTarget}
+use Rattle.wl_symbols.specs.declared.targets.SlotTarget.TheVariants as slot
 use Rattle.wl_bind.specs.FunctionBinding.{left_functions, link_stubs, host_functions, named_function, by_stub, by_host, binds_function}
-use Rattle.wl_bind.specs.Input.{Input, keeps}
-use Rattle.wl_bind.specs.KeptSlots.{slots_from, is_kept_slot, kept_slots}
+use Rattle.wl_symbols.specs.Input.{Input, keeps}
+use Rattle.wl_symbols.specs.KeptSlots.{slots_from, is_kept_slot, kept_slots}
 use Rattle.wl_bind.specs.Parts.{by_object}
 use Rattle.wl_bind.specs.References.{IsBoundTo, IsKeptFunction, IsInOutput}
 use Rattle.wl_bind.specs.declared.binding.FunctionTarget.{FunctionTarget}

@@ -10,21 +10,21 @@ use Rattle.wl_custom.specs.declared.symbols.WasmSymbolKind.TheVariants.{Global}
 use Rattle.wl_symbols.specs.LinkerNames.{row_of, matches_kind}
 use Rattle.wl_symbols.specs.declared.linker_symbol.WasmLinkerSymbol.{WasmLinkerSymbol}
 use Rattle.wl_symbols.specs.declared.linker_symbol.WasmLinkerSymbol.TheVariants.{MemoryBase, TableBase, StackPointer, TlsBase, TlsSize, TlsAlign}
-use Rattle.wl_live.specs.Live.{is_live, live_below, ordinal_of, IsLiveOf}
-use Rattle.wl_live.specs.declared.units.LinkUnit.{LinkUnit}
-use Rattle.wl_live.specs.declared.units.WasmGcUnit.TheVariants.{DefinedGlobal}
-use Rattle.wl_slots.specs.ImportSlots.{ImportSlot, object_slots, import_slots}
-use Rattle.wl_slots.specs.Left.{HostImport, same_import, first_imports, first_slot, first_like}
-use Rattle.wl_slots.specs.SlotTargets.{slot_target}
-use Rattle.wl_slots.specs.declared.targets.SlotTarget.{SlotTarget}
-use Rattle.wl_slots.specs.declared.targets.SlotTarget.TheVariants as slot
-use Rattle.wl_types.specs.declared.types.TheConstants.{WASM_DEAD_INDEX}
+use Rattle.wl_symbols.specs.Live.{is_live, live_below, ordinal_of, IsLiveOf}
+use Rattle.wl_symbols.specs.declared.units.LinkUnit.{LinkUnit}
+use Rattle.wl_symbols.specs.declared.units.WasmGcUnit.TheVariants.{DefinedGlobal}
+use Rattle.wl_symbols.specs.ImportSlots.{ImportSlot, object_slots, import_slots}
+use Rattle.wl_symbols.specs.Left.{HostImport, same_import, first_imports, first_slot, first_like}
+use Rattle.wl_symbols.specs.SlotTargets.{slot_target}
+use Rattle.wl_symbols.specs.declared.targets.SlotTarget.{SlotTarget}
+use Rattle.wl_symbols.specs.declared.targets.SlotTarget.TheVariants as slot
+use Rattle.wl_index.specs.declared.index.TheConstants.{WASM_DEAD_INDEX}
 use Rattle.wl_bind.specs.GlobalBinding.{left_globals, host_globals, is_from, is_called, by_got, by_host, binds_global, named_global}
 use Rattle.wl_bind.specs.GlobalSpace.{GlobalEntry, GlobalOf, host_global_part, made_global_part, address_part, got_mem_part, got_func_part, dynamic_part, forced_part, object_globals, global_parts, global_space, global_slot_entry, own_global_entry, local_globals}
 use Rattle.wl_symbols.specs.declared.entry.Definition.{Definition}
 use Rattle.wl_bind.specs.Scan.{got_mem, got_func}
-use Rattle.wl_bind.specs.Input.{Input, keeps_slot}
-use Rattle.wl_bind.specs.KeptSlots.{is_kept_slot, kept_slots, slots_from}
+use Rattle.wl_symbols.specs.Input.{Input, keeps_slot}
+use Rattle.wl_symbols.specs.KeptSlots.{is_kept_slot, kept_slots, slots_from}
 use Rattle.wl_bind.specs.MadeIndices.{StandsAt}
 use Rattle.wl_bind.specs.Numbering.{IsNumbering}
 use Rattle.wl_bind.specs.NumberingSteps.{FitsPlace, resolution_of, own_indices_of, HaveSlotIndices, IsSlotIndex}

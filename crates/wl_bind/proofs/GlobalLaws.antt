@@ -8,11 +8,11 @@ use Rattle.wl_linking.specs.Object.{Object}
 use Rattle.wl_custom.specs.Symbols.{Symbol as LinkedSymbol}
 use Rattle.wl_custom.specs.declared.symbols.WasmSymbolKind.TheVariants.{Func, Global}
 use Rattle.wl_symbols.specs.declared.entry.Definition.{Definition}
-use Rattle.wl_slots.specs.ImportSlots.{ImportSlot, slot_imports, slot_at, numbered_slots, object_slots}
-use Rattle.wl_slots.specs.SlotTargets.{by_definition, by_symbol_name, by_field_name, slot_target}
-use Rattle.wl_slots.specs.declared.targets.SlotTarget.{SlotTarget}
-use Rattle.wl_slots.specs.declared.targets.SlotTarget.TheVariants as slot
-use Rattle.wl_bind.specs.Input.{Input, keeps_slot}
+use Rattle.wl_symbols.specs.ImportSlots.{ImportSlot, slot_imports, slot_at, numbered_slots, object_slots}
+use Rattle.wl_symbols.specs.SlotTargets.{by_definition, by_symbol_name, by_field_name, slot_target}
+use Rattle.wl_symbols.specs.declared.targets.SlotTarget.{SlotTarget}
+use Rattle.wl_symbols.specs.declared.targets.SlotTarget.TheVariants as slot
+use Rattle.wl_symbols.specs.Input.{Input, keeps_slot}
 use Rattle.wl_bind.specs.Scan.{GotMemEntry, GotFuncEntry, got_mem, got_func, got_mem_entry, got_func_entry, scan_of}
 use Rattle.wl_bind.specs.GlobalBinding.{named_global, is_called, by_got, by_host, binds_global}
 use Rattle.wl_bind.specs.Resolutions.{resolved, named_resolution, as_global, global_resolution, rows_from, by_names, by_names_and_got, resolutions}

@@ -17,23 +17,24 @@ use Rattle.wl_custom.specs.declared.symbols.WasmSymbolKind.{WasmSymbolKind}
 use Rattle.wl_custom.specs.declared.symbols.WasmSymbolKind.TheVariants.{Func, Data, Global, Section, Event, Table}
 use Rattle.wl_symbols.specs.LinkerNames.{is_imported_as}
 use Rattle.wl_symbols.specs.declared.entry.Definition.{Definition}
-use Rattle.wl_live.specs.Entry.{is_function_kind}
-use Rattle.wl_live.specs.declared.units.WasmGcUnit.TheVariants.{DefinedGlobal, GlobalImport}
-use Rattle.wl_slots.specs.ImportSlots.{ImportSlot, object_slots, import_slots}
-use Rattle.wl_slots.specs.SlotTargets.{is_definition_of}
+use Rattle.wl_custom.specs.Symbols.{is_function_kind}
+use Rattle.wl_symbols.specs.declared.units.WasmGcUnit.TheVariants.{DefinedGlobal, GlobalImport}
+use Rattle.wl_symbols.specs.ImportSlots.{ImportSlot, object_slots, import_slots}
+use Rattle.wl_symbols.specs.SlotTargets.{is_definition_of}
 use Rattle.wl_bind.specs.GlobalBinding.{binds_global}
 use Rattle.wl_bind.specs.GlobalSpace.{GlobalEntry, GlobalOf, global_slot_entry, own_global_entry, local_globals}
 use Rattle.wl_bind.specs.IndexMaps.{is_global_of, has_global, is_data_symbol, mem_place, got_mem_global, func_place, got_func_global}
-use Rattle.wl_bind.specs.Input.{Input, keeps}
-use Rattle.wl_bind.specs.KeptSlots.{is_kept_slot}
+use Rattle.wl_symbols.specs.Input.{Input, keeps}
+use Rattle.wl_symbols.specs.KeptSlots.{is_kept_slot}
 use Rattle.wl_bind.specs.Kinds.{takes_kind, has_global as may_be_global}
 use Rattle.wl_bind.specs.References.{local_global, symbol_global, IsSettled, NamesGlobal}
-use Rattle.wl_bind.specs.Relocations.{object_relocations}
+use Rattle.wl_symbols.specs.Relocations.{object_relocations}
 use Rattle.wl_bind.specs.Sameness.{same_definition, same_pair, same_target}
-use Rattle.wl_bind.specs.Scan.{relocations, names_data, names_function, definition_of, function_of as function_named, is_global_index, is_table_index, got_mem_of, got_mem, got_func_of, got_func}
+use Rattle.wl_symbols.specs.Relocations.{relocations}
+use Rattle.wl_bind.specs.Scan.{names_data, names_function, definition_of, function_of as function_named, is_global_index, is_table_index, got_mem_of, got_mem, got_func_of, got_func}
 use Rattle.wl_bind.specs.declared.binding.FunctionTarget.{FunctionTarget}
 use Rattle.wl_bind.specs.declared.binding.GlobalTarget.TheVariants as global
-use Rattle.wl_bind.specs.declared.relocated.Relocated.{Relocated}
+use Rattle.wl_symbols.specs.declared.relocated.Relocated.{Relocated}
 use Rattle.wl_bind.proofs.ClosedLaws.{global_units}
 use Rattle.wl_bind.proofs.HostLaws.{IsAt, placed, kept_at}
 use Rattle.wl_bind.proofs.ListLaws.{and_both, get_in_front, made_of_one, or_right}

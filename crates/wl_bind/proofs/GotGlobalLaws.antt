@@ -17,7 +17,7 @@ use Rattle.wl_bind.specs.FunctionSymbols.{fun}
 use Rattle.wl_bind.specs.GlobalSpace.{GlobalOf, global_space, global_parts, got_mem_part, got_func_part}
 use Rattle.wl_bind.specs.GlobalSteps.{marked}
 use Rattle.wl_bind.specs.IndexMaps.{is_global_of, has_global, is_data_symbol, mem_place, got_mem_global, got_mem_globals, func_place, got_func_global, got_func_globals}
-use Rattle.wl_bind.specs.Input.{Input}
+use Rattle.wl_symbols.specs.Input.{Input}
 use Rattle.wl_bind.specs.Numbering.{IsNumbering}
 use Rattle.wl_bind.specs.Parts.{IsPlaceOf, ArePlacesOf, HasEntry}
 use Rattle.wl_bind.specs.Sameness.{same_definition, same_pair}
@@ -25,11 +25,11 @@ use Rattle.wl_bind.specs.Scan.{Scanned, is_global_index, got_mem, got_func, got_
 use Rattle.wl_bind.specs.declared.binding.FunctionTarget.{FunctionTarget}
 use Rattle.wl_bind.specs.declared.binding.GlobalTarget.TheVariants.{GotMem, GotFunc}
 use Rattle.wl_bind.specs.declared.numbering.Numbering.{Numbering}
-use Rattle.wl_bind.specs.declared.relocated.Relocated.{Relocated}
+use Rattle.wl_symbols.specs.declared.relocated.Relocated.{Relocated}
 use Rattle.wl_bind.proofs.GotLaws.{position_map}
 use Rattle.wl_bind.proofs.ListLaws.{or_false, place_lt}
 use Rattle.wl_bind.proofs.MarkLaws.{one_more}
-use Rattle.wl_bind.proofs.RowLaws.{splits}
+use Rattle.wl_lists.proofs.Splits.{splits}
 use Rattle.wl_bind.proofs.SlotIndexLaws.{has_entry}
 
 -- ---- marks of symbols

@@ -14,10 +14,10 @@ use Rattle.wl_linking.specs.declared.error.LinkError.TheVariants as fault
 use Rattle.wl_custom.specs.declared.symbols.WasmSymbolKind.{WasmSymbolKind}
 use Rattle.wl_custom.specs.declared.symbols.WasmSymbolKind.TheVariants as kind
 use Rattle.wl_symbols.specs.LinkerNames.{row_of, name_of}
-use Rattle.wl_symbols.specs.declared.args.WasmArgs.{WasmArgs}
+use Rattle.wl_words.specs.declared.args.WasmArgs.{WasmArgs}
 use Rattle.wl_symbols.specs.declared.linker_symbol.WasmLinkerSymbol.{WasmLinkerSymbol}
 use Rattle.wl_symbols.specs.declared.linker_symbol.WasmLinkerSymbol.TheVariants as made
-use Rattle.wl_bind.specs.Input.{Input}
+use Rattle.wl_symbols.specs.Input.{Input}
 use Rattle.wl_bind.specs.ExportedAddresses.{data_named, exported_addresses}
 use Rattle.wl_bind.specs.FunctionSpace.{function_parts, object_functions}
 use Rattle.wl_bind.specs.GlobalSpace.{AddressOf, address_part, global_parts, object_globals, global_space}

@@ -14,11 +14,12 @@ use Rattle.wl_symbols.specs.Entries.{symbol_in}
 use Rattle.wl_symbols.specs.LinkerNames.{row_of, is_exported_as_data}
 use Rattle.wl_symbols.specs.declared.linker_symbol.WasmLinkerSymbol.{WasmLinkerSymbol}
 use Rattle.wl_symbols.specs.declared.linker_symbol.WasmLinkerSymbol.TheVariants.{DataEnd, GlobalBase, HeapBase, HeapEnd, WasmFirstPageEnd, DsoHandle, MemoryBase, TableBase, StackPointer, TlsBase, TlsSize, TlsAlign, CallCtors, InitTls}
-use Rattle.wl_bind.specs.Input.{Input}
+use Rattle.wl_symbols.specs.Input.{Input}
 use Rattle.wl_bind.specs.Kinds.{is_wrong_use, is_wrong_init, IsWrongUse, IsWrongInit, IsWrongKind}
 use Rattle.wl_bind.specs.KindSteps.{is_wrong_relocation, is_wrong_at, init_place, wrong_init_from}
-use Rattle.wl_bind.specs.Scan.{relocations, symbol_of}
-use Rattle.wl_bind.specs.declared.relocated.Relocated.{Relocated}
+use Rattle.wl_symbols.specs.Relocations.{relocations}
+use Rattle.wl_bind.specs.Scan.{symbol_of}
+use Rattle.wl_symbols.specs.declared.relocated.Relocated.{Relocated}
 use Rattle.wl_bind.proofs.FindLaws.{find_some, find_none, or_none, or_some, map_none, map_some, map_or_true}
 
 -- ---- what the linker makes

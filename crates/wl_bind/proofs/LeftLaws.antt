@@ -8,12 +8,12 @@ use Rattle.std.proofs.lemmas.Slice.Eq.{bytes_eq-Decides}
 use Rattle.indexmap.specs.IndexSet.{insert_key, insert_all}
 use Rattle.wl_linking.specs.Object.{Object}
 use Rattle.wl_custom.specs.declared.symbols.WasmSymbolKind.TheVariants.{Func}
-use Rattle.wl_slots.specs.ImportSlots.{ImportSlot}
-use Rattle.wl_slots.specs.SlotTargets.{by_definition, by_symbol_name, by_field_name, slot_target}
-use Rattle.wl_slots.specs.declared.targets.SlotTarget.{SlotTarget}
-use Rattle.wl_slots.specs.Left.{HostImport, same_field, same_import, is_weak_slot, is_stub_name, is_stub, stub_slots, stubs, first_imports, first_slot}
-use Rattle.wl_bind.specs.Input.{Input}
-use Rattle.wl_bind.specs.KeptSlots.{slots_from, is_kept_slot, kept_slots}
+use Rattle.wl_symbols.specs.ImportSlots.{ImportSlot}
+use Rattle.wl_symbols.specs.SlotTargets.{by_definition, by_symbol_name, by_field_name, slot_target}
+use Rattle.wl_symbols.specs.declared.targets.SlotTarget.{SlotTarget}
+use Rattle.wl_symbols.specs.Left.{HostImport, same_field, same_import, is_weak_slot, is_stub_name, is_stub, stub_slots, stubs, first_imports, first_slot}
+use Rattle.wl_symbols.specs.Input.{Input}
+use Rattle.wl_symbols.specs.KeptSlots.{slots_from, is_kept_slot, kept_slots}
 use Rattle.wl_bind.specs.FunctionBinding.{left_functions, link_stubs, host_functions, named_function, by_stub, by_host, binds_function}
 use Rattle.wl_bind.specs.BindingSteps.{stub_named, host_target, left_target}
 use Rattle.wl_bind.proofs.ListLaws.{none_found, right_and}

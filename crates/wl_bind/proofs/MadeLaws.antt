@@ -20,14 +20,14 @@ use Rattle.wl_symbols.specs.declared.entry.Definition.{Definition}
 use Rattle.wl_symbols.specs.declared.entry.Definition.TheVariants as definition
 use Rattle.wl_symbols.specs.declared.linker_symbol.WasmLinkerSymbol.{WasmLinkerSymbol}
 use Rattle.wl_symbols.specs.declared.linker_symbol.WasmLinkerSymbol.TheVariants as made
-use Rattle.wl_slots.specs.ImportSlots.{ImportSlot, slot_at, numbered_slots, slot_imports, object_slots}
-use Rattle.wl_slots.specs.Left.{same_import, first_like, first_imports}
-use Rattle.wl_slots.specs.SlotCases.{IsBoundTo}
-use Rattle.wl_slots.specs.SlotTargets.{slot_target}
-use Rattle.wl_slots.specs.declared.targets.SlotTarget.{SlotTarget}
-use Rattle.wl_slots.specs.declared.targets.SlotTarget.TheVariants as slot
-use Rattle.wl_bind.specs.Input.{Input}
-use Rattle.wl_bind.specs.KeptSlots.{slots_from, is_kept_slot, kept_slots}
+use Rattle.wl_symbols.specs.ImportSlots.{ImportSlot, slot_at, numbered_slots, slot_imports, object_slots}
+use Rattle.wl_symbols.specs.Left.{same_import, first_like, first_imports}
+use Rattle.wl_symbols.specs.SlotCases.{IsBoundTo}
+use Rattle.wl_symbols.specs.SlotTargets.{slot_target}
+use Rattle.wl_symbols.specs.declared.targets.SlotTarget.{SlotTarget}
+use Rattle.wl_symbols.specs.declared.targets.SlotTarget.TheVariants as slot
+use Rattle.wl_symbols.specs.Input.{Input}
+use Rattle.wl_symbols.specs.KeptSlots.{slots_from, is_kept_slot, kept_slots}
 use Rattle.wl_bind.specs.FunctionBinding.{named_function, binds_function}
 use Rattle.wl_bind.specs.GlobalBinding.{named_global, is_called, is_from, host_globals, binds_global}
 use Rattle.wl_bind.specs.Made.{is_made_function, is_made_global, is_bound, keeps_thread_data, is_made}

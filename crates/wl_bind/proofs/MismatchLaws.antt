@@ -13,15 +13,15 @@ use Rattle.wl_linking.specs.declared.error.LinkError.TheVariants.{SignatureMisma
 use Rattle.wl_custom.specs.declared.infos.WasmInitFunc.{WasmInitFunc}
 use Rattle.wl_custom.specs.declared.symbols.WasmSymbolKind.TheVariants.{Func}
 use Rattle.wl_symbols.specs.Entries.{symbol_in}
-use Rattle.wl_live.specs.Entry.{is_function_kind}
-use Rattle.wl_bind.specs.Input.{Input, keeps_slot}
+use Rattle.wl_custom.specs.Symbols.{is_function_kind}
+use Rattle.wl_symbols.specs.Input.{Input, keeps_slot}
 use Rattle.wl_bind.specs.FunctionSymbols.{fun}
 use Rattle.wl_bind.specs.FunctionTypes.{declared_type, target_type}
-use Rattle.wl_bind.specs.Scan.{relocations}
+use Rattle.wl_symbols.specs.Relocations.{relocations}
 use Rattle.wl_bind.specs.Signatures.{NamedByRelocation, OnKeptSlot, IsLookedAt, IsMismatch}
 use Rattle.wl_bind.specs.BindingSteps.{is_other_type, differs, is_mismatch, names_mismatch, TellsMismatch}
 use Rattle.wl_bind.specs.declared.binding.FunctionTarget.{FunctionTarget}
-use Rattle.wl_bind.specs.declared.relocated.Relocated.{Relocated}
+use Rattle.wl_symbols.specs.declared.relocated.Relocated.{Relocated}
 use Rattle.wl_bind.proofs.FindLaws.{find_none, find_some}
 use Rattle.wl_bind.proofs.ListLaws.{and_both, both, is_not, left_and, right_and}
 

@@ -9,9 +9,9 @@ use Rattle.std.proofs.lemmas.List.FromFn.{length-range_with_len, get_or-range_wi
 use Rattle.wl_linking.specs.Object.{Object}
 use Rattle.wl_custom.specs.declared.symbols.WasmSymbolKind.TheVariants.{Func, Global}
 use Rattle.wl_symbols.specs.declared.linker_symbol.WasmLinkerSymbol.{WasmLinkerSymbol}
-use Rattle.wl_slots.specs.ImportSlots.{ImportSlot, object_slots}
-use Rattle.wl_bind.specs.Input.{Input}
-use Rattle.wl_bind.specs.KeptSlots.{slots_from, is_kept_slot}
+use Rattle.wl_symbols.specs.ImportSlots.{ImportSlot, object_slots}
+use Rattle.wl_symbols.specs.Input.{Input}
+use Rattle.wl_symbols.specs.KeptSlots.{slots_from, is_kept_slot}
 use Rattle.wl_bind.specs.FunctionBinding.{binds_function}
 use Rattle.wl_bind.specs.GlobalBinding.{binds_global}
 use Rattle.wl_bind.specs.Made.{is_made_function, is_made_global, is_bound}

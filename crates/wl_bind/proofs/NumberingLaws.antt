@@ -10,18 +10,18 @@ use Rattle.wl_linking.specs.Object.{Object}
 use Rattle.wl_linking.specs.declared.error.LinkError.{LinkError}
 use Rattle.wl_custom.specs.declared.symbols.WasmSymbolKind.{WasmSymbolKind}
 use Rattle.wl_custom.specs.declared.symbols.WasmSymbolKind.TheVariants.{Func, Global}
-use Rattle.wl_live.specs.Live.{Live, is_live, ordinal_of, live_below, IsLiveOf}
-use Rattle.wl_live.specs.Units.{units_of, exists, unit_index, unit_number}
-use Rattle.wl_live.specs.declared.units.LinkUnit.{LinkUnit}
-use Rattle.wl_live.specs.declared.units.UnitCounts.{UnitCounts}
-use Rattle.wl_live.specs.declared.units.WasmGcUnit.{WasmGcUnit}
-use Rattle.wl_live.specs.declared.units.WasmGcUnit.TheVariants.{DefinedFunction, DefinedGlobal, DataSegment, FunctionImport, GlobalImport}
-use Rattle.wl_slots.specs.ImportSlots.{ImportSlot, object_slots, import_slots}
+use Rattle.wl_symbols.specs.Live.{Live, is_live, ordinal_of, live_below, IsLiveOf}
+use Rattle.wl_symbols.specs.Units.{units_of, exists, unit_index, unit_number}
+use Rattle.wl_symbols.specs.declared.units.LinkUnit.{LinkUnit}
+use Rattle.wl_symbols.specs.declared.units.UnitCounts.{UnitCounts}
+use Rattle.wl_symbols.specs.declared.units.WasmGcUnit.{WasmGcUnit}
+use Rattle.wl_symbols.specs.declared.units.WasmGcUnit.TheVariants.{DefinedFunction, DefinedGlobal, DataSegment, FunctionImport, GlobalImport}
+use Rattle.wl_symbols.specs.ImportSlots.{ImportSlot, object_slots, import_slots}
 use Rattle.wl_types.specs.Types.{max_entries}
-use Rattle.wl_types.specs.declared.types.TheConstants.{WASM_DEAD_INDEX}
+use Rattle.wl_index.specs.declared.index.TheConstants.{WASM_DEAD_INDEX}
 use Rattle.wl_bind.specs.FunctionSpace.{FunctionOf, function_parts, function_space, own_function_entry}
 use Rattle.wl_bind.specs.GlobalSpace.{GlobalOf, global_parts, global_space, own_global_entry}
-use Rattle.wl_bind.specs.Input.{Input, keeps, keeps_slot}
+use Rattle.wl_symbols.specs.Input.{Input, keeps, keeps_slot}
 use Rattle.wl_bind.specs.Numbering.{IsNumbering}
 use Rattle.wl_bind.specs.NumberingSteps.{HasRoom, FitsOwn, own_indices_of, HasIndex, IsResolvedIndex, resolution_of, HaveSlotIndices, IsSlotIndex}
 use Rattle.wl_bind.specs.OwnIndices.{own_unit, kept_own, firsts_from, function_firsts, global_firsts, own_index, kept_count}
@@ -41,7 +41,7 @@ use Rattle.wl_bind.proofs.IndexLaws.{over_as}
 use Rattle.wl_bind.proofs.ListLaws.{left_and}
 use Rattle.wl_bind.proofs.OwnLaws.{own_stands, firsts_length}
 use Rattle.wl_bind.proofs.PlaceLaws.{joined_length}
-use Rattle.wl_bind.proofs.RowLaws.{splits}
+use Rattle.wl_lists.proofs.Splits.{splits}
 
 -- ---- lists, place by place
 

@@ -8,18 +8,18 @@ use Rattle.wl_linking.specs.Object.{Object}
 use Rattle.wl_custom.specs.Symbols.{Symbol as LinkedSymbol}
 use Rattle.wl_custom.specs.declared.symbols.WasmSymbolKind.{WasmSymbolKind}
 use Rattle.wl_custom.specs.declared.symbols.WasmSymbolKind.TheVariants.{Func, Global as GlobalKind}
-use Rattle.wl_slots.specs.ImportSlots.{ImportSlot, numbered_slots, slot_imports, object_slots}
-use Rattle.wl_slots.specs.Left.{same_field, same_import, is_stub, stub_slots}
-use Rattle.wl_slots.specs.SlotTargets.{slot_target}
-use Rattle.wl_live.specs.declared.units.WasmGcUnit.TheVariants.{DefinedFunction, DefinedGlobal}
+use Rattle.wl_symbols.specs.ImportSlots.{ImportSlot, numbered_slots, slot_imports, object_slots}
+use Rattle.wl_symbols.specs.Left.{same_field, same_import, is_stub, stub_slots}
+use Rattle.wl_symbols.specs.SlotTargets.{slot_target}
+use Rattle.wl_symbols.specs.declared.units.WasmGcUnit.TheVariants.{DefinedFunction, DefinedGlobal}
 use Rattle.wl_symbols.specs.Entries.{symbol_in}
 use Rattle.wl_symbols.specs.declared.linker_symbol.WasmLinkerSymbol.{WasmLinkerSymbol}
 use Rattle.wl_symbols.specs.declared.linker_symbol.WasmLinkerSymbol.TheVariants as made
 use Rattle.wl_module.specs.SameType.{types_equiv}
 use Rattle.wl_module.specs.Types.{FunctionType, same_type}
 use Rattle.wl_types.specs.Types.{output_list}
-use Rattle.wl_bind.specs.Input.{Input, keeps}
-use Rattle.wl_bind.specs.KeptSlots.{slots_from, is_kept_slot, kept_slots, left_slots}
+use Rattle.wl_symbols.specs.Input.{Input, keeps}
+use Rattle.wl_symbols.specs.KeptSlots.{slots_from, is_kept_slot, kept_slots, left_slots}
 use Rattle.wl_bind.specs.FunctionBinding.{left_functions, link_stubs, host_functions}
 use Rattle.wl_bind.specs.GlobalBinding.{left_globals, by_got, host_globals}
 use Rattle.wl_bind.specs.Scan.{got_mem, got_func}

@@ -7,11 +7,11 @@ use Rattle.std.proofs.lemmas.List.Elements.{Contains-push_cases}
 use Rattle.std.proofs.lemmas.Slice.Eq.{bytes_eq-Decides}
 use Rattle.indexmap.specs.IndexSet.{insert_key, insert_all}
 use Rattle.wl_custom.specs.declared.symbols.WasmSymbolKind.TheVariants.{Func}
-use Rattle.wl_slots.specs.ImportSlots.{ImportSlot}
-use Rattle.wl_slots.specs.SlotTargets.{slot_target}
-use Rattle.wl_slots.specs.Left.{same_field, same_import, is_stub, stub_slots, first_imports}
-use Rattle.wl_bind.specs.Input.{Input}
-use Rattle.wl_bind.specs.KeptSlots.{kept_slots}
+use Rattle.wl_symbols.specs.ImportSlots.{ImportSlot}
+use Rattle.wl_symbols.specs.SlotTargets.{slot_target}
+use Rattle.wl_symbols.specs.Left.{same_field, same_import, is_stub, stub_slots, first_imports}
+use Rattle.wl_symbols.specs.Input.{Input}
+use Rattle.wl_symbols.specs.KeptSlots.{kept_slots}
 use Rattle.wl_bind.specs.FunctionBinding.{left_functions, link_stubs, host_functions, by_stub, by_host, binds_function}
 use Rattle.wl_bind.specs.BindingCases.{IsOfStub, IsOfHost, IsBoundAs}
 use Rattle.wl_bind.specs.declared.binding.FunctionTarget.{FunctionTarget}

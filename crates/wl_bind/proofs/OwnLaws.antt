@@ -5,11 +5,11 @@ use Rattle.std.proofs.lemmas.Bool.{cases_Bool, ltb-true}
 use Rattle.std.proofs.lemmas.List.Elements.{filter-append}
 use Rattle.std.proofs.lemmas.Option.{cond_some}
 use Rattle.wl_linking.specs.Object.{Object}
-use Rattle.wl_live.specs.Live.{Live, is_live, live_below, ordinal_of, IsLiveOf}
-use Rattle.wl_live.specs.Units.{counts_of, units_at, has_unit, exists, unit_number, unit_index}
-use Rattle.wl_live.specs.declared.units.LinkUnit.{LinkUnit}
-use Rattle.wl_live.specs.declared.units.UnitCounts.{UnitCounts}
-use Rattle.wl_bind.specs.Input.{Input, keeps}
+use Rattle.wl_symbols.specs.Live.{Live, is_live, live_below, ordinal_of, IsLiveOf}
+use Rattle.wl_symbols.specs.Units.{counts_of, units_at, has_unit, exists, unit_number, unit_index}
+use Rattle.wl_symbols.specs.declared.units.LinkUnit.{LinkUnit}
+use Rattle.wl_symbols.specs.declared.units.UnitCounts.{UnitCounts}
+use Rattle.wl_symbols.specs.Input.{Input, keeps}
 use Rattle.wl_bind.specs.OwnIndices.{own_unit, own_count, kept_own, firsts_from}
 use Rattle.wl_bind.specs.Parts.{by_object}
 use Rattle.wl_bind.specs.declared.own_indices.Own.{Own}

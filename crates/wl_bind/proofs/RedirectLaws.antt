@@ -18,21 +18,21 @@ use Rattle.wl_symbols.specs.LinkerNames.{is_imported_as}
 use Rattle.wl_symbols.specs.Names.{def}
 use Rattle.wl_symbols.specs.declared.entry.Definition.{Definition}
 use Rattle.wl_symbols.specs.declared.entry.Definition.TheVariants.{Symbol, Made as MadeName}
-use Rattle.wl_live.specs.Entry.{is_function_kind, is_defined_function}
-use Rattle.wl_live.specs.Live.{IsLiveOf}
-use Rattle.wl_slots.specs.ImportSlots.{ImportSlot, object_slots, import_slots}
-use Rattle.wl_slots.specs.SlotTargets.{own_number, defined_under, is_definition_of, object_target, symbol_target, slot_target}
-use Rattle.wl_slots.specs.declared.targets.SlotTarget.{SlotTarget}
-use Rattle.wl_slots.specs.declared.targets.SlotTarget.TheVariants as slot
+use Rattle.wl_custom.specs.Symbols.{is_function_kind, is_defined_function}
+use Rattle.wl_symbols.specs.Live.{IsLiveOf}
+use Rattle.wl_symbols.specs.ImportSlots.{ImportSlot, object_slots, import_slots}
+use Rattle.wl_symbols.specs.SlotTargets.{own_number, defined_under, is_definition_of, object_target, symbol_target, slot_target}
+use Rattle.wl_symbols.specs.declared.targets.SlotTarget.{SlotTarget}
+use Rattle.wl_symbols.specs.declared.targets.SlotTarget.TheVariants as slot
 use Rattle.wl_types.specs.Types.{max_entries}
-use Rattle.wl_types.specs.declared.types.TheConstants.{WASM_DEAD_INDEX}
-use Rattle.wl_slots.specs.Left.{same_field, same_import, is_stub, first_imports, first_like}
+use Rattle.wl_index.specs.declared.index.TheConstants.{WASM_DEAD_INDEX}
+use Rattle.wl_symbols.specs.Left.{same_field, same_import, is_stub, first_imports, first_like}
 use Rattle.wl_bind.specs.FunctionBinding.{named_function, binds_function, by_stub, by_host, left_functions, link_stubs, host_functions}
 use Rattle.wl_bind.specs.FunctionSpace.{FunctionEntry, FunctionOf, function_space, function_slot_entry, own_function_entry, local_functions}
 use Rattle.wl_bind.specs.FunctionSymbols.{kept_binding, binding_at, own_function, function_of}
 use Rattle.wl_bind.specs.IndexMaps.{is_kept_target, entry_of, symbol_function, symbol_functions}
-use Rattle.wl_bind.specs.Input.{Input, keeps_slot}
-use Rattle.wl_bind.specs.KeptSlots.{is_kept_slot}
+use Rattle.wl_symbols.specs.Input.{Input, keeps_slot}
+use Rattle.wl_symbols.specs.KeptSlots.{is_kept_slot}
 use Rattle.wl_bind.specs.Parts.{IsIndexOf, AreIndicesOf, IsPlaceOf, ArePlacesOf, AreRows}
 use Rattle.wl_bind.specs.RedirectSteps.{as_place, row_place, at_index, definition_function, leads_to, redirect_of, redirects_of}
 use Rattle.wl_bind.specs.declared.binding.FunctionTarget.{FunctionTarget}
@@ -44,7 +44,7 @@ use Rattle.wl_bind.proofs.LeftLaws.{cases_option, rules_join, named_binds}
 use Rattle.wl_bind.proofs.ListLaws.{all_at, get_in_front, left_and, right_and}
 use Rattle.wl_bind.proofs.NumberingLaws.{zip_maps, slots_here}
 use Rattle.wl_bind.proofs.PlaceLaws.{get_behind}
-use Rattle.wl_bind.proofs.RowLaws.{splits}
+use Rattle.wl_lists.proofs.Splits.{splits}
 
 -- ---- rows
 

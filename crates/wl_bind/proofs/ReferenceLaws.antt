@@ -24,35 +24,36 @@ use Rattle.wl_symbols.specs.LinkerNames.{is_imported_as}
 use Rattle.wl_symbols.specs.Names.{def}
 use Rattle.wl_symbols.specs.declared.entry.Definition.{Definition}
 use Rattle.wl_symbols.specs.declared.entry.Definition.TheVariants.{Symbol, Made as MadeName}
-use Rattle.wl_live.specs.Definitions.{unit_at, other_unit, is_replaceable, gives_way}
-use Rattle.wl_live.specs.Entry.{is_function_kind}
-use Rattle.wl_live.specs.Live.{Live, is_live, IsLiveOf}
-use Rattle.wl_live.specs.References.{HasRelocation, RefersBySymbol}
-use Rattle.wl_live.specs.Units.{units_of, unit_of, unit_in as unit_by_counts}
-use Rattle.wl_live.specs.declared.units.LinkUnit.{LinkUnit}
-use Rattle.wl_live.specs.declared.units.UnitCounts.{UnitCounts}
-use Rattle.wl_live.specs.declared.units.WasmGcUnit.{WasmGcUnit}
-use Rattle.wl_live.specs.declared.units.WasmGcUnit.TheVariants.{DefinedFunction, FunctionImport}
-use Rattle.wl_slots.specs.ImportSlots.{ImportSlot, object_slots, import_slots}
-use Rattle.wl_slots.specs.SlotTargets.{own_number, is_definition_of, object_target, symbol_target}
-use Rattle.wl_slots.specs.declared.targets.SlotTarget.{SlotTarget}
-use Rattle.wl_slots.specs.declared.targets.SlotTarget.TheVariants as slot
+use Rattle.wl_symbols.specs.DefinedUnits.{unit_at, other_unit, is_replaceable, gives_way}
+use Rattle.wl_custom.specs.Symbols.{is_function_kind}
+use Rattle.wl_symbols.specs.Live.{Live, is_live, IsLiveOf}
+use Rattle.wl_symbols.specs.References.{HasRelocation, RefersBySymbol}
+use Rattle.wl_symbols.specs.Units.{units_of, unit_of, unit_in as unit_by_counts}
+use Rattle.wl_symbols.specs.declared.units.LinkUnit.{LinkUnit}
+use Rattle.wl_symbols.specs.declared.units.UnitCounts.{UnitCounts}
+use Rattle.wl_symbols.specs.declared.units.WasmGcUnit.{WasmGcUnit}
+use Rattle.wl_symbols.specs.declared.units.WasmGcUnit.TheVariants.{DefinedFunction, FunctionImport}
+use Rattle.wl_symbols.specs.ImportSlots.{ImportSlot, object_slots, import_slots}
+use Rattle.wl_symbols.specs.SlotTargets.{own_number, is_definition_of, object_target, symbol_target}
+use Rattle.wl_symbols.specs.declared.targets.SlotTarget.{SlotTarget}
+use Rattle.wl_symbols.specs.declared.targets.SlotTarget.TheVariants as slot
 use Rattle.wl_bind.specs.FunctionBinding.{named_function, binds_function}
 use Rattle.wl_bind.specs.FunctionSymbols.{kept_binding, binding_at, defined_function, own_function, function_of, fun}
-use Rattle.wl_bind.specs.Input.{Input, keeps}
-use Rattle.wl_bind.specs.KeptSlots.{slots_from, is_kept_slot}
+use Rattle.wl_symbols.specs.Input.{Input, keeps}
+use Rattle.wl_symbols.specs.KeptSlots.{slots_from, is_kept_slot}
 use Rattle.wl_bind.specs.Kinds.{takes_kind, is_no_data}
 use Rattle.wl_bind.specs.OutputTypes.{is_type_of_function, is_type_of_host, names_type, is_live_type, types_if, local_types}
 use Rattle.wl_bind.specs.Parts.{by_object}
 use Rattle.wl_bind.specs.References.{HasSlot, IsInOutput, IsSettled, NamesType, NamesSymbol, NamesFunction}
-use Rattle.wl_bind.specs.Relocations.{unit_in, keeps_unit, relocated_at, relocated_if, relocated_in, object_relocations, relocations_from}
+use Rattle.wl_symbols.specs.Relocations.{unit_in, keeps_unit, relocated_at, relocated_if, relocated_in, object_relocations, relocations_from}
 use Rattle.wl_bind.specs.Sameness.{same_target}
-use Rattle.wl_bind.specs.Scan.{relocations, symbol_of, names_function, definition_of, function_of as function_named, is_global_index, is_table_index, unless_stub, table_function_of, table_functions}
+use Rattle.wl_symbols.specs.Relocations.{relocations}
+use Rattle.wl_bind.specs.Scan.{symbol_of, names_function, definition_of, function_of as function_named, is_global_index, is_table_index, unless_stub, table_function_of, table_functions}
 use Rattle.wl_bind.specs.declared.binding.FunctionTarget.{FunctionTarget}
 use Rattle.wl_bind.specs.declared.binding.FunctionTarget.TheVariants as function
-use Rattle.wl_bind.specs.declared.relocated.FixupPlace.{FixupPlace}
-use Rattle.wl_bind.specs.declared.relocated.FixupPlace.TheVariants.{Code, Segment}
-use Rattle.wl_bind.specs.declared.relocated.Relocated.{Relocated}
+use Rattle.wl_symbols.specs.declared.relocated.FixupPlace.{FixupPlace}
+use Rattle.wl_symbols.specs.declared.relocated.FixupPlace.TheVariants.{Code, Segment}
+use Rattle.wl_symbols.specs.declared.relocated.Relocated.{Relocated}
 use Rattle.wl_bind.proofs.ClosedLaws.{function_units, counts_at, definition_is, other_is}
 use Rattle.wl_bind.proofs.HostLaws.{IsAt, placed, kept_at}
 use Rattle.wl_bind.proofs.LeftLaws.{cases_option}

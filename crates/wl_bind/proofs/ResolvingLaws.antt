@@ -13,7 +13,7 @@ use Rattle.wl_symbols.specs.declared.entry.Definition.{Definition}
 use Rattle.wl_symbols.specs.declared.entry.Definition.TheVariants.{Symbol, Made}
 use Rattle.wl_symbols.specs.declared.linker_symbol.WasmLinkerSymbol.{WasmLinkerSymbol}
 use Rattle.wl_symbols.specs.declared.linker_symbol.WasmLinkerSymbol.TheVariants.{DataEnd, GlobalBase, HeapBase, HeapEnd, WasmFirstPageEnd, DsoHandle, MemoryBase, TableBase, StackPointer, TlsBase, TlsSize, TlsAlign, CallCtors, InitTls}
-use Rattle.wl_bind.specs.Input.{Input}
+use Rattle.wl_symbols.specs.Input.{Input}
 use Rattle.wl_bind.specs.Scan.{definition_name}
 use Rattle.wl_bind.specs.GlobalBinding.{is_called}
 use Rattle.wl_bind.specs.Later.{has_that_name}

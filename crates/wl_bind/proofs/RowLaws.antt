@@ -2,32 +2,20 @@
 use Rattle.std.proofs.Common.{◌≡◌, ◌∙◌, ℕ, zero, suc, ◌+◌, ◌<◌, Bool, true, List, [], ◌∷◌, ◌++◌, length, drop, map, filter, refl, sym, ap, arith, inl, inr, append_assoc, Option, Some, slice_get, slice_index_or, Contains}
 use Rattle.std.specs.Option.{option_map_or, option_and_then}
 use Rattle.std.proofs.lemmas.Bool.{cases_Bool}
-use Rattle.std.proofs.lemmas.List.Elements.{filter-append, Contains-append_left, Contains-append_right}
+use Rattle.std.proofs.lemmas.List.Elements.{Contains-append_left, Contains-append_right}
 use Rattle.std.proofs.lemmas.Option.{get_or_from_slice_get}
 use Rattle.wl_linking.specs.Object.{Object}
 use Rattle.wl_custom.specs.declared.symbols.WasmSymbolKind.{WasmSymbolKind}
 use Rattle.wl_custom.specs.declared.symbols.WasmSymbolKind.TheVariants.{Func}
-use Rattle.wl_slots.specs.ImportSlots.{ImportSlot, object_slots, import_slots}
-use Rattle.wl_bind.specs.Input.{Input}
-use Rattle.wl_bind.specs.KeptSlots.{slots_from}
+use Rattle.wl_symbols.specs.ImportSlots.{ImportSlot, object_slots, import_slots}
+use Rattle.wl_symbols.specs.Input.{Input}
+use Rattle.wl_symbols.specs.KeptSlots.{slots_from}
 use Rattle.wl_bind.specs.FunctionSymbols.{kept_binding, binding_at, bindings_from, function_bindings}
 use Rattle.wl_bind.specs.BindingSteps.{row_at}
 use Rattle.wl_bind.specs.declared.binding.FunctionTarget.{FunctionTarget}
+use Rattle.wl_lists.proofs.Splits.{splits}
 
 -- ---- lists
-
--- what a list has at a place, and what it has behind it
-pub record Splits {X : Type 0} (xs : List X) (k : ℕ) : Type 0 where
-  pub x : X
-  pub here : slice_get xs k ≡ Some x
-  pub split : drop k xs ≡ x ∷ drop (suc k) xs
-
-pub splits : {X : Type 0} (xs : List X) (k : ℕ) → k < length xs → Splits xs k
-splits [] k lt = absurd (omega (arith, lt))
-splits (x ∷ xs) zero lt = record { x = x; here = refl; split = refl }
-splits (x ∷ xs) (suc k) lt =
-    let rest = splits xs k (omega (arith, lt)) in
-    record { x = rest.x; here = rest.here; split = rest.split }
 
 -- an element of a list that passes is among those that pass
 passes_at : {X : Type 0} (test : X → Bool) (xs : List X) (x : X) (k : ℕ) → k < length xs → slice_index_or xs k x ≡ x → test x ≡ true → Contains (filter test xs) x
@@ -52,26 +40,6 @@ at_is_in (y ∷ xs) zero x at = (let is : y ≡ x = cc in (zero, omega arith, is
 at_is_in (y ∷ xs) (suc k) x at = (let rest = at_is_in xs k x at in (suc rest.0, omega (arith, rest.1), rest.2))
 
 -- ---- the slots of objects
-
--- those of one more object
-pub slots_more : (kind : WasmSymbolKind) (objects : List Object) (k : ℕ) → k < length objects
-    → slots_from kind k (drop k objects) ≡ import_slots objects k kind ++ slots_from kind (k + 1) (drop (k + 1) objects)
-slots_more kind objects k lt =
-    let s = splits objects k lt in
-    let e : k + 1 ≡ suc k = omega arith in
-    let split : drop k objects ≡ s.x ∷ drop (k + 1) objects = rw e s.split in
-    rw (split, s.here) refl
-
--- those of one more object that pass
-pub kept_more : (test : ImportSlot → Bool) (kind : WasmSymbolKind) (objects : List Object) (k : ℕ) (kept new all : List ImportSlot) → k < length objects
-    → new ≡ kept ++ filter test (import_slots objects k kind) → kept ++ filter test (slots_from kind k (drop k objects)) ≡ all
-    → new ++ filter test (slots_from kind (k + 1) (drop (k + 1) objects)) ≡ all
-kept_more test kind objects k kept new all lt is so =
-    let here : List ImportSlot = filter test (import_slots objects k kind) in
-    let rest : List ImportSlot = filter test (slots_from kind (k + 1) (drop (k + 1) objects)) in
-    let step : filter test (slots_from kind k (drop k objects)) ≡ here ++ rest =
-    ap (filter test) (slots_more kind objects k lt) ∙ filter-append test (import_slots objects k kind) (slots_from kind (k + 1) (drop (k + 1) objects)) in
-    ap (λ (t : List ImportSlot). t ++ rest) is ∙ append_assoc kept here rest ∙ (ap (λ (t : List ImportSlot). kept ++ t) (sym step) ∙ so)
 
 -- a slot of an object is among those of all objects
 slot_within : (kind : WasmSymbolKind) (n i m : ℕ) (objects : List Object) (t : ImportSlot) → n + i ≡ m

@@ -4,8 +4,8 @@ use Rattle.std.proofs.lemmas.List.{drop_all}
 use Rattle.wl_linking.specs.Object.{Object}
 use Rattle.wl_custom.specs.declared.symbols.WasmSymbolKind.{WasmSymbolKind}
 use Rattle.wl_custom.specs.declared.symbols.WasmSymbolKind.TheVariants.{Func, Global}
-use Rattle.wl_slots.specs.ImportSlots.{ImportSlot, object_slots, import_slots}
-use Rattle.wl_bind.specs.Input.{Input}
+use Rattle.wl_symbols.specs.ImportSlots.{ImportSlot, object_slots, import_slots}
+use Rattle.wl_symbols.specs.Input.{Input}
 use Rattle.wl_bind.specs.Resolutions.{named_resolution, named_resolutions, rows_from, by_names}
 use Rattle.wl_bind.specs.declared.resolution.ImportResolution.{ImportResolution}
 use Rattle.wl_bind.specs.declared.resolution.ObjectImportResolutions.{ObjectImportResolutions}

@@ -10,13 +10,13 @@ use Rattle.wl_linking.specs.Steps.{Clear, Refuses}
 use Rattle.wl_linking.specs.declared.error.LinkError.{LinkError}
 use Rattle.wl_custom.specs.declared.symbols.WasmSymbolKind.{WasmSymbolKind}
 use Rattle.wl_custom.specs.declared.symbols.WasmSymbolKind.TheVariants.{Func, Global}
-use Rattle.wl_slots.specs.ImportSlots.{ImportSlot, object_slots, import_slots}
-use Rattle.wl_slots.specs.SlotTargets.{slot_target}
-use Rattle.wl_slots.specs.Left.{HostImport, same_field, same_import, first_like, first_imports, first_slot, is_stub, place_of_import}
-use Rattle.wl_slots.specs.declared.targets.SlotTarget.{SlotTarget}
-use Rattle.wl_slots.specs.declared.targets.SlotTarget.TheVariants as slot
-use Rattle.wl_bind.specs.Input.{Input}
-use Rattle.wl_bind.specs.KeptSlots.{slots_from, is_kept_slot}
+use Rattle.wl_symbols.specs.ImportSlots.{ImportSlot, object_slots, import_slots}
+use Rattle.wl_symbols.specs.SlotTargets.{slot_target}
+use Rattle.wl_symbols.specs.Left.{HostImport, same_field, same_import, first_like, first_imports, first_slot, is_stub, place_of_import}
+use Rattle.wl_symbols.specs.declared.targets.SlotTarget.{SlotTarget}
+use Rattle.wl_symbols.specs.declared.targets.SlotTarget.TheVariants as slot
+use Rattle.wl_symbols.specs.Input.{Input}
+use Rattle.wl_symbols.specs.KeptSlots.{slots_from, is_kept_slot}
 use Rattle.wl_bind.specs.FunctionBinding.{left_functions, link_stubs, host_functions, named_function}
 use Rattle.wl_bind.specs.GlobalBinding.{host_globals, named_global, is_called, is_from, by_got}
 use Rattle.wl_bind.specs.Scan.{got_mem, got_func}

@@ -8,13 +8,13 @@ use Rattle.wl_module.specs.Imports.{Imported}
 use Rattle.wl_linking.specs.Object.{Object}
 use Rattle.wl_custom.specs.Symbols.{Symbol as LinkedSymbol}
 use Rattle.wl_custom.specs.declared.symbols.WasmSymbolKind.TheVariants.{Func, Global}
-use Rattle.wl_slots.specs.ImportSlots.{ImportSlot, slot_imports, slot_at, numbered_slots, object_slots}
-use Rattle.wl_slots.specs.SlotTargets.{by_definition, by_symbol_name, by_field_name, slot_target}
-use Rattle.wl_slots.specs.Left.{HostImport, same_field, first_like, is_stub, first_slot, place_of_name}
-use Rattle.wl_slots.specs.declared.targets.SlotTarget.{SlotTarget}
-use Rattle.wl_slots.specs.declared.targets.SlotTarget.TheVariants as slot
-use Rattle.wl_bind.specs.Input.{Input, keeps_slot}
-use Rattle.wl_bind.specs.KeptSlots.{slots_from, is_kept_slot, kept_slots}
+use Rattle.wl_symbols.specs.ImportSlots.{ImportSlot, slot_imports, slot_at, numbered_slots, object_slots}
+use Rattle.wl_symbols.specs.SlotTargets.{by_definition, by_symbol_name, by_field_name, slot_target}
+use Rattle.wl_symbols.specs.Left.{HostImport, same_field, first_like, is_stub, first_slot, place_of_name}
+use Rattle.wl_symbols.specs.declared.targets.SlotTarget.{SlotTarget}
+use Rattle.wl_symbols.specs.declared.targets.SlotTarget.TheVariants as slot
+use Rattle.wl_symbols.specs.Input.{Input, keeps_slot}
+use Rattle.wl_symbols.specs.KeptSlots.{slots_from, is_kept_slot, kept_slots}
 use Rattle.wl_bind.specs.FunctionBinding.{left_functions, link_stubs, named_function, by_stub, by_host, binds_function}
 use Rattle.wl_bind.specs.Resolutions.{resolved, named_resolution, as_function, function_resolution, global_resolution, rows_from, by_names_and_got, by_all_rules, resolutions}
 use Rattle.wl_bind.specs.Stepped.{stepped}

@@ -13,11 +13,11 @@ use Rattle.wl_linking.specs.Spaces.{spaces_of, import_exists}
 use Rattle.wl_custom.specs.Symbols.{Symbol}
 use Rattle.wl_custom.specs.declared.symbols.WasmSymbolKind.{WasmSymbolKind}
 use Rattle.wl_custom.specs.declared.symbols.WasmSymbolKind.TheVariants.{Func}
-use Rattle.wl_slots.specs.ImportSlots.{ImportSlot, is_slot_of, slot_imports, numbered_slots, object_slots}
-use Rattle.wl_slots.specs.Left.{same_field, is_stub, stub_slots}
-use Rattle.wl_slots.specs.SlotTargets.{slot_target}
-use Rattle.wl_bind.specs.Input.{Input}
-use Rattle.wl_bind.specs.KeptSlots.{slots_from, is_kept_slot, kept_slots}
+use Rattle.wl_symbols.specs.ImportSlots.{ImportSlot, is_slot_of, slot_imports, numbered_slots, object_slots}
+use Rattle.wl_symbols.specs.Left.{same_field, is_stub, stub_slots}
+use Rattle.wl_symbols.specs.SlotTargets.{slot_target}
+use Rattle.wl_symbols.specs.Input.{Input}
+use Rattle.wl_symbols.specs.KeptSlots.{slots_from, is_kept_slot, kept_slots}
 use Rattle.wl_bind.specs.FunctionBinding.{left_functions, link_stubs}
 use Rattle.wl_bind.specs.FunctionTypes.{type_in, type_number, slot_type, stub_types}
 use Rattle.wl_bind.proofs.ListLaws.{all_at}

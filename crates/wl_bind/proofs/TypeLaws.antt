@@ -8,7 +8,7 @@ use Rattle.wl_module.specs.declared.imports.ImportEntity.TheVariants as entity
 use Rattle.wl_linking.specs.Object.{Object}
 use Rattle.wl_custom.specs.Symbols.{Symbol}
 use Rattle.wl_custom.specs.declared.symbols.WasmSymbolKind.TheVariants.{Func}
-use Rattle.wl_slots.specs.ImportSlots.{slot_imports, numbered_slots, import_slots}
+use Rattle.wl_symbols.specs.ImportSlots.{slot_imports, numbered_slots, import_slots}
 use Rattle.wl_bind.specs.FunctionTypes.{type_in, slot_type}
 use Rattle.wl_bind.specs.BindingSteps.{numbers_in, slot_numbers, number_at}
 use Rattle.wl_bind.proofs.LeftLaws.{cases_option}

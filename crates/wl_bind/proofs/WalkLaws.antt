@@ -3,7 +3,7 @@ use Rattle.std.proofs.Common.{◌≡◌, ◌∙◌, ℕ, suc, ◌+◌, ◌<◌, 
 use Rattle.std.proofs.lemmas.List.{drop_all}
 use Rattle.wl_module.specs.Imports.{Imported}
 use Rattle.wl_custom.specs.declared.symbols.WasmSymbolKind.{WasmSymbolKind}
-use Rattle.wl_slots.specs.ImportSlots.{is_slot_of, slot_imports}
+use Rattle.wl_symbols.specs.ImportSlots.{is_slot_of, slot_imports}
 use Rattle.wl_bind.specs.Stepped.{stepped_behind, step_at}
 use Rattle.wl_bind.proofs.ListLaws.{next_is}
 use Rattle.wl_bind.proofs.SteppedLaws.{behind_more, behind_end}

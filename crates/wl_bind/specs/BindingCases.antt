@@ -1,10 +1,10 @@
 -- What function slots are bound to, by cases.
 use Rattle.std.specs.Prelude.{◌≡◌, ◌⊎◌, true, false, Contains, Some, None}
-use Rattle.wl_slots.specs.ImportSlots.{ImportSlot}
-use Rattle.wl_slots.specs.SlotTargets.{slot_target}
-use Rattle.wl_slots.specs.declared.targets.SlotTarget.{SlotTarget}
-use Rattle.wl_slots.specs.Left.{is_stub}
-use Rattle.wl_bind.specs.Input.{Input}
+use Rattle.wl_symbols.specs.ImportSlots.{ImportSlot}
+use Rattle.wl_symbols.specs.SlotTargets.{slot_target}
+use Rattle.wl_symbols.specs.declared.targets.SlotTarget.{SlotTarget}
+use Rattle.wl_symbols.specs.Left.{is_stub}
+use Rattle.wl_symbols.specs.Input.{Input}
 use Rattle.wl_bind.specs.FunctionBinding.{left_functions, host_functions, named_function}
 use Rattle.wl_bind.specs.declared.binding.FunctionTarget.{FunctionTarget}
 use Rattle.wl_bind.specs.declared.binding.FunctionTarget.TheVariants.{Stub, Host}

@@ -1,27 +1,25 @@
 -- Functions while they are bound, and types while they are compared.
 use Rattle.std.specs.Prelude.{◌≡◌, ◌⊎◌, ℕ, ◌&&◌, if◌then◌else◌, Bool, true, false, not, List, Option, slice_get, find, map}
 use Rattle.std.specs.List.{filter_map}
-use Rattle.std.specs.Option.{option_or, option_map_or, option_and_then, is_none}
+use Rattle.std.specs.Option.{option_or, option_map_or, option_and_then}
 use Rattle.std.specs.Str.{bytes_eq}
 use Rattle.wl_module.specs.Imports.{Imported}
 use Rattle.wl_module.specs.Types.{FunctionType, same_type}
 use Rattle.wl_linking.specs.Object.{Object}
 use Rattle.wl_custom.specs.RelocationTypes.{names_a_type}
-use Rattle.wl_custom.specs.Symbols.{Symbol, is_weak}
+use Rattle.wl_custom.specs.Symbols.{Symbol, is_weak, is_function_kind}
 use Rattle.wl_linking.specs.declared.error.LinkError.{LinkError}
 use Rattle.wl_linking.specs.declared.error.LinkError.TheVariants.{SignatureMismatch}
 use Rattle.wl_symbols.specs.Entries.{symbol_in}
-use Rattle.wl_live.specs.Entry.{is_function_kind}
-use Rattle.wl_slots.specs.ImportSlots.{ImportSlot}
-use Rattle.wl_slots.specs.SlotTargets.{slot_target}
-use Rattle.wl_slots.specs.Left.{HostImport}
-use Rattle.wl_bind.specs.Input.{Input}
+use Rattle.wl_symbols.specs.ImportSlots.{ImportSlot}
+use Rattle.wl_symbols.specs.Left.{HostImport}
+use Rattle.wl_symbols.specs.Input.{Input}
 use Rattle.wl_bind.specs.FunctionSymbols.{defined_function, own_function, fun}
 use Rattle.wl_bind.specs.FunctionTypes.{type_number, declared_type, target_type}
 use Rattle.wl_bind.specs.Signatures.{OnKeptSlot, NamedByInit}
 use Rattle.wl_bind.specs.declared.binding.FunctionTarget.{FunctionTarget}
 use Rattle.wl_bind.specs.declared.binding.FunctionTarget.TheVariants.{Host, Stub}
-use Rattle.wl_bind.specs.declared.relocated.Relocated.{Relocated}
+use Rattle.wl_symbols.specs.declared.relocated.Relocated.{Relocated}
 
 -- ---- rows
 
@@ -31,10 +29,6 @@ row_at rows object slot =
     option_and_then (λ row. option_and_then (λ x. x) (slice_get row slot)) (slice_get rows object)
 
 -- ---- slots to which names bind nothing
-
--- names bind nothing to the slot
-unfoldable pub is_left_slot : Input → ImportSlot → Bool
-is_left_slot input t = is_none (slot_target input.link t)
 
 -- the first of these that has that field name
 abbrev pub stub_named : List ℕ → List HostImport → Option HostImport

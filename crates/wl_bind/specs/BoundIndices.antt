@@ -1,6 +1,6 @@
 -- What the references of a link are bound to, and where its things stand in the output.
 use Rattle.std.specs.Prelude.{◌≡◌}
-use Rattle.wl_bind.specs.Input.{Input}
+use Rattle.wl_symbols.specs.Input.{Input}
 use Rattle.wl_bind.specs.FunctionTypes.{stub_types}
 use Rattle.wl_bind.specs.IndexMaps.{AreIndexMaps}
 use Rattle.wl_bind.specs.MadeIndices.{AreMadeIndices}

@@ -8,9 +8,9 @@ use Rattle.wl_module.specs.declared.imports.ImportEntity.TheVariants as entity
 use Rattle.wl_linking.specs.Object.{Object}
 use Rattle.wl_linking.specs.declared.error.LinkError.{LinkError}
 use Rattle.wl_linking.specs.declared.error.LinkError.TheVariants.{ConflictingTypes}
-use Rattle.wl_slots.specs.ImportSlots.{ImportSlot}
-use Rattle.wl_slots.specs.Left.{same_field, same_import, stub_slots}
-use Rattle.wl_bind.specs.Input.{Input}
+use Rattle.wl_symbols.specs.ImportSlots.{ImportSlot}
+use Rattle.wl_symbols.specs.Left.{same_field, same_import, stub_slots}
+use Rattle.wl_symbols.specs.Input.{Input}
 use Rattle.wl_bind.specs.FunctionBinding.{left_functions, host_functions}
 use Rattle.wl_bind.specs.FunctionTypes.{slot_type}
 use Rattle.wl_bind.specs.GlobalBinding.{host_globals}

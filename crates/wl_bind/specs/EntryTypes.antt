@@ -3,10 +3,10 @@ use Rattle.std.specs.Prelude.{◌≡◌, ℕ, [], Contains, Option, Some, slice_
 use Rattle.std.specs.Option.{option_and_then}
 use Rattle.wl_module.specs.Types.{FunctionType}
 use Rattle.wl_custom.specs.declared.symbols.WasmSymbolKind.TheVariants.{Func}
-use Rattle.wl_slots.specs.ImportSlots.{ImportSlot, import_slots}
+use Rattle.wl_symbols.specs.ImportSlots.{ImportSlot, import_slots}
 use Rattle.wl_bind.specs.FunctionSpace.{FunctionEntry, FunctionOf, InitMemory}
 use Rattle.wl_bind.specs.FunctionTypes.{type_of_defined, type_of_made, slot_type}
-use Rattle.wl_bind.specs.Input.{Input}
+use Rattle.wl_symbols.specs.Input.{Input}
 use Rattle.wl_bind.specs.OutputTypes.{output_types}
 use Rattle.wl_bind.specs.declared.binding.FunctionTarget.TheVariants.{Defined, Made, Host, Stub}
 

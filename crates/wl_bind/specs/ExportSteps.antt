@@ -2,7 +2,7 @@
 use Rattle.std.specs.Prelude.{ℕ, List, [], ◌∷◌, Option, Some, None, if◌then◌else◌}
 use Rattle.std.specs.Option.{option_and_then}
 use Rattle.wl_custom.specs.Symbols.{Symbol as LinkedSymbol}
-use Rattle.wl_bind.specs.Input.{Input}
+use Rattle.wl_symbols.specs.Input.{Input}
 use Rattle.wl_bind.specs.ExportedData.{is_dynamic_data, is_dynamic, forced_by}
 use Rattle.wl_bind.specs.declared.exported.DataSymbol.{DataSymbol}
 

@@ -10,8 +10,8 @@ use Rattle.wl_symbols.specs.LinkerNames.{symbol_named}
 use Rattle.wl_symbols.specs.Names.{named}
 use Rattle.wl_symbols.specs.declared.entry.Definition.{Definition}
 use Rattle.wl_symbols.specs.declared.entry.Definition.TheVariants.{Symbol, Made}
-use Rattle.wl_live.specs.Roots.{is_candidate}
-use Rattle.wl_bind.specs.Input.{Input}
+use Rattle.wl_symbols.specs.Roots.{is_candidate}
+use Rattle.wl_symbols.specs.Input.{Input}
 use Rattle.wl_bind.specs.Made.{is_made}
 use Rattle.wl_bind.specs.Parts.{by_object}
 use Rattle.wl_bind.specs.contracts.exported.DataSymbolPartialEq.TheImpl as derived

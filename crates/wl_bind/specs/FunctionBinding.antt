@@ -2,13 +2,13 @@
 use Rattle.std.specs.Prelude.{if◌then◌else◌, List, Option, Some, None, unwrap_or}
 use Rattle.std.specs.Option.{option_or, option_map}
 use Rattle.wl_custom.specs.declared.symbols.WasmSymbolKind.TheVariants.{Func}
-use Rattle.wl_slots.specs.ImportSlots.{ImportSlot}
-use Rattle.wl_slots.specs.SlotTargets.{by_definition, by_symbol_name, by_field_name}
-use Rattle.wl_slots.specs.declared.targets.SlotTarget.{SlotTarget}
-use Rattle.wl_slots.specs.declared.targets.SlotTarget.TheVariants as slot
-use Rattle.wl_slots.specs.Left.{same_field, same_import, first_like, is_stub, stubs, host_slots, first_imports}
-use Rattle.wl_bind.specs.Input.{Input}
-use Rattle.wl_bind.specs.KeptSlots.{left_slots}
+use Rattle.wl_symbols.specs.ImportSlots.{ImportSlot}
+use Rattle.wl_symbols.specs.SlotTargets.{by_definition, by_symbol_name, by_field_name}
+use Rattle.wl_symbols.specs.declared.targets.SlotTarget.{SlotTarget}
+use Rattle.wl_symbols.specs.declared.targets.SlotTarget.TheVariants as slot
+use Rattle.wl_symbols.specs.Left.{same_field, same_import, first_like, is_stub, stubs, host_slots, first_imports}
+use Rattle.wl_symbols.specs.Input.{Input}
+use Rattle.wl_symbols.specs.KeptSlots.{left_slots}
 use Rattle.wl_bind.specs.declared.binding.FunctionTarget.{FunctionTarget}
 use Rattle.wl_bind.specs.declared.binding.FunctionTarget.TheVariants.{Defined, Made, Host, Stub}
 

@@ -4,13 +4,13 @@ use Rattle.std.specs.Prelude.{ℕ, List, [], ◌∷◌, ◌++◌, map, length, i
 use Rattle.std.specs.List.{filter, range_with_len}
 use Rattle.wl_linking.specs.Object.{Object}
 use Rattle.wl_custom.specs.declared.symbols.WasmSymbolKind.TheVariants.{Func}
-use Rattle.wl_live.specs.declared.units.WasmGcUnit.TheVariants.{DefinedFunction}
+use Rattle.wl_symbols.specs.declared.units.WasmGcUnit.TheVariants.{DefinedFunction}
 use Rattle.wl_symbols.specs.declared.linker_symbol.WasmLinkerSymbol.{WasmLinkerSymbol}
 use Rattle.wl_symbols.specs.declared.linker_symbol.WasmLinkerSymbol.TheVariants.{CallCtors, InitTls}
-use Rattle.wl_slots.specs.ImportSlots.{ImportSlot, object_slots}
-use Rattle.wl_slots.specs.Left.{first_imports}
-use Rattle.wl_bind.specs.Input.{Input, keeps}
-use Rattle.wl_bind.specs.KeptSlots.{is_kept_slot}
+use Rattle.wl_symbols.specs.ImportSlots.{ImportSlot, object_slots}
+use Rattle.wl_symbols.specs.Left.{first_imports}
+use Rattle.wl_symbols.specs.Input.{Input, keeps}
+use Rattle.wl_symbols.specs.KeptSlots.{is_kept_slot}
 use Rattle.wl_bind.specs.FunctionBinding.{link_stubs, host_functions, binds_function}
 use Rattle.wl_bind.specs.Made.{is_made, has_init_memory}
 use Rattle.wl_bind.specs.Parts.{joined, by_object}

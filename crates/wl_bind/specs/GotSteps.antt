@@ -5,7 +5,7 @@ use Rattle.std.specs.List.{list_any}
 use denote.Ref.{Bor}
 use Rattle.indexmap.specs.IndexSet.{insert_key}
 use Rattle.wl_symbols.specs.declared.entry.Definition.{Definition}
-use Rattle.wl_bind.specs.Input.{Input}
+use Rattle.wl_symbols.specs.Input.{Input}
 use Rattle.wl_bind.specs.Scan.{GotMemEntry, GotFuncEntry, got_mem_entry, got_func_entry}
 use Rattle.wl_bind.specs.Sameness.{same_definition, same_pair}
 use Rattle.wl_bind.specs.declared.binding.FunctionTarget.{FunctionTarget}

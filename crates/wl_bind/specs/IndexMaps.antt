@@ -6,21 +6,21 @@ use Rattle.wl_linking.specs.Object.{Object}
 use Rattle.wl_custom.specs.Symbols.{Symbol as LinkedSymbol, is_data}
 use Rattle.wl_symbols.specs.Entries.{symbol_in}
 use Rattle.wl_symbols.specs.Names.{def}
-use Rattle.wl_live.specs.declared.units.WasmGcUnit.TheVariants.{DefinedFunction}
-use Rattle.wl_bind.specs.Input.{Input, keeps}
+use Rattle.wl_symbols.specs.declared.units.WasmGcUnit.TheVariants.{DefinedFunction}
+use Rattle.wl_symbols.specs.Input.{Input, keeps}
 use Rattle.wl_bind.specs.FunctionSymbols.{fun}
 use Rattle.wl_bind.specs.FunctionSpace.{FunctionEntry, FunctionOf, function_space, local_functions}
 use Rattle.wl_bind.specs.GlobalSpace.{GlobalEntry, GlobalOf, global_space, local_globals}
 use Rattle.wl_bind.specs.OutputTypes.{AreTypeIndices}
 use Rattle.wl_bind.specs.Parts.{AreIndicesOf, ArePlacesOf, AreRows}
-use Rattle.wl_bind.specs.Relocations.{object_relocations}
+use Rattle.wl_symbols.specs.Relocations.{object_relocations}
 use Rattle.wl_bind.specs.Sameness.{same_definition, same_pair}
 use Rattle.wl_bind.specs.Scan.{is_global_index, got_mem, got_func}
 use Rattle.wl_bind.specs.declared.binding.FunctionTarget.{FunctionTarget}
 use Rattle.wl_bind.specs.declared.binding.FunctionTarget.TheVariants.{Defined, Made, Host, Stub}
 use Rattle.wl_bind.specs.declared.binding.GlobalTarget.TheVariants.{GotMem, GotFunc}
-use Rattle.wl_reloc.specs.declared.index_map.WasmObjectIndexMap.{WasmObjectIndexMap}
-use Rattle.wl_bind.specs.declared.relocated.Relocated.{Relocated}
+use Rattle.wl_index.specs.declared.index_map.WasmObjectIndexMap.{WasmObjectIndexMap}
+use Rattle.wl_symbols.specs.declared.relocated.Relocated.{Relocated}
 
 -- ---- function symbols
 

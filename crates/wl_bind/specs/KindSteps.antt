@@ -5,10 +5,10 @@ use Rattle.wl_linking.specs.Object.{Object}
 use Rattle.wl_custom.specs.RelocationTypes.{names_a_type}
 use Rattle.wl_custom.specs.declared.infos.WasmInitFunc.{WasmInitFunc}
 use Rattle.wl_symbols.specs.Entries.{symbol_in}
-use Rattle.wl_bind.specs.Input.{Input}
+use Rattle.wl_symbols.specs.Input.{Input}
 use Rattle.wl_bind.specs.Kinds.{is_wrong_use, is_wrong_init}
 use Rattle.wl_bind.specs.Scan.{symbol_of}
-use Rattle.wl_bind.specs.declared.relocated.Relocated.{Relocated}
+use Rattle.wl_symbols.specs.declared.relocated.Relocated.{Relocated}
 
 -- the relocation names a symbol, and doesn't take it
 abbrev pub is_wrong_relocation : Input → Relocated → Bool

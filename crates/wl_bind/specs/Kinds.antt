@@ -16,12 +16,13 @@ use Rattle.wl_symbols.specs.Entries.{symbol_in}
 use Rattle.wl_symbols.specs.LinkerNames.{row_of}
 use Rattle.wl_symbols.specs.declared.entry.Definition.{Definition}
 use Rattle.wl_symbols.specs.declared.entry.Definition.TheVariants.{Symbol, Made}
-use Rattle.wl_live.specs.Entry.{is_function_kind, is_defined_function}
-use Rattle.wl_bind.specs.Input.{Input}
+use Rattle.wl_custom.specs.Symbols.{is_function_kind, is_defined_function}
+use Rattle.wl_symbols.specs.Input.{Input}
 use Rattle.wl_bind.specs.FunctionSymbols.{fun}
 use Rattle.wl_bind.specs.FunctionTypes.{target_type}
-use Rattle.wl_bind.specs.Scan.{relocations, symbol_of, definition_of}
-use Rattle.wl_bind.specs.declared.relocated.Relocated.{Relocated}
+use Rattle.wl_symbols.specs.Relocations.{relocations}
+use Rattle.wl_bind.specs.Scan.{symbol_of, definition_of}
+use Rattle.wl_symbols.specs.declared.relocated.Relocated.{Relocated}
 
 -- ---- relocations
 

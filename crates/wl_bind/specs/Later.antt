@@ -6,9 +6,9 @@ use Rattle.wl_module.specs.Imports.{Imported}
 use Rattle.wl_linking.specs.Object.{Object}
 use Rattle.wl_custom.specs.declared.symbols.WasmSymbolKind.{WasmSymbolKind}
 use Rattle.wl_custom.specs.declared.symbols.WasmSymbolKind.TheVariants.{Func, Global}
-use Rattle.wl_slots.specs.ImportSlots.{slot_imports}
-use Rattle.wl_slots.specs.Left.{HostImport, place_of_name}
-use Rattle.wl_bind.specs.Input.{Input, keeps_slot}
+use Rattle.wl_symbols.specs.ImportSlots.{slot_imports}
+use Rattle.wl_symbols.specs.Left.{HostImport, place_of_name}
+use Rattle.wl_symbols.specs.Input.{Input, keeps_slot}
 use Rattle.wl_bind.specs.Stepped.{stepped}
 use Rattle.wl_bind.specs.declared.resolution.ObjectImportResolutions.{ObjectImportResolutions}
 use Rattle.wl_bind.specs.Scan.{GotMemEntry, GotFuncEntry, Scanned}

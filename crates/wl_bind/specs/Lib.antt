@@ -1,12 +1,7 @@
-pub mod Input
-pub mod KeptSlots
 pub mod Sameness
 pub mod FunctionBinding
 pub mod FunctionSymbols
 pub mod FunctionTypes
-pub mod Relocations
-pub mod KeptUnits
-pub mod KeptRelocations
 pub mod Scan
 pub mod GlobalBinding
 pub mod Resolutions

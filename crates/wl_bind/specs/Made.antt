@@ -11,13 +11,13 @@ use Rattle.wl_module.specs.declared.segments.DataKind.{DataKind}
 use Rattle.wl_module.specs.declared.segments.DataKind.TheVariants.{Passive, Active}
 use Rattle.wl_linking.specs.Object.{Object}
 use Rattle.wl_custom.specs.declared.symbols.WasmSymbolKind.TheVariants.{Func, Global}
-use Rattle.wl_live.specs.declared.units.WasmGcUnit.TheVariants.{DataSegment}
+use Rattle.wl_symbols.specs.declared.units.WasmGcUnit.TheVariants.{DataSegment}
 use Rattle.wl_symbols.specs.LinkerNames.{name_of}
 use Rattle.wl_symbols.specs.declared.linker_symbol.WasmLinkerSymbol.{WasmLinkerSymbol}
 use Rattle.wl_symbols.specs.declared.linker_symbol.WasmLinkerSymbol.TheVariants as made
-use Rattle.wl_slots.specs.ImportSlots.{ImportSlot}
-use Rattle.wl_bind.specs.Input.{Input, keeps}
-use Rattle.wl_bind.specs.KeptSlots.{kept_slots}
+use Rattle.wl_symbols.specs.ImportSlots.{ImportSlot}
+use Rattle.wl_symbols.specs.Input.{Input, keeps}
+use Rattle.wl_symbols.specs.KeptSlots.{kept_slots}
 use Rattle.wl_bind.specs.Sameness.{same_made}
 use Rattle.wl_bind.specs.FunctionBinding.{binds_function}
 use Rattle.wl_bind.specs.GlobalBinding.{binds_global}

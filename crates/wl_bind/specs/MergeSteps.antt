@@ -5,14 +5,14 @@ use Rattle.wl_module.specs.Types.{FunctionType, same_type}
 use Rattle.wl_module.specs.declared.types.ValType.{ValType}
 use Rattle.wl_custom.specs.RelocationTypes.{names_a_type}
 use Rattle.wl_custom.specs.declared.symbols.WasmSymbolKind.TheVariants.{Func}
-use Rattle.wl_live.specs.declared.units.WasmGcUnit.TheVariants.{DefinedFunction}
-use Rattle.wl_slots.specs.ImportSlots.{ImportSlot, import_slots}
+use Rattle.wl_symbols.specs.declared.units.WasmGcUnit.TheVariants.{DefinedFunction}
+use Rattle.wl_symbols.specs.ImportSlots.{ImportSlot, import_slots}
 use Rattle.wl_symbols.specs.declared.linker_symbol.WasmLinkerSymbol.TheVariants.{CallCtors, InitTls}
-use Rattle.wl_bind.specs.Input.{Input, keeps}
+use Rattle.wl_symbols.specs.Input.{Input, keeps}
 use Rattle.wl_bind.specs.FunctionTypes.{type_number}
 use Rattle.wl_bind.specs.OutputTypes.{made_type, init_memory_type}
 use Rattle.wl_bind.specs.SharedSteps.{is_host_of}
-use Rattle.wl_bind.specs.declared.relocated.Relocated.{Relocated}
+use Rattle.wl_symbols.specs.declared.relocated.Relocated.{Relocated}
 
 -- ---- marks
 

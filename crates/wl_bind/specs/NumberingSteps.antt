@@ -6,15 +6,15 @@ use Rattle.wl_custom.specs.declared.symbols.WasmSymbolKind.{WasmSymbolKind}
 use Rattle.wl_custom.specs.declared.symbols.WasmSymbolKind.TheVariants.{Func, Data, Global, Section, Event, Table}
 use Rattle.wl_symbols.specs.LinkerNames.{row_of}
 use Rattle.wl_symbols.specs.declared.linker_symbol.WasmLinkerSymbol.{WasmLinkerSymbol}
-use Rattle.wl_live.specs.Live.{ordinal_of}
-use Rattle.wl_live.specs.declared.units.WasmGcUnit.{WasmGcUnit}
-use Rattle.wl_slots.specs.ImportSlots.{ImportSlot}
+use Rattle.wl_symbols.specs.Live.{ordinal_of}
+use Rattle.wl_symbols.specs.declared.units.WasmGcUnit.{WasmGcUnit}
+use Rattle.wl_symbols.specs.ImportSlots.{ImportSlot}
 use Rattle.wl_types.specs.Types.{max_entries}
-use Rattle.wl_types.specs.declared.types.TheConstants.{WASM_DEAD_INDEX}
+use Rattle.wl_index.specs.declared.index.TheConstants.{WASM_DEAD_INDEX}
 use Rattle.wl_bind.specs.FunctionSpace.{stub_part, function_space}
 use Rattle.wl_bind.specs.GlobalSpace.{GlobalOf, global_space}
-use Rattle.wl_bind.specs.Input.{Input}
-use Rattle.wl_bind.specs.KeptSlots.{is_kept_slot}
+use Rattle.wl_symbols.specs.Input.{Input}
+use Rattle.wl_symbols.specs.KeptSlots.{is_kept_slot}
 use Rattle.wl_bind.specs.Made.{is_made}
 use Rattle.wl_bind.specs.MadeIndices.{StandsAt}
 use Rattle.wl_bind.specs.OwnIndices.{own_unit, own_count, own_index}

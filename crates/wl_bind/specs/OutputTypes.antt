@@ -9,17 +9,17 @@ use Rattle.wl_custom.specs.RelocationTypes.{names_a_type}
 use Rattle.wl_custom.specs.declared.symbols.WasmSymbolKind.TheVariants.{Func}
 use Rattle.wl_symbols.specs.declared.linker_symbol.WasmLinkerSymbol.{WasmLinkerSymbol}
 use Rattle.wl_symbols.specs.declared.linker_symbol.WasmLinkerSymbol.TheVariants.{CallCtors, InitTls}
-use Rattle.wl_slots.specs.ImportSlots.{ImportSlot, object_slots}
+use Rattle.wl_symbols.specs.ImportSlots.{ImportSlot, object_slots}
 use Rattle.wl_types.specs.Types.{output_list}
-use Rattle.wl_bind.specs.Input.{Input}
+use Rattle.wl_symbols.specs.Input.{Input}
 use Rattle.wl_bind.specs.FunctionTypes.{type_number, type_of_made, stub_types}
 use Rattle.wl_bind.specs.FunctionSpace.{kept_functions}
 use Rattle.wl_bind.specs.Made.{is_made, has_init_memory}
 use Rattle.wl_bind.specs.Parts.{by_object, AreRows, AreIndicesOf}
-use Rattle.wl_bind.specs.Relocations.{object_relocations}
+use Rattle.wl_symbols.specs.Relocations.{object_relocations}
 use Rattle.wl_bind.specs.Undefined.{is_host_slot}
 use Rattle.wl_bind.specs.declared.merging.MergedTypes.{MergedTypes}
-use Rattle.wl_bind.specs.declared.relocated.Relocated.{Relocated}
+use Rattle.wl_symbols.specs.declared.relocated.Relocated.{Relocated}
 
 -- ---- live types of an object, by their numbers there
 

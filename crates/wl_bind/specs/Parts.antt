@@ -6,7 +6,7 @@ use Rattle.wl_linking.specs.declared.error.LinkError.{LinkError}
 use Rattle.wl_linking.specs.declared.error.LinkError.TheVariants.{OutOfMemory, TooLarge}
 use Rattle.wl_linking.specs.declared.error.Quantity.TheVariants.{Space}
 use Rattle.wl_types.specs.Types.{max_entries}
-use Rattle.wl_types.specs.declared.types.TheConstants.{WASM_DEAD_INDEX}
+use Rattle.wl_index.specs.declared.index.TheConstants.{WASM_DEAD_INDEX}
 use Rattle.wl_bind.specs.declared.parts.PartStarts.{PartStarts}
 
 -- ---- parts

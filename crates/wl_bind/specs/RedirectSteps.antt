@@ -8,8 +8,8 @@ use Rattle.wl_symbols.specs.Link.{Link}
 use Rattle.wl_symbols.specs.Names.{def}
 use Rattle.wl_symbols.specs.declared.entry.Definition.{Definition}
 use Rattle.wl_symbols.specs.declared.entry.Definition.TheVariants.{Symbol, Made}
-use Rattle.wl_live.specs.Entry.{is_function_kind, is_defined_function}
-use Rattle.wl_types.specs.declared.types.TheConstants.{WASM_DEAD_INDEX}
+use Rattle.wl_custom.specs.Symbols.{is_function_kind, is_defined_function}
+use Rattle.wl_index.specs.declared.index.TheConstants.{WASM_DEAD_INDEX}
 use Rattle.wl_bind.specs.declared.redirects.LocalFunction.{LocalFunction}
 
 -- 4294967295 is the index of nothing

@@ -4,7 +4,7 @@ use Rattle.std.specs.Prelude.{ℕ, ◌&&◌, ◌||◌, Bool, true, false, List, 
 use Rattle.std.specs.List.{filter_map, list_any}
 use Rattle.std.specs.Option.{option_map, option_map_or, option_and_then}
 use Rattle.indexmap.specs.IndexSet.{insert_all}
-use Rattle.wl_custom.specs.Symbols.{Symbol as LinkedSymbol, is_data}
+use Rattle.wl_custom.specs.Symbols.{Symbol as LinkedSymbol, is_data, is_function_kind}
 use Rattle.wl_custom.specs.declared.relocation_type.RelocationType.{RelocationType}
 use Rattle.wl_custom.specs.declared.relocation_type.RelocationType.TheVariants.{TableIndexSleb, TableIndexI32, GlobalIndexLeb, MemoryAddrRelSleb, TableIndexRelSleb, GlobalIndexI32, TableNumberLeb}
 use Rattle.wl_symbols.specs.Entries.{symbol_in}
@@ -12,14 +12,13 @@ use Rattle.wl_symbols.specs.Names.{def}
 use Rattle.wl_symbols.specs.LinkerNames.{name_of}
 use Rattle.wl_symbols.specs.declared.entry.Definition.{Definition}
 use Rattle.wl_symbols.specs.declared.entry.Definition.TheVariants.{Symbol, Made as MadeName}
-use Rattle.wl_live.specs.Entry.{is_function_kind}
-use Rattle.wl_bind.specs.Input.{Input}
-use Rattle.wl_bind.specs.Relocations.{kept_relocations}
+use Rattle.wl_symbols.specs.Input.{Input}
+use Rattle.wl_symbols.specs.Relocations.{relocations}
 use Rattle.wl_bind.specs.FunctionSymbols.{fun}
 use Rattle.wl_bind.specs.Sameness.{same_definition, same_target, same_pair}
 use Rattle.wl_bind.specs.declared.binding.FunctionTarget.{FunctionTarget}
 use Rattle.wl_bind.specs.declared.binding.FunctionTarget.TheVariants.{Defined, Made, Host, Stub}
-use Rattle.wl_bind.specs.declared.relocated.Relocated.{Relocated}
+use Rattle.wl_symbols.specs.declared.relocated.Relocated.{Relocated}
 use Rattle.wl_bind.specs.declared.scan.RelocNeeds.{RelocNeeds}
 
 -- ---- types of relocations
@@ -74,10 +73,6 @@ definition_of input r = def input.link r.object r.relocation.index
 -- the function that the symbol that it names leads to
 abbrev pub function_of : Input → Relocated → Option FunctionTarget
 function_of input r = fun input r.object r.relocation.index
-
--- the kept relocations
-abbrev pub relocations : Input → List Relocated
-relocations input = kept_relocations input.live input.link.objects
 
 -- ---- lists of first occurrences over kept relocations
 

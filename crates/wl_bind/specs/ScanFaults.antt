@@ -1,7 +1,7 @@
 -- Why kept relocations refuse a link.
 use Rattle.wl_linking.specs.Steps.{Step, NoStep}
 use Rattle.wl_linking.specs.declared.error.LinkError.{LinkError}
-use Rattle.wl_bind.specs.Input.{Input}
+use Rattle.wl_symbols.specs.Input.{Input}
 use Rattle.wl_bind.specs.Kinds.{IsWrongKind}
 use Rattle.wl_bind.specs.Signatures.{IsMismatch}
 use Rattle.wl_bind.specs.Undefined.{IsUndefinedData}

@@ -4,9 +4,9 @@ use Rattle.std.specs.Option.{option_and_then}
 use Rattle.wl_linking.specs.Object.{Object}
 use Rattle.wl_custom.specs.declared.symbols.WasmSymbolKind.{WasmSymbolKind}
 use Rattle.wl_custom.specs.declared.symbols.WasmSymbolKind.TheVariants.{Func, Data, Global, Section, Event, Table}
-use Rattle.wl_slots.specs.ImportSlots.{ImportSlot, object_slots}
-use Rattle.wl_slots.specs.Left.{HostImport, first_imports, first_slot, place_of_import}
-use Rattle.wl_bind.specs.Input.{Input}
+use Rattle.wl_symbols.specs.ImportSlots.{ImportSlot, object_slots}
+use Rattle.wl_symbols.specs.Left.{HostImport, first_imports, first_slot, place_of_import}
+use Rattle.wl_symbols.specs.Input.{Input}
 use Rattle.wl_bind.specs.FunctionBinding.{host_functions}
 use Rattle.wl_bind.specs.GlobalBinding.{host_globals}
 use Rattle.wl_bind.specs.Undefined.{is_host_slot}

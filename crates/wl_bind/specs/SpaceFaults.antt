@@ -5,7 +5,7 @@ use Rattle.wl_linking.specs.declared.error.LinkError.TheVariants.{OutOfMemory, T
 use Rattle.wl_linking.specs.declared.error.Quantity.TheVariants.{Space}
 use Rattle.wl_linking.specs.Steps.{Step, NoStep}
 use Rattle.wl_types.specs.Types.{max_entries}
-use Rattle.wl_bind.specs.Input.{Input}
+use Rattle.wl_symbols.specs.Input.{Input}
 use Rattle.wl_bind.specs.Bound.{bind_steps}
 use Rattle.wl_bind.specs.FunctionSpace.{function_space}
 use Rattle.wl_bind.specs.GlobalSpace.{global_space}

@@ -4,10 +4,10 @@ use Rattle.std.specs.Borrow.{Bor}
 use Rattle.indexmap.specs.IndexSet.{insert_key}
 use Rattle.wl_custom.specs.Symbols.{Symbol, is_data}
 use Rattle.wl_linking.specs.declared.error.UndefinedSymbol.{UndefinedSymbol}
-use Rattle.wl_bind.specs.Input.{Input}
+use Rattle.wl_symbols.specs.Input.{Input}
 use Rattle.wl_bind.specs.Scan.{definition_of}
 use Rattle.wl_bind.specs.Undefined.{wants_definition, is_undefined_definition, same_undefined}
-use Rattle.wl_bind.specs.declared.relocated.Relocated.{Relocated}
+use Rattle.wl_symbols.specs.declared.relocated.Relocated.{Relocated}
 
 -- a name to which that object refers
 abbrev pub named_in : ℕ → List ℕ → UndefinedSymbol

@@ -6,12 +6,11 @@ ghost use Rattle.wl_bind.specs.Scan.{scan_of};
 ghost use Rattle.wl_bind.specs.Later.{globals_walked, functions_walked};
 ghost use Rattle.wl_bind.specs.Resolutions.{resolutions, by_names, by_names_and_got};
 
-use crate::input::LinkInput;
 use crate::later::Walk;
 use crate::resolution::ObjectImportResolutions;
 use crate::scan::RelocScan;
 use wl_linking::{File, WasmSymbolKind};
-use wl_slots::Stubs;
+use wl_symbols::{LinkInput, Stubs};
 
 /// The global slots of an object with the entries of the GOT lists.
 fn absorb_globals_at(

@@ -4,7 +4,7 @@ use wl_symbols::WasmLinkerSymbol;
 
 /// A function that a slot is bound to, or that a symbol leads to. A host import and a stub are
 /// named by their first kept slot.
-#[derive(Clone, Copy, Debug, PartialEq, Eq, Hash)]
+#[derive(Clone, Copy, PartialEq, Eq, Hash)]
 pub enum FunctionTarget {
     /// The function of that number among those that the object defines.
     Defined { object: usize, function: u32 },
@@ -17,7 +17,7 @@ pub enum FunctionTarget {
 }
 
 /// A global that a slot is bound to. A host import is named by its first kept slot.
-#[derive(Clone, Copy, Debug, PartialEq, Eq)]
+#[derive(Clone, Copy, PartialEq, Eq)]
 pub enum GlobalTarget {
     /// The global of that number among those that the object defines.
     Defined { object: usize, global: u32 },

@@ -8,7 +8,6 @@ ghost use Rattle.wl_bind.specs.Resolutions.{resolutions, by_all_rules};
 ghost use Rattle.wl_bind.specs.Scan.{scan_of};
 
 use crate::absorbing::absorb_got_imports;
-use crate::input::LinkInput;
 use crate::report::report_disallowed_unresolved_imports;
 use crate::resolution::ObjectImportResolutions;
 use crate::resolving::resolve_objects;
@@ -18,8 +17,10 @@ use crate::shared::{SharedUnresolvedImports, collect_shared_unresolved_imports};
 use crate::stubs::absorb_weak_undef_function_imports;
 use std::alloc::Global;
 use std::marker::Model;
-use wl_linking::{ItemList, LinkError};
+use wl_linking::LinkError;
+use wl_lists::ItemList;
 use wl_module::FuncType;
+use wl_symbols::LinkInput;
 
 /// What the references of a link are bound to. Clauses see it as a `Bound`.
 #[derive(Drop)]

@@ -12,16 +12,17 @@ ghost use Rattle.wl_bind.specs.SpaceFaults.{AreTooMany, IsSpaceOver, IsSpaceTooL
 use crate::bound::{BoundReferences, bind_references};
 use crate::index_maps::index_maps_of;
 use crate::indices::LinkerDefinedIndices;
-use crate::input::LinkInput;
 use crate::merging::{MergedTypes, merge_live_output_types};
 use crate::numbering::Numbering;
 use crate::resolution::ObjectImportResolutions;
 use crate::scan::RelocScan;
 use crate::shared::SharedUnresolvedImports;
 use std::alloc::Global;
-use wl_linking::{ItemList, LinkError};
+use wl_index::WasmObjectIndexMap;
+use wl_linking::LinkError;
+use wl_lists::ItemList;
 use wl_module::FuncType;
-use wl_reloc::WasmObjectIndexMap;
+use wl_symbols::LinkInput;
 
 /// What the references of a link are bound to, and where its things stand in the output.
 #[derive(Drop)]

@@ -3,18 +3,18 @@
 ghost use Rattle.std.specs.Prelude.{◌≡◌, [], map, option_map, IfOk, OnOk, IfErr};
 ghost use Rattle.indexmap.specs.IndexSet.{insert_all};
 ghost use Rattle.wl_linking.specs.Steps.{Clear, Refuses};
-ghost use Rattle.wl_slots.specs.Left.{same_field, same_import, first_imports, first_slot};
+ghost use Rattle.wl_symbols.specs.Left.{same_field, same_import, first_imports, first_slot};
 ghost use Rattle.wl_bind.specs.Conflicts.{same_function_type, global_type, same_global_type, same_slot_type, IsConflict};
 ghost use Rattle.wl_bind.specs.ConflictSteps.{conflicting, conflict_from, conflict_of};
 
 use crate::first_slots::FirstSlots;
-use crate::input::LinkInput;
 use crate::types::slot_type;
 use std::alloc::{AllocError, Global};
 use std::marker::Model;
-use wl_linking::{FileList, LinkError, Text};
+use wl_linking::{FileList, LinkError};
+use wl_lists::Text;
 use wl_module::{FuncType, GlobalType, ImportEntity};
-use wl_slots::{HostImports, ImportSlot, Stubs};
+use wl_symbols::{HostImports, ImportSlot, LinkInput, Stubs};
 
 // ---- types of slots
 

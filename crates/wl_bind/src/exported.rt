@@ -8,18 +8,18 @@ ghost use Rattle.wl_bind.specs.GotSteps.{insert_some};
 ghost use Rattle.wl_bind.specs.Made.{linker_needs};
 ghost use Rattle.wl_bind.specs.MadeIndices.{AreExported};
 
-use crate::input::LinkInput;
 use crate::kinds::is_data;
 use crate::needs::{LinkerImportAbsorption, is_made};
 use indexmap::IndexSet;
 use std::alloc::{AllocError, Global};
 use std::hash::Hash;
-use wl_linking::{File, ItemList, WasmSymbol};
-use wl_live::is_candidate;
-use wl_symbols::{Definition, WasmArgs, WasmLinkerSymbol};
+use wl_linking::{File, WasmSymbol};
+use wl_lists::ItemList;
+use wl_symbols::{Definition, LinkInput, WasmLinkerSymbol, is_candidate};
+use wl_words::WasmArgs;
 
 /// A data symbol, by the number of its object and its own.
-#[derive(Clone, Copy, Debug, PartialEq, Eq, Hash)]
+#[derive(Clone, Copy, PartialEq, Eq, Hash)]
 pub struct DataSymbol {
     /// The number of the object.
     pub object: usize,

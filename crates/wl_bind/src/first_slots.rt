@@ -2,12 +2,12 @@
 
 ghost use Rattle.std.specs.Prelude.{◌≡◌, [], map, option_map, IfOk, OnOk};
 ghost use Rattle.indexmap.specs.IndexSet.{insert_all};
-ghost use Rattle.wl_slots.specs.Left.{same_field, first_slot};
+ghost use Rattle.wl_symbols.specs.Left.{same_field, first_slot};
 ghost use Rattle.wl_bind.specs.ConflictSteps.{slot_at, with_first};
 
 use std::alloc::{AllocError, Global};
 use std::marker::Model;
-use wl_slots::{ImportSlot, Stubs};
+use wl_symbols::{ImportSlot, Stubs};
 
 /// The first slots of imports that were met, in order. Clauses see them as a list.
 #[derive(Drop)]
@@ -17,7 +17,7 @@ pub(crate) struct FirstSlots<'s, 'f, 'a> {
 
 impl<'s, 'f, 'a> Model for FirstSlots<'s, 'f, 'a> {
     ghost use Rattle.std.specs.Prelude.{List, map};
-    ghost use Rattle.wl_slots.specs.ImportSlots.{ImportSlot as Slot};
+    ghost use Rattle.wl_symbols.specs.ImportSlots.{ImportSlot as Slot};
 
     ghost Value = { List Slot };
 

@@ -10,14 +10,14 @@ ghost use Rattle.wl_bind.specs.IndexMaps.{has_global, is_data_symbol, mem_place,
 ghost use Rattle.wl_bind.specs.Numbering.{IsNumbering};
 ghost use Rattle.wl_bind.specs.Parts.{IsPlaceOf, ArePlacesOf};
 
-use crate::input::LinkInput;
 use crate::kinds::is_data;
 use crate::numbering::Numbering;
-use crate::relocated::{Relocated, kept_of_object};
 use crate::scan::is_global_index;
 use crate::targets::FunctionBindings;
 use std::alloc::{AllocError, Global};
-use wl_linking::{File, ItemList};
+use wl_linking::File;
+use wl_lists::ItemList;
+use wl_symbols::{LinkInput, Relocated, kept_of_object};
 
 // ---- which symbols are named
 

@@ -12,8 +12,9 @@ use crate::numbering::Numbering;
 use crate::redirects::function_redirects;
 use crate::targets::FunctionBindings;
 use std::alloc::{AllocError, Global};
-use wl_linking::{File, ItemList};
-use wl_reloc::WasmObjectIndexMap;
+use wl_index::WasmObjectIndexMap;
+use wl_linking::File;
+use wl_lists::ItemList;
 
 /// What the maps of all objects are made from.
 #[derive(Drop)]

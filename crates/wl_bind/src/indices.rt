@@ -3,7 +3,7 @@
 ghost use Rattle.std.specs.Prelude.{◌≡◌, if◌then◌else◌, true, false, IfOk, IfErr, MatchOption, Some, slice_get, length, position};
 ghost use Rattle.wl_custom.specs.Symbols.{is_data};
 ghost use Rattle.wl_symbols.specs.LinkerNames.{row_of};
-ghost use Rattle.wl_bind.specs.Input.{Input as Linked};
+ghost use Rattle.wl_symbols.specs.Input.{Input as Linked};
 ghost use Rattle.wl_bind.specs.FunctionBinding.{link_stubs};
 ghost use Rattle.wl_bind.specs.FunctionTypes.{stub_types};
 ghost use Rattle.wl_bind.specs.FunctionSpace.{InitMemory, stub_part, function_parts, function_space};
@@ -19,7 +19,6 @@ ghost use Rattle.wl_bind.specs.SpaceFaults.{IsSpaceOver};
 ghost use Rattle.wl_bind.specs.declared.binding.GlobalTarget.TheVariants as Globals;
 
 use crate::exported::{ExportedData, exported_data};
-use crate::input::LinkInput;
 use crate::needs::{LinkerImportAbsorption, LinkerNeeds, is_made, linker_needs};
 use crate::parts::PartStarts;
 use crate::resolution::ObjectImportResolutions;
@@ -28,10 +27,10 @@ use crate::shared::SharedUnresolvedImports;
 use std::alloc::Global;
 use wl_linking::{LinkError, whole_objects};
 use wl_module::FuncType;
-use wl_symbols::WasmLinkerSymbol;
+use wl_symbols::{LinkInput, WasmLinkerSymbol};
 
 /// The parts of the function space that come before the objects' functions, in order.
-#[derive(Clone, Copy, Debug, PartialEq, Eq)]
+#[derive(Clone, Copy, PartialEq, Eq)]
 enum FunctionPart {
     /// What the host is asked for.
     Hosts,
@@ -46,7 +45,7 @@ enum FunctionPart {
 }
 
 /// The parts of the global space that come before the objects' globals, in order.
-#[derive(Clone, Copy, Debug, PartialEq, Eq)]
+#[derive(Clone, Copy, PartialEq, Eq)]
 enum GlobalPart {
     /// What the host is asked for.
     Hosts,

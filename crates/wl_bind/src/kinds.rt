@@ -8,16 +8,15 @@ ghost use Rattle.wl_bind.specs.FunctionSymbols.{function_bindings};
 ghost use Rattle.wl_bind.specs.FunctionTypes.{target_type};
 ghost use Rattle.wl_bind.specs.Kinds.{has_global, takes_kind, is_no_data, is_wrong_use, takes_parameters, leads_to_parameters, IsWrongUse, IsWrongInit, IsWrongKind};
 ghost use Rattle.wl_bind.specs.KindSteps.{is_wrong_relocation, is_wrong_at, wrong_init_from};
-ghost use Rattle.wl_bind.specs.Scan.{symbol_of, relocations};
+ghost use Rattle.wl_bind.specs.Scan.{symbol_of};
+ghost use Rattle.wl_symbols.specs.Relocations.{relocations};
 
 use crate::binding::FunctionTarget;
-use crate::input::LinkInput;
-use crate::relocated::{Relocated, kept_relocations};
 use crate::targets::FunctionBindings;
 use crate::types::type_of_defined;
+use wl_custom::{is_defined_function, is_function_kind};
 use wl_linking::{LinkError, RelocationType, WasmInitFunc, WasmSymbol, WasmSymbolKind};
-use wl_live::{is_defined_function, is_function_kind};
-use wl_symbols::{Definition, WasmLinkerSymbol};
+use wl_symbols::{Definition, LinkInput, Relocated, WasmLinkerSymbol, kept_relocations};
 
 // ---- relocations
 

@@ -4,12 +4,11 @@ ghost use Rattle.std.specs.Prelude.{◌≡◌};
 ghost use Rattle.wl_bind.specs.Stepped.{step_at};
 ghost use Rattle.wl_bind.specs.Later.{is_unresolved, walk_of, walked_at, walked};
 
-use crate::input::LinkInput;
 use crate::resolution::{ImportResolution, ResolutionList};
 use crate::scan::RelocScan;
 use wl_linking::{File, WasmSymbolKind};
 use wl_module::Import;
-use wl_slots::{Stubs, is_slot_of};
+use wl_symbols::{LinkInput, Stubs, is_slot_of};
 
 /// A rule for slots that names leave unresolved.
 pub(crate) trait LaterRule {

@@ -4,7 +4,7 @@ ghost use Rattle.std.specs.Prelude.{◌≡◌, ℕ, Some, true, slice_get};
 ghost use Rattle.wl_symbols.specs.declared.entry.Definition.{Definition as Named};
 ghost use Rattle.wl_bind.specs.declared.binding.FunctionTarget.{FunctionTarget as Target};
 ghost use Rattle.wl_bind.specs.declared.binding.FunctionTarget.TheVariants as Function;
-ghost use Rattle.wl_bind.specs.Input.{Input};
+ghost use Rattle.wl_symbols.specs.Input.{Input};
 ghost use Rattle.wl_bind.specs.Sameness.{same_definition, same_target, same_pair};
 ghost use Rattle.wl_bind.specs.Scan.{got_mem, got_func, table_functions};
 

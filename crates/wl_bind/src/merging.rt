@@ -5,7 +5,7 @@ ghost use Rattle.indexmap.specs.IndexSet.{insert_all};
 ghost use Rattle.wl_module.specs.Types.{same_type};
 ghost use Rattle.wl_types.specs.Types.{IsFull};
 ghost use Rattle.wl_bind.specs.FunctionTypes.{stub_types};
-ghost use Rattle.wl_bind.specs.Input.{Input as Linked};
+ghost use Rattle.wl_symbols.specs.Input.{Input as Linked};
 ghost use Rattle.wl_bind.specs.MadeIndices.{AreMadeIndices};
 ghost use Rattle.wl_bind.specs.MergeSteps.{is_marked, entry_if, merged, type_where, made_functions};
 ghost use Rattle.wl_bind.specs.OutputTypes.{output_types, types_if, local_types, live_types, IsMerged};
@@ -13,14 +13,15 @@ ghost use Rattle.wl_bind.specs.Parts.{by_object, AreRows, IsIndexOf, AreIndicesO
 ghost use Rattle.wl_bind.specs.Resolutions.{resolutions, by_all_rules};
 
 use crate::indices::LinkerDefinedIndices;
-use crate::input::LinkInput;
 use crate::resolution::ObjectImportResolutions;
 use crate::type_marks::live_marks;
 use std::alloc::{AllocError, Global};
-use wl_linking::{File, ItemList, LinkError};
+use wl_index::WASM_DEAD_INDEX;
+use wl_linking::{File, LinkError};
+use wl_lists::ItemList;
 use wl_module::{FuncType, ValType};
-use wl_symbols::WasmLinkerSymbol;
-use wl_types::{TypeMerger, WASM_DEAD_INDEX};
+use wl_symbols::{LinkInput, WasmLinkerSymbol};
+use wl_types::TypeMerger;
 
 /// The types of the output, each once, and for each object the index of each of its types:
 /// 4294967295 where the output has no use for it.

@@ -2,9 +2,9 @@
 
 ghost use Rattle.std.specs.Prelude.{◌≡◌, ◌&&◌, ◌||◌, not, bytes_eq, IfOk};
 ghost use Rattle.std.specs.List.{list_any};
-ghost use Rattle.wl_live.specs.declared.units.WasmGcUnit.TheVariants.{DataSegment};
-ghost use Rattle.wl_symbols.specs.Texts.{texts};
-ghost use Rattle.wl_bind.specs.Input.{Input as Linked, keeps};
+ghost use Rattle.wl_symbols.specs.declared.units.WasmGcUnit.TheVariants.{DataSegment};
+ghost use Rattle.wl_words.specs.Texts.{texts};
+ghost use Rattle.wl_symbols.specs.Input.{Input as Linked, keeps};
 ghost use Rattle.wl_bind.specs.Made.{is_bound, is_forced, has_init_functions, is_filled, keeps_thread_data, keeps_common_data, has_shared_tls, has_init_memory, linker_needs, is_made};
 ghost use Rattle.wl_bind.specs.NeedSteps.{is_asked_for, leads_to, row_leads_to};
 ghost use Rattle.wl_bind.specs.Parts.{any_object};
@@ -12,19 +12,17 @@ ghost use Rattle.wl_bind.specs.Resolutions.{resolutions, by_all_rules};
 ghost use Rattle.wl_bind.specs.Scan.{needs_of, scan_of};
 ghost use Rattle.wl_bind.specs.ThreadData.{thread_data};
 
-use crate::input::LinkInput;
 use crate::resolution::{ImportResolution, ObjectImportResolutions};
 use crate::scan::{RelocNeeds, RelocScan};
 use crate::thread_segments::thread_data;
 use std::alloc::{AllocError, Global};
 use wl_linking::File;
-use wl_live::WasmGcUnit;
 use wl_module::{DataKind, WasmDataSegment};
-use wl_symbols::WasmLinkerSymbol;
+use wl_symbols::{LinkInput, WasmGcUnit, WasmLinkerSymbol};
 
 /// Which of the things that the linker can make kept slots and kept relocations ask for, functions
 /// that run at the start, and blocks of threads. What is made for an export alone isn't among them.
-#[derive(Clone, Copy, Debug, PartialEq, Eq)]
+#[derive(Clone, Copy, PartialEq, Eq)]
 pub struct LinkerImportAbsorption {
     /// `__memory_base`, which has the value 1024 then; made for an export alone it has 0.
     pub needs_memory_base: bool,
@@ -153,7 +151,7 @@ fn is_asked_or_bound(
 
 /// Which segments are kept: some of which each thread has its own, and some with bytes that go into
 /// the memory, which all threads have in common.
-#[derive(Clone, Copy, Debug, PartialEq, Eq)]
+#[derive(Clone, Copy, PartialEq, Eq)]
 struct KeptData {
     thread: bool,
     common: bool,
@@ -270,7 +268,7 @@ fn has_shared_tls(
 // ---- all of it
 
 /// What the linker is asked for, and whether the first thread has data to copy.
-#[derive(Clone, Copy, Debug, PartialEq, Eq)]
+#[derive(Clone, Copy, PartialEq, Eq)]
 pub(crate) struct LinkerNeeds {
     /// What is asked for.
     pub(crate) absorption: LinkerImportAbsorption,

@@ -2,12 +2,12 @@
 
 ghost use Rattle.std.specs.Prelude.{◌≡◌, ◌<◌, ◌≤◌, ◌^◌, ◌++◌, ℕ, true, false, length, map, IfOk, IfErr, OnOk, Some, unwrap_or, slice_get};
 ghost use Rattle.std.specs.List.{AllZip};
-ghost use Rattle.wl_slots.specs.ImportSlots.{import_slots};
+ghost use Rattle.wl_symbols.specs.ImportSlots.{import_slots};
 ghost use Rattle.wl_types.specs.Types.{max_entries};
-ghost use Rattle.wl_types.specs.declared.types.TheConstants.{WASM_DEAD_INDEX};
+ghost use Rattle.wl_index.specs.declared.index.TheConstants.{WASM_DEAD_INDEX};
 ghost use Rattle.wl_bind.specs.FunctionSpace.{function_space, local_functions};
 ghost use Rattle.wl_bind.specs.GlobalSpace.{global_space, local_globals};
-ghost use Rattle.wl_bind.specs.Input.{keeps_slot};
+ghost use Rattle.wl_symbols.specs.Input.{keeps_slot};
 ghost use Rattle.wl_bind.specs.MadeIndices.{AreMadeIndices};
 ghost use Rattle.wl_bind.specs.Numbering.{IsNumbering};
 ghost use Rattle.wl_bind.specs.NumberingSteps.{HasRoom, behind_first, FitsOwn, own_indices_of, FitsPlace, HasIndex, IsIndexOfMade, IsResolvedIndex, resolution_of, HaveSlotIndices, IsSlotIndex};
@@ -20,17 +20,18 @@ ghost use Rattle.wl_bind.specs.declared.resolution.ObjectImportResolutions.{Obje
 ghost use Rattle.wl_bind.specs.SpaceFaults.{IsSpaceOver};
 
 use crate::indices::LinkerDefinedIndices;
-use crate::input::LinkInput;
 use crate::own_indices::{Own, first_indices};
 use crate::resolution::{ImportResolution, ObjectImportResolutions};
 use crate::scan::RelocScan;
 use crate::shared::SharedUnresolvedImports;
 use std::alloc::{AllocError, Global};
-use wl_linking::{File, ItemList, LinkError, WasmSymbolKind, whole_objects};
-use wl_live::{WasmGcUnit, live_units_are_closed};
-use wl_slots::{host_imports_are_found, slots_are_numbered, targets_by_cases};
-use wl_symbols::{WasmLinkerSymbol, name_by_cases};
-use wl_types::WASM_DEAD_INDEX;
+use wl_index::WASM_DEAD_INDEX;
+use wl_linking::{File, LinkError, WasmSymbolKind, whole_objects};
+use wl_lists::ItemList;
+use wl_symbols::{
+    LinkInput, WasmGcUnit, WasmLinkerSymbol, host_imports_are_found, live_units_are_closed,
+    name_by_cases, slots_are_numbered, targets_by_cases,
+};
 
 /// What the things of objects are numbered by.
 #[derive(Drop)]

@@ -5,14 +5,13 @@ ghost use Rattle.wl_types.specs.Types.{max_entries};
 ghost use Rattle.wl_bind.specs.OwnIndices.{own_unit, own_count, kept_own, firsts_from, kept_count};
 ghost use Rattle.wl_bind.specs.Parts.{IsOver};
 
-use crate::input::LinkInput;
 use crate::parts::behind;
 use std::alloc::Global;
 use wl_linking::{File, LinkError};
-use wl_live::WasmGcUnit;
+use wl_symbols::{LinkInput, WasmGcUnit};
 
 /// What objects define that has a space.
-#[derive(Clone, Copy, Debug, PartialEq, Eq)]
+#[derive(Clone, Copy, PartialEq, Eq)]
 pub(crate) enum Own {
     Functions,
     Globals,

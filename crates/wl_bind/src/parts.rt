@@ -6,8 +6,9 @@ ghost use Rattle.wl_bind.specs.PartSteps.{entry_of};
 ghost use Rattle.wl_bind.specs.Parts.{starts_from, total, start_of, single_of, HasEntry, IsOver};
 
 use std::alloc::Global;
-use wl_linking::{ItemList, LinkError, Quantity};
-use wl_types::MAX_ENTRIES;
+use wl_index::MAX_ENTRIES;
+use wl_linking::{LinkError, Quantity};
+use wl_lists::ItemList;
 
 /// Where each part of a space begins, and where the last one ends.
 #[derive(Drop)]

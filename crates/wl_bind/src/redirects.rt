@@ -8,13 +8,15 @@ ghost use Rattle.wl_bind.specs.IndexMaps.{symbol_functions};
 ghost use Rattle.wl_bind.specs.Parts.{AreIndicesOf, ArePlacesOf, AreRows};
 ghost use Rattle.wl_bind.specs.RedirectSteps.{as_place, row_place, defined_by, definition_function, leads_to, redirect_of, redirects_of};
 
-use crate::input::LinkInput;
 use std::alloc::{AllocError, Global};
-use wl_linking::{File, ItemList, WasmSymbol, whole_objects};
-use wl_live::{is_defined_function, is_function_kind, live_units_are_closed};
-use wl_slots::{definitions_have_numbers, slots_are_numbered, targets_by_cases};
-use wl_symbols::Definition;
-use wl_types::WASM_DEAD_INDEX;
+use wl_custom::{is_defined_function, is_function_kind};
+use wl_index::WASM_DEAD_INDEX;
+use wl_linking::{File, WasmSymbol, whole_objects};
+use wl_lists::ItemList;
+use wl_symbols::{
+    Definition, LinkInput, definitions_have_numbers, live_units_are_closed, slots_are_numbered,
+    targets_by_cases,
+};
 
 /// A function of an object, by its index there: imported ones come first.
 #[derive(Clone, Copy, Drop)]

@@ -3,19 +3,21 @@
 
 ghost use Rattle.std.specs.Prelude.{◌≡◌, ◌||◌, ℕ, true, false, Some, Contains};
 ghost use Rattle.wl_custom.specs.RelocationTypes.{names_a_type};
-ghost use Rattle.wl_bind.specs.Input.{Input};
+ghost use Rattle.wl_symbols.specs.Input.{Input};
 ghost use Rattle.wl_bind.specs.FunctionSymbols.{fun};
 ghost use Rattle.wl_bind.specs.EntryTypes.{HasOutputType};
 ghost use Rattle.wl_bind.specs.FunctionSpace.{FunctionEntry, function_space};
 ghost use Rattle.wl_bind.specs.References.{IsSettled, HasSlot, IsInOutput, NamesType, NamesSymbol, NamesFunction, NamesGlobal};
-ghost use Rattle.wl_bind.specs.Scan.{relocations, table_functions, names_function, is_table_index, is_global_index};
+ghost use Rattle.wl_symbols.specs.Relocations.{relocations};
+ghost use Rattle.wl_bind.specs.Scan.{table_functions, names_function, is_table_index, is_global_index};
 ghost use Rattle.wl_bind.specs.declared.binding.FunctionTarget.{FunctionTarget as Target};
-ghost use Rattle.wl_bind.specs.declared.relocated.Relocated.{Relocated as KeptRelocation};
+ghost use Rattle.wl_symbols.specs.declared.relocated.Relocated.{Relocated as KeptRelocation};
 
 use wl_linking::whole_objects;
-use wl_live::live_units_are_closed;
-use wl_slots::{definitions_have_numbers, slots_are_numbered, targets_by_cases};
-use wl_symbols::name_by_cases;
+use wl_symbols::{
+    definitions_have_numbers, live_units_are_closed, name_by_cases, slots_are_numbered,
+    targets_by_cases,
+};
 use wl_types::same_types_are_one;
 
 /// What a kept relocation names is in the output: its type, its function, its global; and a

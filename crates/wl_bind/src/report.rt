@@ -8,11 +8,11 @@ ghost use Rattle.wl_bind.specs.Undefined.{same_undefined, undefined_import_of, u
 ghost use Rattle.wl_bind.specs.UndefinedSteps.{as_undefined};
 ghost use Rattle.wl_bind.specs.SharedSteps.{resolution_at, is_host_at};
 
-use crate::input::LinkInput;
 use crate::resolution::{ImportResolution, ObjectImportResolutions};
 use crate::undefined::{UndefinedNames, wants_definition};
 use std::alloc::{AllocError, Global};
 use wl_linking::{LinkError, WasmSymbol, WasmSymbolKind};
+use wl_symbols::LinkInput;
 
 /// What the slot of that kind and number of an object is resolved to, if there is one.
 fn resolution_at(

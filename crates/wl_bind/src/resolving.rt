@@ -5,13 +5,12 @@ ghost use Rattle.wl_linking.specs.declared.error.LinkError.TheVariants.{OutOfMem
 ghost use Rattle.wl_custom.specs.declared.symbols.WasmSymbolKind.TheVariants.{Func, Global as GlobalKind};
 ghost use Rattle.wl_bind.specs.Resolutions.{kept_number, resolved, named_resolution, named_resolutions, resolutions, by_names};
 
-use crate::input::LinkInput;
 use crate::resolution::{ImportResolution, ObjectImportResolutions, ResolutionList};
-use crate::slots::is_kept_slot;
 use std::alloc::Global;
 use wl_linking::{LinkError, WasmSymbolKind};
-use wl_live::WasmGcUnit;
-use wl_slots::{ImportSlot, SlotTarget, import_slots, slot_target};
+use wl_symbols::{
+    ImportSlot, LinkInput, SlotTarget, WasmGcUnit, import_slots, is_kept_slot, slot_target,
+};
 
 /// The number of a unit among the kept ones of its kind in its object.
 fn kept_number(input: &LinkInput<'_, '_>, object: usize, unit: WasmGcUnit) -> u32

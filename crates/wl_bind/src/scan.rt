@@ -8,18 +8,16 @@ ghost use Rattle.wl_bind.specs.Scan.{is_global_index, is_table_index, is_table_n
 
 use crate::binding::FunctionTarget;
 use crate::got::{GotFunc, GotMem, NamedKeys, TableFunctions};
-use crate::input::LinkInput;
 use crate::kinds::is_data;
-use crate::relocated::{Relocated, kept_relocations};
 use crate::targets::FunctionBindings;
 use std::alloc::{AllocError, Global};
 use std::marker::Model;
+use wl_custom::is_function_kind;
 use wl_linking::RelocationType;
-use wl_live::is_function_kind;
-use wl_symbols::Definition;
+use wl_symbols::{Definition, LinkInput, Relocated, kept_relocations};
 
 /// What kept relocations ask the linker for.
-#[derive(Clone, Copy, Debug, PartialEq, Eq)]
+#[derive(Clone, Copy, PartialEq, Eq)]
 pub struct RelocNeeds {
     /// The base of the memory: an address is counted from it.
     pub memory_base: bool,

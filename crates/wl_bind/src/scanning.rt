@@ -8,7 +8,6 @@ ghost use Rattle.wl_bind.specs.Signatures.{IsMismatch};
 ghost use Rattle.wl_bind.specs.Undefined.{IsUndefinedData};
 ghost use Rattle.wl_bind.specs.ScanFaults.{scan_fault};
 
-use crate::input::LinkInput;
 use crate::kinds::check_kinds;
 use crate::scan::{RelocScan, gather};
 use crate::signatures::check_signatures;
@@ -16,6 +15,7 @@ use crate::targets::FunctionBindings;
 use crate::undefined::check_undefined_data;
 use std::alloc::Global;
 use wl_linking::LinkError;
+use wl_symbols::LinkInput;
 
 /// What the kept relocations ask for: entries of the GOT lists, functions of the table, and what
 /// else the linker makes.

@@ -2,21 +2,21 @@
 
 ghost use Rattle.std.specs.Prelude.{◌≡◌, ◌++◌, map, filter, IfOk, OnOk, IfErr};
 ghost use Rattle.wl_linking.specs.Steps.{Clear, Refuses};
-ghost use Rattle.wl_slots.specs.ImportSlots.{import_slots};
-ghost use Rattle.wl_slots.specs.Left.{same_import, first_imports, first_slot};
+ghost use Rattle.wl_symbols.specs.ImportSlots.{import_slots};
+ghost use Rattle.wl_symbols.specs.Left.{same_import, first_imports, first_slot};
 ghost use Rattle.wl_bind.specs.Resolutions.{resolutions, by_all_rules};
 ghost use Rattle.wl_bind.specs.Conflicts.{IsConflict, IsHostConflict};
 ghost use Rattle.wl_bind.specs.Shared.{import_place, places_from, shared_of, place_in, place_at};
 ghost use Rattle.wl_bind.specs.SharedSteps.{is_host_of, hosts_of, place_of};
 
 use crate::conflicts::check_host_types;
-use crate::input::LinkInput;
 use crate::report::is_host_at;
 use crate::resolution::ObjectImportResolutions;
 use std::alloc::{AllocError, Global};
 use std::marker::Model;
-use wl_linking::{ItemList, LinkError, WasmSymbolKind};
-use wl_slots::{HostImport, HostImports, ImportSlot, host_imports, import_slots};
+use wl_linking::{LinkError, WasmSymbolKind};
+use wl_lists::ItemList;
+use wl_symbols::{HostImport, HostImports, ImportSlot, LinkInput, host_imports, import_slots};
 
 /// The functions and globals that the host is asked for, one per module and field name, and which
 /// of them each import slot is. Clauses see it as a `Shared`.

@@ -4,18 +4,17 @@ ghost use Rattle.std.specs.Prelude.{◌≡◌, ℕ, OnOk, IfErr, Some, false, fi
 ghost use Rattle.wl_linking.specs.Steps.{Clear, Refuses};
 ghost use Rattle.wl_symbols.specs.Entries.{symbol_in};
 ghost use Rattle.wl_bind.specs.FunctionSymbols.{function_bindings};
-ghost use Rattle.wl_bind.specs.Scan.{relocations};
+ghost use Rattle.wl_symbols.specs.Relocations.{relocations};
 ghost use Rattle.wl_bind.specs.Signatures.{NamedByRelocation, OnKeptSlot, NamedByInit, IsMismatch};
 ghost use Rattle.wl_bind.specs.BindingSteps.{slot_numbers, differs, is_mismatch, names_mismatch, TellsMismatch, AreOwnClear};
 
 use crate::binding::FunctionTarget;
-use crate::input::LinkInput;
-use crate::relocated::{Relocated, kept_relocations};
 use crate::targets::FunctionBindings;
 use crate::types::{SlotTypes, declared_type, is_other_type};
 use std::alloc::Global;
+use wl_custom::is_function_kind;
 use wl_linking::{File, LinkError, WasmSymbol, WasmSymbolKind};
-use wl_live::is_function_kind;
+use wl_symbols::{LinkInput, Relocated, kept_relocations};
 
 /// What types are compared by: what function slots are bound to, and their types.
 #[derive(Drop)]

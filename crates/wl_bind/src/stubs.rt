@@ -11,15 +11,13 @@ ghost use Rattle.wl_bind.specs.Resolutions.{resolutions, by_names_and_got, by_al
 
 use crate::conflicts::check_stub_types;
 use crate::first_slots::{FirstSlots, first_stub_slots};
-use crate::input::LinkInput;
 use crate::later::Walk;
 use crate::resolution::ObjectImportResolutions;
-use crate::slots::left_slots;
 use crate::types::slot_type;
 use std::alloc::{AllocError, Global};
 use wl_linking::{File, FileList, LinkError, WasmSymbolKind};
 use wl_module::FuncType;
-use wl_slots::{Stubs, divide_slots, stubs_are_found_by_name};
+use wl_symbols::{LinkInput, Stubs, divide_slots, left_slots, stubs_are_found_by_name};
 use wl_types::copy_type;
 
 // ---- the types of stubs

@@ -3,23 +3,22 @@
 ghost use Rattle.std.specs.Prelude.{◌≡◌, find, map, option_map, IfOk, IsSome, Some, Contains, slice_get};
 ghost use Rattle.wl_custom.specs.declared.symbols.WasmSymbolKind.TheVariants.{Func};
 ghost use Rattle.wl_symbols.specs.Entries.{symbol_in};
-ghost use Rattle.wl_slots.specs.ImportSlots.{import_slots};
-ghost use Rattle.wl_slots.specs.Left.{first_slot, first_imports};
-ghost use Rattle.wl_bind.specs.KeptSlots.{slots_from};
+ghost use Rattle.wl_symbols.specs.ImportSlots.{import_slots};
+ghost use Rattle.wl_symbols.specs.Left.{first_slot, first_imports};
+ghost use Rattle.wl_symbols.specs.KeptSlots.{slots_from};
 ghost use Rattle.wl_bind.specs.FunctionBinding.{named_function, link_stubs, host_functions};
 ghost use Rattle.wl_bind.specs.FunctionSymbols.{kept_binding, binding_at, defined_function, own_function, fun, function_bindings};
 ghost use Rattle.wl_bind.specs.BindingSteps.{row_at, stub_named, host_named, host_target, left_target, defined_target};
 
 use crate::binding::FunctionTarget;
-use crate::input::LinkInput;
-use crate::slots::{is_kept_slot, left_slots};
 use std::alloc::{AllocError, Global};
 use std::marker::Model;
-use wl_linking::{File, ItemList, WasmSymbol, WasmSymbolKind};
-use wl_live::is_function_kind;
-use wl_slots::{
-    HostImport, HostImports, ImportSlot, SlotTarget, Stubs, divide_slots, host_imports,
-    import_slots, object_target, slot_target, symbol_target,
+use wl_custom::is_function_kind;
+use wl_linking::{File, WasmSymbol, WasmSymbolKind};
+use wl_lists::ItemList;
+use wl_symbols::{
+    HostImport, HostImports, ImportSlot, LinkInput, SlotTarget, Stubs, divide_slots, host_imports,
+    import_slots, is_kept_slot, left_slots, object_target, slot_target, symbol_target,
 };
 
 /// What the function slots of each object are bound to, by their numbers: nothing where a slot

@@ -2,20 +2,17 @@
 
 ghost use Rattle.std.specs.Prelude.{◌≡◌, ◌≤◌, Some, length, map, slice_get, IfOk, OnOk};
 ghost use Rattle.wl_bytes.specs.declared.reader.TheConstants.{MAX_LEN};
-ghost use Rattle.wl_bind.specs.Relocations.{object_relocations};
+ghost use Rattle.wl_symbols.specs.Relocations.{object_relocations};
 ghost use Rattle.wl_bind.specs.Resolutions.{resolutions, by_all_rules};
 ghost use Rattle.wl_bind.specs.OutputTypes.{is_live_type};
 ghost use Rattle.wl_bind.specs.MergeSteps.{mark, mark_all, AreMarked, function_type, function_types, host_type, host_types, named_type};
 
-use crate::input::LinkInput;
-use crate::relocated::{Relocated, kept_of_object};
 use crate::report::is_host_at;
 use crate::resolution::ObjectImportResolutions;
 use crate::types::type_number;
 use std::alloc::{AllocError, Global};
 use wl_linking::{File, WasmSymbolKind};
-use wl_live::WasmGcUnit;
-use wl_slots::{ImportSlot, import_slots};
+use wl_symbols::{ImportSlot, LinkInput, Relocated, WasmGcUnit, import_slots, kept_of_object};
 
 /// Marks the type of that number, if one is named and there is one.
 fn mark(marks: &mut Vec<bool>, number: Option<u32>)

@@ -6,17 +6,17 @@ ghost use Rattle.std.specs.Cmp.Lexicographic.{pointwise};
 ghost use Rattle.wl_module.specs.Types.{same_value, same_type};
 ghost use Rattle.wl_module.specs.declared.types.ValType.TheVariants.{I32};
 ghost use Rattle.wl_custom.specs.declared.symbols.WasmSymbolKind.TheVariants.{Func};
-ghost use Rattle.wl_slots.specs.ImportSlots.{import_slots};
+ghost use Rattle.wl_symbols.specs.ImportSlots.{import_slots};
 ghost use Rattle.wl_bind.specs.FunctionTypes.{type_in, type_of_defined, type_number, type_of_made, slot_type, declared_type};
 ghost use Rattle.wl_bind.specs.BindingSteps.{numbers_in, slot_numbers, number_at, is_other_type};
 
 use crate::binding::FunctionTarget;
 use std::alloc::{AllocError, Global};
 use std::marker::Model;
-use wl_linking::{File, FileList, ItemList, WasmSymbol, WasmSymbolKind};
+use wl_linking::{File, FileList, WasmSymbol, WasmSymbolKind};
+use wl_lists::ItemList;
 use wl_module::{FuncType, ImportEntity, ValType};
-use wl_slots::{ImportSlot, own_number};
-use wl_symbols::WasmLinkerSymbol;
+use wl_symbols::{ImportSlot, WasmLinkerSymbol, own_number};
 
 /// The type of that number of the object of that number.
 pub(crate) fn type_in<'f>(

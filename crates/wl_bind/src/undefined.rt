@@ -5,16 +5,16 @@ ghost use Rattle.indexmap.specs.IndexSet.{insert_key, insert_all};
 ghost use Rattle.wl_linking.specs.Steps.{Clear, Refuses};
 ghost use Rattle.wl_bind.specs.Undefined.{wants_definition, same_undefined, is_undefined_definition, undefined_data_of, IsUndefinedData};
 ghost use Rattle.wl_bind.specs.UndefinedSteps.{named_in, as_undefined, insert_some, is_undefined_data};
-ghost use Rattle.wl_bind.specs.Scan.{symbol_of, relocations};
+ghost use Rattle.wl_bind.specs.Scan.{symbol_of};
+ghost use Rattle.wl_symbols.specs.Relocations.{relocations};
 
-use crate::input::LinkInput;
 use crate::kinds::is_data;
-use crate::relocated::{Relocated, kept_relocations};
 use indexmap::IndexSet;
 use std::alloc::{AllocError, Global};
 use std::marker::Model;
-use wl_linking::{ItemList, LinkError, Text, UndefinedSymbol, WasmSymbol};
-use wl_symbols::Definition;
+use wl_linking::{LinkError, UndefinedSymbol, WasmSymbol};
+use wl_lists::{ItemList, Text};
+use wl_symbols::{Definition, LinkInput, Relocated, kept_relocations};
 
 /// Names that nothing defines, each once with an object that refers to it, in order of first
 /// occurrence. Clauses see them as a list.

@@ -22,22 +22,22 @@ use Rattle.wl_symbols.specs.LinkerNames.{is_imported_as}
 use Rattle.wl_symbols.specs.Names.{def}
 use Rattle.wl_symbols.specs.declared.entry.Definition.{Definition}
 use Rattle.wl_symbols.specs.declared.entry.Definition.TheVariants.{Symbol, Made as MadeName}
-use Rattle.wl_live.specs.Definitions.{unit_at, defined_unit, definition_unit, other_unit}
-use Rattle.wl_live.specs.Entry.{is_function_kind, is_defined_function}
-use Rattle.wl_live.specs.Live.{Live, is_live, IsLiveOf}
-use Rattle.wl_live.specs.Roots.{IsRoot, by_init}
-use Rattle.wl_live.specs.Units.{counts_of, units_of, units_at}
-use Rattle.wl_live.specs.declared.units.LinkUnit.{LinkUnit}
-use Rattle.wl_live.specs.declared.units.WasmGcUnit.TheVariants.{DefinedFunction}
-use Rattle.wl_slots.specs.SlotTargets.{own_number, is_definition_of, defined_under, object_target, symbol_target}
-use Rattle.wl_slots.specs.declared.targets.SlotTarget.{SlotTarget}
-use Rattle.wl_slots.specs.declared.targets.SlotTarget.TheVariants as slot
+use Rattle.wl_symbols.specs.DefinedUnits.{unit_at, defined_unit, definition_unit, other_unit}
+use Rattle.wl_custom.specs.Symbols.{is_function_kind, is_defined_function}
+use Rattle.wl_symbols.specs.Live.{Live, is_live, IsLiveOf}
+use Rattle.wl_symbols.specs.Roots.{IsRoot, by_init}
+use Rattle.wl_symbols.specs.Units.{counts_of, units_of, units_at}
+use Rattle.wl_symbols.specs.declared.units.LinkUnit.{LinkUnit}
+use Rattle.wl_symbols.specs.declared.units.WasmGcUnit.TheVariants.{DefinedFunction}
+use Rattle.wl_symbols.specs.SlotTargets.{own_number, is_definition_of, defined_under, object_target, symbol_target}
+use Rattle.wl_symbols.specs.declared.targets.SlotTarget.{SlotTarget}
+use Rattle.wl_symbols.specs.declared.targets.SlotTarget.TheVariants as slot
 use Rattle.wl_bind.specs.FunctionBinding.{named_function}
 use Rattle.wl_bind.specs.FunctionSpace.{FunctionEntry, FunctionOf, function_space}
 use Rattle.wl_bind.specs.FunctionSymbols.{defined_function, own_function, fun}
 use Rattle.wl_bind.specs.FunctionTypes.{type_of_defined, target_type}
 use Rattle.wl_bind.specs.IndexMaps.{symbol_function, symbol_functions}
-use Rattle.wl_bind.specs.Input.{Input, keeps}
+use Rattle.wl_symbols.specs.Input.{Input, keeps}
 use Rattle.wl_bind.specs.Kinds.{leads_to_parameters}
 use Rattle.wl_bind.specs.Parts.{IsPlaceOf, ArePlacesOf}
 use Rattle.wl_bind.specs.References.{IsSettled, there}

@@ -1,5 +1,5 @@
-mod ListLaws
-mod OrderLaws
-mod OneLaws
-mod CallLaws
-mod StepLaws
+pub mod ListLaws
+pub mod OrderLaws
+pub mod OneLaws
+pub mod CallLaws
+pub mod StepLaws

@@ -6,7 +6,7 @@ use Rattle.std.proofs.lemmas.Option.{same_Some}
 use Rattle.wl_module.specs.Types.{FunctionType}
 use Rattle.wl_bind.specs.FunctionSpace.{FunctionOf, function_space}
 use Rattle.wl_bind.specs.FunctionTypes.{target_type}
-use Rattle.wl_bind.specs.Input.{Input}
+use Rattle.wl_symbols.specs.Input.{Input}
 use Rattle.wl_bind.specs.Parts.{StandOnce}
 use Rattle.wl_bind.specs.declared.binding.FunctionTarget.{FunctionTarget}
 use Rattle.wl_ctors.specs.InitCalls.{InitFunction, init_functions, IsInitCall, AreInitCalls, priority_of}

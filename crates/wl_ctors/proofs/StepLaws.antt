@@ -5,7 +5,7 @@ use Rattle.std.proofs.lemmas.List.{take_more, take_all, length-take-le}
 use Rattle.std.proofs.lemmas.Option.{slice_get_read}
 use Rattle.wl_linking.specs.Object.{Object}
 use Rattle.wl_custom.specs.declared.infos.WasmInitFunc.{WasmInitFunc}
-use Rattle.wl_bind.specs.Input.{Input}
+use Rattle.wl_symbols.specs.Input.{Input}
 use Rattle.wl_bind.specs.Parts.{AreRows, by_object}
 use Rattle.wl_ctors.specs.CallSteps.{AddsCalls}
 use Rattle.wl_ctors.specs.InitCalls.{InitFunction, init_functions_of, IsInitCall}

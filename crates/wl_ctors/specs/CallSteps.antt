@@ -6,8 +6,8 @@ use Rattle.wl_module.specs.Types.{FunctionType}
 use Rattle.wl_linking.specs.Object.{Object}
 use Rattle.wl_custom.specs.Symbols.{Symbol as LinkedSymbol}
 use Rattle.wl_custom.specs.declared.symbols.WasmSymbolKind.TheVariants.{Func}
-use Rattle.wl_slots.specs.SlotTargets.{own_number}
-use Rattle.wl_bind.specs.Input.{Input}
+use Rattle.wl_symbols.specs.SlotTargets.{own_number}
+use Rattle.wl_symbols.specs.Input.{Input}
 use Rattle.wl_ctors.specs.InitCalls.{InitFunction, IsInitCall}
 use Rattle.wl_ctors.specs.declared.calls.InitCall.{InitCall}
 

@@ -10,7 +10,7 @@ use Rattle.wl_symbols.specs.Link.{Link}
 use Rattle.wl_bind.specs.FunctionSpace.{FunctionOf, function_space}
 use Rattle.wl_bind.specs.FunctionSymbols.{fun}
 use Rattle.wl_bind.specs.FunctionTypes.{target_type}
-use Rattle.wl_bind.specs.Input.{Input}
+use Rattle.wl_symbols.specs.Input.{Input}
 use Rattle.wl_bind.specs.Parts.{by_object}
 use Rattle.wl_bind.specs.declared.binding.FunctionTarget.{FunctionTarget}
 use Rattle.wl_ctors.specs.declared.calls.InitCall.{InitCall}

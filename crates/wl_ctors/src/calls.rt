@@ -9,14 +9,15 @@ ghost use Rattle.wl_ctors.specs.InitCalls.{IsInitCall, AreInitCalls, init_functi
 ghost use Rattle.wl_ctors.specs.CallSteps.{result_count, AddsCalls};
 
 use std::alloc::{AllocError, Global};
-use wl_bind::{LinkInput, WASM_DEAD_INDEX, WasmObjectIndexMap};
-use wl_facts::{init_functions_have_symbols, types_are_short};
-use wl_linking::{File, ItemList, WasmInitFunc, WasmSymbolKind, whole_objects};
-use wl_live::live_units_are_closed;
-use wl_slots::{definitions_have_numbers, own_number};
+use wl_index::{WASM_DEAD_INDEX, WasmObjectIndexMap};
+use wl_linking::{
+    File, WasmInitFunc, WasmSymbolKind, init_functions_have_symbols, types_are_short, whole_objects,
+};
+use wl_lists::ItemList;
+use wl_symbols::{LinkInput, definitions_have_numbers, live_units_are_closed, own_number};
 
 /// A call of a function that runs at the start.
-#[derive(Clone, Copy, Debug, PartialEq, Eq)]
+#[derive(Clone, Copy, PartialEq, Eq)]
 pub struct InitCall {
     /// Those of lower priority are called first.
     pub priority: u32,

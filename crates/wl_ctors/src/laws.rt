@@ -1,7 +1,7 @@
 //! That the calls are fixed by the link and what is kept.
 
 ghost use Rattle.std.specs.Prelude.{◌≡◌, List};
-ghost use Rattle.wl_bind.specs.Input.{Input};
+ghost use Rattle.wl_symbols.specs.Input.{Input};
 ghost use Rattle.wl_ctors.specs.InitCalls.{AreInitCalls};
 ghost use Rattle.wl_ctors.specs.declared.calls.InitCall.{InitCall as Call};
 

@@ -7,11 +7,11 @@ use Rattle.wl_bytes.proofs.Steps.{bind_ok, bind_err, ok_is}
 use Rattle.wl_bytes.proofs.Readings.{IsReading}
 use Rattle.wl_bytes.specs.Grammar.{map_at}
 use Rattle.wl_bytes.proofs.GrammarLaws.{cursor_is, seen_reading}
-use Rattle.wl_module.specs.declared.error.ReadError.{ReadError}
-use Rattle.wl_module.specs.declared.error.ReadError.TheVariants.{OutOfMemory, Malformed, Unsupported}
-use Rattle.wl_module.specs.Outcome.{Fails, HasCause}
-use Rattle.wl_module.specs.Checks.{NoFault, Seen}
-use Rattle.wl_module.proofs.ListLaws.{IsWholeReading}
+use Rattle.wl_bytes.specs.declared.read_error.ReadError.{ReadError}
+use Rattle.wl_bytes.specs.declared.read_error.ReadError.TheVariants.{OutOfMemory, Malformed, Unsupported}
+use Rattle.wl_bytes.specs.Outcome.{Fails, HasCause}
+use Rattle.wl_bytes.specs.Checks.{NoFault, Seen}
+use Rattle.wl_bytes.proofs.ListLaws.{IsWholeReading}
 use Rattle.wl_custom.specs.Verdict.{Judged, JudgedFault, judged_at, Inside, InsideFault, IsHere, here_at}
 
 -- what has a cause has another that follows from it

@@ -2,9 +2,9 @@
 use Rattle.std.proofs.Common.{refl}
 use Rattle.wl_bytes.proofs.Readings.{IsReading}
 use Rattle.wl_bytes.proofs.GrammarLaws.{map_reading}
-use Rattle.wl_module.specs.Lists.{Listed, ListedFault, list_at}
-use Rattle.wl_module.proofs.ReadingLaws.{both}
-use Rattle.wl_module.proofs.ListLaws.{one_byte_reading, word_reading, list_reading, whole_reading, IsWholeReading}
+use Rattle.wl_bytes.specs.Lists.{Listed, ListedFault, list_at}
+use Rattle.wl_bytes.proofs.ReadingLaws.{both}
+use Rattle.wl_bytes.proofs.ListLaws.{one_byte_reading, word_reading, list_reading, whole_reading, IsWholeReading}
 use Rattle.wl_custom.specs.Features.{IsFeature, FeatureFault, feature_from, feature_at, AreFeatures, FeaturesFault, features_of}
 
 pub feature_reading : IsReading IsFeature FeatureFault feature_at

@@ -2,12 +2,12 @@
 use Rattle.std.proofs.Common.{refl}
 use Rattle.wl_bytes.proofs.Readings.{IsReading}
 use Rattle.wl_bytes.proofs.GrammarLaws.{map_reading}
-use Rattle.wl_module.specs.Lists.{Listed, ListedFault, list_at}
-use Rattle.wl_module.specs.declared.error.Why.TheVariants.{BadAlignment}
-use Rattle.wl_module.specs.declared.error.ReadError.TheVariants.{Malformed}
-use Rattle.wl_module.proofs.ReadingLaws.{both, seen}
-use Rattle.wl_module.proofs.ListLaws.{number_reading, word_reading, list_reading, whole_reading, IsWholeReading}
-use Rattle.wl_module.proofs.CheckLaws.{where_reading}
+use Rattle.wl_bytes.specs.Lists.{Listed, ListedFault, list_at}
+use Rattle.wl_bytes.specs.declared.read_error.Why.TheVariants.{BadAlignment}
+use Rattle.wl_bytes.specs.declared.read_error.ReadError.TheVariants.{Malformed}
+use Rattle.wl_bytes.proofs.ReadingLaws.{both, seen}
+use Rattle.wl_bytes.proofs.ListLaws.{number_reading, word_reading, list_reading, whole_reading, IsWholeReading}
+use Rattle.wl_bytes.proofs.CheckLaws.{where_reading}
 use Rattle.wl_custom.specs.Infos.{is_exponent, two_to, IsAlignment, AlignmentFault, alignment_at, IsInfo, InfoFault, info_from, info_at, AreInfos, InfosFault, infos_of, IsInit, InitFault, init_from, init_at, AreInits, InitsFault, inits_of}
 use Rattle.wl_custom.specs.declared.infos.WasmInitFunc.{WasmInitFunc}
 

@@ -13,16 +13,16 @@ use Rattle.wl_bytes.proofs.Steps.{bind_ok, bind_err, ok_is, err_is}
 use Rattle.wl_bytes.proofs.Readings.{IsReading}
 use Rattle.wl_bytes.proofs.ItemLaws.{take_reading}
 use Rattle.wl_bytes.proofs.GrammarLaws.{then_reading, error_reading}
-use Rattle.wl_module.specs.Error.{read_error}
-use Rattle.wl_module.specs.Lists.{NumberFault, ByteFault, number_at, one_byte_at, start}
-use Rattle.wl_module.specs.Bodies.{StretchFault}
-use Rattle.wl_module.specs.Bodies.{stretch_at}
-use Rattle.wl_module.specs.Chains.{Chain, after}
-use Rattle.wl_module.specs.Checks.{NoFault}
-use Rattle.wl_module.specs.Outcome.{Fails, AreAlternatives, HasCause}
-use Rattle.wl_module.specs.declared.error.ReadError.{ReadError}
-use Rattle.wl_module.proofs.ListLaws.{number_reading, one_byte_reading, IsWholeReading}
-use Rattle.wl_module.proofs.ChainLaws.{AreReadings, Stops, chains_agree, chain_stops, chain_goes_on, chain_begins, after-push, item_shortens}
+use Rattle.wl_bytes.specs.Error.{read_error}
+use Rattle.wl_bytes.specs.Lists.{NumberFault, ByteFault, number_at, one_byte_at, start}
+use Rattle.wl_bytes.specs.Lists.{StretchFault}
+use Rattle.wl_bytes.specs.Lists.{stretch_at}
+use Rattle.wl_bytes.specs.Chains.{Chain, after}
+use Rattle.wl_bytes.specs.Checks.{NoFault}
+use Rattle.wl_bytes.specs.Outcome.{Fails, AreAlternatives, HasCause}
+use Rattle.wl_bytes.specs.declared.read_error.ReadError.{ReadError}
+use Rattle.wl_bytes.proofs.ListLaws.{number_reading, one_byte_reading, IsWholeReading}
+use Rattle.wl_bytes.proofs.ChainLaws.{AreReadings, Stops, chains_agree, chain_stops, chain_goes_on, chain_begins, after-push, item_shortens}
 use Rattle.wl_custom.specs.Verdict.{Judged, JudgedFault, judged_at, Inside, InsideFault, IsHere, here_at}
 use Rattle.wl_custom.specs.Infos.{AreInfos, InfosFault, infos_of, AreInits, InitsFault, inits_of}
 use Rattle.wl_custom.specs.Symbols.{AreSymbols, SymbolsFault}

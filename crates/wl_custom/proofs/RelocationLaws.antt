@@ -9,14 +9,14 @@ use Rattle.wl_bytes.proofs.Steps.{ok_is}
 use Rattle.wl_bytes.proofs.Readings.{IsReading}
 use Rattle.wl_bytes.proofs.SignedLaws.{signed_reading}
 use Rattle.wl_bytes.proofs.GrammarLaws.{error_reading}
-use Rattle.wl_module.specs.Error.{read_error}
-use Rattle.wl_module.specs.Lists.{Listed, ListedFault, list_at, start}
-use Rattle.wl_module.specs.Constants.{SignedNumberFault, signed_number_at}
-use Rattle.wl_module.specs.Checks.{WhenFault}
-use Rattle.wl_module.specs.declared.error.ReadError.{ReadError}
-use Rattle.wl_module.proofs.ReadingLaws.{either, both, seen}
-use Rattle.wl_module.proofs.ListLaws.{number_reading, one_byte_reading, list_reading, IsReadingFrom, IsWholeReading, reading_from, outcome, to_end_reading}
-use Rattle.wl_module.proofs.CheckLaws.{when_reading}
+use Rattle.wl_bytes.specs.Error.{read_error}
+use Rattle.wl_bytes.specs.Lists.{Listed, ListedFault, list_at, start}
+use Rattle.wl_bytes.specs.Lists.{SignedNumberFault, signed_number_at}
+use Rattle.wl_bytes.specs.Checks.{WhenFault}
+use Rattle.wl_bytes.specs.declared.read_error.ReadError.{ReadError}
+use Rattle.wl_bytes.proofs.ReadingLaws.{either, both, seen}
+use Rattle.wl_bytes.proofs.ListLaws.{number_reading, one_byte_reading, list_reading, IsReadingFrom, IsWholeReading, reading_from, outcome, to_end_reading}
+use Rattle.wl_bytes.proofs.CheckLaws.{when_reading}
 use Rattle.wl_custom.specs.RelocationTypes.{has_addend}
 use Rattle.wl_custom.specs.Relocations.{type_verdict, addend_or_zero, IsAddendWhere, addend_where_at, AreEntryParts, relocation_of, IsEntry, EntryFault, entry_parts_at, entry_at, AreEntries, EntriesFault, entries_to_end_at, HoldsEntries, HoldsEntriesFault, held_entries_at, IsRelocSection, RelocSectionFault, reloc_section_of}
 use Rattle.wl_custom.specs.declared.relocations.RelocHeld.{RelocHeld}

@@ -1,11 +1,11 @@
 -- The laws of symbol tables.
 use Rattle.std.specs.Prelude.{ℕ, Bool}
 use Rattle.wl_bytes.proofs.Readings.{IsReading}
-use Rattle.wl_module.specs.Lists.{NumberFault, WordFault, Listed, ListedFault, list_at}
-use Rattle.wl_module.specs.Checks.{WhenFault}
-use Rattle.wl_module.proofs.ReadingLaws.{both, seen}
-use Rattle.wl_module.proofs.ListLaws.{number_reading, one_byte_reading, list_reading, whole_reading, IsWholeReading}
-use Rattle.wl_module.proofs.CheckLaws.{when_reading, placed_name_reading}
+use Rattle.wl_bytes.specs.Lists.{NumberFault, WordFault, Listed, ListedFault, list_at}
+use Rattle.wl_bytes.specs.Checks.{WhenFault}
+use Rattle.wl_bytes.proofs.ReadingLaws.{both, seen}
+use Rattle.wl_bytes.proofs.ListLaws.{number_reading, one_byte_reading, list_reading, whole_reading, IsWholeReading}
+use Rattle.wl_bytes.proofs.CheckLaws.{when_reading, placed_name_reading}
 use Rattle.wl_custom.specs.Symbols.{symbol_of, symbol_kind_verdict, based_name, IsBasedName, name_or_none, extent_or_none, is_named, is_defined, numbered_from, located_from, sectioned_from, IsNameWhere, IsExtent, ExtentFault, IsExtentWhere, IsNumbered, IsLocated, SymbolContext, symbol_context, IsDetails, NumberedFault, LocatedFault, DetailsFault, AreParts, IsSymbol, SymbolFault, AreSymbols, SymbolsFault}
 use Rattle.wl_custom.specs.SymbolsReading.{based_name_at, name_where_at, extent_at, extent_where_at, numbered_at, located_at, sectioned_at, details_at, parts_at, symbol_at, symbols_of}
 use Rattle.wl_custom.specs.declared.symbols.WasmSymbolKind.{WasmSymbolKind}

@@ -3,8 +3,8 @@ use Rattle.std.specs.Prelude.{ℕ, List, Result}
 use Rattle.wl_bytes.specs.Cursor.{Cursor}
 use Rattle.wl_bytes.specs.Items.{IsByte, IsName}
 use Rattle.wl_bytes.specs.Grammar.{Then, ThenFault, then_at, map_at}
-use Rattle.wl_module.specs.Lists.{ByteFault, one_byte_at, WordFault, word_at, Listed, ListedFault, list_at, Whole, WholeFault, whole_of}
-use Rattle.wl_module.specs.declared.error.ReadError.{ReadError}
+use Rattle.wl_bytes.specs.Lists.{ByteFault, one_byte_at, WordFault, word_at, Listed, ListedFault, list_at, Whole, WholeFault, whole_of}
+use Rattle.wl_bytes.specs.declared.read_error.ReadError.{ReadError}
 
 -- a feature: whether it is used or refused, and its name
 pub record Feature : Type 0 where

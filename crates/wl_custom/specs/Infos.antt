@@ -6,11 +6,11 @@ use Rattle.wl_bytes.specs.Cursor.{Cursor}
 use Rattle.wl_bytes.specs.Leb.{IsU32}
 use Rattle.wl_bytes.specs.Items.{IsName}
 use Rattle.wl_bytes.specs.Grammar.{Then, ThenFault, then_at, map_at}
-use Rattle.wl_module.specs.Lists.{NumberFault, number_at, WordFault, word_at, Listed, ListedFault, list_at, Whole, WholeFault, whole_of}
-use Rattle.wl_module.specs.Checks.{Where, WhereFault, unless, where_at, Seen}
-use Rattle.wl_module.specs.declared.error.Why.TheVariants.{BadAlignment}
-use Rattle.wl_module.specs.declared.error.ReadError.{ReadError}
-use Rattle.wl_module.specs.declared.error.ReadError.TheVariants.{Malformed}
+use Rattle.wl_bytes.specs.Lists.{NumberFault, number_at, WordFault, word_at, Listed, ListedFault, list_at, Whole, WholeFault, whole_of}
+use Rattle.wl_bytes.specs.Checks.{Where, WhereFault, unless, where_at, Seen}
+use Rattle.wl_bytes.specs.declared.read_error.Why.TheVariants.{BadAlignment}
+use Rattle.wl_bytes.specs.declared.read_error.ReadError.{ReadError}
+use Rattle.wl_bytes.specs.declared.read_error.ReadError.TheVariants.{Malformed}
 use Rattle.wl_custom.specs.declared.infos.WasmInitFunc.{WasmInitFunc}
 
 -- ---- segments

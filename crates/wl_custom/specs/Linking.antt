@@ -6,15 +6,15 @@ use Rattle.wl_bytes.specs.Parse.{Takes, ◌>>=◌}
 use Rattle.wl_bytes.specs.Leb.{IsU32}
 use Rattle.wl_bytes.specs.Items.{IsByte, IsStretch}
 use Rattle.wl_bytes.specs.Grammar.{Then, ThenFault, then_at, map_at}
-use Rattle.wl_module.specs.Lists.{NumberFault, ByteFault, number_at, one_byte_at, start}
-use Rattle.wl_module.specs.Bodies.{StretchFault}
-use Rattle.wl_module.specs.Bodies.{stretch_at}
-use Rattle.wl_module.specs.Chains.{Turns, Chain, ChainFault}
-use Rattle.wl_module.specs.Checks.{NoFault, Seen}
-use Rattle.wl_module.specs.declared.error.ReadError.{ReadError}
-use Rattle.wl_module.specs.declared.error.ReadError.TheVariants.{Malformed, Unsupported}
-use Rattle.wl_module.specs.declared.error.Why.TheVariants.{Repeated}
-use Rattle.wl_module.specs.declared.error.Form.TheVariants.{LinkingVersion}
+use Rattle.wl_bytes.specs.Lists.{NumberFault, ByteFault, number_at, one_byte_at, start}
+use Rattle.wl_bytes.specs.Lists.{StretchFault}
+use Rattle.wl_bytes.specs.Lists.{stretch_at}
+use Rattle.wl_bytes.specs.Chains.{Turns, Chain, ChainFault}
+use Rattle.wl_bytes.specs.Checks.{NoFault, Seen}
+use Rattle.wl_bytes.specs.declared.read_error.ReadError.{ReadError}
+use Rattle.wl_bytes.specs.declared.read_error.ReadError.TheVariants.{Malformed, Unsupported}
+use Rattle.wl_bytes.specs.declared.read_error.Why.TheVariants.{Repeated}
+use Rattle.wl_bytes.specs.declared.read_error.Form.TheVariants.{LinkingVersion}
 use Rattle.wl_custom.specs.Verdict.{Judged, JudgedFault, judged_at, Inside, InsideFault, IsHere, here_at}
 use Rattle.wl_custom.specs.Infos.{SegmentInfo, AreInfos, InfosFault, infos_of, AreInits, InitsFault, inits_of}
 use Rattle.wl_custom.specs.Symbols.{Symbol, AreSymbols, SymbolsFault}

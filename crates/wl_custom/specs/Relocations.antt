@@ -5,13 +5,13 @@ use Rattle.wl_bytes.specs.Parse.{Takes, ◌>>=◌}
 use Rattle.wl_bytes.specs.Leb.{IsU32, s32_form, IsSigned}
 use Rattle.wl_bytes.specs.Items.{IsByte}
 use Rattle.wl_bytes.specs.Grammar.{Then, ThenFault, then_at, map_at}
-use Rattle.wl_module.specs.Lists.{NumberFault, ByteFault, Listed, ListedFault, number_at, one_byte_at, list_at, ToEnd, ToEndFault, to_end_at, start}
-use Rattle.wl_module.specs.Constants.{SignedNumberFault, signed_number_at}
-use Rattle.wl_module.specs.Checks.{When, WhenFault, when_at, Seen}
-use Rattle.wl_module.specs.declared.error.ReadError.{ReadError}
-use Rattle.wl_module.specs.declared.error.ReadError.TheVariants.{Malformed, Unsupported}
-use Rattle.wl_module.specs.declared.error.Why.TheVariants.{RelocType as UnknownType}
-use Rattle.wl_module.specs.declared.error.Form.TheVariants.{RelocType}
+use Rattle.wl_bytes.specs.Lists.{NumberFault, ByteFault, Listed, ListedFault, number_at, one_byte_at, list_at, ToEnd, ToEndFault, to_end_at, start}
+use Rattle.wl_bytes.specs.Lists.{SignedNumberFault, signed_number_at}
+use Rattle.wl_bytes.specs.Checks.{When, WhenFault, when_at, Seen}
+use Rattle.wl_bytes.specs.declared.read_error.ReadError.{ReadError}
+use Rattle.wl_bytes.specs.declared.read_error.ReadError.TheVariants.{Malformed, Unsupported}
+use Rattle.wl_bytes.specs.declared.read_error.Why.TheVariants.{RelocType as UnknownType}
+use Rattle.wl_bytes.specs.declared.read_error.Form.TheVariants.{RelocType}
 use Rattle.wl_custom.specs.Verdict.{Judged, JudgedFault, judged_at}
 use Rattle.wl_custom.specs.RelocationTypes.{relocation_type_of, has_addend, may_stand_in_data}
 use Rattle.wl_custom.specs.declared.relocation_type.TheConstants.{LAST_TYPE}

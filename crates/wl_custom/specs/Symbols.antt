@@ -6,13 +6,13 @@ use Rattle.wl_bytes.specs.Cursor.{Cursor}
 use Rattle.wl_bytes.specs.Leb.{IsU32}
 use Rattle.wl_bytes.specs.Items.{IsByte}
 use Rattle.wl_bytes.specs.Grammar.{Then, ThenFault}
-use Rattle.wl_module.specs.Lists.{NumberFault, ByteFault, WordFault, Listed, ListedFault, Whole, WholeFault}
-use Rattle.wl_module.specs.Checks.{When, WhenFault, Seen}
-use Rattle.wl_module.specs.Words.{IsPlacedName}
-use Rattle.wl_module.specs.declared.error.ReadError.{ReadError}
-use Rattle.wl_module.specs.declared.error.ReadError.TheVariants.{Malformed, Unsupported}
-use Rattle.wl_module.specs.declared.error.Why.TheVariants.{BadByte}
-use Rattle.wl_module.specs.declared.error.Form.TheVariants.{Tag}
+use Rattle.wl_bytes.specs.Lists.{NumberFault, ByteFault, WordFault, Listed, ListedFault, Whole, WholeFault}
+use Rattle.wl_bytes.specs.Checks.{When, WhenFault, Seen}
+use Rattle.wl_bytes.specs.Words.{IsPlacedName}
+use Rattle.wl_bytes.specs.declared.read_error.ReadError.{ReadError}
+use Rattle.wl_bytes.specs.declared.read_error.ReadError.TheVariants.{Malformed, Unsupported}
+use Rattle.wl_bytes.specs.declared.read_error.Why.TheVariants.{BadByte}
+use Rattle.wl_bytes.specs.declared.read_error.Form.TheVariants.{Tag}
 use Rattle.wl_custom.specs.Verdict.{Judged, JudgedFault}
 use Rattle.wl_custom.specs.declared.symbols.WasmSymbolKind.{WasmSymbolKind}
 use Rattle.wl_custom.specs.declared.symbols.WasmSymbolKind.TheVariants.{Func, Data, Global, Section, Event, Table}
@@ -233,3 +233,12 @@ AreSymbols base = Whole (Listed (IsSymbol base))
 abbrev pub SymbolsFault : ℕ → ReadError → List ℕ → Type 0
 SymbolsFault base =
     WholeFault (Listed (IsSymbol base)) (ListedFault (IsSymbol base) (SymbolFault base))
+
+-- the symbol is a function's
+abbrev pub is_function_kind : WasmSymbolKind → Bool
+is_function_kind Func = true
+is_function_kind _ = false
+
+-- the symbol is a function that its object defines
+abbrev pub is_defined_function : Symbol → Bool
+is_defined_function s = is_function_kind s.kind && not (is_undefined s)

@@ -2,10 +2,10 @@
 use Rattle.std.specs.Prelude.{ℕ, Bool, List, Result}
 use Rattle.wl_bytes.specs.Cursor.{Cursor}
 use Rattle.wl_bytes.specs.Grammar.{then_at, map_at}
-use Rattle.wl_module.specs.Lists.{number_at, one_byte_at, list_at, whole_of}
-use Rattle.wl_module.specs.Checks.{when_at}
-use Rattle.wl_module.specs.Words.{placed_name_at}
-use Rattle.wl_module.specs.declared.error.ReadError.{ReadError}
+use Rattle.wl_bytes.specs.Lists.{number_at, one_byte_at, list_at, whole_of}
+use Rattle.wl_bytes.specs.Checks.{when_at}
+use Rattle.wl_bytes.specs.Words.{placed_name_at}
+use Rattle.wl_bytes.specs.declared.read_error.ReadError.{ReadError}
 use Rattle.wl_custom.specs.Verdict.{judged_at}
 use Rattle.wl_custom.specs.Symbols.{Symbol, SymbolDetails, SymbolContext, symbol_context, SymbolParts, symbol_of, symbol_kind_verdict, based_name, name_or_none, extent_or_none, is_named, is_defined, numbered_from, located_from, sectioned_from}
 use Rattle.wl_custom.specs.declared.symbols.WasmSymbolKind.{WasmSymbolKind}

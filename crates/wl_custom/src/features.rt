@@ -3,13 +3,12 @@
 
 ghost use Rattle.std.specs.Prelude.{◌≤◌, length};
 ghost use Rattle.wl_bytes.specs.declared.reader.TheConstants.{MAX_LEN};
-ghost use Rattle.wl_module.specs.Outcome.{ReadsWhole, AreAlternatives};
+ghost use Rattle.wl_bytes.specs.Outcome.{ReadsWhole, AreAlternatives};
 ghost use Rattle.wl_custom.specs.Features.{AreFeatures, FeaturesFault};
 
 use std::alloc::Global;
 use std::marker::Model;
-use wl_bytes::Reader;
-use wl_module::{Item, ReadError, read_payload};
+use wl_bytes::{Item, ReadError, Reader, read_payload};
 
 /// The prefix of a feature that the object uses.
 pub const TARGET_FEATURE_PREFIX_USED: u8 = b'+';

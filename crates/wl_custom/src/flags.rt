@@ -6,7 +6,7 @@ use bitflags::{Flag, Flags, bitflag_items};
 
 /// The flags of a symbol (object file linking, version 2, "Symbol Table Subsection"). Bits without
 /// a name are kept.
-#[derive(Clone, Copy, Debug, PartialEq, Eq)]
+#[derive(Clone, Copy, PartialEq, Eq)]
 pub struct SymbolFlags(u32);
 
 bitflag_items! {

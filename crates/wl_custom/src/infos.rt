@@ -2,13 +2,12 @@
 //! (object file linking, version 2, "Segment Info Subsection" and "Init Funcs Subsection").
 
 ghost use Rattle.std.specs.Prelude.{◌≡◌};
-ghost use Rattle.wl_module.specs.Outcome.{Yields};
+ghost use Rattle.wl_bytes.specs.Outcome.{Yields};
 ghost use Rattle.wl_custom.specs.Infos.{alignment_at, is_tls};
 
 use std::alloc::Global;
 use std::marker::Model;
-use wl_bytes::Reader;
-use wl_module::{Item, ReadError, Why};
+use wl_bytes::{Item, ReadError, Reader, Why};
 
 /// What is told of a segment (object file linking, version 2, "Segment Info Subsection"). Clauses
 /// see it as a `SegmentInfo`, with its name as a list of bytes.
@@ -80,7 +79,7 @@ impl<'a> Item<'a> for WasmSegmentInfo<'a> {
 
 /// A function that runs when the module starts (object file linking, version 2, "Init Funcs
 /// Subsection").
-#[derive(Clone, Copy, Debug, PartialEq, Eq)]
+#[derive(Clone, Copy, PartialEq, Eq)]
 pub struct WasmInitFunc {
     /// Functions of lesser priorities run first.
     pub priority: u32,

@@ -20,9 +20,6 @@ mod relocations;
 mod debug;
 mod features;
 
-// Lists in records.
-mod items;
-
 pub use debug::DebugSectionInput;
 pub use features::{
     TARGET_FEATURE_PREFIX_DISALLOWED, TARGET_FEATURE_PREFIX_USED, WasmTargetFeature,
@@ -30,10 +27,11 @@ pub use features::{
 };
 pub use flags::SymbolFlags;
 pub use infos::{WasmInitFunc, WasmSegmentInfo};
-pub use items::ItemList;
 pub use linking::{Linking, SeenSubsections, Subsection, SubsectionKind, read_linking};
 pub use relocation_type::{FieldForm, RelocationType, relocation_type_to_string};
 pub use relocations::{
     RelocHeld, RelocationList, Target, WasmRelocSection, WasmRelocation, read_held_entries,
 };
-pub use symbols::{WasmSymbol, WasmSymbolKind, range_of};
+pub use symbols::{
+    WasmSymbol, WasmSymbolKind, is_defined_function, is_exported, is_function_kind, range_of,
+};

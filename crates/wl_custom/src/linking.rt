@@ -2,19 +2,18 @@
 
 ghost use Rattle.std.specs.Prelude.{◌≡◌, ◌+◌, ◌<◌, ◌≤◌, ◌^◌, OnOk, [], length, MatchResult};
 ghost use Rattle.wl_bytes.specs.declared.reader.TheConstants.{MAX_LEN};
-ghost use Rattle.wl_module.specs.Outcome.{Yields, Gives, HasCause};
+ghost use Rattle.wl_bytes.specs.Outcome.{Yields, Gives, HasCause};
 ghost use Rattle.wl_custom.specs.Linking.{subsection_kind, subsection_verdict, held_of, subsection_at, version_at, nothing_seen, seen_after, linking_of, with_subsection, HaveSubsections, SubsectionsFault, IsLinking, LinkingFault};
 
 use crate::infos::{WasmInitFunc, WasmSegmentInfo};
-use crate::items::ItemList;
 use crate::symbols::{WasmSymbol, read_symbols};
 use std::alloc::{AllocError, Global};
-use wl_bytes::Reader;
-use wl_module::{Form, ReadError, Why, read_payload};
+use wl_bytes::{Form, ReadError, Reader, Why, read_payload};
+use wl_lists::ItemList;
 
 /// What a subsection of a linking section is for, by its number (object file linking, version 2,
 /// "Linking Metadata Section").
-#[derive(Clone, Copy, Debug, PartialEq, Eq)]
+#[derive(Clone, Copy, PartialEq, Eq)]
 pub enum SubsectionKind {
     /// Names, alignments and flags of segments: 5.
     SegmentInfo,
@@ -40,7 +39,7 @@ pub enum Subsection<'a> {
 }
 
 /// Which subsections came before that may come once.
-#[derive(Clone, Copy, Debug, Default, PartialEq, Eq)]
+#[derive(Clone, Copy, Default, PartialEq, Eq)]
 pub struct SeenSubsections {
     /// That of segments.
     pub segment_info: bool,
@@ -119,7 +118,7 @@ fn check_kind(seen: SeenSubsections, kind: SubsectionKind) -> Result<(), ReadErr
 
 /// What the payload of a subsection of that kind holds, where so many bytes of the object lie
 /// before it.
-#[tactic(auto, using(wl_module::proofs::Loops::list_kept))]
+#[tactic(auto, using(wl_bytes::proofs::Loops::list_kept))]
 fn read_held(
     alloc: Global,
     base: u32,

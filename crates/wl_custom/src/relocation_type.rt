@@ -39,7 +39,7 @@ pub enum RelocationType {
 }
 
 /// How a field holds its value.
-#[derive(Clone, Copy, Debug, PartialEq, Eq)]
+#[derive(Clone, Copy, PartialEq, Eq)]
 pub enum FieldForm {
     /// LEB128 in five bytes.
     PaddedUnsigned,
@@ -50,7 +50,7 @@ pub enum FieldForm {
 }
 
 /// What the index of a relocation is the number of.
-#[derive(Clone, Copy, Debug, PartialEq, Eq)]
+#[derive(Clone, Copy, PartialEq, Eq)]
 pub(crate) enum Indexed {
     /// A symbol.
     Symbol,
@@ -59,7 +59,7 @@ pub(crate) enum Indexed {
 }
 
 /// In which sections a type of relocation may stand.
-#[derive(Clone, Copy, Debug, PartialEq, Eq)]
+#[derive(Clone, Copy, PartialEq, Eq)]
 pub(crate) enum Allowed {
     /// In code and in data.
     Anywhere,

@@ -1,19 +1,18 @@
 //! Relocation sections (object file linking, version 2, "Relocation Sections").
 
 ghost use Rattle.std.specs.Prelude.{◌≡◌, length};
-ghost use Rattle.wl_module.specs.Outcome.{Yields, Gives};
+ghost use Rattle.wl_bytes.specs.Outcome.{Yields, Gives};
 ghost use Rattle.wl_custom.specs.Relocations.{may_stand, type_verdict, addend_where_at, entries_to_end_at, held_entries_at};
 
-use crate::items::ItemList;
 use crate::relocation_type::{LAST_TYPE, RelocationType};
 use std::alloc::Global;
 use std::marker::Model;
-use wl_bytes::Reader;
-use wl_module::{Form, Item, ReadError, Why, expect_end, read_list};
+use wl_bytes::{Form, Item, ReadError, Reader, Why, expect_end, read_list};
+use wl_lists::ItemList;
 
 /// A place in a section's payload that takes the value of a symbol or a type (object file linking,
 /// version 2, "Relocation Sections").
-#[derive(Clone, Copy, Debug, PartialEq, Eq)]
+#[derive(Clone, Copy, PartialEq, Eq)]
 pub struct WasmRelocation {
     /// What the field takes.
     pub ty: RelocationType,
@@ -149,7 +148,7 @@ impl<'a> Item<'a> for WasmRelocation {
 }
 
 /// The entries up to the end of the payload.
-#[tactic(auto, using(wl_module::proofs::Loops::list_kept))]
+#[tactic(auto, using(wl_bytes::proofs::Loops::list_kept))]
 fn read_entries(
     alloc: Global,
     target: Target,

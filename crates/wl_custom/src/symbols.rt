@@ -3,21 +3,20 @@
 
 ghost use Rattle.std.specs.Prelude.{◌≡◌, ◌≤◌, ◌<◌, ◌^◌, ◌+◌, ◌-◌, length};
 ghost use Rattle.wl_bytes.specs.declared.reader.TheConstants.{MAX_LEN};
-ghost use Rattle.wl_module.specs.Outcome.{Yields, Gives};
-ghost use Rattle.wl_custom.specs.Symbols.{symbol_kind_verdict, has_flag, has_name, is_undefined, is_weak, is_local, is_absolute, with_name, range_of, symbol_context};
+ghost use Rattle.wl_bytes.specs.Outcome.{Yields, Gives};
+ghost use Rattle.wl_custom.specs.Symbols.{symbol_kind_verdict, has_flag, has_name, is_undefined, is_function_kind, is_defined_function, is_weak, is_local, is_absolute, with_name, range_of, symbol_context};
 ghost use Rattle.wl_custom.specs.SymbolsReading.{based_name_at, name_where_at, extent_where_at, numbered_at, located_at, sectioned_at, details_at, symbols_of};
 
 use crate::base::Base;
 use crate::flags::SymbolFlags;
-use crate::items::ItemList;
 use bitflags::Flags;
 use std::alloc::Global;
 use std::marker::Model;
-use wl_bytes::Reader;
-use wl_module::{Form, Item, ReadError, Why, read_payload};
+use wl_bytes::{Form, Item, ReadError, Reader, Why, read_payload};
+use wl_lists::ItemList;
 
 /// What a symbol stands for (object file linking, version 2, "Symbol Table Subsection").
-#[derive(Clone, Copy, Debug, PartialEq, Eq)]
+#[derive(Clone, Copy, PartialEq, Eq)]
 pub enum WasmSymbolKind {
     /// A function.
     Func,
@@ -207,7 +206,7 @@ pub fn range_of(base: u32, end: usize, len: usize) -> (u32, u32)
 }
 
 /// The name in front, with its place in the object.
-#[tactic(auto, unfolding(wl_module::specs::Words::placed_name_at))]
+#[tactic(auto, unfolding(wl_bytes::specs::Words::placed_name_at))]
 fn read_based_name<'a>(
     base: Base,
     reader: &mut Reader<'a>,
@@ -355,7 +354,7 @@ impl<'a> Item<'a> for WasmSymbol<'a> {
 
 /// The symbols of a symbol table, in order, where so many bytes of the object lie before its
 /// payload.
-#[tactic(auto, using(wl_module::proofs::Loops::list_kept))]
+#[tactic(auto, using(wl_bytes::proofs::Loops::list_kept))]
 pub(crate) fn read_symbols(
     alloc: Global,
     base: u32,
@@ -367,4 +366,32 @@ pub(crate) fn read_symbols(
 {
     let symbols = read_payload(alloc, Base::new(base), payload)?;
     Ok(ItemList::new(symbols))
+}
+
+/// Whether symbols of that kind are functions'.
+pub fn is_function_kind(kind: WasmSymbolKind) -> bool
+    ensures { result ≡ is_function_kind kind }
+{
+    match kind {
+        WasmSymbolKind::Func => true,
+        WasmSymbolKind::Data
+        | WasmSymbolKind::Global
+        | WasmSymbolKind::Section
+        | WasmSymbolKind::Event
+        | WasmSymbolKind::Table => false,
+    }
+}
+
+/// Whether the symbol is a function that its object defines.
+pub fn is_defined_function(symbol: &WasmSymbol<'_>) -> bool
+    ensures { result ≡ is_defined_function symbol.now }
+{
+    is_function_kind(symbol.kind) && !symbol.is_undefined()
+}
+
+/// Whether a symbol is kept for the host.
+pub fn is_exported(symbol: &WasmSymbol<'_>) -> bool
+    ensures { result ≡ has_flag symbol.now.flags 0x20 }
+{
+    symbol.flags.contains(SymbolFlags::EXPORTED)
 }

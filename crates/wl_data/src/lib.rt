@@ -33,7 +33,7 @@ pub use options::DataOptions;
 pub use placeable::{all_can_be_placed, objects_can_be_placed};
 pub use places::DataPlaces;
 pub use placing::place_all;
-pub use segments::{KeptSegment, SegmentLayouts, WasmDataAddress, WasmDataSegmentLayout};
+pub use segments::{KeptSegment, SegmentLayouts, WasmDataSegmentLayout};
 pub use sizes::{
     code_can_be_measured, compute_code_section_size, compute_data_section_size,
     data_can_be_measured, output_data_has_passive, output_data_segment_count,
@@ -43,3 +43,4 @@ pub use stack::{
     ensure_stack_size_aligned, heap_base_address, heap_base_after_data,
     heap_end_from_initial_pages, stack_high_after_data, stack_pointer_init,
 };
+pub use wl_index::WasmDataAddress;

@@ -1,7 +1,7 @@
 //! What a pass over segments looks for, and how far it has come.
 
 /// Where the next segment may begin at the earliest.
-#[derive(Clone, Copy, Debug, PartialEq, Eq)]
+#[derive(Clone, Copy, PartialEq, Eq)]
 pub(crate) struct Frontier {
     /// In the memory.
     pub(crate) memory: u32,
@@ -10,7 +10,7 @@ pub(crate) struct Frontier {
 }
 
 /// Which segments a pass over an object is for, and what becomes of them.
-#[derive(Clone, Copy, Debug, PartialEq, Eq)]
+#[derive(Clone, Copy, PartialEq, Eq)]
 pub(crate) struct Pass {
     /// Those with data of which each thread has its own, or the others.
     pub(crate) tls: bool,

@@ -6,7 +6,7 @@ ghost use Rattle.wl_data.specs.Layouts.{CanBePlaced};
 ghost use Rattle.wl_data.specs.DataPlaces.{AllCanBePlaced};
 
 use crate::segments::KeptSegment;
-use wl_linking::ItemList;
+use wl_lists::ItemList;
 
 /// Whether all these segments can be placed.
 pub fn all_can_be_placed(segments: &[KeptSegment<'_>]) -> bool

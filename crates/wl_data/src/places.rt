@@ -1,7 +1,7 @@
 //! Where the data of all objects lies.
 
 use crate::segments::SegmentLayouts;
-use wl_linking::ItemList;
+use wl_lists::ItemList;
 
 /// Where the data of all objects lies.
 #[derive(Drop)]

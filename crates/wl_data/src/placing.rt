@@ -13,7 +13,8 @@ use crate::pass::{Frontier, Pass};
 use crate::places::DataPlaces;
 use crate::segments::{KeptSegment, SegmentLayouts};
 use std::alloc::Global;
-use wl_linking::{ItemList, LinkError};
+use wl_linking::LinkError;
+use wl_lists::ItemList;
 
 /// The word that tells whether segments were copied has four bytes, and stands at a multiple of
 /// as many.

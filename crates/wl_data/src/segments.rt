@@ -5,20 +5,6 @@ ghost use Rattle.std.specs.Prelude.{◌≡◌, length, IsTrue, ◌↔◌, ◌++�
 use std::alloc::AllocError;
 use std::marker::Model;
 
-/// Where a data symbol lies.
-#[derive(Clone, Copy, Debug, PartialEq, Eq, Default)]
-pub enum WasmDataAddress {
-    /// Nowhere: its segment isn't kept, or nothing defines it.
-    #[default]
-    Missing,
-    /// At an address of the memory.
-    Placed(u32),
-    /// On a segment that has no address.
-    Passive,
-    /// At a place of the block that each thread has of its own.
-    TlsOffset(u32),
-}
-
 /// A segment of an object that is kept. Clauses see it as `KeptData`, with its bytes as a list.
 #[derive(Drop)]
 pub struct KeptSegment<'a> {

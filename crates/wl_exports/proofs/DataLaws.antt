@@ -9,7 +9,7 @@ use Rattle.indexmap.specs.IndexSet.{insert_all}
 use Rattle.wl_symbols.specs.declared.linker_symbol.WasmLinkerSymbol.TheVariants.{MemoryBase, TableBase, StackPointer, TlsBase, TlsSize, TlsAlign}
 use Rattle.wl_bind.specs.ExportedData.{same_data, dynamic_data, forced_data}
 use Rattle.wl_bind.specs.GlobalSpace.{GlobalEntry, DataOf, host_global_part, made_global_part, address_part, got_mem_part, got_func_part, dynamic_part, forced_part, object_globals, global_parts, global_space}
-use Rattle.wl_bind.specs.Input.{Input}
+use Rattle.wl_symbols.specs.Input.{Input}
 use Rattle.wl_bind.specs.Parts.{AreStarts, joined, lengths_of, total}
 use Rattle.wl_bind.specs.declared.exported.DataSymbol.{DataSymbol}
 use Rattle.wl_bind.specs.declared.parts.PartStarts.{PartStarts}

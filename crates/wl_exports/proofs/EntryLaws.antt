@@ -10,17 +10,17 @@ use Rattle.wl_custom.specs.Symbols.{Symbol as LinkedSymbol, is_data, has_name, i
 use Rattle.wl_custom.specs.declared.symbols.WasmSymbolKind.{WasmSymbolKind}
 use Rattle.wl_custom.specs.declared.symbols.WasmSymbolKind.TheVariants.{Func, Data, Global as GlobalKind, Section, Event, Table}
 use Rattle.wl_symbols.specs.Names.{named}
-use Rattle.wl_symbols.specs.Texts.{texts}
+use Rattle.wl_words.specs.Texts.{texts}
 use Rattle.wl_symbols.specs.declared.entry.Definition.{Definition}
 use Rattle.wl_symbols.specs.declared.entry.Definition.TheVariants.{Symbol}
-use Rattle.wl_live.specs.Entry.{is_function_kind, is_defined_function}
-use Rattle.wl_live.specs.Roots.{is_candidate}
+use Rattle.wl_custom.specs.Symbols.{is_function_kind, is_defined_function}
+use Rattle.wl_symbols.specs.Roots.{is_candidate}
 use Rattle.wl_bind.specs.ExportedData.{is_made_name}
 use Rattle.wl_bind.specs.FunctionSpace.{FunctionEntry, FunctionOf}
-use Rattle.wl_bind.specs.Input.{Input}
+use Rattle.wl_symbols.specs.Input.{Input}
 use Rattle.wl_bind.specs.declared.binding.FunctionTarget.TheVariants as function
 use Rattle.wl_bind.specs.declared.binding.GlobalTarget.TheVariants as global
-use Rattle.wl_slots.specs.SlotTargets.{own_number}
+use Rattle.wl_symbols.specs.SlotTargets.{own_number}
 use Rattle.wl_exports.specs.Exports.{ExportEntry, Entity, OfFunction, export_of, by_names, object_entity, defined_entity, defined_of_kind, named_entity, only_function, named_function, unless_made, candidate, by_symbol, candidates, is_code, stack_pointer_export, dynamic_exports}
 use Rattle.wl_exports.specs.ExportSteps.{IsPlainIf, AddsExports, takes}
 use Rattle.wl_exports.specs.declared.dynamic.Wanted.{Wanted}

@@ -19,11 +19,11 @@ use Rattle.wl_custom.specs.declared.symbols.WasmSymbolKind.{WasmSymbolKind}
 use Rattle.wl_custom.specs.declared.symbols.WasmSymbolKind.TheVariants.{Func, Data, Global, Table}
 use Rattle.wl_symbols.specs.Entries.{symbol_in}
 use Rattle.wl_symbols.specs.Names.{named}
-use Rattle.wl_symbols.specs.Texts.{texts}
+use Rattle.wl_words.specs.Texts.{texts}
 use Rattle.wl_symbols.specs.declared.entry.Definition.TheVariants.{Symbol}
-use Rattle.wl_slots.specs.SlotTargets.{is_definition_of}
+use Rattle.wl_symbols.specs.SlotTargets.{is_definition_of}
 use Rattle.wl_bind.specs.ExportedData.{is_made_name}
-use Rattle.wl_bind.specs.Input.{Input}
+use Rattle.wl_symbols.specs.Input.{Input}
 use Rattle.wl_exports.specs.Exports.{ExportEntry, Entity, defined_of_kind, object_entity, named_entity, first_exports}
 use Rattle.wl_exports.specs.ExportSteps.{AddsExports}
 use Rattle.wl_exports.specs.FaultSteps.{IsSoundSymbol, IsSymbolFault, no_room, a_table, nothing, IsSoundName, is_made, is_defined, IsNameFault, no_memory, is_a_table, is_missing, AreSoundNames, AreDistinct, IsRepeat, lack, twice, AreSoundFirst}

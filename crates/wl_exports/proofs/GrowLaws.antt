@@ -3,7 +3,7 @@ use Rattle.std.proofs.Common.{◌≡◌, ◌∙◌, ℕ, zero, suc, ◌+◌, ◌
 use Rattle.std.specs.Option.{option_map, option_to_list}
 use Rattle.wl_module.specs.Exports.{Exported}
 use Rattle.wl_linking.specs.Object.{Object}
-use Rattle.wl_bind.specs.Input.{Input}
+use Rattle.wl_symbols.specs.Input.{Input}
 use Rattle.wl_bind.specs.Parts.{by_object}
 use Rattle.wl_exports.specs.Exports.{ExportEntry, export_of, own_entity}
 use Rattle.wl_exports.specs.ExportSteps.{AddsExports}

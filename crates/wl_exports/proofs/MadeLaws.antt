@@ -12,15 +12,15 @@ use Rattle.wl_custom.specs.declared.symbols.WasmSymbolKind.TheVariants as symbol
 use Rattle.wl_symbols.specs.LinkerNames.{row_of, name_of, all_made, symbol_named, is_exported_as_data}
 use Rattle.wl_symbols.specs.declared.linker_symbol.WasmLinkerSymbol.{WasmLinkerSymbol}
 use Rattle.wl_symbols.specs.declared.linker_symbol.WasmLinkerSymbol.TheVariants as linker
-use Rattle.wl_slots.specs.ImportSlots.{ImportSlot}
-use Rattle.wl_slots.specs.Left.{first_imports}
+use Rattle.wl_symbols.specs.ImportSlots.{ImportSlot}
+use Rattle.wl_symbols.specs.Left.{first_imports}
 use Rattle.wl_bind.specs.ExportedAddresses.{if_data, data_named, exported_addresses}
 use Rattle.wl_bind.specs.ExportedData.{is_made_name, dynamic_data, forced_data}
 use Rattle.wl_bind.specs.FunctionBinding.{link_stubs, host_functions}
 use Rattle.wl_bind.specs.GlobalBinding.{host_globals}
 use Rattle.wl_bind.specs.FunctionSpace.{FunctionEntry, FunctionOf, InitMemory, host_function_part, made_function_part, init_memory_part, stub_part, kept_functions, functions_of, object_functions, function_parts, function_space}
 use Rattle.wl_bind.specs.GlobalSpace.{GlobalEntry, GlobalOf, AddressOf, DataOf, host_global_part, made_global_part, address_part, got_mem_part, got_func_part, dynamic_part, forced_part, kept_globals, globals_of, object_globals, global_parts, global_space}
-use Rattle.wl_bind.specs.Input.{Input}
+use Rattle.wl_symbols.specs.Input.{Input}
 use Rattle.wl_bind.specs.Made.{is_forced, is_made, has_init_memory}
 use Rattle.wl_bind.specs.MadeIndices.{StandsAt, IsMadeIndex}
 use Rattle.wl_bind.specs.Parts.{by_object, joined}

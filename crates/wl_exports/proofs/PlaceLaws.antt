@@ -5,20 +5,20 @@ use Rattle.std.specs.Option.{option_map}
 use Rattle.std.proofs.lemmas.Bool.{cases_Bool, leb-false, ltb-false}
 use Rattle.std.proofs.lemmas.Option.{same_Some, slice_get_within}
 use Rattle.wl_types.specs.Types.{max_entries}
-use Rattle.wl_types.specs.declared.types.TheConstants.{WASM_DEAD_INDEX}
+use Rattle.wl_index.specs.declared.index.TheConstants.{WASM_DEAD_INDEX}
 use Rattle.wl_module.specs.Exports.{Exported}
 use Rattle.wl_module.specs.declared.imports.ExternalKind.TheVariants as external
 use Rattle.wl_linking.specs.Object.{Object}
 use Rattle.wl_linking.specs.Spaces.{count_imports}
 use Rattle.wl_custom.specs.declared.symbols.WasmSymbolKind.TheVariants as symbol
-use Rattle.wl_live.specs.declared.units.WasmGcUnit.TheVariants.{DefinedFunction, DefinedGlobal}
-use Rattle.wl_reloc.specs.declared.index_map.WasmObjectIndexMap.{WasmObjectIndexMap}
-use Rattle.wl_slots.specs.ImportSlots.{object_slots}
-use Rattle.wl_slots.specs.SlotTargets.{own_number, defined_under}
+use Rattle.wl_symbols.specs.declared.units.WasmGcUnit.TheVariants.{DefinedFunction, DefinedGlobal}
+use Rattle.wl_index.specs.declared.index_map.WasmObjectIndexMap.{WasmObjectIndexMap}
+use Rattle.wl_symbols.specs.ImportSlots.{object_slots}
+use Rattle.wl_symbols.specs.SlotTargets.{own_number, defined_under}
 use Rattle.wl_bind.specs.FunctionSpace.{FunctionEntry, FunctionOf, function_space, function_slot_entry, own_function_entry, local_functions}
 use Rattle.wl_bind.specs.GlobalSpace.{GlobalEntry, GlobalOf, global_space, global_slot_entry, own_global_entry, local_globals}
 use Rattle.wl_bind.specs.IndexMaps.{IsIndexMap, AreIndexMaps}
-use Rattle.wl_bind.specs.Input.{Input, keeps}
+use Rattle.wl_symbols.specs.Input.{Input, keeps}
 use Rattle.wl_bind.specs.Parts.{AreIndicesOf, AreRows, IsIndexOf, IsPlaceOf}
 use Rattle.wl_bind.specs.References.{there}
 use Rattle.wl_bind.specs.declared.binding.FunctionTarget.TheVariants as function

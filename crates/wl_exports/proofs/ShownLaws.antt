@@ -15,19 +15,19 @@ use Rattle.wl_symbols.specs.Link.{Link}
 use Rattle.wl_symbols.specs.Names.{named}
 use Rattle.wl_symbols.specs.declared.entry.Definition.{Definition}
 use Rattle.wl_symbols.specs.declared.entry.Definition.TheVariants.{Symbol}
-use Rattle.wl_live.specs.Definitions.{named_unit, definition_unit, defined_unit, unit_at}
-use Rattle.wl_live.specs.Live.{Live, is_live, IsLiveOf}
-use Rattle.wl_live.specs.Roots.{IsRoot, by_name, by_symbol, is_candidate, is_kept_symbol, is_root_symbol}
-use Rattle.wl_live.specs.Units.{counts_of, units_of, units_at, unit_in, unit_of}
-use Rattle.wl_live.specs.declared.units.LinkUnit.{LinkUnit}
-use Rattle.wl_live.specs.declared.units.UnitCounts.{UnitCounts}
-use Rattle.wl_live.specs.declared.units.WasmGcUnit.{WasmGcUnit}
-use Rattle.wl_live.specs.declared.units.WasmGcUnit.TheVariants.{DefinedFunction, DefinedGlobal}
-use Rattle.wl_slots.specs.SlotTargets.{own_number, is_definition_of}
+use Rattle.wl_symbols.specs.DefinedUnits.{named_unit, definition_unit, defined_unit, unit_at}
+use Rattle.wl_symbols.specs.Live.{Live, is_live, IsLiveOf}
+use Rattle.wl_symbols.specs.Roots.{IsRoot, by_name, by_symbol, is_candidate, is_kept_symbol, is_root_symbol}
+use Rattle.wl_symbols.specs.Units.{counts_of, units_of, units_at, unit_in, unit_of}
+use Rattle.wl_symbols.specs.declared.units.LinkUnit.{LinkUnit}
+use Rattle.wl_symbols.specs.declared.units.UnitCounts.{UnitCounts}
+use Rattle.wl_symbols.specs.declared.units.WasmGcUnit.{WasmGcUnit}
+use Rattle.wl_symbols.specs.declared.units.WasmGcUnit.TheVariants.{DefinedFunction, DefinedGlobal}
+use Rattle.wl_symbols.specs.SlotTargets.{own_number, is_definition_of}
 use Rattle.wl_bind.specs.ExportedData.{is_dynamic_data, dynamic_from, dynamic_in, dynamic_data, is_made_name, is_dynamic, is_defined_data, data_of, forced_by, forced_data}
 use Rattle.wl_bind.specs.FunctionSpace.{FunctionOf, local_functions}
 use Rattle.wl_bind.specs.GlobalSpace.{GlobalOf, DataOf, local_globals}
-use Rattle.wl_bind.specs.Input.{Input, keeps}
+use Rattle.wl_symbols.specs.Input.{Input, keeps}
 use Rattle.wl_bind.specs.Parts.{by_object}
 use Rattle.wl_bind.specs.References.{there}
 use Rattle.wl_bind.specs.declared.binding.FunctionTarget.TheVariants as function

@@ -9,7 +9,7 @@ use Rattle.wl_symbols.specs.LinkerNames.{name_of}
 use Rattle.wl_symbols.specs.Link.{Link}
 use Rattle.wl_symbols.specs.declared.linker_symbol.WasmLinkerSymbol.TheVariants as linker
 use Rattle.wl_features.specs.Taken.{AreTaken, taken_names}
-use Rattle.wl_bind.specs.Input.{Input}
+use Rattle.wl_symbols.specs.Input.{Input}
 use Rattle.wl_bind.specs.Made.{has_shared_tls}
 use Rattle.wl_exports.specs.Exports.{ExportEntry, export_of, made_entity, thread_exports, stack_pointer_export}
 use Rattle.wl_exports.specs.ExportSteps.{AddsExports, uses_mutable_globals}

@@ -3,7 +3,7 @@ use Rattle.std.specs.Prelude.{◌≡◌, ◌⊎◌, ℕ, ◌+◌, List, ◌++◌
 use Rattle.std.specs.HashMap.{HashMap, get_by}
 use Rattle.wl_bind.specs.ExportedData.{same_data, dynamic_data, forced_data}
 use Rattle.wl_bind.specs.GlobalSpace.{DataOf, global_space}
-use Rattle.wl_bind.specs.Input.{Input}
+use Rattle.wl_symbols.specs.Input.{Input}
 use Rattle.wl_bind.specs.declared.exported.DataSymbol.{DataSymbol}
 
 -- the data symbols that are exported

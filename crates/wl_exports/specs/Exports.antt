@@ -10,7 +10,7 @@ use Rattle.wl_linking.specs.Object.{Object}
 use Rattle.wl_custom.specs.Symbols.{Symbol as LinkedSymbol, is_data, has_name, is_undefined}
 use Rattle.wl_custom.specs.declared.symbols.WasmSymbolKind.{WasmSymbolKind}
 use Rattle.wl_custom.specs.declared.symbols.WasmSymbolKind.TheVariants as symbol
-use Rattle.wl_symbols.specs.Args.{export_name}
+use Rattle.wl_words.specs.Args.{export_name}
 use Rattle.wl_symbols.specs.LinkerNames.{row_of, name_of, symbol_named}
 use Rattle.wl_symbols.specs.Names.{named}
 use Rattle.wl_symbols.specs.declared.entry.Definition.{Definition}
@@ -18,12 +18,12 @@ use Rattle.wl_symbols.specs.declared.entry.Definition.TheVariants.{Symbol, Made 
 use Rattle.wl_symbols.specs.declared.linker_symbol.WasmLinkerSymbol.{WasmLinkerSymbol}
 use Rattle.wl_symbols.specs.declared.linker_symbol.WasmLinkerSymbol.TheVariants as made
 use Rattle.wl_features.specs.Taken.{taken_names}
-use Rattle.wl_live.specs.Roots.{is_candidate}
-use Rattle.wl_slots.specs.SlotTargets.{own_number}
+use Rattle.wl_symbols.specs.Roots.{is_candidate}
+use Rattle.wl_symbols.specs.SlotTargets.{own_number}
 use Rattle.wl_bind.specs.ExportedData.{is_made_name}
 use Rattle.wl_bind.specs.FunctionSpace.{FunctionEntry, FunctionOf, local_functions}
 use Rattle.wl_bind.specs.GlobalSpace.{GlobalEntry, GlobalOf, AddressOf, DataOf, local_globals}
-use Rattle.wl_bind.specs.Input.{Input}
+use Rattle.wl_symbols.specs.Input.{Input}
 use Rattle.wl_bind.specs.Made.{has_shared_tls, is_made}
 use Rattle.wl_bind.specs.Parts.{by_object}
 use Rattle.wl_bind.specs.References.{there}

@@ -6,7 +6,7 @@ use Rattle.wl_linking.specs.declared.error.LinkError.TheVariants.{OutOfMemory, E
 use Rattle.wl_symbols.specs.Names.{named}
 use Rattle.wl_symbols.specs.declared.entry.Definition.TheVariants.{Symbol}
 use Rattle.wl_bind.specs.ExportedData.{is_made_name}
-use Rattle.wl_bind.specs.Input.{Input}
+use Rattle.wl_symbols.specs.Input.{Input}
 use Rattle.wl_exports.specs.Exports.{ExportEntry, object_entity, named_entity, first_exports}
 use Rattle.wl_exports.specs.Faults.{is_table}
 

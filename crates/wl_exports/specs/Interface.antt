@@ -1,5 +1,5 @@
 -- What others see of the output.
-use Rattle.wl_bind.specs.Input.{Input}
+use Rattle.wl_symbols.specs.Input.{Input}
 use Rattle.wl_exports.specs.Wrapped.{AreOutputExports, AreWrappers}
 use Rattle.wl_exports.specs.declared.interface.OutputInterface.{OutputInterface}
 

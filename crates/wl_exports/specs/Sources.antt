@@ -8,7 +8,7 @@ use Rattle.wl_features.specs.Taken.{AreTaken}
 use Rattle.wl_bind.specs.FunctionSpace.{function_space}
 use Rattle.wl_bind.specs.GlobalSpace.{global_space}
 use Rattle.wl_bind.specs.IndexMaps.{AreIndexMaps}
-use Rattle.wl_bind.specs.Input.{Input}
+use Rattle.wl_symbols.specs.Input.{Input}
 use Rattle.wl_bind.specs.MadeIndices.{AreMadeIndices}
 use Rattle.wl_bind.specs.References.{IsSettled}
 use Rattle.wl_exports.specs.Exports.{ExportEntry, Entity, OfFunction, OfGlobal, OfTable, OfMemory, exports}

@@ -8,7 +8,7 @@ use Rattle.wl_linking.specs.declared.error.LinkError.TheVariants.{TooLarge}
 use Rattle.wl_linking.specs.declared.error.Quantity.TheVariants.{Space}
 use Rattle.wl_types.specs.Types.{max_entries}
 use Rattle.wl_bind.specs.FunctionSpace.{FunctionEntry, function_space}
-use Rattle.wl_bind.specs.Input.{Input}
+use Rattle.wl_symbols.specs.Input.{Input}
 use Rattle.wl_exports.specs.Exports.{ExportEntry, OfFunction, exports}
 use Rattle.wl_exports.specs.Sources.{IsPlainExport}
 use Rattle.wl_exports.specs.Wrappers.{wraps, can_wrap, wrapped}

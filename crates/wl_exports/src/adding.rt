@@ -2,7 +2,7 @@
 
 ghost use Rattle.std.specs.Prelude.{◌≡◌, ◌++◌, Option, OnOk};
 ghost use Rattle.std.specs.Option.{option_to_list};
-ghost use Rattle.wl_bind.specs.Input.{Input as Linked};
+ghost use Rattle.wl_symbols.specs.Input.{Input as Linked};
 ghost use Rattle.wl_exports.specs.Exports.{ExportEntry};
 ghost use Rattle.wl_exports.specs.ExportSteps.{IsPlainIf, AddsExports};
 

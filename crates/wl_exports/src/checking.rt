@@ -13,11 +13,10 @@ use crate::names::take_name;
 use crate::sources::ExportSources;
 use std::alloc::{AllocError, Global};
 use std::collections::HashSet;
-use wl_bind::LinkInput;
-use wl_linking::{LinkError, Text, WasmSymbolKind};
+use wl_linking::{LinkError, WasmSymbolKind};
+use wl_lists::Text;
 use wl_module::OutputExport;
-use wl_slots::definitions_have_numbers;
-use wl_symbols::Definition;
+use wl_symbols::{Definition, LinkInput, definitions_have_numbers};
 
 /// The refusal of a name that has to be exported, and under which no object defines anything.
 fn not_found(alloc: Global, name: &str) -> Result<LinkError, AllocError>

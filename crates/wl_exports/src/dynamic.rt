@@ -13,11 +13,11 @@ use crate::named::symbol_export;
 use crate::sources::ExportSources;
 use std::alloc::AllocError;
 use wl_linking::{File, WasmSymbol, WasmSymbolKind};
-use wl_live::{is_candidate, live_units_are_closed};
 use wl_module::OutputExport;
+use wl_symbols::{is_candidate, live_units_are_closed};
 
 /// Which symbols are exported in one go.
-#[derive(Clone, Copy, Debug, PartialEq, Eq)]
+#[derive(Clone, Copy, PartialEq, Eq)]
 enum Wanted {
     /// Functions and globals.
     Code,

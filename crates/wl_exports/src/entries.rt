@@ -16,7 +16,7 @@ use crate::names::take_name;
 use crate::sources::ExportSources;
 use std::alloc::{AllocError, Global};
 use std::collections::HashSet;
-use wl_linking::ItemList;
+use wl_lists::ItemList;
 use wl_module::OutputExport;
 
 /// Adds what is asked for by name and by options, in order.

@@ -5,7 +5,7 @@ ghost use Rattle.std.specs.Option.{option_map};
 ghost use Rattle.wl_linking.specs.Object.{Object};
 ghost use Rattle.wl_bind.specs.FunctionSpace.{local_functions};
 ghost use Rattle.wl_bind.specs.GlobalSpace.{DataOf, local_globals};
-ghost use Rattle.wl_bind.specs.Input.{Input as Linked};
+ghost use Rattle.wl_symbols.specs.Input.{Input as Linked};
 ghost use Rattle.wl_bind.specs.References.{there};
 ghost use Rattle.wl_exports.specs.DataSteps.{AreDataPlaces, exported_data};
 ghost use Rattle.wl_exports.specs.Exports.{OfFunction, OfGlobal, export_of};
@@ -14,7 +14,8 @@ ghost use Rattle.wl_exports.specs.Sources.{AreSources};
 
 use crate::data_places::DataPlaces;
 use crate::sources::ExportSources;
-use wl_bind::{DataSymbol, WASM_DEAD_INDEX};
+use wl_bind::DataSymbol;
+use wl_index::WASM_DEAD_INDEX;
 use wl_module::{ExternalKind, OutputExport};
 
 /// The index that a list has at a place, unless it stands for what the output doesn't have.

@@ -11,9 +11,10 @@ use crate::entries::output_exports;
 use crate::sources::ExportSources;
 use crate::wrappers::{Wrapper, count_wrappers, wrap_exports};
 use std::alloc::Global;
-use wl_linking::{ItemList, LinkError, Quantity};
+use wl_index::MAX_ENTRIES;
+use wl_linking::{LinkError, Quantity};
+use wl_lists::ItemList;
 use wl_module::OutputExport;
-use wl_types::MAX_ENTRIES;
 
 /// What others see of the output.
 #[derive(Drop)]

@@ -4,7 +4,7 @@ ghost use Rattle.std.specs.Prelude.{◌≡◌, ◌≤◌, ℕ, List, length, tru
 ghost use Rattle.wl_module.specs.Exports.{Exported};
 ghost use Rattle.wl_symbols.specs.declared.linker_symbol.WasmLinkerSymbol.TheVariants.{CallCtors};
 ghost use Rattle.wl_bind.specs.FunctionSpace.{host_function_part};
-ghost use Rattle.wl_bind.specs.Input.{Input};
+ghost use Rattle.wl_symbols.specs.Input.{Input};
 ghost use Rattle.wl_bind.specs.Made.{is_made};
 ghost use Rattle.wl_exports.specs.Exports.{ExportEntry};
 ghost use Rattle.wl_exports.specs.Wrapped.{WrapperEntry, AreOutputExports, AreWrappers};

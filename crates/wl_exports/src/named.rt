@@ -15,11 +15,10 @@ use crate::made::is_made_name;
 use crate::sources::ExportSources;
 use std::alloc::AllocError;
 use wl_bind::DataSymbol;
+use wl_custom::is_defined_function;
 use wl_linking::{WasmSymbol, WasmSymbolKind};
-use wl_live::{is_defined_function, live_units_are_closed};
 use wl_module::OutputExport;
-use wl_slots::{definitions_have_numbers, slots_are_numbered};
-use wl_symbols::Definition;
+use wl_symbols::{Definition, definitions_have_numbers, live_units_are_closed, slots_are_numbered};
 
 /// The export, under a name, of what a symbol of an object defines.
 pub(crate) fn symbol_export<'a>(

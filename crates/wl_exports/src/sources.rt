@@ -1,8 +1,10 @@
 //! What exports are made from.
 
-use wl_bind::{LinkInput, LinkerDefinedIndices, WasmObjectIndexMap};
+use wl_bind::LinkerDefinedIndices;
 use wl_features::FeatureList;
-use wl_symbols::WasmArgs;
+use wl_index::WasmObjectIndexMap;
+use wl_symbols::LinkInput;
+use wl_words::WasmArgs;
 
 /// What exports are made from: the link, where its things stand, and the features that are used.
 #[derive(Drop)]

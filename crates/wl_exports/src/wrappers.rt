@@ -4,7 +4,7 @@ ghost use Rattle.std.specs.Prelude.{◌≡◌, ◌≤◌, ◌<◌, ◌+◌, ◌^
 ghost use Rattle.std.specs.List.{list_any};
 ghost use Rattle.wl_types.specs.Types.{max_entries};
 ghost use Rattle.wl_bind.specs.FunctionSpace.{host_function_part, function_space};
-ghost use Rattle.wl_bind.specs.Input.{Input as Linked};
+ghost use Rattle.wl_symbols.specs.Input.{Input as Linked};
 ghost use Rattle.wl_exports.specs.Exports.{ExportEntry};
 ghost use Rattle.wl_exports.specs.Sources.{IsPlainExport, ArePlainExports};
 ghost use Rattle.wl_exports.specs.WrapSteps.{with_export, with_wrapper};
@@ -14,9 +14,11 @@ ghost use Rattle.wl_exports.specs.Wrappers.{is_ctors_name, is_function, calls_ct
 use crate::made::INIT_TLS;
 use std::alloc::{AllocError, Global};
 use std::marker::Model;
-use wl_bind::{LinkInput, has_init_functions};
-use wl_linking::{File, ItemList};
+use wl_bind::has_init_functions;
+use wl_linking::File;
+use wl_lists::ItemList;
 use wl_module::{ExternalKind, Import, ImportEntity, OutputExport};
+use wl_symbols::LinkInput;
 
 /// The name of what calls the constructors.
 const CALL_CTORS: &str = "__wasm_call_ctors";

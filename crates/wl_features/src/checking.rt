@@ -17,9 +17,10 @@ use crate::taken::{
 use std::alloc::Global;
 use wl_linking::{
     FileList, LinkError, SharedMemoryNeed, TARGET_FEATURE_PREFIX_DISALLOWED,
-    TARGET_FEATURE_PREFIX_USED, Text, WasmTargetFeature,
+    TARGET_FEATURE_PREFIX_USED, WasmTargetFeature,
 };
-use wl_symbols::WasmArgs;
+use wl_lists::Text;
+use wl_words::WasmArgs;
 
 /// The prefix says what the object asks for.
 fn is_known(feature: &WasmTargetFeature<'_>) -> bool

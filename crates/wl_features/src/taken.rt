@@ -7,7 +7,7 @@ ghost use Rattle.wl_features.specs.Taken.{AreTaken, is_used, names_of};
 use std::alloc::{AllocError, Global};
 use std::marker::Model;
 use wl_linking::{FileList, TARGET_FEATURE_PREFIX_USED, WasmTargetFeature};
-use wl_symbols::{Texts, WasmArgs};
+use wl_words::{Texts, WasmArgs};
 
 /// Threads may share memory.
 pub const TARGET_FEATURE_SHARED_MEM: &str = "shared-mem";

@@ -6,9 +6,9 @@ use Rattle.std.proofs.lemmas.Bool.{cases_lt, cases_eq}
 use Rattle.std.proofs.lemmas.Option.{slice_get-get_or, slice_get_within, get_or_from_slice_get}
 use Rattle.std.proofs.lemmas.Slice.Eq.{bytes_eq-Decides}
 use Rattle.wl_module.specs.declared.sections.SectionHeader.{SectionHeader}
-use Rattle.wl_module.specs.declared.error.Why.TheVariants as why
-use Rattle.wl_module.specs.declared.error.ReadError.{ReadError}
-use Rattle.wl_module.specs.declared.error.ReadError.TheVariants.{Malformed}
+use Rattle.wl_bytes.specs.declared.read_error.Why.TheVariants as why
+use Rattle.wl_bytes.specs.declared.read_error.ReadError.{ReadError}
+use Rattle.wl_bytes.specs.declared.read_error.ReadError.TheVariants.{Malformed}
 use Rattle.wl_module.specs.Sections.{Section, headers_of, IsModule, FrameFault}
 use Rattle.wl_module.proofs.SectionLaws.{module_alternatives}
 use Rattle.wl_custom.specs.RelocationTypes.{field_form}

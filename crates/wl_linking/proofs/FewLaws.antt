@@ -7,8 +7,8 @@ use Rattle.std.proofs.lemmas.List.Sums.{count_by-le-length}
 use Rattle.wl_bytes.specs.Cursor.{Cursor}
 use Rattle.wl_bytes.specs.Parse.{Takes}
 use Rattle.wl_module.specs.declared.section_kind.SectionKind.{SectionKind}
-use Rattle.wl_module.specs.Lists.{Listed}
-use Rattle.wl_module.specs.Chains.{Chain}
+use Rattle.wl_bytes.specs.Lists.{Listed}
+use Rattle.wl_bytes.specs.Chains.{Chain}
 use Rattle.wl_module.specs.Sections.{Section, IsContentOf, IsModule, IsSection, next, magic, sections_in_turn}
 use Rattle.wl_module.specs.SectionKinds.{is_custom}
 use Rattle.wl_module.proofs.CountLaws.{number_bytes, name_bytes, items_few, listed_few, modules_few, types_few, placed_imports_few, indices_few, memories_few, globals_few, exports_few, bodies_few, targeted_few}

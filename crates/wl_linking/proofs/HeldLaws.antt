@@ -9,7 +9,7 @@ use Rattle.wl_module.specs.Globals.{AreGlobals}
 use Rattle.wl_module.specs.Exports.{AreExports}
 use Rattle.wl_module.specs.Segments.{AreTargeted}
 use Rattle.wl_module.specs.Sections.{Section, SectionStands}
-use Rattle.wl_module.specs.declared.error.ReadError.{ReadError}
+use Rattle.wl_bytes.specs.declared.read_error.ReadError.{ReadError}
 use Rattle.wl_module.specs.declared.section_kind.SectionKind.{SectionKind}
 use Rattle.wl_module.specs.declared.section_kind.SectionKind.TheVariants as kind
 use Rattle.wl_custom.specs.Features.{AreFeatures}

@@ -17,3 +17,5 @@ pub mod NameLaws
 pub mod ImportNameLaws
 pub mod StretchLaws
 pub mod RawNameLaws
+pub mod InitLaws
+pub mod TypeLaws

@@ -4,8 +4,8 @@ use Rattle.std.specs.List.{AllByRecursion, flat_map}
 use Rattle.std.proofs.lemmas.Bool.{eqb-true}
 use Rattle.std.proofs.lemmas.List.{nil_from_length}
 use Rattle.wl_bytes.specs.Grammar.{Items}
-use Rattle.wl_module.specs.Chains.{Chain}
-use Rattle.wl_module.specs.Checks.{When}
+use Rattle.wl_bytes.specs.Chains.{Chain}
+use Rattle.wl_bytes.specs.Checks.{When}
 use Rattle.wl_module.specs.Sections.{Section, IsModule}
 use Rattle.wl_custom.specs.Symbols.{Symbol, SymbolDetails, range_of, IsBasedName, name_or_none, IsNameWhere, is_named, IsNumbered, IsLocated, SymbolContext, symbol_context, IsDetails, IsSymbol, AreSymbols}
 use Rattle.wl_custom.specs.Linking.{subsection_kind, IsHeld, IsSubsection, seen_after, nothing_seen as no_subsection_seen, table_in, linking_of, IsLinking, subsections_in_turn}

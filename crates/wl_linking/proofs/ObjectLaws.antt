@@ -2,12 +2,12 @@
 use Rattle.std.proofs.Common.{◌≡◌, ℕ, List, length, Result, Ok, Err, Bool, true, false, sym, ap, subst, ◌∙◌, inl, inr, arith}
 use Rattle.std.specs.Prelude.{MatchResult}
 use Rattle.wl_module.specs.declared.sections.SectionHeader.{SectionHeader}
-use Rattle.wl_module.specs.declared.error.Why.TheVariants as why
-use Rattle.wl_module.specs.declared.error.ReadError.{ReadError}
-use Rattle.wl_module.specs.declared.error.ReadError.TheVariants.{OutOfMemory, Malformed, Unsupported}
+use Rattle.wl_bytes.specs.declared.read_error.Why.TheVariants as why
+use Rattle.wl_bytes.specs.declared.read_error.ReadError.{ReadError}
+use Rattle.wl_bytes.specs.declared.read_error.ReadError.TheVariants.{OutOfMemory, Malformed, Unsupported}
 use Rattle.wl_module.specs.Sections.{Section, headers_of, IsModule, FrameFault}
 use Rattle.wl_module.proofs.SectionLaws.{module_alternatives}
-use Rattle.wl_module.specs.Outcome.{HasCause}
+use Rattle.wl_bytes.specs.Outcome.{HasCause}
 use Rattle.wl_custom.specs.Symbols.{Symbol}
 use Rattle.wl_custom.proofs.Exact.{answer_follows}
 use Rattle.wl_linking.specs.Sections.{AreSound}

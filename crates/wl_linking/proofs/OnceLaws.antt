@@ -6,7 +6,7 @@ use Rattle.wl_bytes.proofs.Steps.{chosen}
 use Rattle.wl_bytes.specs.Grammar.{Items}
 use Rattle.wl_module.specs.Bodies.{Body, IsBody, AreBodies}
 use Rattle.wl_module.specs.Segments.{Segment, Targeted, IsSegment, AreTargeted, plain_segments}
-use Rattle.wl_module.specs.Chains.{Chain}
+use Rattle.wl_bytes.specs.Chains.{Chain}
 use Rattle.wl_module.specs.SectionKinds.{place_of}
 use Rattle.wl_module.specs.Sections.{Section, MayFollow, next, next_place, IsModule, sections_in_turn}
 use Rattle.wl_module.specs.declared.section_kind.SectionKind.{SectionKind}

@@ -4,9 +4,9 @@ use Rattle.std.specs.List.{AllByRecursion}
 use Rattle.std.specs.List.Sorted.{IsNonDecreasingBy, ties}
 use Rattle.std.specs.Ordering.{nat_cmp, is_lt}
 use Rattle.std.proofs.lemmas.Bool.{cases_lt, lt-ltb, le-ltb}
-use Rattle.wl_module.specs.declared.error.ReadError.{ReadError}
-use Rattle.wl_module.specs.declared.error.ReadError.TheVariants.{Malformed}
-use Rattle.wl_module.specs.declared.error.Why.TheVariants as why
+use Rattle.wl_bytes.specs.declared.read_error.ReadError.{ReadError}
+use Rattle.wl_bytes.specs.declared.read_error.ReadError.TheVariants.{Malformed}
+use Rattle.wl_bytes.specs.declared.read_error.Why.TheVariants as why
 use Rattle.wl_linking.specs.Sites.{PieceOf, IsSite, AreSites, AreApart, AreInOrder, HasNoSite, HasOverlap, LieApart, FieldsFault, offset_of}
 use Rattle.wl_linking.specs.Placing.{Ascend}
 use Rattle.wl_custom.specs.declared.relocations.WasmRelocation.{WasmRelocation}

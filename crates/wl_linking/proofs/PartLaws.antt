@@ -4,8 +4,8 @@ use Rattle.std.proofs.Math.Seq.{take-suc, drop-cons}
 use Rattle.std.proofs.lemmas.List.{take-append-drop}
 use Rattle.std.specs.List.{AllByRecursion}
 use Rattle.wl_module.specs.Sections.{Section}
-use Rattle.wl_module.specs.declared.error.ReadError.{ReadError}
-use Rattle.wl_module.specs.Outcome.{HasCause}
+use Rattle.wl_bytes.specs.declared.read_error.ReadError.{ReadError}
+use Rattle.wl_bytes.specs.Outcome.{HasCause}
 use Rattle.wl_linking.specs.Parts.{no_parts, join, part_of}
 use Rattle.wl_linking.specs.Sections.{IsSound, IsFaulty, AreSound, AreFaulty}
 use Rattle.wl_linking.specs.declared.parts.Parts.{Parts}

@@ -3,10 +3,10 @@ use Rattle.std.proofs.Common.{◌≡◌, ◌⊎◌, ℕ, List, [], ◌∷◌, Bo
 use Rattle.wl_module.specs.Sections.{Section}
 use Rattle.wl_module.specs.declared.section_kind.SectionKind.{SectionKind}
 use Rattle.wl_module.specs.declared.section_kind.SectionKind.TheVariants as kind
-use Rattle.wl_module.specs.declared.error.Form.TheVariants as form
-use Rattle.wl_module.specs.declared.error.ReadError.{ReadError}
-use Rattle.wl_module.specs.declared.error.ReadError.TheVariants.{Malformed, Unsupported}
-use Rattle.wl_module.specs.declared.error.Why.TheVariants.{Repeated}
+use Rattle.wl_bytes.specs.declared.read_error.Form.TheVariants as form
+use Rattle.wl_bytes.specs.declared.read_error.ReadError.{ReadError}
+use Rattle.wl_bytes.specs.declared.read_error.ReadError.TheVariants.{Malformed, Unsupported}
+use Rattle.wl_bytes.specs.declared.read_error.Why.TheVariants.{Repeated}
 use Rattle.wl_module.specs.Types.{AreTypes, TypesFault}
 use Rattle.wl_module.specs.Types.{types_of}
 use Rattle.wl_module.specs.Imports.{ArePlacedImports, ImportsFault, placed_imports_of}
@@ -30,14 +30,14 @@ use Rattle.wl_linking.specs.Targets.{custom_kind, numbered_verdict}
 use Rattle.wl_linking.specs.Sections.{SectionContext, section_context, has_memory, base_of, LinkingItems, LinkingItemsFault, Holding, imports_at, HoldsCustom, CustomFault, HoldsItems, ItemsFault, IsSoundCustom, IsFaultyCustom, IsSound, IsFaulty, AreSound, AreFaulty}
 use Rattle.wl_linking.specs.declared.kinds.CustomKind.{CustomKind}
 use Rattle.wl_linking.specs.declared.kinds.CustomKind.TheVariants as custom
-use Rattle.wl_module.specs.Outcome.{HasCause, Fails, AreAlternatives}
+use Rattle.wl_bytes.specs.Outcome.{HasCause, Fails, AreAlternatives}
 use Rattle.wl_linking.specs.declared.parts.Parts.{Parts}
 use Rattle.wl_custom.specs.declared.relocations.RelocHeld.{RelocHeld}
 use Rattle.wl_custom.proofs.Exact.{failed}
 use Rattle.wl_custom.specs.declared.linking.Linking.{Linking as LinkingHeld}
 use Rattle.wl_linking.specs.declared.section.SectionItems.{SectionItems}
 use Rattle.wl_linking.specs.declared.section.SectionItems.TheVariants.{Types, Functions, Memories, Globals, Exports, DataCount, Code, Data, Linking, Reloc, Features, Debug, Nothing}
-use Rattle.wl_module.proofs.ListLaws.{whole_alternatives}
+use Rattle.wl_bytes.proofs.ListLaws.{whole_alternatives}
 use Rattle.wl_custom.proofs.FeatureLaws.{features_reading}
 use Rattle.wl_custom.proofs.LinkingLaws.{linking_exact}
 use Rattle.wl_custom.proofs.RelocationLaws.{reloc_section_reading}

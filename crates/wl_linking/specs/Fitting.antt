@@ -3,9 +3,9 @@
 use Rattle.std.specs.Prelude.{◌≡◌, ◌⊎◌, ◌≤◌, ℕ, List, length, map, Result, Ok, Err, IfOk, IfErr}
 use Rattle.wl_bytes.specs.declared.reader.TheConstants.{MAX_LEN}
 use Rattle.wl_module.specs.declared.sections.SectionHeader.{SectionHeader}
-use Rattle.wl_module.specs.declared.error.ReadError.{ReadError}
+use Rattle.wl_bytes.specs.declared.read_error.ReadError.{ReadError}
 use Rattle.wl_module.specs.Sections.{Section, headers_of, IsModule, FrameFault}
-use Rattle.wl_module.specs.Outcome.{Gives, HasCause}
+use Rattle.wl_bytes.specs.Outcome.{Gives, HasCause}
 use Rattle.wl_custom.specs.Symbols.{Symbol}
 use Rattle.wl_linking.specs.Targets.{bytes_between}
 use Rattle.wl_linking.specs.Object.{Object}

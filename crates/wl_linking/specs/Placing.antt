@@ -1,9 +1,9 @@
 -- Where the fields of relocations are looked for: pieces stand one behind the other.
 use Rattle.std.specs.Prelude.{◌≡◌, ℕ, ◌+◌, ◌-◌, ◌≤◌, ◌&&◌, nat_le, if◌then◌else◌, List, [], ◌∷◌, length, take, drop, Option, Some, None, ⊤}
 use Rattle.wl_bytes.specs.declared.reader.TheConstants.{MAX_LEN}
-use Rattle.wl_module.specs.declared.error.ReadError.{ReadError}
-use Rattle.wl_module.specs.declared.error.ReadError.TheVariants.{Malformed}
-use Rattle.wl_module.specs.declared.error.Why.TheVariants.{Field}
+use Rattle.wl_bytes.specs.declared.read_error.ReadError.{ReadError}
+use Rattle.wl_bytes.specs.declared.read_error.ReadError.TheVariants.{Malformed}
+use Rattle.wl_bytes.specs.declared.read_error.Why.TheVariants.{Field}
 use Rattle.wl_module.specs.Segments.{Segment}
 use Rattle.wl_linking.specs.Sites.{PieceOf, has_form, field_len, HasNoSite}
 use Rattle.wl_custom.specs.declared.relocation_type.FieldForm.{FieldForm}

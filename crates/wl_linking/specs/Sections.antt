@@ -5,10 +5,10 @@ use Rattle.wl_bytes.specs.declared.reader.TheConstants.{MAX_LEN}
 use Rattle.std.specs.List.{list_any}
 use Rattle.wl_module.specs.declared.section_kind.SectionKind.{SectionKind}
 use Rattle.wl_module.specs.declared.section_kind.SectionKind.TheVariants as kind
-use Rattle.wl_module.specs.declared.error.Form.TheVariants as form
-use Rattle.wl_module.specs.declared.error.ReadError.{ReadError}
-use Rattle.wl_module.specs.declared.error.ReadError.TheVariants.{Malformed, Unsupported}
-use Rattle.wl_module.specs.declared.error.Why.TheVariants.{Repeated}
+use Rattle.wl_bytes.specs.declared.read_error.Form.TheVariants as form
+use Rattle.wl_bytes.specs.declared.read_error.ReadError.{ReadError}
+use Rattle.wl_bytes.specs.declared.read_error.ReadError.TheVariants.{Malformed, Unsupported}
+use Rattle.wl_bytes.specs.declared.read_error.Why.TheVariants.{Repeated}
 use Rattle.wl_module.specs.Sections.{Section}
 use Rattle.wl_module.specs.Types.{AreTypes, TypesFault}
 use Rattle.wl_module.specs.Imports.{Imported, PlacedImported, is_memory, ArePlacedImports, ImportsFault}

@@ -2,9 +2,9 @@
 use Rattle.std.specs.Prelude.{◌≡◌, ℕ, ◌+◌, ◌-◌, ◌<◌, ◌≤◌, ◌==◌, Bool, true, false, List, [], ◌∷◌, length, take, drop, ◌&&◌, nat_lt, nat_le, Some, ⊤, slice_get, slice_index_or}
 use Rattle.std.specs.List.Sorted.{IsNonDecreasingBy, IsStableByKey}
 use Rattle.std.specs.Ordering.{nat_cmp}
-use Rattle.wl_module.specs.declared.error.ReadError.{ReadError}
-use Rattle.wl_module.specs.declared.error.ReadError.TheVariants.{Malformed}
-use Rattle.wl_module.specs.declared.error.Why.TheVariants as why
+use Rattle.wl_bytes.specs.declared.read_error.ReadError.{ReadError}
+use Rattle.wl_bytes.specs.declared.read_error.ReadError.TheVariants.{Malformed}
+use Rattle.wl_bytes.specs.declared.read_error.Why.TheVariants as why
 use Rattle.wl_module.specs.Bodies.{Body}
 use Rattle.wl_module.specs.Segments.{Segment}
 use Rattle.wl_custom.specs.RelocationTypes.{field_form}

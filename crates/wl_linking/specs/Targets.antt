@@ -6,10 +6,10 @@ use Rattle.std.specs.Str.{bytes_eq}
 use Rattle.wl_module.specs.declared.section_kind.SectionKind.{SectionKind}
 use Rattle.wl_module.specs.declared.section_kind.SectionKind.TheVariants as kind
 use Rattle.wl_module.specs.declared.sections.SectionHeader.{SectionHeader}
-use Rattle.wl_module.specs.declared.error.Form.TheVariants.{RelocTarget}
-use Rattle.wl_module.specs.declared.error.ReadError.{ReadError}
-use Rattle.wl_module.specs.declared.error.ReadError.TheVariants.{Malformed, Unsupported}
-use Rattle.wl_module.specs.declared.error.Why.TheVariants.{Repeated}
+use Rattle.wl_bytes.specs.declared.read_error.Form.TheVariants.{RelocTarget}
+use Rattle.wl_bytes.specs.declared.read_error.ReadError.{ReadError}
+use Rattle.wl_bytes.specs.declared.read_error.ReadError.TheVariants.{Malformed, Unsupported}
+use Rattle.wl_bytes.specs.declared.read_error.Why.TheVariants.{Repeated}
 use Rattle.wl_module.specs.Sections.{Section}
 use Rattle.wl_linking.specs.declared.kinds.CustomKind.{CustomKind}
 use Rattle.wl_linking.specs.declared.kinds.CustomKind.TheVariants as custom

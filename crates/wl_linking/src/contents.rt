@@ -3,7 +3,7 @@
 use crate::parts::Parts;
 use crate::sites::Site;
 use std::marker::Model;
-use wl_custom::ItemList;
+use wl_lists::ItemList;
 use wl_module::SectionHeader;
 
 /// What an object holds, whether or not it fits together: its bytes, what its sections hold, with

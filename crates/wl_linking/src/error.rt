@@ -1,9 +1,8 @@
 //! Why there is no plan.
 
-use crate::text::Text;
 use std::alloc::{AllocError, AllocFailed};
-use wl_custom::ItemList;
-use wl_module::{Form, Why};
+use wl_bytes::{Form, Why};
+use wl_lists::{ItemList, Text};
 
 /// What is larger than it may be.
 #[derive(Clone, Copy, Debug, PartialEq, Eq)]

@@ -2,12 +2,13 @@
 //! version 2).
 
 ghost use Rattle.std.specs.Prelude.{◌≡◌};
-ghost use Rattle.wl_module.specs.Outcome.{Gives};
+ghost use Rattle.wl_bytes.specs.Outcome.{Gives};
 ghost use Rattle.wl_linking.specs.Targets.{bytes_between, custom_kind, target_verdict, numbered_verdict, is_debug};
 
 use crate::parts::Parts;
+use wl_bytes::{Form, ReadError, Why};
 use wl_custom::Target;
-use wl_module::{Form, FramedSection, ReadError, SectionHeader, SectionKind, Why};
+use wl_module::{FramedSection, SectionHeader, SectionKind};
 
 /// The name of the section that tells of symbols and segments (object file linking, version 2,
 /// "Linking Metadata Section").
@@ -25,7 +26,7 @@ pub const TARGET_FEATURES_SECTION_NAME: &str = "target_features";
 const DEBUG_SECTION_PREFIX: &str = ".debug_";
 
 /// What a custom section is, by its name.
-#[derive(Clone, Copy, Debug, PartialEq, Eq)]
+#[derive(Clone, Copy, PartialEq, Eq)]
 pub(crate) enum CustomKind {
     Linking,
     Reloc,

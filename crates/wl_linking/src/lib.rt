@@ -27,25 +27,28 @@ mod file;
 mod file_list;
 mod lists;
 
-// Refusals and texts.
+// Refusals.
 mod error;
 mod raw_name;
-mod text;
+
+// What is known of objects beside what their reader says.
+mod laws;
 
 pub use error::{LinkError, MemoryBound, Quantity, SharedMemoryNeed, UndefinedSymbol};
 pub use file::File;
 pub use file_list::FileList;
 pub use kinds::{LINKING_SECTION_NAME, RELOC_SECTION_PREFIX, TARGET_FEATURES_SECTION_NAME};
+pub use laws::{init_functions_have_symbols, types_are_short};
 pub use object::{
     names_stand, object_lists_are_few, object_or_fault, parse_wasm_module, parts_of_objects_stand,
     whole_objects,
 };
 pub use raw_name::{RawSymbolName, wasm_symbol_name_str};
 pub use sites::Site;
-pub use text::Text;
 pub use wl_custom::{
-    DebugSectionInput, FieldForm, ItemList, RelocationList, RelocationType, SymbolFlags,
+    DebugSectionInput, FieldForm, RelocationList, RelocationType, SymbolFlags,
     TARGET_FEATURE_PREFIX_DISALLOWED, TARGET_FEATURE_PREFIX_USED, WasmInitFunc, WasmRelocSection,
     WasmRelocation, WasmSegmentInfo, WasmSymbol, WasmSymbolKind, WasmTargetFeature,
     features_or_fault, parse_target_features_payload, relocation_type_to_string,
 };
+pub use wl_lists::{ItemList, Text};

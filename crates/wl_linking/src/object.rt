@@ -4,7 +4,7 @@ ghost use Rattle.std.specs.Prelude.{◌≡◌, ◌⊎◌, ◌<◌, ◌≤◌, �
 ghost use Rattle.wl_bytes.specs.declared.reader.TheConstants.{MAX_LEN};
 ghost use Rattle.std.specs.List.{AllByRecursion};
 ghost use Rattle.wl_module.specs.Sections.{Section, IsModule, FrameFault};
-ghost use Rattle.wl_module.specs.declared.error.ReadError.{ReadError as Fault};
+ghost use Rattle.wl_bytes.specs.declared.read_error.ReadError.{ReadError as Fault};
 ghost use Rattle.wl_linking.specs.Object.{Object};
 ghost use Rattle.wl_linking.specs.Sites.{body_piece, segment_piece};
 ghost use Rattle.wl_linking.specs.Fitting.{NameStands, IsPlacedObject, HoldsObject, IsNamed, NamingFault, PartsFault, FirstItemsFault, HasFewItems, IsFitting, IsObject, IsWhole, ObjectFault, ParsesObject};
@@ -13,7 +13,7 @@ ghost use Rattle.wl_module.specs.declared.imports.ExternalKind.{ExternalKind as 
 ghost use Rattle.wl_linking.specs.declared.sites.Site.{Site as PlacedSite};
 ghost use Rattle.wl_linking.specs.Stretches.{PartsStandIn};
 ghost use Rattle.wl_linking.specs.Placing.{IsSpanned, Ascend};
-ghost use Rattle.wl_module.specs.Outcome.{HasCause};
+ghost use Rattle.wl_bytes.specs.Outcome.{HasCause};
 
 use crate::contents::Contents;
 use crate::file::File;
@@ -21,8 +21,9 @@ use crate::parts::{Parts, read_parts};
 use crate::slots::check_slots;
 use crate::spaces::{check_indices, spaces_of};
 use std::alloc::Global;
-use wl_custom::ItemList;
-use wl_module::{ReadError, SectionHeader, read_sections, section_headers};
+use wl_bytes::ReadError;
+use wl_lists::ItemList;
+use wl_module::{SectionHeader, read_sections, section_headers};
 
 /// The object of these parts: its symbols have the names that they take from imports, its
 /// relocations are in order, and each field lies by itself in a body or a segment.

@@ -9,20 +9,22 @@ ghost use Rattle.wl_linking.specs.Fitting.{AreSettled, SettlingFault};
 ghost use Rattle.wl_linking.specs.Placing.{IsSpanned, Ascend};
 ghost use Rattle.wl_linking.specs.Sections.{AreSound, AreFaulty, EndsWithin};
 ghost use Rattle.wl_linking.specs.Sites.{body_piece, segment_piece};
-ghost use Rattle.wl_module.specs.Outcome.{HasCause};
+ghost use Rattle.wl_bytes.specs.Outcome.{HasCause};
 
 use crate::plain::{plain_imports, plain_segments, segment_memories_of};
 use crate::section::{SectionItems, read_section_items};
 use crate::sites::{Site, code_sites, data_sites, put_in_order};
 use crate::slots::{SlotName, name_symbols, slots_of};
 use std::alloc::{AllocError, Global};
+use wl_bytes::ReadError;
 use wl_custom::{
-    DebugSectionInput, ItemList, Linking, RelocHeld, Target, WasmInitFunc, WasmRelocSection,
-    WasmRelocation, WasmSegmentInfo, WasmSymbol, WasmTargetFeature,
+    DebugSectionInput, Linking, RelocHeld, Target, WasmInitFunc, WasmRelocSection, WasmRelocation,
+    WasmSegmentInfo, WasmSymbol, WasmTargetFeature,
 };
+use wl_lists::ItemList;
 use wl_module::{
     ExternalKind, FramedSection, FuncType, Import, MemoryType, OutputExport, OutputGlobal,
-    PlacedImport, ReadError, TargetedSegment, WasmDataSegment, WasmFunctionBody,
+    PlacedImport, TargetedSegment, WasmDataSegment, WasmFunctionBody,
 };
 
 /// What the sections of an object hold, in file order.

@@ -6,7 +6,7 @@ ghost use Rattle.wl_module.specs.Segments.{plain_segments};
 ghost use Rattle.wl_linking.specs.Parts.{segment_memories_of};
 
 use std::alloc::{AllocError, Global};
-use wl_custom::ItemList;
+use wl_lists::ItemList;
 use wl_module::{Import, PlacedImport, TargetedSegment, WasmDataSegment};
 
 /// The imports without the places of their names.

@@ -2,7 +2,7 @@
 
 ghost use Rattle.std.specs.Prelude.{◌≡◌, ◌≤◌, length, MatchResult};
 ghost use Rattle.wl_bytes.specs.declared.reader.TheConstants.{MAX_LEN};
-ghost use Rattle.wl_module.specs.Outcome.{Gives, ReadsWhole, HasCause};
+ghost use Rattle.wl_bytes.specs.Outcome.{Gives, ReadsWhole, HasCause};
 ghost use Rattle.wl_module.specs.Memories.{AreMemories, MemoriesFault};
 ghost use Rattle.wl_custom.specs.Relocations.{reloc_section_of};
 ghost use Rattle.wl_linking.specs.Sections.{IsSound, IsFaulty, IsSoundCustom, IsFaultyCustom, LinkingItems, LinkingItemsFault, EndsWithin, has_memory};
@@ -11,16 +11,17 @@ ghost use Rattle.wl_linking.specs.Targets.{numbered_verdict};
 use crate::kinds::{CustomKind, custom_kind, target_of};
 use crate::parts::Parts;
 use std::alloc::Global;
-use wl_bytes::Reader;
+use wl_bytes::{Form, ReadError, Reader, Why};
 use wl_custom::{
-    DebugSectionInput, ItemList, Linking, RelocHeld, WasmRelocSection, WasmTargetFeature,
+    DebugSectionInput, Linking, RelocHeld, WasmRelocSection, WasmTargetFeature,
     parse_target_features_payload, read_held_entries, read_linking,
 };
+use wl_lists::ItemList;
 use wl_module::{
-    Form, FramedSection, FuncType, Import, ImportEntity, MemoryType, OutputExport, OutputGlobal,
-    PlacedImport, ReadError, SectionKind, TargetedSegment, WasmFunctionBody, Why, read_bodies,
-    read_data_count, read_exports, read_functions, read_globals, read_memories,
-    read_placed_imports, read_targeted_segments, read_types,
+    FramedSection, FuncType, Import, ImportEntity, MemoryType, OutputExport, OutputGlobal,
+    PlacedImport, SectionKind, TargetedSegment, WasmFunctionBody, read_bodies, read_data_count,
+    read_exports, read_functions, read_globals, read_memories, read_placed_imports,
+    read_targeted_segments, read_types,
 };
 
 /// What a section holds.

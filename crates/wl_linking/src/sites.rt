@@ -6,16 +6,18 @@ ghost use Rattle.std.specs.List.{AllByRecursion};
 ghost use Rattle.std.specs.List.Sorted.{IsNonDecreasingBy};
 ghost use Rattle.wl_linking.specs.Sites.{AreInOrder, AreSites, AreApart, HasOverlap, LieApart, FieldsFault, body_piece, segment_piece, is_padded, has_form, field_len, offset_of};
 ghost use Rattle.wl_linking.specs.Placing.{IsSpanned, piece_end, position_of, site_of, Ascend, FieldFault};
-ghost use Rattle.wl_module.specs.Outcome.{HasCause};
+ghost use Rattle.wl_bytes.specs.Outcome.{HasCause};
 
 use std::alloc::{AllocError, Global};
 use std::marker::Model;
 use std::mem;
-use wl_custom::{FieldForm, ItemList, WasmRelocation};
-use wl_module::{ReadError, WasmDataSegment, WasmFunctionBody, Why};
+use wl_bytes::{ReadError, Why};
+use wl_custom::{FieldForm, WasmRelocation};
+use wl_lists::ItemList;
+use wl_module::{WasmDataSegment, WasmFunctionBody};
 
 /// A place in a function's body or in the bytes of a segment.
-#[derive(Clone, Copy, Debug, PartialEq, Eq)]
+#[derive(Clone, Copy, PartialEq, Eq)]
 pub struct Site {
     /// The number of the function, among those that the object defines, or of the segment.
     pub unit: u32,

@@ -6,14 +6,16 @@ ghost use Rattle.wl_bytes.specs.declared.reader.TheConstants.{MAX_LEN};
 ghost use Rattle.std.specs.List.{repeat, AllByRecursion};
 ghost use Rattle.wl_linking.specs.Slots.{Slot, slot_of, slots_of, with_slot, with_import_name, claims, HasOneName, HasTwoNames, AgreeOnNames, SlotFault};
 ghost use Rattle.wl_linking.specs.SlotsReading.{IsNamedWithin, slots_from, AreNamedByRange, IsNamedByRange, is_name_of, Agrees};
-ghost use Rattle.wl_module.specs.Outcome.{HasCause};
+ghost use Rattle.wl_bytes.specs.Outcome.{HasCause};
 
 use crate::spaces::{Counts, is_of_kind};
 use std::alloc::{AllocError, Global};
 use std::marker::Model;
 use std::mem;
-use wl_custom::{ItemList, WasmSymbol, WasmSymbolKind, range_of};
-use wl_module::{ExternalKind, PlacedImport, ReadError, Why};
+use wl_bytes::{ReadError, Why};
+use wl_custom::{WasmSymbol, WasmSymbolKind, range_of};
+use wl_lists::ItemList;
+use wl_module::{ExternalKind, PlacedImport};
 
 /// The field name of an import. Clauses see it as a `Slot`, with the name as a list.
 #[derive(Drop)]

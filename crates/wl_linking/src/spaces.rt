@@ -5,14 +5,15 @@ ghost use Rattle.std.specs.Prelude.{◌≡◌, ◌+◌, ◌==◌, nat_lt, MatchR
 ghost use Rattle.std.specs.List.{list_all};
 ghost use Rattle.wl_linking.specs.Spaces.{is_of_kind, count_imports, spaces_of, import_exists, export_exists, memory_exists, number_exists, thing_exists, symbol_exists, init_exists, relocation_exists, type_exists, counts_segments, core_names_exist, linked_names_exist, counts_hold, NamesExist, NamesFault};
 ghost use Rattle.wl_custom.specs.Symbols.{is_undefined};
-ghost use Rattle.wl_module.specs.Outcome.{HasCause};
+ghost use Rattle.wl_bytes.specs.Outcome.{HasCause};
 
 use crate::contents::Contents;
+use wl_bytes::{ReadError, Why};
 use wl_custom::{WasmInitFunc, WasmRelocation, WasmSymbol, WasmSymbolKind};
-use wl_module::{ExternalKind, Import, ImportEntity, OutputExport, ReadError, Why};
+use wl_module::{ExternalKind, Import, ImportEntity, OutputExport};
 
 /// How many things of each kind an object has.
-#[derive(Clone, Copy, Debug, PartialEq, Eq)]
+#[derive(Clone, Copy, PartialEq, Eq)]
 pub(crate) struct Counts {
     pub types: usize,
     pub imported_functions: usize,

@@ -3,18 +3,14 @@ use Rattle.std.proofs.Common.{◌≡◌, ℕ, suc, ◌+◌, ◌<◌, List, [], �
 use Rattle.std.specs.List.{AllZip}
 use Rattle.wl_module.specs.Bodies.{Body}
 use Rattle.wl_linking.specs.Object.{Object}
-use Rattle.wl_ops.specs.Numbers.{HasNumbers}
 use Rattle.wl_ops.specs.declared.op.DataIndexImm.{DataIndexImm}
 use Rattle.wl_symbols.specs.Link.{Link}
-use Rattle.wl_live.specs.Units.{units_of}
+use Rattle.wl_symbols.specs.Units.{units_of}
 use Rattle.wl_live.specs.Facts.{Facts, segment_uses, NumbersAdded, AreSegmentUses, AreFacts, AreAllFacts}
 use Rattle.wl_live.specs.Table.{object_references, references_from, most_steps}
 use Rattle.wl_live.specs.declared.object_facts.SegmentUse.{SegmentUse}
-use Rattle.wl_live.specs.declared.units.UnitCounts.{UnitCounts}
-
--- a body has one list of numbers
-abbrev pub OneNumbers : Type 0
-OneNumbers = (body : List ℕ) (numbers others : List DataIndexImm) → HasNumbers numbers body → HasNumbers others body → numbers ≡ others
+use Rattle.wl_symbols.specs.declared.units.UnitCounts.{UnitCounts}
+use Rattle.wl_symbols.proofs.KeptLaws.{OneNumbers}
 
 -- ---- one list of facts
 

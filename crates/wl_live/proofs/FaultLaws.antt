@@ -10,9 +10,9 @@ use Rattle.wl_bytes.specs.declared.reader.TheConstants.{MAX_LEN}
 use Rattle.wl_module.specs.Bodies.{Body}
 use Rattle.wl_module.specs.Globals.{DefinedGlobal as GlobalRecord}
 use Rattle.wl_module.specs.Places.{IsPart}
-use Rattle.wl_module.specs.Outcome.{HasCause}
-use Rattle.wl_module.specs.declared.error.ReadError.{ReadError}
-use Rattle.wl_module.specs.declared.error.ReadError.TheVariants as read
+use Rattle.wl_bytes.specs.Outcome.{HasCause}
+use Rattle.wl_bytes.specs.declared.read_error.ReadError.{ReadError}
+use Rattle.wl_bytes.specs.declared.read_error.ReadError.TheVariants as read
 use Rattle.wl_linking.specs.Fitting.{IsWhole}
 use Rattle.wl_linking.specs.Object.{Object}
 use Rattle.wl_custom.specs.RelocationTypes.{field_form}
@@ -22,14 +22,15 @@ use Rattle.wl_linking.specs.Stretches.{PartsStandIn}
 use Rattle.wl_ops.specs.Numbers.{AreTold}
 use Rattle.wl_ops.specs.Rewriting.{LieWithin}
 use Rattle.wl_ops.specs.declared.op.DataIndexImm.{DataIndexImm}
-use Rattle.wl_live.specs.Units.{counts_of, has_unit}
+use Rattle.wl_symbols.specs.Units.{counts_of, has_unit}
 use Rattle.wl_live.specs.Faults.{HasFieldIn, SegmentNumberFault, HasSegmentNumberFault, HasBodyFault, HasGlobalFault, HasUnitFault}
 use Rattle.wl_live.specs.Facts.{faults_of, AreFaults, FaultsOfBodies}
 use Rattle.wl_live.specs.declared.object_facts.UnitFault.{UnitFault}
-use Rattle.wl_live.specs.declared.units.WasmGcUnit.{WasmGcUnit}
-use Rattle.wl_live.specs.declared.units.WasmGcUnit.TheVariants.{DefinedFunction, DefinedGlobal, DataSegment, FunctionImport, GlobalImport}
-use Rattle.wl_live.proofs.FactLaws.{OneNumbers}
-use Rattle.wl_live.proofs.JoinLaws.{Contains-none, in_single}
+use Rattle.wl_symbols.specs.declared.units.WasmGcUnit.{WasmGcUnit}
+use Rattle.wl_symbols.specs.declared.units.WasmGcUnit.TheVariants.{DefinedFunction, DefinedGlobal, DataSegment, FunctionImport, GlobalImport}
+use Rattle.wl_symbols.proofs.KeptLaws.{OneNumbers}
+use Rattle.wl_lists.proofs.In.{Contains-none}
+use Rattle.wl_live.proofs.JoinLaws.{in_single}
 use Rattle.wl_live.proofs.ReachLaws.{Contains-here}
 
 -- ---- fields

@@ -1,17 +1,17 @@
 -- The edges of the table are the references, and its roots are the roots.
 use Rattle.std.proofs.Common.{◌≡◌, ◌↔◌, true, List, subst, Contains}
 use Rattle.wl_symbols.specs.Link.{Link}
-use Rattle.wl_live.specs.Units.{units_of, exists, unit_number, unit_number_if}
-use Rattle.wl_live.specs.References.{Refers}
-use Rattle.wl_live.specs.Roots.{IsRoot}
+use Rattle.wl_symbols.specs.Units.{units_of, exists, unit_number, unit_number_if}
+use Rattle.wl_symbols.specs.References.{Refers}
+use Rattle.wl_symbols.specs.Roots.{IsRoot}
 use Rattle.wl_live.specs.Facts.{Facts, AreAllFacts}
 use Rattle.wl_live.specs.Table.{found, edge_of, references, roots}
 use Rattle.wl_live.specs.UnitGraph.{Graph, edge_between, IsGraphOf}
 use Rattle.wl_live.specs.declared.references.Reference.{Reference}
-use Rattle.wl_live.specs.declared.units.LinkUnit.{LinkUnit}
-use Rattle.wl_live.specs.declared.units.UnitCounts.{UnitCounts}
-use Rattle.wl_live.proofs.NumberingLaws.{number_if_found, number_if_parts, unit_number-injective}
-use Rattle.wl_live.proofs.FactLaws.{OneNumbers}
+use Rattle.wl_symbols.specs.declared.units.LinkUnit.{LinkUnit}
+use Rattle.wl_symbols.specs.declared.units.UnitCounts.{UnitCounts}
+use Rattle.wl_symbols.proofs.NumberingLaws.{number_if_found, number_if_parts, unit_number-injective}
+use Rattle.wl_symbols.proofs.KeptLaws.{OneNumbers}
 use Rattle.wl_live.proofs.ReachLaws.{Contains-found, Contains-found_from, edge_of-from, edge_of-is, numbers-lt, edges_from-lt, edges_to-lt}
 use Rattle.wl_live.proofs.RootLaws.{in_roots, roots_in}
 use Rattle.wl_live.proofs.ReferenceLaws.{refers_to, in_references, references_in}

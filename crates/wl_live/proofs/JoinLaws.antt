@@ -5,9 +5,7 @@ use Rattle.std.specs.Option.{option_map, option_to_list}
 use Rattle.std.proofs.lemmas.List.Elements.{Contains-append_left, Contains-append_right, Contains-append_cases}
 use Rattle.std.proofs.lemmas.Option.{same_Some}
 use Rattle.wl_live.proofs.ReachLaws.{Contains-here, Contains-there, Contains-cons_cases}
-
-pub Contains-none : {X : Type 0} (x : X) → Contains [] x → ⊥
-Contains-none x m = omega (arith, m.1)
+use Rattle.wl_lists.proofs.In.{Contains-none}
 
 pub in_single : {X : Type 0} (x y : X) → Contains (x ∷ []) y → y ≡ x
 in_single x y (zero, lt, e) = sym e

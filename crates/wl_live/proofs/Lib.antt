@@ -1,16 +1,10 @@
-pub mod NumberingLaws
 pub mod ReachLaws
-pub mod OrdinalLaws
 pub mod JoinLaws
-pub mod ExistLaws
 pub mod RootLaws
 pub mod ReferenceLaws
 pub mod FactLaws
 pub mod FaultLaws
 pub mod RefusalLaws
-pub mod KeptLaws
-pub mod OneLaws
-pub mod DenseLaws
 pub mod GraphLaws
 pub mod StepLaws
 pub mod WitnessLaws

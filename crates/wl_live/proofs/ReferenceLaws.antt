@@ -17,26 +17,29 @@ use Rattle.wl_symbols.specs.Link.{Link}
 use Rattle.wl_symbols.specs.Entries.{symbol_in}
 use Rattle.wl_reach.specs.Search.{IsReached}
 use Rattle.wl_reach.proofs.ChainLaws.{IsReached-root, IsReached-step, IsReached-closed}
-use Rattle.wl_live.specs.Units.{counts_of, units_of, unit_in, sibling_of, exists, unit_number, total_of}
-use Rattle.wl_live.specs.Live.{IsLiveOf, UnitsReached}
-use Rattle.wl_live.specs.Definitions.{unit_at, replacing_unit, other_unit}
-use Rattle.wl_live.specs.References.{HasRelocation, RefersBySymbol, RefersByNumber, RefersBySlot, Refers}
-use Rattle.wl_live.specs.Roots.{IsRoot}
+use Rattle.wl_symbols.specs.Units.{counts_of, units_of, unit_in, sibling_of, exists, unit_number, total_of}
+use Rattle.wl_symbols.specs.Live.{IsLiveOf}
+use Rattle.wl_live.specs.Marking.{UnitsReached}
+use Rattle.wl_symbols.specs.DefinedUnits.{unit_at, replacing_unit, other_unit}
+use Rattle.wl_symbols.specs.References.{HasRelocation, RefersBySymbol, RefersByNumber, RefersBySlot, Refers}
+use Rattle.wl_symbols.specs.Roots.{IsRoot}
 use Rattle.wl_live.specs.Facts.{Facts, use_of, section_uses, uses_of, slot_unit, slot_use, slot_uses_from, slot_uses, segment_uses, AreSegmentUses, AreFacts, AreAllFacts}
 use Rattle.wl_live.specs.Table.{reference, symbol_references, user_of, use_references, slot_references, segment_reference, object_references, references_from, references, Leads, Begins, roots}
 use Rattle.wl_live.specs.declared.object_facts.SymbolUse.{SymbolUse}
 use Rattle.wl_live.specs.declared.object_facts.SegmentUse.{SegmentUse}
 use Rattle.wl_live.specs.declared.references.Reference.{Reference}
-use Rattle.wl_live.specs.declared.units.LinkUnit.{LinkUnit}
-use Rattle.wl_live.specs.declared.units.UnitCounts.{UnitCounts}
-use Rattle.wl_live.specs.declared.units.WasmGcUnit.{WasmGcUnit}
-use Rattle.wl_live.specs.declared.units.WasmGcUnit.TheVariants.{DefinedFunction, DefinedGlobal, DataSegment, FunctionImport, GlobalImport}
-use Rattle.wl_live.proofs.FactLaws.{OneNumbers}
-use Rattle.wl_live.proofs.NumberingLaws.{unit_number-lt}
+use Rattle.wl_symbols.specs.declared.units.LinkUnit.{LinkUnit}
+use Rattle.wl_symbols.specs.declared.units.UnitCounts.{UnitCounts}
+use Rattle.wl_symbols.specs.declared.units.WasmGcUnit.{WasmGcUnit}
+use Rattle.wl_symbols.specs.declared.units.WasmGcUnit.TheVariants.{DefinedFunction, DefinedGlobal, DataSegment, FunctionImport, GlobalImport}
+use Rattle.wl_symbols.proofs.KeptLaws.{OneNumbers}
+use Rattle.wl_symbols.proofs.NumberingLaws.{unit_number-lt}
 use Rattle.wl_live.proofs.ReachLaws.{Contains-here}
-use Rattle.wl_live.proofs.ExistLaws.{at_object}
-use Rattle.wl_live.proofs.RootLaws.{in_roots, roots_in, root_exists}
-use Rattle.wl_live.proofs.JoinLaws.{Contains-none, in_single, in_joined, joined_in, in_flat, flat_in, in_map, map_in, in_option, option_in, zip_left, zip_right}
+use Rattle.wl_symbols.proofs.ExistLaws.{at_object}
+use Rattle.wl_live.proofs.RootLaws.{in_roots, roots_in}
+use Rattle.wl_symbols.proofs.ExistLaws.{root_exists}
+use Rattle.wl_lists.proofs.In.{Contains-none}
+use Rattle.wl_live.proofs.JoinLaws.{in_single, in_joined, joined_in, in_flat, flat_in, in_map, map_in, in_option, option_in, zip_left, zip_right}
 
 abbrev pub refers_to : LinkUnit → LinkUnit → Reference
 refers_to u v = record { from = u; to = v }

@@ -5,17 +5,18 @@ use Rattle.std.proofs.lemmas.Bool.{cases_lt, false≢true}
 use Rattle.std.proofs.lemmas.List.{take_more, take_all, get_or_default}
 use Rattle.std.proofs.lemmas.List.Elements.{Contains-append_cases, All-from_recursion}
 use Rattle.std.proofs.lemmas.Option.{same_Some, slice_get_within, slice_get-get_or}
-use Rattle.wl_module.specs.declared.error.ReadError.{ReadError}
+use Rattle.wl_bytes.specs.declared.read_error.ReadError.{ReadError}
 use Rattle.wl_linking.specs.Fitting.{IsWhole}
 use Rattle.wl_linking.specs.Steps.{Clear, Refuses}
 use Rattle.wl_symbols.specs.Link.{Link}
-use Rattle.wl_live.specs.Units.{units_of, has_unit, exists}
+use Rattle.wl_symbols.specs.Units.{units_of, has_unit, exists}
 use Rattle.wl_live.specs.Faults.{object_refusal, IsKeptFault}
 use Rattle.wl_live.specs.Facts.{Facts, AreFacts, AreAllFacts}
-use Rattle.wl_live.specs.Live.{Live, is_live, IsLiveOf, HasNoKept, IsKeptOne}
+use Rattle.wl_symbols.specs.Live.{Live, is_live, IsLiveOf}
+use Rattle.wl_live.specs.Marking.{HasNoKept, IsKeptOne}
 use Rattle.wl_live.specs.declared.object_facts.UnitFault.{UnitFault}
-use Rattle.wl_live.specs.declared.units.UnitCounts.{UnitCounts}
-use Rattle.wl_live.proofs.ExistLaws.{units_of-at}
+use Rattle.wl_symbols.specs.declared.units.UnitCounts.{UnitCounts}
+use Rattle.wl_symbols.proofs.ExistLaws.{units_of-at}
 use Rattle.wl_live.proofs.FaultLaws.{fault_exists}
 use Rattle.wl_live.proofs.JoinLaws.{in_single, zip_left, zip_right}
 

@@ -9,17 +9,18 @@ use Rattle.wl_custom.specs.Symbols.{Symbol, is_weak}
 use Rattle.wl_custom.specs.declared.infos.WasmInitFunc.{WasmInitFunc}
 use Rattle.wl_symbols.specs.Link.{Link}
 use Rattle.wl_symbols.specs.Entries.{symbol_in}
-use Rattle.wl_live.specs.Units.{counts_of, units_of, units_at, unit_in, exists}
-use Rattle.wl_live.specs.Definitions.{unit_at, other_unit, named_unit}
-use Rattle.wl_live.specs.Roots.{export_unit, is_root_symbol, RootByExport, RootBySymbol, RootByInit, RootByName, IsRoot}
-use Rattle.wl_live.specs.Roots.IsRoot.{by_export, by_symbol, by_init, by_name}
+use Rattle.wl_symbols.specs.Units.{counts_of, units_of, units_at, unit_in}
+use Rattle.wl_symbols.specs.DefinedUnits.{unit_at, other_unit, named_unit}
+use Rattle.wl_symbols.specs.Roots.{export_unit, is_root_symbol, RootByExport, RootBySymbol, RootByInit, RootByName, IsRoot}
+use Rattle.wl_symbols.specs.Roots.IsRoot.{by_export, by_symbol, by_init, by_name}
 use Rattle.wl_live.specs.Table.{placed, export_roots, symbol_root, symbol_roots, init_root, init_roots, object_roots, roots_from, forced_roots, entry_unit, roots}
-use Rattle.wl_live.specs.declared.units.LinkUnit.{LinkUnit}
-use Rattle.wl_live.specs.declared.units.UnitCounts.{UnitCounts}
-use Rattle.wl_live.specs.declared.units.WasmGcUnit.{WasmGcUnit}
+use Rattle.wl_symbols.specs.declared.units.LinkUnit.{LinkUnit}
+use Rattle.wl_symbols.specs.declared.units.UnitCounts.{UnitCounts}
+use Rattle.wl_symbols.specs.declared.units.WasmGcUnit.{WasmGcUnit}
 use Rattle.wl_live.proofs.ReachLaws.{Contains-option, option-contains}
-use Rattle.wl_live.proofs.JoinLaws.{Contains-none, in_joined, joined_in, in_flat, flat_in, in_option, option_in}
-use Rattle.wl_live.proofs.ExistLaws.{at_object, units_of-at, here_exists, export_unit_has, unit_in_has, unit_at_exists, other_unit_exists, named_unit_exists}
+use Rattle.wl_lists.proofs.In.{Contains-none}
+use Rattle.wl_live.proofs.JoinLaws.{in_joined, joined_in, in_flat, flat_in, in_option, option_in}
+use Rattle.wl_symbols.proofs.ExistLaws.{at_object, units_of-at}
 
 -- ---- options and tests
 
@@ -214,13 +215,3 @@ roots_in link u (by_init root) =
 roots_in link u (by_name root) =
     let ns : List UnitCounts = units_of link.objects in
     Contains-append_right (roots_from link ns 0 link.objects) (forced_roots link ns link.args.export_symbols ++ option_to_list (entry_unit link ns)) u (names_in_roots link u root)
-
-pub root_exists : (link : Link) (u : LinkUnit) → IsRoot link u → exists (units_of link.objects) u ≡ true
-root_exists link u (by_export root) = here_exists link.objects u root.object root.here (export_unit_has (counts_of root.object) root.exported.kind root.exported.index u.unit root.is)
-root_exists link u (by_symbol root) = here_exists link.objects u root.object root.here (unit_in_has (counts_of root.object) root.symbol u.unit root.is)
-root_exists link u (by_init root) =
-    elim root.leads [
-      | inl own ↦ unit_at_exists (units_of link.objects) root.place root.symbol u own
-      | inr other ↦ other_unit_exists link (units_of link.objects) root.place root.function.symbol_index u other.1
-    ]
-root_exists link u (by_name root) = named_unit_exists link (units_of link.objects) root.name u root.leads

@@ -2,7 +2,7 @@
 use Rattle.std.specs.Prelude.{MatchOption}
 use Rattle.std.proofs.Common.{◌≡◌, ◌⊎◌, ℕ, zero, suc, ◌+◌, ◌<◌, ◌≤◌, List, [], ◌∷◌, ◌++◌, length, inl, inr, refl, subst, arith, Option, Some, None, slice_get}
 use Rattle.wl_module.specs.Bodies.{Body}
-use Rattle.wl_module.specs.declared.error.ReadError.{ReadError}
+use Rattle.wl_bytes.specs.declared.read_error.ReadError.{ReadError}
 use Rattle.wl_linking.specs.Object.{Object}
 use Rattle.wl_ops.specs.Decoding.{AreTaken}
 use Rattle.wl_ops.specs.Numbers.{HasNumbers, numbers}
@@ -13,8 +13,8 @@ use Rattle.wl_live.specs.Faults.{HasBodyFault, HasGlobalFault}
 use Rattle.wl_live.specs.Facts.{Facts, uses_of, slot_uses, segment_uses, faults_of, AreSegmentUses, FaultsOfBodies, AreFacts, AreAllFacts}
 use Rattle.wl_live.specs.declared.object_facts.SegmentUse.{SegmentUse}
 use Rattle.wl_live.specs.declared.object_facts.UnitFault.{UnitFault}
-use Rattle.wl_live.specs.declared.units.WasmGcUnit.TheVariants.{DefinedFunction, DefinedGlobal}
-use Rattle.wl_live.proofs.JoinLaws.{Contains-none}
+use Rattle.wl_symbols.specs.declared.units.WasmGcUnit.TheVariants.{DefinedFunction, DefinedGlobal}
+use Rattle.wl_lists.proofs.In.{Contains-none}
 use Rattle.wl_live.proofs.FaultLaws.{FaultsOfGlobals, FaultsOfBodies-more, FaultsOfGlobals-more, AreFaults-from}
 
 -- that there is none is impossible

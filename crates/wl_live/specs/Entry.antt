@@ -1,9 +1,7 @@
 -- The function at which the program starts.
-use Rattle.std.specs.Prelude.{◌≡◌, ℕ, ◌&&◌, Bool, true, false, not, List, Option, Some, None}
+use Rattle.std.specs.Prelude.{◌≡◌, ℕ, Bool, false, List, Option, Some, None}
 use Rattle.std.specs.Option.{option_map_or}
-use Rattle.wl_custom.specs.Symbols.{Symbol as LinkedSymbol, is_undefined}
-use Rattle.wl_custom.specs.declared.symbols.WasmSymbolKind.{WasmSymbolKind}
-use Rattle.wl_custom.specs.declared.symbols.WasmSymbolKind.TheVariants as symbol
+use Rattle.wl_custom.specs.Symbols.{is_defined_function}
 use Rattle.wl_linking.specs.declared.error.LinkError.{LinkError}
 use Rattle.wl_linking.specs.declared.error.LinkError.TheVariants.{EntryNotDefined}
 use Rattle.wl_symbols.specs.Link.{Link}
@@ -11,15 +9,6 @@ use Rattle.wl_symbols.specs.Entries.{symbol_in}
 use Rattle.wl_symbols.specs.Names.{named}
 use Rattle.wl_symbols.specs.declared.entry.Definition.{Definition}
 use Rattle.wl_symbols.specs.declared.entry.Definition.TheVariants.{Symbol, Made}
-
--- the symbol is a function's
-abbrev pub is_function_kind : WasmSymbolKind → Bool
-is_function_kind symbol.Func = true
-is_function_kind _ = false
-
--- the symbol is a function that its object defines
-abbrev pub is_defined_function : LinkedSymbol → Bool
-is_defined_function s = is_function_kind s.kind && not (is_undefined s)
 
 -- this is a function that an object defines
 abbrev pub gives_function : Link → Option Definition → Bool

@@ -3,7 +3,7 @@ use Rattle.std.specs.Prelude.{◌≡◌, ℕ, ◌+◌, ◌<◌, if◌then◌else
 use Rattle.std.specs.Option.{option_to_list}
 use Rattle.std.specs.List.{AllZip}
 use Rattle.wl_module.specs.Bodies.{Body}
-use Rattle.wl_module.specs.declared.error.ReadError.{ReadError}
+use Rattle.wl_bytes.specs.declared.read_error.ReadError.{ReadError}
 use Rattle.wl_linking.specs.Object.{Object}
 use Rattle.wl_custom.specs.Symbols.{Symbol, is_undefined}
 use Rattle.wl_custom.specs.RelocationTypes.{names_a_type}
@@ -11,14 +11,14 @@ use Rattle.wl_custom.specs.declared.relocations.WasmRelocation.{WasmRelocation}
 use Rattle.wl_linking.specs.declared.sites.Site.{Site}
 use Rattle.wl_ops.specs.Numbers.{HasNumbers}
 use Rattle.wl_ops.specs.declared.op.DataIndexImm.{DataIndexImm}
-use Rattle.wl_live.specs.Units.{counts_of, unit_in, sibling_of}
+use Rattle.wl_symbols.specs.Units.{counts_of, unit_in, sibling_of}
 use Rattle.wl_live.specs.Faults.{HasUnitFault}
 use Rattle.wl_live.specs.declared.object_facts.SymbolUse.{SymbolUse}
 use Rattle.wl_live.specs.declared.object_facts.SegmentUse.{SegmentUse}
 use Rattle.wl_live.specs.declared.object_facts.UnitFault.{UnitFault}
-use Rattle.wl_live.specs.declared.units.UnitCounts.{UnitCounts}
-use Rattle.wl_live.specs.declared.units.WasmGcUnit.{WasmGcUnit}
-use Rattle.wl_live.specs.declared.units.WasmGcUnit.TheVariants.{DefinedFunction, DataSegment}
+use Rattle.wl_symbols.specs.declared.units.UnitCounts.{UnitCounts}
+use Rattle.wl_symbols.specs.declared.units.WasmGcUnit.{WasmGcUnit}
+use Rattle.wl_symbols.specs.declared.units.WasmGcUnit.TheVariants.{DefinedFunction, DataSegment}
 
 -- which symbols the relocations in units name, which symbols import slots have, which segments
 -- bodies number, and why units can't be kept

@@ -2,11 +2,11 @@
 use Rattle.std.specs.Prelude.{◌≡◌, ◌⊎◌, ℕ, ◌+◌, ◌<◌, ◌≤◌, List, length, Some, Contains, slice_get}
 use Rattle.wl_module.specs.Bodies.{Body}
 use Rattle.wl_module.specs.Globals.{DefinedGlobal as GlobalRecord}
-use Rattle.wl_module.specs.Lists.{start}
-use Rattle.wl_module.specs.declared.error.ReadError.{ReadError}
-use Rattle.wl_module.specs.declared.error.ReadError.TheVariants as read
-use Rattle.wl_module.specs.declared.error.Why.TheVariants.{BadIndex, Overlap}
-use Rattle.wl_module.specs.declared.error.Form.TheVariants.{GlobalInit}
+use Rattle.wl_bytes.specs.Lists.{start}
+use Rattle.wl_bytes.specs.declared.read_error.ReadError.{ReadError}
+use Rattle.wl_bytes.specs.declared.read_error.ReadError.TheVariants as read
+use Rattle.wl_bytes.specs.declared.read_error.Why.TheVariants.{BadIndex, Overlap}
+use Rattle.wl_bytes.specs.declared.read_error.Form.TheVariants.{GlobalInit}
 use Rattle.wl_linking.specs.Object.{Object}
 use Rattle.wl_custom.specs.RelocationTypes.{field_form}
 use Rattle.wl_linking.specs.Sites.{field_len}
@@ -17,10 +17,10 @@ use Rattle.wl_ops.specs.Expressions.{HasReference}
 use Rattle.wl_ops.specs.Numbers.{HasNumbers, NumbersFault}
 use Rattle.wl_ops.specs.declared.op.DataIndexImm.{DataIndexImm}
 use Rattle.wl_symbols.specs.Link.{Link}
-use Rattle.wl_live.specs.Kept.{IsKept}
-use Rattle.wl_live.specs.declared.units.LinkUnit.{LinkUnit}
-use Rattle.wl_live.specs.declared.units.WasmGcUnit.{WasmGcUnit}
-use Rattle.wl_live.specs.declared.units.WasmGcUnit.TheVariants.{DefinedFunction, DefinedGlobal, DataSegment, FunctionImport, GlobalImport}
+use Rattle.wl_symbols.specs.Kept.{IsKept}
+use Rattle.wl_symbols.specs.declared.units.LinkUnit.{LinkUnit}
+use Rattle.wl_symbols.specs.declared.units.WasmGcUnit.{WasmGcUnit}
+use Rattle.wl_symbols.specs.declared.units.WasmGcUnit.TheVariants.{DefinedFunction, DefinedGlobal, DataSegment, FunctionImport, GlobalImport}
 
 -- ---- bodies
 

@@ -1,11 +1,6 @@
-pub mod Units
-pub mod Definitions
-pub mod References
-pub mod Roots
-pub mod Kept
 pub mod Entry
 pub mod Faults
 pub mod Facts
 pub mod Table
-pub mod Live
 pub mod UnitGraph
+pub mod Marking

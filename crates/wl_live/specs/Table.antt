@@ -9,17 +9,17 @@ use Rattle.wl_custom.specs.declared.infos.WasmInitFunc.{WasmInitFunc}
 use Rattle.wl_reach.specs.declared.graph.Edge.{Edge}
 use Rattle.wl_symbols.specs.Link.{Link}
 use Rattle.wl_symbols.specs.Entries.{symbol_in}
-use Rattle.wl_live.specs.Units.{units_of, units_at, exists, unit_number_if, total_of}
-use Rattle.wl_live.specs.Definitions.{unit_at, replacing_unit, other_unit, named_unit}
-use Rattle.wl_live.specs.Roots.{export_unit, is_root_symbol}
+use Rattle.wl_symbols.specs.Units.{units_of, units_at, exists, unit_number_if, total_of}
+use Rattle.wl_symbols.specs.DefinedUnits.{unit_at, replacing_unit, other_unit, named_unit}
+use Rattle.wl_symbols.specs.Roots.{export_unit, is_root_symbol}
 use Rattle.wl_live.specs.Facts.{Facts}
 use Rattle.wl_live.specs.declared.object_facts.SymbolUse.{SymbolUse}
 use Rattle.wl_live.specs.declared.object_facts.SegmentUse.{SegmentUse}
 use Rattle.wl_live.specs.declared.references.Reference.{Reference}
-use Rattle.wl_live.specs.declared.units.LinkUnit.{LinkUnit}
-use Rattle.wl_live.specs.declared.units.UnitCounts.{UnitCounts}
-use Rattle.wl_live.specs.declared.units.WasmGcUnit.{WasmGcUnit}
-use Rattle.wl_live.specs.declared.units.WasmGcUnit.TheVariants.{DefinedFunction, DataSegment}
+use Rattle.wl_symbols.specs.declared.units.LinkUnit.{LinkUnit}
+use Rattle.wl_symbols.specs.declared.units.UnitCounts.{UnitCounts}
+use Rattle.wl_symbols.specs.declared.units.WasmGcUnit.{WasmGcUnit}
+use Rattle.wl_symbols.specs.declared.units.WasmGcUnit.TheVariants.{DefinedFunction, DataSegment}
 
 -- ---- references
 

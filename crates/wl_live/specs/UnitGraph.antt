@@ -2,11 +2,11 @@
 use Rattle.std.specs.Prelude.{◌≡◌, ℕ, ◌<◌, ◌↔◌, true, List, All, Contains}
 use Rattle.wl_reach.specs.declared.graph.Edge.{Edge}
 use Rattle.wl_symbols.specs.Link.{Link}
-use Rattle.wl_live.specs.Units.{units_of, exists, unit_number, total_of}
-use Rattle.wl_live.specs.References.{Refers}
-use Rattle.wl_live.specs.Roots.{IsRoot}
-use Rattle.wl_live.specs.declared.units.LinkUnit.{LinkUnit}
-use Rattle.wl_live.specs.declared.units.UnitCounts.{UnitCounts}
+use Rattle.wl_symbols.specs.Units.{units_of, exists, unit_number, total_of}
+use Rattle.wl_symbols.specs.References.{Refers}
+use Rattle.wl_symbols.specs.Roots.{IsRoot}
+use Rattle.wl_symbols.specs.declared.units.LinkUnit.{LinkUnit}
+use Rattle.wl_symbols.specs.declared.units.UnitCounts.{UnitCounts}
 
 -- edges between numbers of units, and numbers of units
 pub record Graph : Type 0 where

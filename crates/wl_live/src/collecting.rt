@@ -6,11 +6,10 @@ ghost use Rattle.wl_symbols.specs.Link.{link_of};
 ghost use Rattle.wl_live.specs.Faults.{IsKeptFault};
 ghost use Rattle.wl_live.specs.Facts.{Facts, AreAllFacts};
 ghost use Rattle.wl_live.specs.Table.{most_steps};
-ghost use Rattle.wl_live.specs.Live.{IsLiveOf, steps_to};
+ghost use Rattle.wl_symbols.specs.Live.{IsLiveOf};
+ghost use Rattle.wl_live.specs.Marking.{steps_to};
 
-use crate::live_set::LiveSet;
 use crate::marking::mark_units;
-use crate::numbers::UnitNumbers;
 use crate::object_facts::{ObjectFacts, all_facts};
 use crate::refusals::check_faults;
 use std::alloc::Global;
@@ -20,7 +19,8 @@ use wl_linking::{FileList, LinkError};
 use wl_ops::numbers_are_one;
 use wl_reach::RankedMarks;
 use wl_steps::Steps;
-use wl_symbols::{SymbolTable, WasmArgs};
+use wl_symbols::{LiveSet, SymbolTable, UnitNumbers};
+use wl_words::WasmArgs;
 
 /// The units that are kept, by what each object says of them.
 fn collect_from_counted<L: Ledger>(
@@ -43,7 +43,7 @@ fn collect_from_counted<L: Ledger>(
     let numbers = UnitNumbers::new(alloc, files)?;
     let marks = mark_units(alloc, symbols, args, &numbers, facts, steps)?;
     let marks = RankedMarks::new(alloc, marks)?;
-    let live = LiveSet { numbers, marks };
+    let live = LiveSet::new(numbers, marks);
     check_faults(&live, symbols, facts)?;
     Ok(live)
 }

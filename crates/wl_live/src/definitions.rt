@@ -1,12 +1,10 @@
 //! The units of what symbols and names stand for.
 
 ghost use Rattle.std.specs.Prelude.{◌≡◌};
-ghost use Rattle.wl_live.specs.Definitions.{unit_at, defined_unit, definition_unit, definition_at, other_unit, named_unit, gives_way, is_replaceable, replacing_unit};
+ghost use Rattle.wl_symbols.specs.DefinedUnits.{unit_at, defined_unit, definition_unit, definition_at, other_unit, named_unit, gives_way, is_replaceable, replacing_unit};
 
-use crate::numbers::UnitNumbers;
-use crate::units::{LinkUnit, unit_in};
 use wl_linking::{WasmSymbol, WasmSymbolKind};
-use wl_symbols::{Definition, SymbolTable};
+use wl_symbols::{Definition, LinkUnit, SymbolTable, UnitNumbers, definition_at, unit_in};
 
 /// The unit of a symbol, with its object.
 pub(crate) fn unit_at(
@@ -44,21 +42,6 @@ fn definition_unit(
             defined_unit(numbers, object, symbols.symbol(object, symbol)?)
         }
         Definition::Made(_) => None,
-    }
-}
-
-/// What the symbol of that place stands for, if there is one.
-pub(crate) fn definition_at(
-    symbols: &SymbolTable<'_, '_>,
-    object: usize,
-    symbol: u32,
-) -> Option<Definition>
-    ensures { result ≡ definition_at symbols.now object symbol }
-{
-    if symbols.has_symbol(object, symbol) {
-        Some(symbols.definition(object, symbol))
-    } else {
-        None
     }
 }
 

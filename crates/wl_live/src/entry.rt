@@ -2,32 +2,14 @@
 
 ghost use Rattle.std.specs.Prelude.{◌≡◌, OnOk, IfErr};
 ghost use Rattle.wl_linking.specs.Steps.{Clear, Refuses};
-ghost use Rattle.wl_live.specs.Entry.{is_function_kind, is_defined_function, gives_function, IsEntryFault};
+ghost use Rattle.wl_custom.specs.Symbols.{is_function_kind, is_defined_function};
+ghost use Rattle.wl_live.specs.Entry.{gives_function, IsEntryFault};
 
 use std::alloc::Global;
-use wl_linking::{LinkError, Text, WasmSymbol, WasmSymbolKind};
+use wl_custom::is_defined_function;
+use wl_linking::{LinkError, WasmSymbol, WasmSymbolKind};
+use wl_lists::Text;
 use wl_symbols::{Definition, SymbolTable};
-
-/// Whether symbols of that kind are functions'.
-pub fn is_function_kind(kind: WasmSymbolKind) -> bool
-    ensures { result ≡ is_function_kind kind }
-{
-    match kind {
-        WasmSymbolKind::Func => true,
-        WasmSymbolKind::Data
-        | WasmSymbolKind::Global
-        | WasmSymbolKind::Section
-        | WasmSymbolKind::Event
-        | WasmSymbolKind::Table => false,
-    }
-}
-
-/// Whether the symbol is a function that its object defines.
-pub fn is_defined_function(symbol: &WasmSymbol<'_>) -> bool
-    ensures { result ≡ is_defined_function symbol.now }
-{
-    is_function_kind(symbol.kind) && !symbol.is_undefined()
-}
 
 /// Whether this is a function that an object defines.
 fn gives_function(symbols: &SymbolTable<'_, '_>, definition: Option<Definition>) -> bool

@@ -3,7 +3,7 @@
 ghost use Rattle.std.specs.Prelude.{◌≡◌, ◌↔◌, ℕ, ◌+◌, ◌<◌, ◌≤◌, ◌++◌, ◌∷◌, [], nat_le, length, Contains, MatchOption, IfOk, OnOk, IsTrue, option_map};
 ghost use Rattle.std.specs.Option.{option_to_list};
 ghost use Rattle.wl_bytes.specs.declared.reader.TheConstants.{MAX_LEN};
-ghost use Rattle.wl_module.specs.declared.error.ReadError.{ReadError as ErrorRecord};
+ghost use Rattle.wl_bytes.specs.declared.read_error.ReadError.{ReadError as ErrorRecord};
 ghost use Rattle.wl_custom.specs.RelocationTypes.{field_form};
 ghost use Rattle.wl_linking.specs.Sites.{AreApart, field_len};
 ghost use Rattle.wl_ops.specs.declared.op.DataIndexImm.{DataIndexImm as Number};
@@ -11,11 +11,12 @@ ghost use Rattle.wl_live.specs.Faults.{HasFieldIn, SegmentNumberFault, HasSegmen
 ghost use Rattle.wl_live.specs.Facts.{segment_uses, NumbersAdded, AreSegmentUses, faults_of, FaultsOfBodies, AreFaults};
 
 use crate::object_facts::{SegmentUse, UnitFault};
-use crate::units::WasmGcUnit;
 use std::alloc::{AllocError, Global};
+use wl_bytes::{Form, ReadError, Why};
 use wl_linking::{FieldForm, File, WasmRelocation, parts_of_objects_stand};
-use wl_module::{Form, OutputGlobal, ReadError, WasmFunctionBody, Why};
+use wl_module::{OutputGlobal, WasmFunctionBody};
 use wl_ops::{DataIndexImm, data_index_immediates, has_reference, numbers_are_one};
+use wl_symbols::WasmGcUnit;
 
 /// The segments that the bodies of an object number, and why units of it can't be kept.
 #[derive(Drop)]

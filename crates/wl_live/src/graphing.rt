@@ -1,11 +1,10 @@
 //! Which units refer to which, by their numbers.
 
 ghost use Rattle.std.specs.Prelude.{◌≡◌, IfOk};
-ghost use Rattle.wl_live.specs.Units.{units_of};
+ghost use Rattle.wl_symbols.specs.Units.{units_of};
 ghost use Rattle.wl_live.specs.UnitGraph.{IsGraphOf};
 
 use crate::marking::{collect_edges, collect_numbers};
-use crate::numbers::UnitNumbers;
 use crate::object_facts::all_facts;
 use crate::references::collect_references;
 use crate::roots::collect_roots;
@@ -13,7 +12,7 @@ use std::alloc::{AllocError, Global};
 use std::marker::Model;
 use wl_ops::numbers_are_one;
 use wl_reach::Edge;
-use wl_symbols::SymbolTable;
+use wl_symbols::{SymbolTable, UnitNumbers};
 
 /// Which units refer to which, and which are kept by themselves, by the numbers of units. Clauses
 /// see it as a `Graph`.

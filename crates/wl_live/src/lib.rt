@@ -13,24 +13,17 @@ mod entry;
 mod faults;
 mod graphing;
 mod laws;
-mod live_set;
 mod marking;
-mod numbers;
 mod object_facts;
 mod references;
 mod refusals;
 mod roots;
-mod units;
 
 pub use collecting::{collect_live, collect_live_counted, collect_live_from};
-pub use entry::{check_entry, is_defined_function, is_function_kind};
+pub use entry::check_entry;
 pub use graphing::{UnitGraph, unit_graph};
-pub use laws::{
-    facts_exist, kept_units_are_closed, live_sets_are_one, live_units_are_closed,
-    ordinals_are_dense, references_are_listed, undecoded_bodies_refer_to_none, units_are_numbered,
-};
-pub use live_set::LiveSet;
-pub use numbers::UnitNumbers;
+pub use laws::{facts_exist, references_are_listed};
 pub use object_facts::{ObjectFacts, facts};
-pub use roots::is_candidate;
-pub use units::{LinkUnit, WasmGcUnit, sibling_of, unit_index, wasm_gc_unit_for_symbol};
+pub use wl_symbols::{
+    LinkUnit, LiveSet, UnitNumbers, WasmGcUnit, sibling_of, unit_index, wasm_gc_unit_for_symbol,
+};

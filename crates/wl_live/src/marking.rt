@@ -2,22 +2,22 @@
 
 ghost use Rattle.std.specs.Prelude.{◌≡◌, ◌≤◌, ◌+◌, ◌++◌, length, IfOk, OnOk};
 ghost use Rattle.std.specs.Option.{option_to_list};
-ghost use Rattle.wl_live.specs.Units.{units_of, unit_number_if, total_of};
+ghost use Rattle.wl_symbols.specs.Units.{units_of, unit_number_if, total_of};
 ghost use Rattle.wl_live.specs.Facts.{AreAllFacts};
 ghost use Rattle.wl_live.specs.Table.{edge_of, found, most_steps};
-ghost use Rattle.wl_live.specs.Live.{IsLiveOf, UnitsReached, search_steps, steps_to};
+ghost use Rattle.wl_symbols.specs.Live.{IsLiveOf};
+ghost use Rattle.wl_live.specs.Marking.{UnitsReached, search_steps, steps_to};
 
-use crate::numbers::UnitNumbers;
 use crate::object_facts::ObjectFacts;
 use crate::references::{Reference, collect_references};
 use crate::roots::collect_roots;
-use crate::units::LinkUnit;
 use std::alloc::{AllocError, Global};
 use std::sync::ledger::Ledger;
 use wl_ops::numbers_are_one;
 use wl_reach::{Edge, Graph, Marks, reach_counted};
 use wl_steps::Steps;
-use wl_symbols::{SymbolTable, WasmArgs};
+use wl_symbols::{LinkUnit, SymbolTable, UnitNumbers};
+use wl_words::WasmArgs;
 
 /// The edge of a reference, where both units exist.
 fn edge_of(numbers: &UnitNumbers, reference: Reference) -> Option<Edge>

@@ -4,14 +4,15 @@ ghost use Rattle.std.specs.Prelude.{◌≡◌, ◌++◌, length, IfOk, OnOk};
 ghost use Rattle.wl_live.specs.Facts.{use_of, section_uses, uses_of, slot_unit, slot_use, slot_uses, AreFacts, AreAllFacts};
 
 use crate::faults::{BodyFacts, collect_faults};
-use crate::units::{UnitCounts, WasmGcUnit, counts_of, sibling_of, unit_in};
 use std::alloc::{AllocError, Global};
 use std::marker::Model;
-use wl_linking::{File, FileList, ItemList, Site, WasmRelocation, WasmSymbol, whole_objects};
-use wl_module::ReadError;
+use wl_bytes::ReadError;
+use wl_linking::{File, FileList, Site, WasmRelocation, WasmSymbol, whole_objects};
+use wl_lists::ItemList;
+use wl_symbols::{UnitCounts, WasmGcUnit, counts_of, sibling_of, unit_in};
 
 /// A unit uses a symbol: by a relocation in it, or as the import slot of an undefined symbol.
-#[derive(Clone, Copy, Debug, PartialEq, Eq)]
+#[derive(Clone, Copy, PartialEq, Eq)]
 pub(crate) struct SymbolUse {
     pub(crate) unit: WasmGcUnit,
     /// The symbol's number in the object.
@@ -19,14 +20,14 @@ pub(crate) struct SymbolUse {
 }
 
 /// The number of a segment stands in a body.
-#[derive(Clone, Copy, Debug, PartialEq, Eq)]
+#[derive(Clone, Copy, PartialEq, Eq)]
 pub(crate) struct SegmentUse {
     pub(crate) function: u32,
     pub(crate) segment: u32,
 }
 
 /// A unit can't be kept.
-#[derive(Clone, Copy, Debug, PartialEq, Eq)]
+#[derive(Clone, Copy, PartialEq, Eq)]
 pub(crate) struct UnitFault {
     pub(crate) unit: WasmGcUnit,
     pub(crate) error: ReadError,

@@ -4,14 +4,12 @@ ghost use Rattle.std.specs.Prelude.{◌≡◌, ◌++◌, IfOk, OnOk, map, flat_m
 ghost use Rattle.wl_live.specs.Table.{reference, user_of, use_references, slot_references, segment_reference, object_references, references_from, references};
 
 use crate::definitions::{other_unit, replacing_unit, unit_at};
-use crate::numbers::UnitNumbers;
 use crate::object_facts::{ObjectFacts, SegmentUse, SymbolUse};
-use crate::units::{LinkUnit, WasmGcUnit};
 use std::alloc::{AllocError, Global};
-use wl_symbols::SymbolTable;
+use wl_symbols::{LinkUnit, SymbolTable, UnitNumbers, WasmGcUnit};
 
 /// A unit refers to another.
-#[derive(Clone, Copy, Debug, PartialEq, Eq)]
+#[derive(Clone, Copy, PartialEq, Eq)]
 pub(crate) struct Reference {
     pub(crate) from: LinkUnit,
     pub(crate) to: LinkUnit,

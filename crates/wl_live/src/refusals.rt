@@ -4,13 +4,13 @@ ghost use Rattle.std.specs.Prelude.{◌≡◌, MatchOption, OnOk, IfErr};
 ghost use Rattle.wl_linking.specs.Steps.{Clear, Refuses};
 ghost use Rattle.wl_live.specs.Faults.{object_refusal, IsKeptFault};
 ghost use Rattle.wl_live.specs.Facts.{AreAllFacts};
-ghost use Rattle.wl_live.specs.Live.{IsLiveOf, HasNoKept, IsKeptOne};
+ghost use Rattle.wl_symbols.specs.Live.{IsLiveOf};
+ghost use Rattle.wl_live.specs.Marking.{HasNoKept, IsKeptOne};
 
-use crate::live_set::LiveSet;
 use crate::object_facts::{ObjectFacts, UnitFault};
+use wl_bytes::ReadError;
 use wl_linking::LinkError;
-use wl_module::ReadError;
-use wl_symbols::SymbolTable;
+use wl_symbols::{LiveSet, SymbolTable};
 
 /// The refusal of the object of that number for this reason.
 fn object_refusal(object: usize, error: ReadError) -> LinkError

@@ -5,19 +5,21 @@ ghost use Rattle.std.specs.Option.{option_to_list};
 ghost use Rattle.wl_custom.specs.Symbols.{has_flag, is_weak};
 ghost use Rattle.wl_module.specs.declared.imports.ExternalKind.TheVariants as ExternalKind;
 ghost use Rattle.wl_symbols.specs.Entries.{symbol_in};
-ghost use Rattle.wl_symbols.specs.Texts.{texts};
-ghost use Rattle.wl_live.specs.Definitions.{unit_at, other_unit};
-ghost use Rattle.wl_live.specs.Roots.{export_unit, is_kept_symbol, is_itself, is_exportable, is_candidate, is_root_symbol};
+ghost use Rattle.wl_words.specs.Texts.{texts};
+ghost use Rattle.wl_symbols.specs.DefinedUnits.{unit_at, other_unit};
+ghost use Rattle.wl_symbols.specs.Roots.{export_unit, is_kept_symbol, is_itself, is_exportable, is_candidate, is_root_symbol};
 ghost use Rattle.wl_live.specs.Table.{placed, export_roots, symbol_roots, init_root, init_roots, object_roots, roots_from, forced_roots, entry_unit, roots};
 
-use crate::definitions::{definition_at, named_unit, other_unit, unit_at};
-use crate::numbers::UnitNumbers;
-use crate::units::{LinkUnit, UnitCounts, WasmGcUnit, defined, imported};
+use crate::definitions::{named_unit, other_unit, unit_at};
 use bitflags::Flags;
 use std::alloc::{AllocError, Global};
+use wl_custom::is_exported;
 use wl_linking::{File, SymbolFlags, WasmInitFunc, WasmSymbol, WasmSymbolKind};
 use wl_module::{ExternalKind, OutputExport};
-use wl_symbols::{Definition, SymbolTable};
+use wl_symbols::{
+    Definition, LinkUnit, SymbolTable, UnitCounts, UnitNumbers, WasmGcUnit, defined, definition_at,
+    imported, is_candidate,
+};
 
 /// Adds a unit, if there is one.
 fn push_unit(list: &mut Vec<LinkUnit>, unit: Option<LinkUnit>) -> Result<(), AllocError>
@@ -96,13 +98,6 @@ fn push_exports(
     Ok(())
 }
 
-/// Whether a symbol is kept for the host.
-fn is_exported(symbol: &WasmSymbol<'_>) -> bool
-    ensures { result ≡ has_flag symbol.now.flags 0x20 }
-{
-    symbol.flags.contains(SymbolFlags::EXPORTED)
-}
-
 /// Whether a symbol is kept by itself.
 fn is_not_stripped(symbol: &WasmSymbol<'_>) -> bool
     ensures { result ≡ has_flag symbol.now.flags 0x80 }
@@ -115,49 +110,6 @@ fn is_kept_symbol(symbol: &WasmSymbol<'_>) -> bool
     ensures { result ≡ is_kept_symbol symbol.now }
 {
     is_exported(symbol) || is_not_stripped(symbol)
-}
-
-/// Whether a symbol stands for itself.
-fn is_itself(definition: Option<Definition>, object: usize, symbol: u32) -> bool
-    ensures { result ≡ is_itself definition object symbol }
-{
-    match definition {
-        None | Some(Definition::Made(_)) => false,
-        Some(
-            Definition::Symbol {
-                object: o,
-                symbol: k,
-            },
-        ) => o == object && k == symbol,
-    }
-}
-
-/// Whether symbols of that kind can be exported.
-fn is_exportable(kind: WasmSymbolKind) -> bool
-    ensures { result ≡ is_exportable kind }
-{
-    match kind {
-        WasmSymbolKind::Func | WasmSymbolKind::Data | WasmSymbolKind::Global => true,
-        WasmSymbolKind::Section | WasmSymbolKind::Event | WasmSymbolKind::Table => false,
-    }
-}
-
-/// Whether a symbol is a definition that others see, that isn't kept for the host anyway, and that
-/// stands for itself: those are exported with `--export-dynamic`.
-pub fn is_candidate(
-    symbols: &SymbolTable<'_, '_>,
-    object: usize,
-    number: u32,
-    symbol: &WasmSymbol<'_>,
-) -> bool
-    ensures { result ≡ is_candidate symbols.now object number symbol.now }
-{
-    is_exportable(symbol.kind)
-        && !symbol.is_undefined()
-        && !symbol.is_local()
-        && !symbol.is_hidden()
-        && !is_exported(symbol)
-        && is_itself(definition_at(symbols, object, number), object, number)
 }
 
 /// Whether a symbol is kept, as itself or as one of all candidates.

@@ -14,23 +14,24 @@ use Rattle.wl_bytes.proofs.SignedLaws.{signed_reading}
 use Rattle.wl_bytes.proofs.GrammarLaws.{map_reading, error_reading, take_nothing, nothing_taken, cons_text, first_of_items}
 use Rattle.wl_module.specs.declared.constants.ConstOperator.{ConstOperator}
 use Rattle.wl_module.specs.declared.constants.ConstOperator.TheVariants.{I32Const, I64Const, F32Const, F64Const, GlobalGet, RefNull, RefFunc, I32Add, I32Sub, I32Mul, I64Add, I64Sub, I64Mul, Vector}
-use Rattle.wl_module.specs.declared.error.Why.TheVariants.{Truncated}
-use Rattle.wl_module.specs.declared.error.Form.TheVariants.{ConstOperator as OtherOperator, Operator}
-use Rattle.wl_module.specs.declared.error.ReadError.{ReadError}
-use Rattle.wl_module.specs.declared.error.ReadError.TheVariants.{OutOfMemory, Malformed, Unsupported}
-use Rattle.wl_module.specs.Error.{read_error}
-use Rattle.wl_module.specs.Outcome.{Fails}
-use Rattle.wl_module.specs.Lists.{IsCoded, CodedFault}
+use Rattle.wl_bytes.specs.declared.read_error.Why.TheVariants.{Truncated}
+use Rattle.wl_bytes.specs.declared.read_error.Form.TheVariants.{ConstOperator as OtherOperator, Operator}
+use Rattle.wl_bytes.specs.declared.read_error.ReadError.{ReadError}
+use Rattle.wl_bytes.specs.declared.read_error.ReadError.TheVariants.{OutOfMemory, Malformed, Unsupported}
+use Rattle.wl_bytes.specs.Error.{read_error}
+use Rattle.wl_bytes.specs.Outcome.{Fails}
+use Rattle.wl_bytes.specs.Lists.{IsCoded, CodedFault}
 use Rattle.wl_module.specs.Types.{value_type_code, value_types, is_reference}
-use Rattle.wl_module.specs.Checks.{Any}
-use Rattle.wl_module.specs.Ends.{Ended, EndedFault, ended_at}
-use Rattle.wl_module.specs.Constants.{operator_code, step_code, all_steps, first_at, SignedNumberFault, signed_number_at, IsReference, ReferenceFault, reference_at, is_vector_const, IsVector, VectorFault, vector_at, IsConstImmediate, ConstImmediateFault, const_immediate_at, IsOperator, IsStepImmediate, IsStep, StepImmediateFault, StepFault, step_immediate_at, step_at, IsExpression, ExpressionFault, expression_at}
-use Rattle.wl_module.proofs.ReadingLaws.{respelled, either, reading_by, both}
-use Rattle.wl_module.proofs.ListLaws.{AreAll, coded_reading, number_reading}
+use Rattle.wl_bytes.specs.Checks.{Any}
+use Rattle.wl_bytes.specs.Ends.{Ended, EndedFault, ended_at}
+use Rattle.wl_module.specs.Constants.{operator_code, step_code, all_steps, first_at, IsReference, ReferenceFault, reference_at, is_vector_const, IsVector, VectorFault, vector_at, IsConstImmediate, ConstImmediateFault, const_immediate_at, IsOperator, IsStepImmediate, IsStep, StepImmediateFault, StepFault, step_immediate_at, step_at, IsExpression, ExpressionFault, expression_at}
+use Rattle.wl_bytes.specs.Lists.{SignedNumberFault, signed_number_at}
+use Rattle.wl_bytes.proofs.ReadingLaws.{respelled, either, reading_by, both}
+use Rattle.wl_bytes.proofs.ListLaws.{AreAll, coded_reading, number_reading}
 use Rattle.wl_module.proofs.TypeLaws.{all_value_types}
 use Rattle.wl_module.proofs.BodyLaws.{stretch_reading}
-use Rattle.wl_module.proofs.CheckLaws.{where_reading, any_reading, nothing_reading}
-use Rattle.wl_module.proofs.EndLaws.{AreSteps, end_of_items, step_shortens, ended_reading}
+use Rattle.wl_bytes.proofs.CheckLaws.{where_reading, any_reading, nothing_reading}
+use Rattle.wl_bytes.proofs.EndLaws.{AreSteps, end_of_items, step_shortens, ended_reading}
 
 -- ---- the first bytes
 

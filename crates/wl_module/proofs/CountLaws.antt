@@ -5,11 +5,11 @@ use Rattle.std.proofs.lemmas.List.{length-map}
 use Rattle.wl_bytes.specs.Leb.{IsU32}
 use Rattle.wl_bytes.specs.Items.{IsName}
 use Rattle.wl_bytes.specs.Grammar.{Items}
-use Rattle.wl_module.specs.declared.error.ReadError.{ReadError}
-use Rattle.wl_module.proofs.ChainLaws.{kept, as_chain}
-use Rattle.wl_module.specs.Outcome.{ReadsWhole}
-use Rattle.wl_module.specs.Lists.{Listed, Whole, SeenAs, AreFew}
-use Rattle.wl_module.specs.Chains.{Turns, Chain, ListedAfter, once_in_turn}
+use Rattle.wl_bytes.specs.declared.read_error.ReadError.{ReadError}
+use Rattle.wl_bytes.proofs.ChainLaws.{kept, as_chain}
+use Rattle.wl_bytes.specs.Outcome.{ReadsWhole}
+use Rattle.wl_bytes.specs.Lists.{Listed, Whole, SeenAs, AreFew}
+use Rattle.wl_bytes.specs.Chains.{Turns, Chain, ListedAfter, once_in_turn}
 use Rattle.wl_module.specs.Limits.{IsMemoryType}
 use Rattle.wl_module.specs.Types.{IsFuncType, AreTypes}
 use Rattle.wl_module.specs.Bodies.{AreIndices, IsBody, AreBodies}

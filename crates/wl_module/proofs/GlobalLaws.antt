@@ -2,16 +2,16 @@
 use Rattle.std.proofs.Common.{ℕ, Bool, true, false, List, [], ◌∷◌, Result, refl}
 use Rattle.wl_bytes.specs.Leb.{IsU32}
 use Rattle.wl_bytes.proofs.Readings.{IsReading}
-use Rattle.wl_module.specs.declared.error.Why.TheVariants.{BadByte}
-use Rattle.wl_module.specs.declared.error.ReadError.{ReadError}
-use Rattle.wl_module.specs.declared.error.ReadError.TheVariants.{Malformed}
-use Rattle.wl_module.specs.Outcome.{Gives, ReadsWhole}
-use Rattle.wl_module.specs.Lists.{NumberFault, number_at, Listed, ListedFault, list_at}
+use Rattle.wl_bytes.specs.declared.read_error.Why.TheVariants.{BadByte}
+use Rattle.wl_bytes.specs.declared.read_error.ReadError.{ReadError}
+use Rattle.wl_bytes.specs.declared.read_error.ReadError.TheVariants.{Malformed}
+use Rattle.wl_bytes.specs.Outcome.{Gives, ReadsWhole}
+use Rattle.wl_bytes.specs.Lists.{NumberFault, number_at, Listed, ListedFault, list_at}
 use Rattle.wl_module.specs.Globals.{mutability_code, IsMutability, MutabilityFault, mutability_at, global_type_from, IsGlobalType, GlobalTypeFault, global_type_at, global_from, IsGlobal, GlobalFault, global_at, AreGlobals, GlobalsFault, globals_of}
 use Rattle.wl_module.specs.Memories.{memory_once, AreMemories, MemoriesFault, memories_of, IsDataCount, DataCountFault, data_count_of}
-use Rattle.wl_module.proofs.ReadingLaws.{both, seen}
-use Rattle.wl_module.proofs.ListLaws.{AreAll, coded_reading, number_reading, list_reading, whole_reading, IsWholeReading, reads_whole}
-use Rattle.wl_module.proofs.AfterLaws.{list_once_reading}
+use Rattle.wl_bytes.proofs.ReadingLaws.{both, seen}
+use Rattle.wl_bytes.proofs.ListLaws.{AreAll, coded_reading, number_reading, list_reading, whole_reading, IsWholeReading, reads_whole}
+use Rattle.wl_bytes.proofs.AfterLaws.{list_once_reading}
 use Rattle.wl_module.proofs.TypeLaws.{value_type_reading}
 use Rattle.wl_module.proofs.ConstantLaws.{expression_reading}
 use Rattle.wl_module.proofs.LimitLaws.{memory_type_reading}

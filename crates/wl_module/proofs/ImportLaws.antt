@@ -4,13 +4,13 @@ use Rattle.wl_bytes.proofs.Readings.{IsReading}
 use Rattle.wl_module.specs.declared.imports.ExternalKind.{ExternalKind}
 use Rattle.wl_module.specs.declared.imports.ExternalKind.TheVariants.{Func, Table, Memory, Global}
 use Rattle.wl_module.specs.declared.imports.ImportEntity.TheVariants.{Func as AFunction, Table as ATable, Memory as AMemory, Global as AGlobal}
-use Rattle.wl_module.specs.Lists.{Listed, ListedFault, list_at}
+use Rattle.wl_bytes.specs.Lists.{Listed, ListedFault, list_at}
 use Rattle.wl_module.specs.Imports.{kind_code, kind_error, IsExternalKind, ExternalKindFault, external_kind_at, IsEntity, EntityFault, entity_at, import_from, IsImport, ImportFault, import_at, memory_import_once, plain_imports, ArePlacedImports, placed_imports_of, AreImports, ImportsFault, imports_of}
 use Rattle.wl_module.specs.Exports.{export_from, IsExport, ExportFault, export_at, AreExports, ExportsFault, exports_of}
-use Rattle.wl_module.proofs.ReadingLaws.{both, seen}
-use Rattle.wl_module.proofs.ListLaws.{AreAll, coded_reading, number_reading, word_reading, list_reading, whole_reading, IsWholeReading, seen_reading}
-use Rattle.wl_module.proofs.CheckLaws.{placed_name_reading}
-use Rattle.wl_module.proofs.AfterLaws.{list_once_reading}
+use Rattle.wl_bytes.proofs.ReadingLaws.{both, seen}
+use Rattle.wl_bytes.proofs.ListLaws.{AreAll, coded_reading, number_reading, word_reading, list_reading, whole_reading, IsWholeReading, seen_reading}
+use Rattle.wl_bytes.proofs.CheckLaws.{placed_name_reading}
+use Rattle.wl_bytes.proofs.AfterLaws.{list_once_reading}
 use Rattle.wl_module.proofs.LimitLaws.{memory_type_reading, table_type_reading}
 use Rattle.wl_module.proofs.GlobalLaws.{global_type_reading}
 

@@ -1,12 +1,5 @@
-pub mod ReadingLaws
-pub mod Loops
-pub mod ListLaws
-pub mod CheckLaws
 pub mod TypeLaws
 pub mod BodyLaws
-pub mod ChainLaws
-pub mod AfterLaws
-pub mod EndLaws
 pub mod ConstantLaws
 pub mod LimitLaws
 pub mod GlobalLaws

@@ -5,16 +5,16 @@ use Rattle.wl_bytes.specs.Grammar.{Then, ThenFault}
 use Rattle.wl_bytes.proofs.Readings.{IsReading}
 use Rattle.wl_bytes.specs.Cursor.{Cursor}
 use Rattle.wl_module.specs.declared.limits.LimitsFlags.{LimitsFlags}
-use Rattle.wl_module.specs.declared.error.Why.TheVariants.{BadLimits}
-use Rattle.wl_module.specs.declared.error.Form.TheVariants.{TableForm, TableType as OtherElements}
-use Rattle.wl_module.specs.declared.error.ReadError.{ReadError}
-use Rattle.wl_module.specs.declared.error.ReadError.TheVariants.{Malformed, Unsupported}
-use Rattle.wl_module.specs.Lists.{NumberFault, IsCoded, CodedFault, with_code}
-use Rattle.wl_module.specs.Checks.{When, WhenFault}
+use Rattle.wl_bytes.specs.declared.read_error.Why.TheVariants.{BadLimits}
+use Rattle.wl_bytes.specs.declared.read_error.Form.TheVariants.{TableForm, TableType as OtherElements}
+use Rattle.wl_bytes.specs.declared.read_error.ReadError.{ReadError}
+use Rattle.wl_bytes.specs.declared.read_error.ReadError.TheVariants.{Malformed, Unsupported}
+use Rattle.wl_bytes.specs.Lists.{NumberFault, IsCoded, CodedFault, with_code}
+use Rattle.wl_bytes.specs.Checks.{When, WhenFault}
 use Rattle.wl_module.specs.Limits.{flags_code, all_flags, memory_flags_error, table_flags_error, IsMemoryFlags, MemoryFlagsFault, memory_flags_at, is_own, IsTableFlags, TableFlagsFault, table_flags_at, limits_from, IsLimits, LimitsFault, sizes_at, limits_at, limits_fit, memory_limits_fit, memory_of, IsMemoryType, MemoryTypeFault, memory_type_at, elements_code, table_of, IsTableType, TableTypeFault, elements_at, table_type_at}
-use Rattle.wl_module.proofs.ReadingLaws.{both, seen}
-use Rattle.wl_module.proofs.ListLaws.{AreAll, coded_reading, number_reading}
-use Rattle.wl_module.proofs.CheckLaws.{where_reading, when_reading}
+use Rattle.wl_bytes.proofs.ReadingLaws.{both, seen}
+use Rattle.wl_bytes.proofs.ListLaws.{AreAll, coded_reading, number_reading}
+use Rattle.wl_bytes.proofs.CheckLaws.{where_reading, when_reading}
 
 -- ---- flags
 

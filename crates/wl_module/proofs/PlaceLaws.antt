@@ -5,10 +5,10 @@ use Rattle.std.specs.List.{AllByRecursion}
 use Rattle.wl_bytes.specs.Items.{IsName}
 use Rattle.wl_bytes.specs.Leb.{IsU32}
 use Rattle.wl_bytes.specs.Grammar.{Then}
-use Rattle.wl_module.specs.Lists.{Listed, Whole, SeenAs}
-use Rattle.wl_module.specs.Chains.{Turns, Chain, ListedAfter, once_in_turn}
-use Rattle.wl_module.specs.Checks.{Seen}
-use Rattle.wl_module.specs.Words.{IsPlacedName}
+use Rattle.wl_bytes.specs.Lists.{Listed, Whole, SeenAs}
+use Rattle.wl_bytes.specs.Chains.{Turns, Chain, ListedAfter, once_in_turn}
+use Rattle.wl_bytes.specs.Checks.{Seen}
+use Rattle.wl_bytes.specs.Words.{IsPlacedName}
 use Rattle.wl_module.specs.Constants.{IsExpression}
 use Rattle.wl_module.specs.Bodies.{Body, IsBody, AreBodies}
 use Rattle.wl_module.specs.Globals.{IsGlobalType, global_from, IsGlobal, AreGlobals}
@@ -18,7 +18,7 @@ use Rattle.wl_module.specs.Imports.{IsExternalKind, IsEntity, import_from, IsImp
 use Rattle.wl_module.specs.Exports.{export_from, IsExport, AreExports}
 use Rattle.wl_module.specs.Segments.{Targeted, IsSegment, AreTargeted, AreSegments}
 use Rattle.wl_module.specs.Places.{StandsAt, PartsStand, ImportStands, PlacedImportStands, ExportStands, GlobalStands, BodyStands, SegmentStands, TargetedStands}
-use Rattle.wl_module.proofs.ChainLaws.{kept, as_chain}
+use Rattle.wl_bytes.proofs.ChainLaws.{kept, as_chain}
 
 -- ---- parts of parts
 

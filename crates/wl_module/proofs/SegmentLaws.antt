@@ -7,15 +7,16 @@ use Rattle.wl_bytes.proofs.Readings.{IsReading}
 use Rattle.wl_bytes.proofs.GrammarLaws.{map_reading}
 use Rattle.wl_module.specs.declared.segments.SegmentFlag.{SegmentFlag}
 use Rattle.wl_module.specs.declared.segments.SegmentFlag.TheVariants.{InMemory, InNoMemory, InMemoryOf}
-use Rattle.wl_module.specs.declared.error.Why.TheVariants.{BadByte}
-use Rattle.wl_module.specs.declared.error.ReadError.{ReadError}
-use Rattle.wl_module.specs.declared.error.ReadError.TheVariants.{Malformed}
-use Rattle.wl_module.specs.Lists.{number_at, IsCoded, Listed, ListedFault, list_at}
-use Rattle.wl_module.specs.Bodies.{BodyFault, stretch_at}
+use Rattle.wl_bytes.specs.declared.read_error.Why.TheVariants.{BadByte}
+use Rattle.wl_bytes.specs.declared.read_error.ReadError.{ReadError}
+use Rattle.wl_bytes.specs.declared.read_error.ReadError.TheVariants.{Malformed}
+use Rattle.wl_bytes.specs.Lists.{number_at, IsCoded, Listed, ListedFault, list_at}
+use Rattle.wl_module.specs.Bodies.{BodyFault}
+use Rattle.wl_bytes.specs.Lists.{stretch_at}
 use Rattle.wl_module.specs.Segments.{segment_code, SegmentFlagFault, segment_flag_at, IsTarget, TargetFault, target_at, AreCounted, counted_at, segment_kind, IsSegmentText, IsSegment, SegmentFault, segment_from, segment_at, Targeted, plain_segments, AreTargeted, targeted_of, AreSegments, SegmentsFault, segments_of}
-use Rattle.wl_module.proofs.ReadingLaws.{both, seen}
-use Rattle.wl_module.proofs.ListLaws.{AreAll, coded_reading, number_reading, list_reading, whole_reading, IsWholeReading, seen_reading}
-use Rattle.wl_module.proofs.CheckLaws.{nothing_reading, measured_reading}
+use Rattle.wl_bytes.proofs.ReadingLaws.{both, seen}
+use Rattle.wl_bytes.proofs.ListLaws.{AreAll, coded_reading, number_reading, list_reading, whole_reading, IsWholeReading, seen_reading}
+use Rattle.wl_bytes.proofs.CheckLaws.{nothing_reading, measured_reading}
 use Rattle.wl_module.proofs.ConstantLaws.{expression_reading}
 use Rattle.wl_module.proofs.BodyLaws.{stretch_reading}
 

@@ -1,24 +1,21 @@
 -- Constant expressions (core specification, "Expressions" and "Constant Expressions").
-use Rattle.std.specs.Prelude.{◌≡◌, ℕ, ℤ, ◌-◌, ◌==◌, Bool, List, [], ◌∷◌, ◌++◌, Option, Some, None, Result, Ok, take}
+use Rattle.std.specs.Prelude.{◌≡◌, ℕ, ◌-◌, ◌==◌, Bool, List, [], ◌∷◌, ◌++◌, Option, Some, None, Result, Ok, take}
 use Rattle.wl_bytes.specs.Cursor.{Cursor}
 use Rattle.wl_bytes.specs.Parse.{Takes, ◌>>=◌}
-use Rattle.wl_bytes.specs.Leb.{NumberForm, s32_form, s64_form, IsU32, IsSigned, SignedFault}
+use Rattle.wl_bytes.specs.Leb.{s32_form, s64_form, IsU32, IsSigned}
 use Rattle.wl_bytes.specs.Items.{IsStretch}
-use Rattle.wl_bytes.specs.Reading as bytes
-use Rattle.wl_bytes.specs.Grammar.{Then, ThenFault, then_at, Items, map_at, error_of, FaultOf}
+use Rattle.wl_bytes.specs.Grammar.{Then, ThenFault, then_at, Items, map_at}
 use Rattle.wl_module.specs.declared.constants.ConstOperator.{ConstOperator}
 use Rattle.wl_module.specs.declared.constants.ConstOperator.TheVariants.{I32Const, I64Const, F32Const, F64Const, GlobalGet, RefNull, RefFunc, I32Add, I32Sub, I32Mul, I64Add, I64Sub, I64Mul, Vector}
 use Rattle.wl_module.specs.declared.types.ValType.{ValType}
-use Rattle.wl_module.specs.declared.error.Why.TheVariants.{Truncated}
-use Rattle.wl_module.specs.declared.error.Form.TheVariants.{ConstOperator as OtherOperator, Operator}
-use Rattle.wl_module.specs.declared.error.ReadError.{ReadError}
-use Rattle.wl_module.specs.declared.error.ReadError.TheVariants.{Malformed, Unsupported}
-use Rattle.wl_module.specs.Error.{read_error}
-use Rattle.wl_module.specs.Lists.{NumberFault, number_at, IsCoded, CodedFault, coded_at}
+use Rattle.wl_bytes.specs.declared.read_error.Why.TheVariants.{Truncated}
+use Rattle.wl_bytes.specs.declared.read_error.Form.TheVariants.{ConstOperator as OtherOperator, Operator}
+use Rattle.wl_bytes.specs.declared.read_error.ReadError.{ReadError}
+use Rattle.wl_bytes.specs.declared.read_error.ReadError.TheVariants.{Malformed, Unsupported}
+use Rattle.wl_bytes.specs.Lists.{NumberFault, number_at, IsCoded, CodedFault, coded_at, StretchFault, stretch_at, SignedNumberFault, signed_number_at}
 use Rattle.wl_module.specs.Types.{value_type_code, value_types, is_reference}
-use Rattle.wl_module.specs.Bodies.{StretchFault, stretch_at}
-use Rattle.wl_module.specs.Checks.{Where, WhereFault, unless, where_at, Any, any_at, IsNothing, NoFault, nothing_at}
-use Rattle.wl_module.specs.Ends.{ended_at}
+use Rattle.wl_bytes.specs.Checks.{Where, WhereFault, unless, where_at, Any, any_at, IsNothing, NoFault, nothing_at}
+use Rattle.wl_bytes.specs.Ends.{ended_at}
 
 -- ---- the first bytes
 
@@ -57,14 +54,6 @@ unfoldable pub first_at : Cursor → Result (Option ConstOperator × Cursor) Rea
 first_at c = coded_at step_code all_steps (λ _. Unsupported OtherOperator) c
 
 -- ---- what stands behind them
-
--- what is wrong where no signed number stands
-abbrev pub SignedNumberFault : NumberForm → ReadError → Cursor → Type 0
-SignedNumberFault form = FaultOf read_error (SignedFault form)
-
--- the signed number in front
-abbrev pub signed_number_at : NumberForm → Cursor → Result (ℤ × Cursor) ReadError
-signed_number_at form c = error_of read_error (bytes.signed_at form c)
 
 -- the byte of a type of references
 abbrev pub IsReference : ℕ → ValType → List ℕ → Type 0

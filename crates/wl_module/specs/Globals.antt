@@ -4,11 +4,11 @@ use Rattle.wl_bytes.specs.Cursor.{Cursor}
 use Rattle.wl_bytes.specs.Grammar.{Then, ThenFault, then_at, map_at}
 use Rattle.wl_module.specs.declared.globals.GlobalType.{GlobalType}
 use Rattle.wl_module.specs.declared.types.ValType.{ValType}
-use Rattle.wl_module.specs.declared.error.Why.TheVariants.{BadByte}
-use Rattle.wl_module.specs.declared.error.ReadError.{ReadError}
-use Rattle.wl_module.specs.declared.error.ReadError.TheVariants.{Malformed}
-use Rattle.wl_module.specs.Lists.{IsCoded, CodedFault, coded_at, Listed, ListedFault, list_at, Whole, WholeFault, whole_of}
-use Rattle.wl_module.specs.Checks.{Seen}
+use Rattle.wl_bytes.specs.declared.read_error.Why.TheVariants.{BadByte}
+use Rattle.wl_bytes.specs.declared.read_error.ReadError.{ReadError}
+use Rattle.wl_bytes.specs.declared.read_error.ReadError.TheVariants.{Malformed}
+use Rattle.wl_bytes.specs.Lists.{IsCoded, CodedFault, coded_at, Listed, ListedFault, list_at, Whole, WholeFault, whole_of}
+use Rattle.wl_bytes.specs.Checks.{Seen}
 use Rattle.wl_module.specs.Types.{IsValueType, ValueTypeFault, value_type_at}
 use Rattle.wl_module.specs.Constants.{IsExpression, ExpressionFault, expression_at}
 

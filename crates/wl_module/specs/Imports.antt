@@ -9,14 +9,14 @@ use Rattle.wl_module.specs.declared.imports.ExternalKind.TheVariants.{Func, Tabl
 use Rattle.wl_module.specs.declared.imports.ImportEntity.{ImportEntity}
 use Rattle.wl_module.specs.declared.imports.ImportEntity.TheVariants.{Func as AFunction, Table as ATable, Memory as AMemory, Global as AGlobal}
 use Rattle.wl_module.specs.declared.globals.GlobalType.{GlobalType}
-use Rattle.wl_module.specs.declared.error.Why.TheVariants.{BadByte}
-use Rattle.wl_module.specs.declared.error.Form.TheVariants.{Tag, ManyMemories}
-use Rattle.wl_module.specs.declared.error.ReadError.{ReadError}
-use Rattle.wl_module.specs.declared.error.ReadError.TheVariants.{Malformed, Unsupported}
-use Rattle.wl_module.specs.Lists.{NumberFault, number_at, WordFault, word_at, IsCoded, CodedFault, coded_at, Whole, WholeFault, whole_of, SeenAs, seen_of}
-use Rattle.wl_module.specs.Words.{IsPlacedName, placed_name_at}
-use Rattle.wl_module.specs.Chains.{Once, ListedOnce, ListedOnceFault, list_once_at}
-use Rattle.wl_module.specs.Checks.{Seen}
+use Rattle.wl_bytes.specs.declared.read_error.Why.TheVariants.{BadByte}
+use Rattle.wl_bytes.specs.declared.read_error.Form.TheVariants.{Tag, ManyMemories}
+use Rattle.wl_bytes.specs.declared.read_error.ReadError.{ReadError}
+use Rattle.wl_bytes.specs.declared.read_error.ReadError.TheVariants.{Malformed, Unsupported}
+use Rattle.wl_bytes.specs.Lists.{NumberFault, number_at, WordFault, word_at, IsCoded, CodedFault, coded_at, Whole, WholeFault, whole_of, SeenAs, seen_of}
+use Rattle.wl_bytes.specs.Words.{IsPlacedName, placed_name_at}
+use Rattle.wl_bytes.specs.Chains.{Once, ListedOnce, ListedOnceFault, list_once_at}
+use Rattle.wl_bytes.specs.Checks.{Seen}
 use Rattle.wl_module.specs.Limits.{IsTableType, TableTypeFault, table_type_at, IsMemoryType, MemoryTypeFault, memory_type_at}
 use Rattle.wl_module.specs.Globals.{IsGlobalType, GlobalTypeFault, global_type_at}
 

@@ -1,14 +1,7 @@
-pub mod Error
-pub mod Outcome
-pub mod Lists
 pub mod Types
 pub mod SameType
 pub mod Slices
 pub mod Bodies
-pub mod Chains
-pub mod Checks
-pub mod Ends
-pub mod Words
 pub mod Constants
 pub mod Globals
 pub mod Memories

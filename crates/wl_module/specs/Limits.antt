@@ -7,12 +7,12 @@ use Rattle.wl_module.specs.declared.limits.Limits.{Limits}
 use Rattle.wl_module.specs.declared.limits.LimitsFlags.{LimitsFlags}
 use Rattle.wl_module.specs.declared.limits.MemoryType.{MemoryType}
 use Rattle.wl_module.specs.declared.limits.TableType.{TableType}
-use Rattle.wl_module.specs.declared.error.Why.TheVariants.{BadByte, BadLimits}
-use Rattle.wl_module.specs.declared.error.Form.TheVariants.{Memory64, PageSize, TableForm, TableType as OtherElements}
-use Rattle.wl_module.specs.declared.error.ReadError.{ReadError}
-use Rattle.wl_module.specs.declared.error.ReadError.TheVariants.{Malformed, Unsupported}
-use Rattle.wl_module.specs.Lists.{NumberFault, number_at, IsCoded, CodedFault, coded_at}
-use Rattle.wl_module.specs.Checks.{Where, WhereFault, unless, where_at, When, WhenFault, when_at, Seen}
+use Rattle.wl_bytes.specs.declared.read_error.Why.TheVariants.{BadByte, BadLimits}
+use Rattle.wl_bytes.specs.declared.read_error.Form.TheVariants.{Memory64, PageSize, TableForm, TableType as OtherElements}
+use Rattle.wl_bytes.specs.declared.read_error.ReadError.{ReadError}
+use Rattle.wl_bytes.specs.declared.read_error.ReadError.TheVariants.{Malformed, Unsupported}
+use Rattle.wl_bytes.specs.Lists.{NumberFault, number_at, IsCoded, CodedFault, coded_at}
+use Rattle.wl_bytes.specs.Checks.{Where, WhereFault, unless, where_at, When, WhenFault, when_at, Seen}
 
 -- ---- the flags
 

@@ -3,11 +3,11 @@
 use Rattle.std.specs.Prelude.{ℕ, Bool, true, List, Result}
 use Rattle.wl_bytes.specs.Leb.{IsU32}
 use Rattle.wl_module.specs.declared.limits.MemoryType.{MemoryType}
-use Rattle.wl_module.specs.declared.error.Form.TheVariants.{ManyMemories}
-use Rattle.wl_module.specs.declared.error.ReadError.{ReadError}
-use Rattle.wl_module.specs.declared.error.ReadError.TheVariants.{Unsupported}
-use Rattle.wl_module.specs.Lists.{NumberFault, number_at, Whole, WholeFault, whole_of}
-use Rattle.wl_module.specs.Chains.{Once, ListedOnce, ListedOnceFault, list_once_at}
+use Rattle.wl_bytes.specs.declared.read_error.Form.TheVariants.{ManyMemories}
+use Rattle.wl_bytes.specs.declared.read_error.ReadError.{ReadError}
+use Rattle.wl_bytes.specs.declared.read_error.ReadError.TheVariants.{Unsupported}
+use Rattle.wl_bytes.specs.Lists.{NumberFault, number_at, Whole, WholeFault, whole_of}
+use Rattle.wl_bytes.specs.Chains.{Once, ListedOnce, ListedOnceFault, list_once_at}
 use Rattle.wl_module.specs.Limits.{IsMemoryType, MemoryTypeFault, memory_type_at}
 
 -- ---- memories

@@ -1,7 +1,7 @@
 -- What the sections of a module are (core specification, "Sections"): their ids, and the order in
 -- which they stand.
 use Rattle.std.specs.Prelude.{ℕ, ◌==◌, Bool, List, [], ◌∷◌, Option}
-use Rattle.wl_module.specs.Lists.{with_code}
+use Rattle.wl_bytes.specs.Lists.{with_code}
 use Rattle.wl_module.specs.declared.section_kind.SectionKind.{SectionKind}
 use Rattle.wl_module.specs.declared.section_kind.SectionKind.TheVariants as kind
 

@@ -7,12 +7,13 @@ use Rattle.wl_module.specs.declared.segments.DataKind.{DataKind}
 use Rattle.wl_module.specs.declared.segments.DataKind.TheVariants.{Passive, Active}
 use Rattle.wl_module.specs.declared.segments.SegmentFlag.{SegmentFlag}
 use Rattle.wl_module.specs.declared.segments.SegmentFlag.TheVariants.{InMemory, InNoMemory, InMemoryOf}
-use Rattle.wl_module.specs.declared.error.Why.TheVariants.{BadByte}
-use Rattle.wl_module.specs.declared.error.ReadError.{ReadError}
-use Rattle.wl_module.specs.declared.error.ReadError.TheVariants.{Malformed}
-use Rattle.wl_module.specs.Lists.{NumberFault, number_at, IsCoded, CodedFault, coded_at, Listed, ListedFault, list_at, Whole, WholeFault, whole_of, SeenAs, seen_of}
-use Rattle.wl_module.specs.Bodies.{BodyFault, stretch_at}
-use Rattle.wl_module.specs.Checks.{Seen, IsNothing, NoFault, nothing_at, measured_at}
+use Rattle.wl_bytes.specs.declared.read_error.Why.TheVariants.{BadByte}
+use Rattle.wl_bytes.specs.declared.read_error.ReadError.{ReadError}
+use Rattle.wl_bytes.specs.declared.read_error.ReadError.TheVariants.{Malformed}
+use Rattle.wl_bytes.specs.Lists.{NumberFault, number_at, IsCoded, CodedFault, coded_at, Listed, ListedFault, list_at, Whole, WholeFault, whole_of, SeenAs, seen_of}
+use Rattle.wl_module.specs.Bodies.{BodyFault}
+use Rattle.wl_bytes.specs.Lists.{stretch_at}
+use Rattle.wl_bytes.specs.Checks.{Seen, IsNothing, NoFault, nothing_at, measured_at}
 use Rattle.wl_module.specs.Constants.{IsExpression, ExpressionFault, expression_at}
 
 -- ---- flags

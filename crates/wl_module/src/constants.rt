@@ -1,10 +1,9 @@
 //! Constant expressions: what a global starts with, and where a segment is put.
 
 ghost use Rattle.wl_module.specs.Constants.{first_at, reference_at, vector_at, const_immediate_at, step_at, expression_at};
-ghost use Rattle.wl_module.specs.Outcome.{Yields};
+ghost use Rattle.wl_bytes.specs.Outcome.{Yields};
 
-use crate::error::{Form, ReadError};
-use wl_bytes::Reader;
+use wl_bytes::{Form, ReadError, Reader};
 
 /// The byte that ends an expression.
 const END: u8 = 0x0b;

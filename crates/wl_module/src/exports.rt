@@ -3,14 +3,12 @@
 ghost use Rattle.std.specs.Prelude.{◌≤◌, length, IfOk};
 ghost use Rattle.wl_bytes.specs.declared.reader.TheConstants.{MAX_LEN};
 ghost use Rattle.wl_module.specs.Exports.{AreExports, ExportsFault};
-ghost use Rattle.wl_module.specs.Outcome.{ReadsWhole, AreAlternatives};
+ghost use Rattle.wl_bytes.specs.Outcome.{ReadsWhole, AreAlternatives};
 
-use crate::error::ReadError;
 use crate::imports::{ExternalKind, read_external_kind};
-use crate::items::{Item, read_payload};
 use std::alloc::Global;
 use std::marker::Model;
-use wl_bytes::Reader;
+use wl_bytes::{Item, ReadError, Reader, read_payload};
 
 /// What a module gives to others. Clauses see it as an `Exported`, a record with the name as a
 /// list.
@@ -62,7 +60,7 @@ pub fn read_exports(alloc: Global, payload: &[u8]) -> Result<Vec<OutputExport<'_
 }
 
 /// Each payload spells one list of exports or has one fault, and never both.
-#[tactic(auto, using(crate::proofs::ListLaws::exact, crate::proofs::ImportLaws::exports_reading))]
+#[tactic(auto, using(wl_bytes::proofs::ListLaws::exact, crate::proofs::ImportLaws::exports_reading))]
 pub fn exports_or_fault()
     ensures { AreAlternatives AreExports ExportsFault }
 {}

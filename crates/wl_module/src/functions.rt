@@ -3,23 +3,10 @@
 ghost use Rattle.std.specs.Prelude.{◌≤◌, length, IfOk};
 ghost use Rattle.wl_bytes.specs.declared.reader.TheConstants.{MAX_LEN};
 ghost use Rattle.wl_module.specs.Bodies.{AreIndices, IndicesFault};
-ghost use Rattle.wl_module.specs.Lists.{number_at};
-ghost use Rattle.wl_module.specs.Outcome.{ReadsWhole, AreAlternatives};
+ghost use Rattle.wl_bytes.specs.Outcome.{ReadsWhole, AreAlternatives};
 
-use crate::error::ReadError;
-use crate::items::{Item, read_payload};
 use std::alloc::Global;
-use wl_bytes::Reader;
-
-impl<'a> Item<'a> for u32 {
-    type Under = ();
-
-    ghost item_at = { λ _. number_at };
-
-    fn read(_alloc: Global, _under: &mut (), reader: &mut Reader<'a>) -> Result<Self, ReadError> {
-        Ok(reader.read_u32()?)
-    }
-}
+use wl_bytes::{ReadError, read_payload};
 
 /// Reads the payload of a function section (core specification, "Function Section"): for each
 /// function that the module defines the index of its type.
@@ -35,7 +22,7 @@ pub fn read_functions(alloc: Global, payload: &[u8]) -> Result<Vec<u32>, ReadErr
 }
 
 /// Each payload spells one list of indices or has one fault, and never both.
-#[tactic(auto, using(crate::proofs::ListLaws::exact, crate::proofs::BodyLaws::indices_reading))]
+#[tactic(auto, using(wl_bytes::proofs::ListLaws::exact, crate::proofs::BodyLaws::indices_reading))]
 pub fn functions_or_fault()
     ensures { AreAlternatives AreIndices IndicesFault }
 {}

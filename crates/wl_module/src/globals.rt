@@ -3,17 +3,15 @@
 ghost use Rattle.std.specs.Prelude.{◌≡◌, ◌≤◌, length, IfOk};
 ghost use Rattle.wl_bytes.specs.declared.reader.TheConstants.{MAX_LEN};
 ghost use Rattle.wl_module.specs.Globals.{mutability_at, global_type_at, AreGlobals, GlobalsFault};
-ghost use Rattle.wl_module.specs.Outcome.{Yields, ReadsWhole, AreAlternatives};
+ghost use Rattle.wl_bytes.specs.Outcome.{Yields, ReadsWhole, AreAlternatives};
 
 use crate::constants::read_expression;
-use crate::error::{ReadError, Why};
-use crate::items::{Item, read_payload};
 use crate::slices::copy_bytes;
 use crate::types::{ValType, read_value_type};
 use std::alloc::{AllocError, Global};
 use std::borrow::CowSlice;
 use std::marker::Model;
-use wl_bytes::Reader;
+use wl_bytes::{Item, ReadError, Reader, Why, read_payload};
 
 /// The type of a global.
 #[derive(Clone, Copy, Debug, PartialEq, Eq)]
@@ -123,7 +121,7 @@ pub fn read_globals(alloc: Global, payload: &[u8]) -> Result<Vec<OutputGlobal<'_
 }
 
 /// Each payload spells one list of globals or has one fault, and never both.
-#[tactic(auto, using(crate::proofs::ListLaws::exact, crate::proofs::GlobalLaws::globals_reading))]
+#[tactic(auto, using(wl_bytes::proofs::ListLaws::exact, crate::proofs::GlobalLaws::globals_reading))]
 pub fn globals_or_fault()
     ensures { AreAlternatives AreGlobals GlobalsFault }
 {}

@@ -3,16 +3,13 @@
 ghost use Rattle.std.specs.Prelude.{◌≡◌, IfOk, ◌≤◌, length};
 ghost use Rattle.wl_bytes.specs.declared.reader.TheConstants.{MAX_LEN};
 ghost use Rattle.wl_module.specs.Imports.{external_kind_at, entity_at, import_at, is_memory, plain_imports, ArePlacedImports, AreImports, ImportsFault, function_import, global_import};
-ghost use Rattle.wl_module.specs.Outcome.{Yields, ReadsWhole, AreAlternatives};
+ghost use Rattle.wl_bytes.specs.Outcome.{Yields, ReadsWhole, AreAlternatives};
 
-use crate::error::{Form, ReadError, Why};
 use crate::globals::{GlobalType, read_global_type};
-use crate::items::{Item, read_payload};
 use crate::limits::{MemoryType, TableType, read_memory_type, read_table_type};
-use crate::words::read_placed_name;
 use std::alloc::{AllocError, Global};
 use std::marker::Model;
-use wl_bytes::Reader;
+use wl_bytes::{Form, Item, ReadError, Reader, Why, read_payload, read_placed_name};
 
 /// What can be imported and exported.
 #[derive(Clone, Copy, Debug, PartialEq, Eq)]
@@ -208,9 +205,9 @@ fn read_import<'a>(reader: &mut Reader<'a>) -> Result<PlacedImport<'a>, ReadErro
 }
 
 impl<'a> Item<'a> for PlacedImport<'a> {
-    ghost use Rattle.wl_module.specs.declared.error.Form.TheVariants.{ManyMemories};
-    ghost use Rattle.wl_module.specs.declared.error.ReadError.TheVariants.{Unsupported};
-    ghost use Rattle.wl_module.specs.Chains.{once_at, seen_then};
+    ghost use Rattle.wl_bytes.specs.declared.read_error.Form.TheVariants.{ManyMemories};
+    ghost use Rattle.wl_bytes.specs.declared.read_error.ReadError.TheVariants.{Unsupported};
+    ghost use Rattle.wl_bytes.specs.Chains.{once_at, seen_then};
     ghost use Rattle.wl_module.specs.Imports.{import_at, imports_memory};
 
     /// Whether a memory is imported already.
@@ -286,7 +283,7 @@ pub fn placed_imports_or_fault()
 {}
 
 /// Each payload spells one list of imports or has one fault, and never both.
-#[tactic(auto, using(crate::proofs::ListLaws::exact, crate::proofs::ImportLaws::imports_reading))]
+#[tactic(auto, using(wl_bytes::proofs::ListLaws::exact, crate::proofs::ImportLaws::imports_reading))]
 pub fn imports_or_fault()
     ensures { AreAlternatives AreImports ImportsFault }
 {}

@@ -2,7 +2,7 @@
 //! sections spell.
 
 ghost use Rattle.std.specs.Prelude.{Bool};
-ghost use Rattle.wl_module.specs.Lists.{AreFew};
+ghost use Rattle.wl_bytes.specs.Lists.{AreFew};
 ghost use Rattle.wl_module.specs.Bodies.{AreIndices, AreBodies};
 ghost use Rattle.wl_module.specs.Exports.{AreExports};
 ghost use Rattle.wl_module.specs.Globals.{AreGlobals};

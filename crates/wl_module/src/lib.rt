@@ -8,12 +8,10 @@
 
 mod code;
 mod constants;
-mod error;
 mod exports;
 mod functions;
 mod globals;
 mod imports;
-mod items;
 mod laws;
 mod limits;
 mod memories;
@@ -23,10 +21,8 @@ mod sections;
 mod segments;
 mod slices;
 mod types;
-mod words;
 
 pub use code::{WasmFunctionBody, bodies_or_fault, read_bodies};
-pub use error::{Form, ReadError, Why};
 pub use exports::{OutputExport, exports_or_fault, read_exports};
 pub use functions::{functions_or_fault, read_functions};
 pub use globals::{GlobalType, OutputGlobal, globals_or_fault, read_globals};
@@ -34,7 +30,6 @@ pub use imports::{
     ExternalKind, Import, ImportEntity, PlacedImport, WasmFunctionImport, WasmGlobalImport,
     imports_or_fault, placed_imports_or_fault, read_imports, read_placed_imports,
 };
-pub use items::{Item, expect_end, read_list, read_payload};
 pub use laws::{lists_are_few, parts_stand};
 pub use limits::{Limits, MemoryType, TableType};
 pub use memories::{data_count_or_fault, memories_or_fault, read_data_count, read_memories};
@@ -50,3 +45,4 @@ pub use segments::{
 };
 pub use slices::copy_bytes;
 pub use types::{FuncType, ValType, read_types, types_or_fault};
+pub use wl_bytes::{Form, ReadError, Why};

@@ -2,13 +2,12 @@
 
 ghost use Rattle.std.specs.Prelude.{◌≡◌};
 ghost use Rattle.wl_bytes.specs.Grammar.{map_at};
-ghost use Rattle.wl_module.specs.Checks.{when_at};
+ghost use Rattle.wl_bytes.specs.Checks.{when_at};
 ghost use Rattle.wl_module.specs.Limits.{memory_flags_at, table_flags_at, limits_from, sizes_at, limits_fit, memory_limits_fit, elements_at, memory_type_at, table_type_at};
-ghost use Rattle.wl_module.specs.Lists.{number_at};
-ghost use Rattle.wl_module.specs.Outcome.{Yields};
+ghost use Rattle.wl_bytes.specs.Lists.{number_at};
+ghost use Rattle.wl_bytes.specs.Outcome.{Yields};
 
-use crate::error::{Form, ReadError, Why};
-use wl_bytes::Reader;
+use wl_bytes::{Form, ReadError, Reader, Why};
 
 /// The greatest size of a memory with addresses of 32 bits, in pages.
 const MAX_PAGES: u64 = 65536;
@@ -18,7 +17,7 @@ const FUNCREF: u8 = 0x70;
 
 /// How large something is at first, and how large it may grow: a memory in pages of 65536 bytes,
 /// a table in elements.
-#[derive(Clone, Copy, Debug, PartialEq, Eq)]
+#[derive(Clone, Copy, PartialEq, Eq)]
 pub struct Limits {
     /// The size at first.
     pub minimum: u64,
@@ -72,7 +71,7 @@ pub struct TableType {
 }
 
 /// What the byte in front of limits says.
-#[derive(Clone, Copy, Debug, PartialEq, Eq)]
+#[derive(Clone, Copy, PartialEq, Eq)]
 pub(crate) struct LimitsFlags {
     has_maximum: bool,
     shared: bool,

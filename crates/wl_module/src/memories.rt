@@ -2,21 +2,19 @@
 
 ghost use Rattle.std.specs.Prelude.{◌≢◌, Bool, IfErr, ◌≤◌, length, IfOk};
 ghost use Rattle.wl_bytes.specs.declared.reader.TheConstants.{MAX_LEN};
-ghost use Rattle.wl_module.specs.declared.error.ReadError.TheVariants.{OutOfMemory};
+ghost use Rattle.wl_bytes.specs.declared.read_error.ReadError.TheVariants.{OutOfMemory};
 ghost use Rattle.wl_module.specs.Memories.{AreMemories, MemoriesFault, IsDataCount, DataCountFault};
-ghost use Rattle.wl_module.specs.Outcome.{ReadsWhole, AreAlternatives};
+ghost use Rattle.wl_bytes.specs.Outcome.{ReadsWhole, AreAlternatives};
 
-use crate::error::{Form, ReadError};
-use crate::items::{Item, expect_end, read_payload};
 use crate::limits::{MemoryType, read_memory_type};
 use std::alloc::Global;
-use wl_bytes::Reader;
+use wl_bytes::{Form, Item, ReadError, Reader, expect_end, read_payload};
 
 impl<'a> Item<'a> for MemoryType {
     ghost use Rattle.std.specs.Prelude.{true};
-    ghost use Rattle.wl_module.specs.declared.error.Form.TheVariants.{ManyMemories};
-    ghost use Rattle.wl_module.specs.declared.error.ReadError.TheVariants.{Unsupported};
-    ghost use Rattle.wl_module.specs.Chains.{once_at, seen_then};
+    ghost use Rattle.wl_bytes.specs.declared.read_error.Form.TheVariants.{ManyMemories};
+    ghost use Rattle.wl_bytes.specs.declared.read_error.ReadError.TheVariants.{Unsupported};
+    ghost use Rattle.wl_bytes.specs.Chains.{once_at, seen_then};
     ghost use Rattle.wl_module.specs.Limits.{memory_type_at};
 
     /// Whether the module has a memory already.

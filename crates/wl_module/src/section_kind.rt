@@ -12,7 +12,7 @@ const CUSTOM: u8 = 0;
 const TAG: u8 = 13;
 
 /// What a section is. The numbers are the ids.
-#[derive(Clone, Copy, Debug, PartialEq, Eq)]
+#[derive(Clone, Copy, PartialEq, Eq)]
 pub enum SectionKind {
     /// A section with a name, for tools. It may stand anywhere.
     Custom,

@@ -2,15 +2,13 @@
 
 ghost use Rattle.std.specs.Prelude.{◌≡◌, ◌≤◌, length, IfOk};
 ghost use Rattle.wl_bytes.specs.declared.reader.TheConstants.{MAX_LEN};
-ghost use Rattle.wl_module.specs.Outcome.{Yields, ReadsWhole, AreAlternatives};
+ghost use Rattle.wl_bytes.specs.Outcome.{Yields, ReadsWhole, AreAlternatives};
 ghost use Rattle.wl_module.specs.Segments.{segment_flag_at, segment_kind, target_at, segment_at, plain_segments, AreTargeted, AreSegments, SegmentsFault};
 
 use crate::constants::read_expression;
-use crate::error::{ReadError, Why};
-use crate::items::{Item, read_payload};
 use std::alloc::{AllocError, Global};
 use std::marker::Model;
-use wl_bytes::Reader;
+use wl_bytes::{Item, ReadError, Reader, Why, read_payload};
 
 /// When the bytes of a segment are written.
 #[derive(Clone, Copy, Debug, PartialEq, Eq)]
@@ -92,7 +90,7 @@ impl<'a> Item<'a> for TargetedSegment<'a> {
 }
 
 /// What the byte in front of a segment says.
-#[derive(Clone, Copy, Debug, PartialEq, Eq)]
+#[derive(Clone, Copy, PartialEq, Eq)]
 pub(crate) enum SegmentFlag {
     /// It is active, in the first memory.
     InMemory,
@@ -210,13 +208,13 @@ pub fn read_targeted_segments(
 }
 
 /// Each payload spells one list of segments and memories or has one fault, and never both.
-#[tactic(auto, using(crate::proofs::ListLaws::exact, crate::proofs::SegmentLaws::targeted_reading))]
+#[tactic(auto, using(wl_bytes::proofs::ListLaws::exact, crate::proofs::SegmentLaws::targeted_reading))]
 pub fn targeted_segments_or_fault()
     ensures { AreAlternatives AreTargeted SegmentsFault }
 {}
 
 /// Each payload spells one list of segments or has one fault, and never both.
-#[tactic(auto, using(crate::proofs::ListLaws::exact, crate::proofs::SegmentLaws::segments_reading))]
+#[tactic(auto, using(wl_bytes::proofs::ListLaws::exact, crate::proofs::SegmentLaws::segments_reading))]
 pub fn segments_or_fault()
     ensures { AreAlternatives AreSegments SegmentsFault }
 {}

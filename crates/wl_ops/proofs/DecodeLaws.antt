@@ -12,14 +12,14 @@ use Rattle.wl_bytes.specs.Grammar.{Items, error_of}
 use Rattle.wl_bytes.proofs.Steps.{bind_ok, bind_err, ok_is, err_is}
 use Rattle.wl_bytes.proofs.Readings.{IsReading}
 use Rattle.wl_bytes.proofs.GrammarLaws.{then_reading}
-use Rattle.wl_module.specs.declared.error.Why.TheVariants.{Truncated, BadByte}
-use Rattle.wl_module.specs.declared.error.ReadError.{ReadError}
-use Rattle.wl_module.specs.declared.error.ReadError.TheVariants.{OutOfMemory, Malformed, Unsupported}
-use Rattle.wl_module.specs.Outcome.{Fails, Gives}
-use Rattle.wl_module.specs.Lists.{NumberFault, number_at, ByteFault, one_byte_at, list_at, start}
-use Rattle.wl_module.specs.Checks.{Where, WhereFault, unless, where_at, Any, any_at}
-use Rattle.wl_module.proofs.ListLaws.{number_reading, one_byte_reading, list_reading, IsWholeReading}
-use Rattle.wl_module.proofs.CheckLaws.{where_reading, any_reading}
+use Rattle.wl_bytes.specs.declared.read_error.Why.TheVariants.{Truncated, BadByte}
+use Rattle.wl_bytes.specs.declared.read_error.ReadError.{ReadError}
+use Rattle.wl_bytes.specs.declared.read_error.ReadError.TheVariants.{OutOfMemory, Malformed, Unsupported}
+use Rattle.wl_bytes.specs.Outcome.{Fails, Gives}
+use Rattle.wl_bytes.specs.Lists.{NumberFault, number_at, ByteFault, one_byte_at, list_at, start}
+use Rattle.wl_bytes.specs.Checks.{Where, WhereFault, unless, where_at, Any, any_at}
+use Rattle.wl_bytes.proofs.ListLaws.{number_reading, one_byte_reading, list_reading, IsWholeReading}
+use Rattle.wl_bytes.proofs.CheckLaws.{where_reading, any_reading}
 use Rattle.wl_ops.specs.declared.op.Op.{Op}
 use Rattle.wl_ops.specs.Immediates.{is_value_type}
 use Rattle.wl_ops.specs.Operators.{IsOp, IsTaken, is_taken, OpFault, op_at}

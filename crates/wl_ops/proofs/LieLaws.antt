@@ -4,7 +4,7 @@ use Rattle.std.specs.List.{cons_option}
 use Rattle.std.proofs.lemmas.Bool.{lt-leb, le-leb}
 use Rattle.wl_bytes.specs.Leb.{IsU32}
 use Rattle.wl_bytes.specs.Grammar.{Items}
-use Rattle.wl_module.specs.Checks.{When}
+use Rattle.wl_bytes.specs.Checks.{When}
 use Rattle.wl_ops.specs.declared.op.DataIndexImm.{DataIndexImm}
 use Rattle.wl_ops.specs.declared.op.Marked.{Marked}
 use Rattle.wl_ops.specs.Table.{is_prefix}

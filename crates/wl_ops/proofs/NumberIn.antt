@@ -3,7 +3,7 @@ use Rattle.std.proofs.Common.{◌≡◌, ℕ, ℤ, ◌+◌, ◌<◌, ◌^◌, Bo
 use Rattle.std.proofs.lemmas.List.{append-nil, append_cancel_right}
 use Rattle.wl_bytes.specs.Leb.{IsU32, IsShortest}
 use Rattle.wl_bytes.proofs.ShortestLaws.{written_u32}
-use Rattle.wl_module.specs.Checks.{When}
+use Rattle.wl_bytes.specs.Checks.{When}
 use Rattle.wl_ops.specs.declared.op.Op.{Op}
 use Rattle.wl_ops.specs.declared.op.DataIndexImm.{DataIndexImm}
 use Rattle.wl_ops.specs.declared.op.Marked.{Marked}

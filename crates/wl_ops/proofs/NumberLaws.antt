@@ -13,13 +13,13 @@ use Rattle.wl_bytes.specs.Grammar.{Then, then_at, Items, map_at}
 use Rattle.wl_bytes.proofs.Steps.{bind_ok, ok_is}
 use Rattle.wl_bytes.proofs.Readings.{IsReading}
 use Rattle.wl_bytes.proofs.GrammarLaws.{map_reading, then_reading, cons_text, first_of_items}
-use Rattle.wl_module.specs.declared.error.ReadError.{ReadError}
-use Rattle.wl_module.specs.declared.error.ReadError.TheVariants.{OutOfMemory, Malformed, Unsupported}
-use Rattle.wl_module.specs.Outcome.{Fails}
-use Rattle.wl_module.specs.Lists.{NumberFault, number_at, start, list_at}
-use Rattle.wl_module.specs.Checks.{When, WhenFault, when_at, Any, any_at}
-use Rattle.wl_module.proofs.ListLaws.{number_reading}
-use Rattle.wl_module.proofs.CheckLaws.{when_reading, measured_reading}
+use Rattle.wl_bytes.specs.declared.read_error.ReadError.{ReadError}
+use Rattle.wl_bytes.specs.declared.read_error.ReadError.TheVariants.{OutOfMemory, Malformed, Unsupported}
+use Rattle.wl_bytes.specs.Outcome.{Fails}
+use Rattle.wl_bytes.specs.Lists.{NumberFault, number_at, start, list_at}
+use Rattle.wl_bytes.specs.Checks.{When, WhenFault, when_at, Any, any_at}
+use Rattle.wl_bytes.proofs.ListLaws.{number_reading}
+use Rattle.wl_bytes.proofs.CheckLaws.{when_reading, measured_reading}
 use Rattle.wl_ops.specs.declared.table.Single.TheVariants.{Number}
 use Rattle.wl_ops.specs.declared.table.Immediate.TheVariants.{One}
 use Rattle.wl_ops.specs.declared.op.Op.{Op}

@@ -7,13 +7,13 @@ use Rattle.wl_bytes.specs.Grammar.{Then, ThenFault, then_at, Items, map_at}
 use Rattle.wl_bytes.proofs.Steps.{ok_is}
 use Rattle.wl_bytes.proofs.Readings.{IsReading}
 use Rattle.wl_bytes.proofs.GrammarLaws.{then_reading, map_reading, first_of_items, nothing_taken}
-use Rattle.wl_module.specs.declared.error.ReadError.{ReadError}
-use Rattle.wl_module.specs.Lists.{start}
+use Rattle.wl_bytes.specs.declared.read_error.ReadError.{ReadError}
+use Rattle.wl_bytes.specs.Lists.{start}
 use Rattle.wl_ops.specs.declared.op.Op.{Op}
 use Rattle.wl_ops.specs.declared.table.Shape.{Shape}
 use Rattle.wl_ops.specs.Table.{shape_of}
 use Rattle.wl_ops.specs.Operators.{IsHead, HeadFault, head_at, IsBehind, IsOp, shape_or, IsBehindTaken, BehindFault, behind_at, op_of}
-use Rattle.wl_module.specs.Checks.{Any}
+use Rattle.wl_bytes.specs.Checks.{Any}
 use Rattle.wl_ops.specs.Decoding.{AreLocals, AreOps}
 use Rattle.wl_ops.proofs.OpLaws.{head_reading, behind_reading}
 use Rattle.wl_ops.proofs.DecodeLaws.{byte_first, locals_reading, mid_of}

@@ -11,16 +11,16 @@ use Rattle.wl_bytes.proofs.Steps.{err_is}
 use Rattle.wl_bytes.proofs.Readings.{IsReading}
 use Rattle.wl_bytes.proofs.SignedLaws.{signed_reading}
 use Rattle.wl_bytes.proofs.GrammarLaws.{then_reading, map_reading, seen_reading, times_reading, error_reading}
-use Rattle.wl_module.specs.declared.error.Why.TheVariants.{BadByte}
-use Rattle.wl_module.specs.declared.error.Form.TheVariants.{Operator}
-use Rattle.wl_module.specs.declared.error.ReadError.{ReadError}
-use Rattle.wl_module.specs.declared.error.ReadError.TheVariants.{Malformed, Unsupported}
-use Rattle.wl_module.specs.Error.{read_error}
-use Rattle.wl_module.specs.Lists.{NumberFault, number_at, ByteFault, one_byte_at}
-use Rattle.wl_module.specs.Checks.{Where, WhereFault, unless, where_at, When, when_at, IsNothing, NoFault, nothing_at, Seen}
-use Rattle.wl_module.specs.Constants.{SignedNumberFault, signed_number_at}
-use Rattle.wl_module.proofs.ListLaws.{number_reading, one_byte_reading}
-use Rattle.wl_module.proofs.CheckLaws.{where_reading, when_reading, nothing_reading}
+use Rattle.wl_bytes.specs.declared.read_error.Why.TheVariants.{BadByte}
+use Rattle.wl_bytes.specs.declared.read_error.Form.TheVariants.{Operator}
+use Rattle.wl_bytes.specs.declared.read_error.ReadError.{ReadError}
+use Rattle.wl_bytes.specs.declared.read_error.ReadError.TheVariants.{Malformed, Unsupported}
+use Rattle.wl_bytes.specs.Error.{read_error}
+use Rattle.wl_bytes.specs.Lists.{NumberFault, number_at, ByteFault, one_byte_at}
+use Rattle.wl_bytes.specs.Checks.{Where, WhereFault, unless, where_at, When, when_at, IsNothing, NoFault, nothing_at, Seen}
+use Rattle.wl_bytes.specs.Lists.{SignedNumberFault, signed_number_at}
+use Rattle.wl_bytes.proofs.ListLaws.{number_reading, one_byte_reading}
+use Rattle.wl_bytes.proofs.CheckLaws.{where_reading, when_reading, nothing_reading}
 use Rattle.wl_ops.specs.declared.table.Single.{Single}
 use Rattle.wl_ops.specs.declared.table.Single.TheVariants.{Number, Alignment, BlockType, Signed32, Signed64, Byte, ReferenceType, ValueType}
 use Rattle.wl_ops.specs.declared.table.Immediate.{Immediate}

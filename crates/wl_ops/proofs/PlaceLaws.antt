@@ -2,7 +2,7 @@
 use Rattle.std.proofs.Common.{ℕ, ℤ, ◌+◌, Bool, true, false, List, [], ◌∷◌, length, Option, Some, None}
 use Rattle.wl_bytes.specs.Leb.{IsU32, IsSigned, NumberForm, s32_form, s33_form, s64_form}
 use Rattle.wl_bytes.specs.Grammar.{Items}
-use Rattle.wl_module.specs.Checks.{When}
+use Rattle.wl_bytes.specs.Checks.{When}
 use Rattle.wl_ops.specs.declared.table.Single.{Single}
 use Rattle.wl_ops.specs.declared.table.Single.TheVariants.{Number, Alignment, BlockType, Signed32, Signed64, Byte, ReferenceType, ValueType}
 use Rattle.wl_ops.specs.declared.table.Immediate.{Immediate}

@@ -6,10 +6,10 @@ use Rattle.wl_bytes.specs.Cursor.{Cursor}
 use Rattle.wl_bytes.specs.Parse.{◌>>=◌}
 use Rattle.wl_bytes.specs.Grammar.{then_at, times_at, map_at}
 use Rattle.wl_bytes.proofs.Steps.{ok_is}
-use Rattle.wl_module.specs.declared.error.ReadError.{ReadError}
-use Rattle.wl_module.specs.declared.error.ReadError.TheVariants.{OutOfMemory, Malformed, Unsupported}
-use Rattle.wl_module.specs.Outcome.{Fails}
-use Rattle.wl_module.specs.Lists.{number_at}
+use Rattle.wl_bytes.specs.declared.read_error.ReadError.{ReadError}
+use Rattle.wl_bytes.specs.declared.read_error.ReadError.TheVariants.{OutOfMemory, Malformed, Unsupported}
+use Rattle.wl_bytes.specs.Outcome.{Fails}
+use Rattle.wl_bytes.specs.Lists.{number_at}
 use Rattle.wl_ops.specs.declared.table.Single.{Single}
 use Rattle.wl_ops.specs.declared.table.Single.TheVariants.{Number}
 use Rattle.wl_ops.specs.declared.table.Immediate.{Immediate}

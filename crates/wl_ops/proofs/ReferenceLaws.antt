@@ -2,9 +2,9 @@
 use Rattle.std.proofs.Common.{◌≡◌, ◌≢◌, ◌⊎◌, Bool, true, false, length, inl, inr, refl, ap, sym, ◌∙◌, subst, Result, Ok, Err, ◌<◌}
 use Rattle.std.proofs.lemmas.Bool.{true≢false}
 use Rattle.wl_bytes.specs.Cursor.{Cursor}
-use Rattle.wl_module.specs.Outcome.{Fails}
-use Rattle.wl_module.specs.declared.error.ReadError.{ReadError}
-use Rattle.wl_module.specs.declared.error.ReadError.TheVariants.{OutOfMemory, Malformed, Unsupported}
+use Rattle.wl_bytes.specs.Outcome.{Fails}
+use Rattle.wl_bytes.specs.declared.read_error.ReadError.{ReadError}
+use Rattle.wl_bytes.specs.declared.read_error.ReadError.TheVariants.{OutOfMemory, Malformed, Unsupported}
 use Rattle.wl_bytes.proofs.Steps.{ok_is}
 use Rattle.wl_ops.specs.declared.op.Op.{Op}
 use Rattle.wl_bytes.specs.Grammar.{map_at}

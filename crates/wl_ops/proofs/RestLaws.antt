@@ -8,7 +8,7 @@ use Rattle.wl_bytes.specs.Grammar.{Items}
 use Rattle.wl_bytes.proofs.Steps.{bind_ok, bind_err, chosen, ok_is}
 use Rattle.wl_bytes.proofs.Readings.{IsReading}
 use Rattle.wl_bytes.proofs.GrammarLaws.{cons_text, first_of_items, nothing_taken, take_nothing}
-use Rattle.wl_module.proofs.ChainLaws.{some_text}
+use Rattle.wl_bytes.proofs.ChainLaws.{some_text}
 use Rattle.wl_ops.specs.Decoding.{rest_of}
 
 -- items are read, and none is an empty text

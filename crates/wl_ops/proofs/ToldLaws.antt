@@ -5,11 +5,11 @@ use Rattle.wl_bytes.specs.Cursor.{Cursor}
 use Rattle.wl_bytes.specs.Parse.{Takes}
 use Rattle.wl_bytes.specs.Grammar.{Items}
 use Rattle.wl_bytes.proofs.Steps.{ok_is, err_is}
-use Rattle.wl_module.specs.declared.error.ReadError.{ReadError}
-use Rattle.wl_module.specs.declared.error.ReadError.TheVariants.{OutOfMemory, Malformed, Unsupported}
-use Rattle.wl_module.specs.Outcome.{Fails, HasCause, ReadsWhole, AreAlternatives}
-use Rattle.wl_module.specs.Lists.{start}
-use Rattle.wl_module.specs.Checks.{Any}
+use Rattle.wl_bytes.specs.declared.read_error.ReadError.{ReadError}
+use Rattle.wl_bytes.specs.declared.read_error.ReadError.TheVariants.{OutOfMemory, Malformed, Unsupported}
+use Rattle.wl_bytes.specs.Outcome.{Fails, HasCause, ReadsWhole, AreAlternatives}
+use Rattle.wl_bytes.specs.Lists.{start}
+use Rattle.wl_bytes.specs.Checks.{Any}
 use Rattle.wl_ops.specs.declared.op.Op.{Op}
 use Rattle.wl_ops.specs.declared.op.DataIndexImm.{DataIndexImm}
 use Rattle.wl_ops.specs.declared.op.Marked.{Marked}

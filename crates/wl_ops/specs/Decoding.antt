@@ -7,11 +7,11 @@ use Rattle.wl_bytes.specs.Parse.{Takes, ◌>>=◌}
 use Rattle.wl_bytes.specs.Leb.{IsU32}
 use Rattle.wl_bytes.specs.Items.{IsByte}
 use Rattle.wl_bytes.specs.Grammar.{Then, ThenFault, then_at, Items, error_of}
-use Rattle.wl_module.specs.declared.error.Why.TheVariants.{Truncated, BadByte, Body}
-use Rattle.wl_module.specs.declared.error.ReadError.{ReadError}
-use Rattle.wl_module.specs.declared.error.ReadError.TheVariants.{OutOfMemory, Malformed, Unsupported}
-use Rattle.wl_module.specs.Lists.{NumberFault, number_at, ByteFault, one_byte_at, Listed, ListedFault, list_at, start}
-use Rattle.wl_module.specs.Checks.{Where, WhereFault, unless, where_at, Any, any_at}
+use Rattle.wl_bytes.specs.declared.read_error.Why.TheVariants.{Truncated, BadByte, Body}
+use Rattle.wl_bytes.specs.declared.read_error.ReadError.{ReadError}
+use Rattle.wl_bytes.specs.declared.read_error.ReadError.TheVariants.{OutOfMemory, Malformed, Unsupported}
+use Rattle.wl_bytes.specs.Lists.{NumberFault, number_at, ByteFault, one_byte_at, Listed, ListedFault, list_at, start}
+use Rattle.wl_bytes.specs.Checks.{Where, WhereFault, unless, where_at, Any, any_at}
 use Rattle.wl_ops.specs.declared.op.Op.{Op}
 use Rattle.wl_ops.specs.Immediates.{is_value_type}
 use Rattle.wl_ops.specs.Operators.{IsOp, IsTaken, is_taken, OpFault, op_at}

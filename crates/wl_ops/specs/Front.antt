@@ -2,7 +2,7 @@
 use Rattle.std.specs.Prelude.{List, ◌++◌, Result, Ok}
 use Rattle.wl_bytes.specs.Cursor.{Cursor}
 use Rattle.wl_bytes.specs.Parse.{◌>>=◌}
-use Rattle.wl_module.specs.declared.error.ReadError.{ReadError}
+use Rattle.wl_bytes.specs.declared.read_error.ReadError.{ReadError}
 
 -- what was read before, and behind it what is read
 abbrev pub with_front : {X : Type 0} → List X → Result (List X × Cursor) ReadError

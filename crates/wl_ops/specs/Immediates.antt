@@ -6,15 +6,15 @@ use Rattle.wl_bytes.specs.Cursor.{Cursor}
 use Rattle.wl_bytes.specs.Leb.{s32_form, s33_form, s64_form, IsU32, IsSigned}
 use Rattle.wl_bytes.specs.Items.{IsByte}
 use Rattle.wl_bytes.specs.Grammar.{Then, ThenFault, then_at, Times, TimesFault, times_at, map_at}
-use Rattle.wl_module.specs.declared.error.Why.TheVariants.{BadByte}
-use Rattle.wl_module.specs.declared.error.Form.TheVariants.{Operator}
-use Rattle.wl_module.specs.declared.error.ReadError.{ReadError}
-use Rattle.wl_module.specs.declared.error.ReadError.TheVariants.{Malformed, Unsupported}
-use Rattle.wl_module.specs.Lists.{NumberFault, number_at, ByteFault, one_byte_at}
-use Rattle.wl_module.specs.Checks.{Where, WhereFault, unless, where_at, IsNothing, NoFault, nothing_at, Seen}
+use Rattle.wl_bytes.specs.declared.read_error.Why.TheVariants.{BadByte}
+use Rattle.wl_bytes.specs.declared.read_error.Form.TheVariants.{Operator}
+use Rattle.wl_bytes.specs.declared.read_error.ReadError.{ReadError}
+use Rattle.wl_bytes.specs.declared.read_error.ReadError.TheVariants.{Malformed, Unsupported}
+use Rattle.wl_bytes.specs.Lists.{NumberFault, number_at, ByteFault, one_byte_at}
+use Rattle.wl_bytes.specs.Checks.{Where, WhereFault, unless, where_at, IsNothing, NoFault, nothing_at, Seen}
 use Rattle.wl_module.specs.declared.types.ValType.{ValType}
 use Rattle.wl_module.specs.Types.{value_type_of, is_reference}
-use Rattle.wl_module.specs.Constants.{SignedNumberFault, signed_number_at}
+use Rattle.wl_bytes.specs.Lists.{SignedNumberFault, signed_number_at}
 use Rattle.wl_ops.specs.declared.table.Single.{Single}
 use Rattle.wl_ops.specs.declared.table.Single.TheVariants.{Number, Alignment, BlockType, Signed32, Signed64, Byte, ReferenceType, ValueType}
 use Rattle.wl_ops.specs.declared.table.Immediate.{Immediate}

@@ -7,10 +7,10 @@ use Rattle.wl_bytes.specs.Cursor.{Cursor}
 use Rattle.wl_bytes.specs.Parse.{Takes}
 use Rattle.wl_bytes.specs.Leb.{IsU32}
 use Rattle.wl_bytes.specs.Grammar.{Then, ThenFault, then_at, Items, map_at}
-use Rattle.wl_module.specs.declared.error.ReadError.{ReadError}
-use Rattle.wl_module.specs.Outcome.{Fails}
-use Rattle.wl_module.specs.Lists.{NumberFault, number_at}
-use Rattle.wl_module.specs.Checks.{When, WhenFault, when_at, measured_at, Seen}
+use Rattle.wl_bytes.specs.declared.read_error.ReadError.{ReadError}
+use Rattle.wl_bytes.specs.Outcome.{Fails}
+use Rattle.wl_bytes.specs.Lists.{NumberFault, number_at}
+use Rattle.wl_bytes.specs.Checks.{When, WhenFault, when_at, measured_at, Seen}
 use Rattle.wl_ops.specs.declared.op.Op.{Op}
 use Rattle.wl_ops.specs.declared.op.DataIndexImm.{DataIndexImm}
 use Rattle.wl_ops.specs.declared.op.Marked.{Marked}

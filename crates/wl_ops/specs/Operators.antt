@@ -5,12 +5,12 @@ use Rattle.wl_bytes.specs.Cursor.{Cursor}
 use Rattle.wl_bytes.specs.Leb.{IsU32}
 use Rattle.wl_bytes.specs.Items.{IsByte}
 use Rattle.wl_bytes.specs.Grammar.{Then, ThenFault, then_at, map_at}
-use Rattle.wl_module.specs.declared.error.Why.TheVariants.{BadByte}
-use Rattle.wl_module.specs.declared.error.Form.TheVariants.{Operator, ElementOperator}
-use Rattle.wl_module.specs.declared.error.ReadError.{ReadError}
-use Rattle.wl_module.specs.declared.error.ReadError.TheVariants.{Malformed, Unsupported}
-use Rattle.wl_module.specs.Lists.{NumberFault, number_at, ByteFault, one_byte_at}
-use Rattle.wl_module.specs.Checks.{Where, When, WhenFault, when_at, Seen}
+use Rattle.wl_bytes.specs.declared.read_error.Why.TheVariants.{BadByte}
+use Rattle.wl_bytes.specs.declared.read_error.Form.TheVariants.{Operator, ElementOperator}
+use Rattle.wl_bytes.specs.declared.read_error.ReadError.{ReadError}
+use Rattle.wl_bytes.specs.declared.read_error.ReadError.TheVariants.{Malformed, Unsupported}
+use Rattle.wl_bytes.specs.Lists.{NumberFault, number_at, ByteFault, one_byte_at}
+use Rattle.wl_bytes.specs.Checks.{Where, When, WhenFault, when_at, Seen}
 use Rattle.wl_ops.specs.declared.table.Shape.{Shape}
 use Rattle.wl_ops.specs.declared.op.Op.{Op}
 use Rattle.wl_ops.specs.Table.{immediates, is_prefix, is_untaken, is_element, shape_of}

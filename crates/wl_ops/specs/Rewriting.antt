@@ -3,10 +3,10 @@ use Rattle.std.specs.Prelude.{◌≡◌, ◌⊎◌, ℕ, ℤ, pos, negsuc, ◌+�
 use Rattle.std.specs.List.{Contains, filter, sum_by}
 use Rattle.std.specs.Option.{unwrap_or}
 use Rattle.wl_bytes.specs.Leb.{IsShortest}
-use Rattle.wl_module.specs.declared.error.Why.TheVariants.{BadIndex}
-use Rattle.wl_module.specs.declared.error.ReadError.{ReadError}
-use Rattle.wl_module.specs.declared.error.ReadError.TheVariants.{OutOfMemory, Malformed, Unsupported}
-use Rattle.wl_module.specs.Outcome.{ReadsWhole}
+use Rattle.wl_bytes.specs.declared.read_error.Why.TheVariants.{BadIndex}
+use Rattle.wl_bytes.specs.declared.read_error.ReadError.{ReadError}
+use Rattle.wl_bytes.specs.declared.read_error.ReadError.TheVariants.{OutOfMemory, Malformed, Unsupported}
+use Rattle.wl_bytes.specs.Outcome.{ReadsWhole}
 use Rattle.wl_ops.specs.declared.op.DataIndexImm.{DataIndexImm}
 use Rattle.wl_ops.specs.declared.op.Op.{Op}
 use Rattle.wl_ops.specs.declared.rewriting.Shift.{Shift}

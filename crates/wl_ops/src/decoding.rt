@@ -4,17 +4,17 @@ ghost use Rattle.std.specs.Prelude.{◌≡◌, ◌≤◌, IfOk, length};
 ghost use Rattle.wl_bytes.specs.declared.reader.TheConstants.{MAX_LEN};
 ghost use Rattle.wl_bytes.specs.Cursor.{end_of};
 ghost use Rattle.wl_bytes.specs.Grammar.{times_at};
-ghost use Rattle.wl_module.specs.Outcome.{Yields, Gives, ReadsWhole};
-ghost use Rattle.wl_module.specs.Lists.{list_at};
-ghost use Rattle.wl_module.specs.Checks.{any_at};
+ghost use Rattle.wl_bytes.specs.Outcome.{Yields, Gives, ReadsWhole};
+ghost use Rattle.wl_bytes.specs.Lists.{list_at};
+ghost use Rattle.wl_bytes.specs.Checks.{any_at};
 ghost use Rattle.wl_ops.specs.Decoding.{local_at, ops_of, body_of, in_body, decoded, AreTaken, DecodeFault, list_items};
 
 use crate::immediates::read_count;
 use crate::op::Op;
 use crate::operators::{END, read_op};
 use std::alloc::Global;
-use wl_bytes::Reader;
-use wl_module::{ReadError, ValType, Why};
+use wl_bytes::{ReadError, Reader, Why};
+use wl_module::ValType;
 
 /// The local declaration in front: how many locals, and the byte of their type.
 #[tactic(auto, unfolding(crate::specs::Decoding::local_at))]

@@ -3,16 +3,15 @@
 ghost use Rattle.std.specs.Prelude.{◌≡◌, ◌≤◌, ◌↔◌, IfOk, IsTrue, length};
 ghost use Rattle.wl_bytes.specs.declared.reader.TheConstants.{MAX_LEN};
 ghost use Rattle.wl_bytes.specs.Grammar.{map_at};
-ghost use Rattle.wl_module.specs.Lists.{start};
-ghost use Rattle.wl_module.specs.Outcome.{Yields};
+ghost use Rattle.wl_bytes.specs.Lists.{start};
+ghost use Rattle.wl_bytes.specs.Outcome.{Yields};
 ghost use Rattle.wl_ops.specs.Operators.{op_at};
 ghost use Rattle.wl_ops.specs.Expressions.{is_reference, HasReference};
 
 use crate::op::Op;
 use crate::operators::read_op;
 use std::alloc::{AllocError, Global};
-use wl_bytes::Reader;
-use wl_module::ReadError;
+use wl_bytes::{ReadError, Reader};
 
 /// The first byte of the operator `global.get`.
 const GLOBAL_GET: u8 = 0x23;

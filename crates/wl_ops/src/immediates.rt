@@ -3,16 +3,16 @@
 ghost use Rattle.std.specs.Prelude.{◌≡◌};
 ghost use Rattle.wl_bytes.specs.Cursor.{end_of};
 ghost use Rattle.wl_bytes.specs.Grammar.{times_at};
-ghost use Rattle.wl_module.specs.Outcome.{Yields};
-ghost use Rattle.wl_module.specs.Lists.{number_at};
+ghost use Rattle.wl_bytes.specs.Outcome.{Yields};
+ghost use Rattle.wl_bytes.specs.Lists.{number_at};
 ghost use Rattle.wl_ops.specs.Front.{with_front};
 ghost use Rattle.wl_ops.specs.Immediates.{is_block_type, single_at, catch_numbers, catch_kind_at, catch_at, flat_at, immediate_at, immediates_at};
 
 use crate::op::OpArgs;
 use crate::table::{Immediate, Single};
 use std::alloc::Global;
-use wl_bytes::Reader;
-use wl_module::{Form, ReadError, ValType, Why};
+use wl_bytes::{Form, ReadError, Reader, Why};
+use wl_module::ValType;
 
 /// Whether the number is the type of a block: the index of a type, a value type or nothing.
 fn is_block_type(value: i64) -> bool

@@ -2,9 +2,9 @@
 //! bodies spell.
 
 ghost use Rattle.std.specs.Prelude.{◌≡◌, ◌≤◌, ℕ, List, [], length, Option, Ok};
-ghost use Rattle.wl_module.specs.Lists.{AreFew};
-ghost use Rattle.wl_module.specs.declared.error.ReadError.{ReadError as Fault};
-ghost use Rattle.wl_module.specs.Outcome.{AreAlternatives};
+ghost use Rattle.wl_bytes.specs.Lists.{AreFew};
+ghost use Rattle.wl_bytes.specs.declared.read_error.ReadError.{ReadError as Fault};
+ghost use Rattle.wl_bytes.specs.Outcome.{AreAlternatives};
 ghost use Rattle.wl_ops.specs.declared.op.Op.{Op as OpRecord};
 ghost use Rattle.wl_ops.specs.Decoding.{AreOps, AreTaken, DecodeFault, list_items, body_of};
 ghost use Rattle.wl_ops.specs.declared.op.DataIndexImm.{DataIndexImm as Number};

@@ -4,7 +4,7 @@ ghost use Rattle.std.specs.Prelude.{◌≡◌, ◌≤◌, ◌++◌, [], Ok, fals
 ghost use Rattle.std.specs.Option.{option_to_list};
 ghost use Rattle.wl_bytes.specs.declared.reader.TheConstants.{MAX_LEN};
 ghost use Rattle.wl_bytes.specs.Cursor.{end_of};
-ghost use Rattle.wl_module.specs.Outcome.{Yields, Gives, ReadsWhole};
+ghost use Rattle.wl_bytes.specs.Outcome.{Yields, Gives, ReadsWhole};
 ghost use Rattle.wl_ops.specs.Numbers.{is_segment, placed_number_at, segment_number_at, segment_args, marked_at, NumbersIn, NumbersOf, AreTold, NumbersFault, holds_prefix};
 
 use crate::decoding::{in_body, skip_locals};
@@ -12,8 +12,7 @@ use crate::op::{DataIndexImm, Marked, Op, OpArgs};
 use crate::operators::{END, read_behind, read_head};
 use memchr::memchr;
 use std::alloc::{AllocError, Global};
-use wl_bytes::Reader;
-use wl_module::{ReadError, Why};
+use wl_bytes::{ReadError, Reader, Why};
 
 /// The first byte of `memory.init` and `data.drop`.
 const PREFIX: u8 = 0xfc;

@@ -67,7 +67,7 @@ pub struct Op {
 }
 
 /// Where the number of a data segment stands in a body, and what it is.
-#[derive(Clone, Copy, Debug, PartialEq, Eq)]
+#[derive(Clone, Copy, PartialEq, Eq)]
 pub struct DataIndexImm {
     /// How many bytes lie before it.
     pub offset: usize,

@@ -2,15 +2,14 @@
 
 ghost use Rattle.std.specs.Prelude.{◌≡◌};
 ghost use Rattle.wl_bytes.specs.Cursor.{end_of};
-ghost use Rattle.wl_module.specs.Outcome.{Yields, Gives};
+ghost use Rattle.wl_bytes.specs.Outcome.{Yields, Gives};
 ghost use Rattle.wl_ops.specs.Operators.{sub_at, head_at, taken_shape, behind_at, op_at};
 
 use crate::immediates::read_immediates;
 use crate::op::{Op, OpArgs};
 use crate::table::{Shape, immediates_of, is_element, is_prefix, is_untaken, shape_of};
 use std::alloc::Global;
-use wl_bytes::Reader;
-use wl_module::{Form, ReadError, Why};
+use wl_bytes::{Form, ReadError, Reader, Why};
 
 /// The first byte of the operator `end`.
 pub(crate) const END: u8 = 0x0b;

@@ -15,8 +15,7 @@ use crate::numbers::data_index_immediates;
 use crate::op::DataIndexImm;
 use std::alloc::{AllocError, Global};
 use std::borrow::CowSlice;
-use wl_bytes::push_uleb;
-use wl_module::{ReadError, Why};
+use wl_bytes::{ReadError, Why, push_uleb};
 
 /// What lies behind a number moves on with its end.
 #[derive(Clone, Copy)]

@@ -19,11 +19,11 @@ use Rattle.wl_data.specs.DataPlaces.{DataInput, IsDataPlaces, HasLayout, HaveLay
 use Rattle.wl_data.specs.Segments.{KeptData, SegmentLayout}
 use Rattle.wl_data.specs.declared.options.DataOptions.{DataOptions}
 use Rattle.wl_data.specs.declared.places.DataPlaces.{DataPlaces}
-use Rattle.wl_data.specs.declared.segments.WasmDataAddress.{WasmDataAddress}
-use Rattle.wl_data.specs.declared.segments.WasmDataAddress.TheVariants.{Missing, Placed}
-use Rattle.wl_live.specs.declared.units.WasmGcUnit.TheVariants.{DataSegment}
+use Rattle.wl_index.specs.declared.data_address.WasmDataAddress.{WasmDataAddress}
+use Rattle.wl_index.specs.declared.data_address.WasmDataAddress.TheVariants.{Missing, Placed}
+use Rattle.wl_symbols.specs.declared.units.WasmGcUnit.TheVariants.{DataSegment}
 use Rattle.wl_bind.specs.IndexMaps.{is_data_symbol}
-use Rattle.wl_bind.specs.Input.{Input, keeps}
+use Rattle.wl_symbols.specs.Input.{Input, keeps}
 use Rattle.wl_bind.specs.Parts.{AreRows}
 use Rattle.wl_plan.specs.Addresses.{start_of, layouts_of, segment_start, segment_starts, behind, defined_data, data_by, address_of_definition, symbol_address, IsHigh, HasHighSymbol}
 use Rattle.wl_plan.specs.AddressSteps.{AreOnce, starts_among, AreObjectStarts}

@@ -3,26 +3,26 @@ use Rattle.std.proofs.Common.{◌≡◌, ◌∙◌, ◌≤◌, ◌<◌, ℕ, ◌
 use Rattle.std.specs.Option.{option_and_then}
 use Rattle.std.proofs.lemmas.Bool.{cases_lt}
 use Rattle.wl_module.specs.Bodies.{Body}
-use Rattle.wl_module.specs.Outcome.{HasCause}
+use Rattle.wl_bytes.specs.Outcome.{HasCause}
 use Rattle.wl_module.specs.Places.{IsPart}
-use Rattle.wl_module.specs.declared.error.ReadError.{ReadError}
-use Rattle.wl_module.specs.declared.error.ReadError.TheVariants as read
-use Rattle.wl_module.specs.declared.error.Why.TheVariants.{BadIndex}
+use Rattle.wl_bytes.specs.declared.read_error.ReadError.{ReadError}
+use Rattle.wl_bytes.specs.declared.read_error.ReadError.TheVariants as read
+use Rattle.wl_bytes.specs.declared.read_error.Why.TheVariants.{BadIndex}
 use Rattle.wl_linking.specs.Fitting.{IsObject}
 use Rattle.wl_linking.specs.Object.{Object}
 use Rattle.wl_linking.specs.Stretches.{PartsStandIn}
 use Rattle.wl_linking.specs.declared.error.LinkError.TheVariants.{OutOfMemory}
 use Rattle.wl_symbols.specs.Link.{Link}
 use Rattle.wl_live.specs.Faults.{HasBodyFault, object_refusal}
-use Rattle.wl_live.specs.Live.{Live, is_live, IsLiveOf}
-use Rattle.wl_live.specs.References.{RefersByNumber}
-use Rattle.wl_live.specs.Units.{units_of, exists}
-use Rattle.wl_live.specs.declared.units.LinkUnit.{LinkUnit}
-use Rattle.wl_live.specs.declared.units.WasmGcUnit.TheVariants.{DefinedFunction, DataSegment}
+use Rattle.wl_symbols.specs.Live.{Live, is_live, IsLiveOf}
+use Rattle.wl_symbols.specs.References.{RefersByNumber}
+use Rattle.wl_symbols.specs.Units.{units_of, exists}
+use Rattle.wl_symbols.specs.declared.units.LinkUnit.{LinkUnit}
+use Rattle.wl_symbols.specs.declared.units.WasmGcUnit.TheVariants.{DefinedFunction, DataSegment}
 use Rattle.wl_ops.specs.Numbers.{AreTold}
 use Rattle.wl_ops.specs.Rewriting.{new_index, Rewrites, LacksIndex, RemapFault, IsRemapped}
 use Rattle.wl_ops.specs.declared.op.DataIndexImm.{DataIndexImm}
-use Rattle.wl_bind.specs.Input.{Input, keeps}
+use Rattle.wl_symbols.specs.Input.{Input, keeps}
 use Rattle.wl_plan.specs.Bodies.{body_in, new_number}
 use Rattle.wl_plan.specs.BodySteps.{AreNewNumbers, HasSoundBody, IsBodyFrom}
 use Rattle.wl_plan.specs.Parsing.{link_error_of}

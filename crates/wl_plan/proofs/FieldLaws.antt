@@ -5,13 +5,13 @@ use Rattle.std.proofs.lemmas.Option.{slice_get_within}
 use Rattle.wl_linking.specs.Object.{Object}
 use Rattle.wl_custom.specs.declared.relocations.WasmRelocation.{WasmRelocation}
 use Rattle.wl_linking.specs.declared.sites.Site.{Site}
-use Rattle.wl_live.specs.Live.{Live}
-use Rattle.wl_bind.specs.Input.{Input}
-use Rattle.wl_bind.specs.Relocations.{keeps_unit, relocated_at, relocated_if, relocated_in, object_relocations, relocations_from}
-use Rattle.wl_bind.specs.Scan.{relocations}
-use Rattle.wl_bind.specs.declared.relocated.FixupPlace.{FixupPlace}
-use Rattle.wl_bind.specs.declared.relocated.FixupPlace.TheVariants.{Code, Segment}
-use Rattle.wl_bind.specs.declared.relocated.Relocated.{Relocated}
+use Rattle.wl_symbols.specs.Live.{Live}
+use Rattle.wl_symbols.specs.Input.{Input}
+use Rattle.wl_symbols.specs.Relocations.{keeps_unit, relocated_at, relocated_if, relocated_in, object_relocations, relocations_from}
+use Rattle.wl_symbols.specs.Relocations.{relocations}
+use Rattle.wl_symbols.specs.declared.relocated.FixupPlace.{FixupPlace}
+use Rattle.wl_symbols.specs.declared.relocated.FixupPlace.TheVariants.{Code, Segment}
+use Rattle.wl_symbols.specs.declared.relocated.Relocated.{Relocated}
 use Rattle.wl_plan.proofs.ListLaws.{at_is_in}
 
 -- ---- sections

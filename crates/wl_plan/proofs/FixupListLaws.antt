@@ -4,8 +4,8 @@ use Rattle.std.specs.List.{AllByRecursion, AllZip}
 use Rattle.std.proofs.lemmas.List.Elements.{Contains-append_right}
 use Rattle.wl_linking.specs.Steps.{Clear, Refuses}
 use Rattle.wl_linking.specs.declared.error.LinkError.{LinkError}
-use Rattle.wl_bind.specs.Scan.{relocations}
-use Rattle.wl_bind.specs.declared.relocated.Relocated.{Relocated}
+use Rattle.wl_symbols.specs.Relocations.{relocations}
+use Rattle.wl_symbols.specs.declared.relocated.Relocated.{Relocated}
 use Rattle.wl_plan.specs.FixupSteps.{IsRefusedAt, NoneRefused}
 use Rattle.wl_plan.specs.Fixups.{IsFixupFault}
 use Rattle.wl_plan.specs.declared.fixups.FixupSources.{FixupSources}

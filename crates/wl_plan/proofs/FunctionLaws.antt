@@ -14,18 +14,18 @@ use Rattle.wl_linking.specs.Object.{Object}
 use Rattle.wl_custom.specs.Symbols.{Symbol}
 use Rattle.wl_custom.specs.declared.symbols.WasmSymbolKind.{WasmSymbolKind}
 use Rattle.wl_custom.specs.declared.symbols.WasmSymbolKind.TheVariants.{Func}
-use Rattle.wl_live.specs.declared.units.WasmGcUnit.TheVariants.{DefinedFunction}
+use Rattle.wl_symbols.specs.declared.units.WasmGcUnit.TheVariants.{DefinedFunction}
 use Rattle.wl_symbols.specs.declared.linker_symbol.WasmLinkerSymbol.{WasmLinkerSymbol}
 use Rattle.wl_symbols.specs.declared.linker_symbol.WasmLinkerSymbol.TheVariants.{CallCtors, InitTls}
-use Rattle.wl_slots.specs.ImportSlots.{ImportSlot, numbered_slots, slot_imports, object_slots, import_slots}
-use Rattle.wl_slots.specs.Left.{HostImport, same_field, is_stub, stub_slots, first_imports, first_slot}
-use Rattle.wl_slots.specs.SlotTargets.{slot_target}
+use Rattle.wl_symbols.specs.ImportSlots.{ImportSlot, numbered_slots, slot_imports, object_slots, import_slots}
+use Rattle.wl_symbols.specs.Left.{HostImport, same_field, is_stub, stub_slots, first_imports, first_slot}
+use Rattle.wl_symbols.specs.SlotTargets.{slot_target}
 use Rattle.wl_bind.specs.EntryTypes.{type_of_slot, type_of_entry, HasOutputType}
 use Rattle.wl_bind.specs.FunctionBinding.{left_functions, link_stubs, host_functions}
 use Rattle.wl_bind.specs.FunctionSpace.{FunctionEntry, FunctionOf, InitMemory, host_function_part, made_function_part, init_memory_part, stub_part, kept_functions, functions_of, object_functions, function_parts, function_space}
 use Rattle.wl_bind.specs.FunctionTypes.{slot_type, stub_types}
-use Rattle.wl_bind.specs.Input.{Input, keeps}
-use Rattle.wl_bind.specs.KeptSlots.{slots_from, is_kept_slot, kept_slots, left_slots}
+use Rattle.wl_symbols.specs.Input.{Input, keeps}
+use Rattle.wl_symbols.specs.KeptSlots.{slots_from, is_kept_slot, kept_slots, left_slots}
 use Rattle.wl_bind.specs.Made.{is_made, has_init_memory}
 use Rattle.wl_bind.specs.MadeIndices.{IsMadeIndex}
 use Rattle.wl_bind.specs.OutputTypes.{output_types}

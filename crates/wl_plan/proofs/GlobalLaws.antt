@@ -16,15 +16,16 @@ use Rattle.wl_linking.specs.declared.error.LinkError.TheVariants.{TooLarge}
 use Rattle.wl_linking.specs.declared.error.Quantity.TheVariants.{Address}
 use Rattle.wl_symbols.specs.Entries.{symbol_in}
 use Rattle.wl_symbols.specs.declared.entry.Definition.{Definition}
-use Rattle.wl_data.specs.declared.segments.WasmDataAddress.{WasmDataAddress}
-use Rattle.wl_data.specs.declared.segments.WasmDataAddress.TheVariants.{Missing}
-use Rattle.wl_reloc.specs.declared.index_map.WasmObjectIndexMap.{WasmObjectIndexMap}
-use Rattle.wl_bind.specs.Input.{Input}
+use Rattle.wl_index.specs.declared.data_address.WasmDataAddress.{WasmDataAddress}
+use Rattle.wl_index.specs.declared.data_address.WasmDataAddress.TheVariants.{Missing}
+use Rattle.wl_index.specs.declared.index_map.WasmObjectIndexMap.{WasmObjectIndexMap}
+use Rattle.wl_symbols.specs.Input.{Input}
 use Rattle.wl_bind.specs.Parts.{AreRows}
 use Rattle.wl_bind.specs.Sameness.{same_definition}
-use Rattle.wl_bind.specs.Scan.{is_global_index, names_data, definition_of, relocations, got_mem_of, got_mem, got_func, scan_of, GotMemEntry, GotFuncEntry, got_mem_entry, got_func_entry, Scanned}
+use Rattle.wl_bind.specs.Scan.{is_global_index, names_data, definition_of, got_mem_of, got_mem, got_func, scan_of, GotMemEntry, GotFuncEntry, got_mem_entry, got_func_entry, Scanned}
+use Rattle.wl_symbols.specs.Relocations.{relocations}
 use Rattle.wl_bind.specs.declared.binding.FunctionTarget.{FunctionTarget}
-use Rattle.wl_bind.specs.declared.relocated.Relocated.{Relocated}
+use Rattle.wl_symbols.specs.declared.relocated.Relocated.{Relocated}
 use Rattle.wl_plan.specs.Addresses.{address_of_definition, symbol_address, IsHigh, HasHighSymbol, IsAddressTooHigh}
 use Rattle.wl_plan.specs.AddressSteps.{IsHighAt}
 use Rattle.wl_plan.specs.Globals.{global_in}

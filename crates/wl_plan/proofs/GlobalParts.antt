@@ -13,9 +13,9 @@ use Rattle.wl_linking.specs.declared.error.LinkError.{LinkError}
 use Rattle.wl_symbols.specs.LinkerNames.{row_of}
 use Rattle.wl_symbols.specs.declared.linker_symbol.WasmLinkerSymbol.{WasmLinkerSymbol}
 use Rattle.wl_symbols.specs.declared.linker_symbol.WasmLinkerSymbol.TheVariants as linker
-use Rattle.wl_live.specs.declared.units.WasmGcUnit.TheVariants.{DefinedGlobal as OwnGlobal}
-use Rattle.wl_slots.specs.ImportSlots.{ImportSlot}
-use Rattle.wl_slots.specs.Left.{first_imports}
+use Rattle.wl_symbols.specs.declared.units.WasmGcUnit.TheVariants.{DefinedGlobal as OwnGlobal}
+use Rattle.wl_symbols.specs.ImportSlots.{ImportSlot}
+use Rattle.wl_symbols.specs.Left.{first_imports}
 use Rattle.wl_bind.specs.ExportedAddresses.{exported_addresses}
 use Rattle.wl_bind.specs.ExportedData.{dynamic_data, forced_data}
 use Rattle.wl_bind.specs.GlobalBinding.{host_globals}
@@ -25,7 +25,7 @@ use Rattle.wl_bind.specs.Parts.{by_object}
 use Rattle.wl_bind.specs.Scan.{got_mem, got_func}
 use Rattle.wl_bind.specs.declared.exported.DataSymbol.{DataSymbol}
 use Rattle.wl_bind.specs.GlobalSpace.{GlobalEntry, GlobalOf, AddressOf, DataOf, globals_of, kept_globals, made_global_part, address_part, got_mem_part, got_func_part, dynamic_part, forced_part, host_global_part, object_globals, global_space}
-use Rattle.wl_bind.specs.Input.{Input, keeps}
+use Rattle.wl_symbols.specs.Input.{Input, keeps}
 use Rattle.wl_bind.specs.declared.binding.GlobalTarget.TheVariants.{Defined, Made, GotMem, GotFunc, Host}
 use Rattle.wl_plan.specs.GlobalSteps.{AnswersStart, AddsMade, AddsPart, IsPartFault, is_linker_global, made_parts, own_global_part}
 use Rattle.wl_plan.specs.Globals.{start_of_global, i32_global, origin_of_global, IsMadeGlobal, IsGlobalOf, IsPlannedGlobal, own_globals, ArePlannedGlobals, IsGlobalFault}

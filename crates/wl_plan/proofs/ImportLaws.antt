@@ -12,12 +12,12 @@ use Rattle.wl_module.specs.declared.imports.ImportEntity.TheVariants as imported
 use Rattle.wl_linking.specs.Object.{Object}
 use Rattle.wl_custom.specs.Symbols.{Symbol}
 use Rattle.wl_custom.specs.declared.symbols.WasmSymbolKind.TheVariants.{Global as GlobalKind}
-use Rattle.wl_slots.specs.ImportSlots.{ImportSlot, is_slot_of, slot_at, numbered_slots, slot_imports}
-use Rattle.wl_slots.specs.Left.{HostImport, same_import, first_imports, first_slot}
+use Rattle.wl_symbols.specs.ImportSlots.{ImportSlot, is_slot_of, slot_at, numbered_slots, slot_imports}
+use Rattle.wl_symbols.specs.Left.{HostImport, same_import, first_imports, first_slot}
 use Rattle.wl_bind.specs.FunctionBinding.{host_functions}
 use Rattle.wl_bind.specs.FunctionSpace.{FunctionEntry, FunctionOf, function_space}
 use Rattle.wl_bind.specs.GlobalBinding.{left_globals, by_got, host_globals}
-use Rattle.wl_bind.specs.Input.{Input}
+use Rattle.wl_symbols.specs.Input.{Input}
 use Rattle.wl_bind.specs.OutputTypes.{output_types}
 use Rattle.wl_bind.specs.Shared.{function_imports, global_imports}
 use Rattle.wl_bind.specs.declared.binding.FunctionTarget.TheVariants.{Host}

@@ -11,13 +11,13 @@ use Rattle.wl_linking.specs.Object.{Object}
 use Rattle.wl_linking.specs.Steps.{Refuses}
 use Rattle.wl_linking.specs.declared.error.LinkError.{LinkError}
 use Rattle.wl_data.specs.Segments.{SegmentLayout}
-use Rattle.wl_data.specs.declared.segments.WasmDataAddress.{WasmDataAddress}
-use Rattle.wl_reloc.specs.declared.index_map.WasmObjectIndexMap.{WasmObjectIndexMap}
+use Rattle.wl_index.specs.declared.data_address.WasmDataAddress.{WasmDataAddress}
+use Rattle.wl_index.specs.declared.index_map.WasmObjectIndexMap.{WasmObjectIndexMap}
 use Rattle.wl_types.specs.Types.{max_entries}
-use Rattle.wl_types.specs.declared.types.TheConstants.{WASM_DEAD_INDEX}
-use Rattle.wl_live.specs.declared.units.WasmGcUnit.TheVariants.{DataSegment}
+use Rattle.wl_index.specs.declared.index.TheConstants.{WASM_DEAD_INDEX}
+use Rattle.wl_symbols.specs.declared.units.WasmGcUnit.TheVariants.{DataSegment}
 use Rattle.wl_bind.specs.IndexMaps.{IsIndexMap, AreIndexMaps}
-use Rattle.wl_bind.specs.Input.{Input, keeps}
+use Rattle.wl_symbols.specs.Input.{Input, keeps}
 use Rattle.wl_bind.specs.Parts.{IsIndexOf, AreIndicesOf, AreRows}
 use Rattle.wl_plan.specs.Addresses.{numbers_from, segment_space, segment_entry, local_segments, AreSegmentIndices, symbol_addresses, HasHighSymbol}
 use Rattle.wl_plan.specs.AddressSteps.{AreOnce, IsHighIn, AreLowIn}

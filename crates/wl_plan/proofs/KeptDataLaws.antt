@@ -10,8 +10,8 @@ use Rattle.wl_linking.specs.Placing.{IsSpanned}
 use Rattle.wl_data.specs.DataPlaces.{AllCanBePlaced}
 use Rattle.wl_data.specs.Layouts.{CanBePlaced}
 use Rattle.wl_data.specs.Segments.{KeptData}
-use Rattle.wl_live.specs.declared.units.WasmGcUnit.TheVariants.{DataSegment}
-use Rattle.wl_bind.specs.Input.{Input, keeps}
+use Rattle.wl_symbols.specs.declared.units.WasmGcUnit.TheVariants.{DataSegment}
+use Rattle.wl_symbols.specs.Input.{Input, keeps}
 use Rattle.wl_plan.specs.KeptData.{kept_data, kept_from, segments_from}
 use Rattle.wl_plan.proofs.ListLaws.{all_at}
 use Rattle.wl_plan.proofs.SectionLaws.{all_append}

@@ -3,7 +3,7 @@ use Rattle.std.proofs.Common.{◌≡◌, ◌<◌, ◌≤◌, ℕ, zero, suc, fal
 use Rattle.std.specs.List.{AllByRecursion}
 use Rattle.std.specs.Prelude.{IfErr, IfOk, OnOk, Result, Ok, Err}
 use Rattle.std.proofs.lemmas.Bool.{cases_Bool}
-use Rattle.wl_module.specs.declared.error.Form.TheVariants.{NotYet}
+use Rattle.wl_bytes.specs.declared.read_error.Form.TheVariants.{NotYet}
 use Rattle.wl_linking.specs.Fitting.{IsWhole}
 use Rattle.wl_linking.specs.Object.{Object}
 use Rattle.wl_linking.specs.Steps.{Clear, Refuses, NoStep}
@@ -11,13 +11,13 @@ use Rattle.wl_linking.specs.declared.error.LinkError.{LinkError}
 use Rattle.wl_linking.specs.declared.error.LinkError.TheVariants.{Unsupported}
 use Rattle.wl_symbols.specs.Link.{Link, link_of}
 use Rattle.wl_symbols.specs.Repeats.{IsDuplicate}
-use Rattle.wl_symbols.specs.declared.args.WasmArgs.{WasmArgs}
+use Rattle.wl_words.specs.declared.args.WasmArgs.{WasmArgs}
 use Rattle.wl_features.specs.Taken.{AreTaken}
 use Rattle.wl_features.specs.Faults.{IsBadFeature, IsConflict, IsSharedFault, feature_fault, feature_steps}
 use Rattle.wl_live.specs.Entry.{IsEntryFault}
 use Rattle.wl_live.specs.Faults.{IsKeptFault}
-use Rattle.wl_live.specs.Live.{Live, IsLiveOf}
-use Rattle.wl_bind.specs.Input.{Input}
+use Rattle.wl_symbols.specs.Live.{Live, IsLiveOf}
+use Rattle.wl_symbols.specs.Input.{Input}
 use Rattle.wl_plan.specs.BodySteps.{AreSoundBodies}
 use Rattle.wl_plan.specs.Contents.{contents, AllWithin}
 use Rattle.wl_plan.specs.Faults.{IsLaterFault, input_of, kept_fault, link_fault}

@@ -5,16 +5,16 @@ use Rattle.std.proofs.lemmas.Bool.{cases_Bool}
 use Rattle.std.proofs.lemmas.List.{map_more, length-map}
 use Rattle.std.proofs.lemmas.Option.{slice_get_within}
 use Rattle.wl_types.specs.Types.{max_entries}
-use Rattle.wl_types.specs.declared.types.TheConstants.{WASM_DEAD_INDEX}
+use Rattle.wl_index.specs.declared.index.TheConstants.{WASM_DEAD_INDEX}
 use Rattle.wl_linking.specs.Object.{Object}
-use Rattle.wl_live.specs.Live.{IsLiveOf}
-use Rattle.wl_live.specs.Units.{counts_of, units_of, units_at, exists, unit_number}
-use Rattle.wl_live.specs.declared.units.LinkUnit.{LinkUnit}
-use Rattle.wl_live.specs.declared.units.UnitCounts.{UnitCounts}
-use Rattle.wl_live.specs.declared.units.WasmGcUnit.TheVariants.{DataSegment}
+use Rattle.wl_symbols.specs.Live.{IsLiveOf}
+use Rattle.wl_symbols.specs.Units.{counts_of, units_of, units_at, exists, unit_number}
+use Rattle.wl_symbols.specs.declared.units.LinkUnit.{LinkUnit}
+use Rattle.wl_symbols.specs.declared.units.UnitCounts.{UnitCounts}
+use Rattle.wl_symbols.specs.declared.units.WasmGcUnit.TheVariants.{DataSegment}
 use Rattle.wl_ops.specs.Rewriting.{flattened, new_index}
-use Rattle.wl_reloc.specs.declared.index_map.WasmObjectIndexMap.{WasmObjectIndexMap}
-use Rattle.wl_bind.specs.Input.{Input, keeps}
+use Rattle.wl_index.specs.declared.index_map.WasmObjectIndexMap.{WasmObjectIndexMap}
+use Rattle.wl_symbols.specs.Input.{Input, keeps}
 use Rattle.wl_bind.specs.Parts.{IsIndexOf}
 use Rattle.wl_plan.specs.Addresses.{segment_space, segment_entry, local_segments, AreSegmentIndices}
 use Rattle.wl_plan.specs.Bodies.{new_number, same_segment}

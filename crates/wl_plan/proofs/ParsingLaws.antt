@@ -4,9 +4,9 @@ use Rattle.wl_linking.specs.Fitting.{IsObject, ObjectFault}
 use Rattle.wl_linking.specs.Object.{Object}
 use Rattle.wl_linking.specs.Steps.{Refuses}
 use Rattle.wl_linking.specs.declared.error.LinkError.TheVariants.{OutOfMemory, Malformed, Unsupported}
-use Rattle.wl_module.specs.Outcome.{HasCause}
-use Rattle.wl_module.specs.declared.error.ReadError.{ReadError}
-use Rattle.wl_module.specs.declared.error.ReadError.TheVariants as read
+use Rattle.wl_bytes.specs.Outcome.{HasCause}
+use Rattle.wl_bytes.specs.declared.read_error.ReadError.{ReadError}
+use Rattle.wl_bytes.specs.declared.read_error.ReadError.TheVariants as read
 use Rattle.wl_plan.specs.Objects.{AreObjects, IsBadObject}
 use Rattle.wl_plan.specs.Parsing.{link_error_of}
 use Rattle.wl_plan.proofs.StepLaws.{refuses_for, refuses_memory}

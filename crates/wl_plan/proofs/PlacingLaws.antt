@@ -19,8 +19,8 @@ use Rattle.wl_data.specs.Segments.{KeptData, SegmentLayout}
 use Rattle.wl_data.specs.Stack.{IsBadStackSize, IsStackTooHigh, stack_start}
 use Rattle.wl_data.specs.declared.options.DataOptions.{DataOptions}
 use Rattle.wl_data.specs.declared.places.DataPlaces.{DataPlaces}
-use Rattle.wl_symbols.specs.declared.args.WasmArgs.{WasmArgs}
-use Rattle.wl_bind.specs.Input.{Input}
+use Rattle.wl_words.specs.declared.args.WasmArgs.{WasmArgs}
+use Rattle.wl_symbols.specs.Input.{Input}
 use Rattle.wl_bind.specs.Made.{greatest}
 use Rattle.wl_plan.specs.Addresses.{numbers_from, segment_space}
 use Rattle.wl_plan.specs.KeptData.{all_segments}

@@ -8,8 +8,8 @@ use Rattle.wl_linking.specs.Steps.{Clear, Refuses, Step}
 use Rattle.wl_linking.specs.declared.error.LinkError.{LinkError}
 use Rattle.wl_linking.specs.declared.error.LinkError.TheVariants.{TooLarge}
 use Rattle.wl_linking.specs.declared.error.Quantity.TheVariants.{Space}
-use Rattle.wl_slots.specs.ImportSlots.{ImportSlot}
-use Rattle.wl_slots.specs.Left.{first_imports, first_slot}
+use Rattle.wl_symbols.specs.ImportSlots.{ImportSlot}
+use Rattle.wl_symbols.specs.Left.{first_imports, first_slot}
 use Rattle.wl_symbols.specs.declared.linker_symbol.WasmLinkerSymbol.TheVariants.{CallCtors, InitTls}
 use Rattle.wl_types.specs.Types.{max_entries}
 use Rattle.wl_data.specs.Segments.{SegmentLayout}
@@ -21,7 +21,7 @@ use Rattle.wl_bind.specs.Conflicts.{IsStubConflict, IsHostConflict}
 use Rattle.wl_bind.specs.FunctionBinding.{host_functions}
 use Rattle.wl_bind.specs.FunctionSpace.{FunctionOf, function_space, host_function_part, init_memory_part, made_function_part, object_functions, stub_part}
 use Rattle.wl_bind.specs.GlobalSpace.{global_space}
-use Rattle.wl_bind.specs.Input.{Input}
+use Rattle.wl_symbols.specs.Input.{Input}
 use Rattle.wl_bind.specs.Kinds.{IsWrongKind}
 use Rattle.wl_bind.specs.OutputTypes.{output_types}
 use Rattle.wl_bind.specs.Parts.{StandOnce, joined}

@@ -14,17 +14,17 @@ use Rattle.wl_custom.specs.declared.relocation_type.FieldForm.{FieldForm}
 use Rattle.wl_custom.specs.declared.relocation_type.FieldForm.TheVariants.{PaddedUnsigned, PaddedSigned, Word}
 use Rattle.wl_custom.specs.declared.relocations.WasmRelocation.{WasmRelocation}
 use Rattle.wl_linking.specs.declared.sites.Site.{Site}
-use Rattle.wl_live.specs.Live.{Live}
-use Rattle.wl_live.specs.declared.units.WasmGcUnit.TheVariants.{DefinedFunction}
+use Rattle.wl_symbols.specs.Live.{Live}
+use Rattle.wl_symbols.specs.declared.units.WasmGcUnit.TheVariants.{DefinedFunction}
 use Rattle.wl_ops.specs.Numbers.{AreTold}
 use Rattle.wl_ops.specs.Rewriting.{new_index, before, NewBytes, Moves, AllMove}
 use Rattle.wl_ops.specs.declared.op.DataIndexImm.{DataIndexImm}
-use Rattle.wl_bind.specs.Input.{Input, keeps}
-use Rattle.wl_bind.specs.Relocations.{keeps_unit, relocated_at, relocated_if, relocated_in, object_relocations, relocations_from}
-use Rattle.wl_bind.specs.Scan.{relocations}
-use Rattle.wl_bind.specs.declared.relocated.FixupPlace.{FixupPlace}
-use Rattle.wl_bind.specs.declared.relocated.FixupPlace.TheVariants.{Code, Segment}
-use Rattle.wl_bind.specs.declared.relocated.Relocated.{Relocated}
+use Rattle.wl_symbols.specs.Input.{Input, keeps}
+use Rattle.wl_symbols.specs.Relocations.{keeps_unit, relocated_at, relocated_if, relocated_in, object_relocations, relocations_from}
+use Rattle.wl_symbols.specs.Relocations.{relocations}
+use Rattle.wl_symbols.specs.declared.relocated.FixupPlace.{FixupPlace}
+use Rattle.wl_symbols.specs.declared.relocated.FixupPlace.TheVariants.{Code, Segment}
+use Rattle.wl_symbols.specs.declared.relocated.Relocated.{Relocated}
 use Rattle.wl_plan.specs.Bodies.{body_in, new_number, IsMovedBy, IsMovedAt, IsMovedIn}
 use Rattle.wl_plan.specs.BodySteps.{AreNewNumbers, AreSoundBodies, HasSoundBody}
 use Rattle.wl_plan.specs.PositionSteps.{is_code, share_body, goes_on, AreOfOneBody, AreKept, IsThere}

@@ -4,11 +4,11 @@ use Rattle.std.specs.Prelude.{Result, Err}
 use Rattle.wl_linking.specs.Object.{Object}
 use Rattle.wl_reloc.specs.Takings.{taking_of}
 use Rattle.wl_reloc.specs.declared.error.RelocError.{RelocError}
-use Rattle.wl_reloc.specs.declared.index_map.WasmObjectIndexMap.{WasmObjectIndexMap}
-use Rattle.wl_bind.specs.Input.{Input}
+use Rattle.wl_index.specs.declared.index_map.WasmObjectIndexMap.{WasmObjectIndexMap}
+use Rattle.wl_symbols.specs.Input.{Input}
 use Rattle.wl_bind.specs.Kinds.{IsWrongKind}
 use Rattle.wl_bind.specs.References.{IsSettled}
-use Rattle.wl_bind.specs.declared.relocated.Relocated.{Relocated}
+use Rattle.wl_symbols.specs.declared.relocated.Relocated.{Relocated}
 use Rattle.wl_plan.specs.FixupSteps.{Answers, HasRoom, left_of, with_left}
 use Rattle.wl_plan.specs.Fixups.{address_named}
 use Rattle.wl_plan.specs.IndexedMaps.{AreWholeMaps}

@@ -3,7 +3,7 @@ use Rattle.std.proofs.Common.{◌≡◌, ℕ, ◌+◌, ◌≤◌, Bool, true, fa
 use Rattle.std.specs.List.{AllByRecursion, flat_map}
 use Rattle.wl_bytes.specs.Grammar.{Items}
 use Rattle.wl_bytes.specs.declared.reader.TheConstants.{MAX_LEN}
-use Rattle.wl_module.specs.Chains.{Chain, Turns}
+use Rattle.wl_bytes.specs.Chains.{Chain, Turns}
 use Rattle.wl_module.specs.SectionKinds.{is_custom}
 use Rattle.wl_module.specs.Sections.{IsContentOf, IsModule, IsSection, Section, magic, next, sections_in_turn}
 use Rattle.wl_module.specs.declared.section_kind.SectionKind.{SectionKind}

@@ -9,9 +9,9 @@ use Rattle.wl_data.specs.Segments.{KeptData, SegmentLayout}
 use Rattle.wl_data.specs.declared.options.DataOptions.{DataOptions}
 use Rattle.wl_data.specs.declared.places.DataPlaces.{DataPlaces as SpecPlaces}
 use Rattle.wl_linking.specs.Object.{Object}
-use Rattle.wl_live.specs.declared.units.WasmGcUnit.TheVariants.{DataSegment}
+use Rattle.wl_symbols.specs.declared.units.WasmGcUnit.TheVariants.{DataSegment}
 use Rattle.wl_module.specs.Segments.{Segment}
-use Rattle.wl_bind.specs.Input.{Input, keeps}
+use Rattle.wl_symbols.specs.Input.{Input, keeps}
 use Rattle.wl_plan.specs.Addresses.{numbers_from, segment_space}
 use Rattle.wl_plan.specs.Bodies.{same_segment}
 use Rattle.wl_plan.specs.KeptData.{kept_data, kept_from, kept_segments, segments_from, all_segments}

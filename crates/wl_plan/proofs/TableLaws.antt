@@ -14,19 +14,19 @@ use Rattle.wl_linking.specs.Object.{Object}
 use Rattle.wl_linking.specs.Spaces.{count_imports}
 use Rattle.wl_custom.specs.declared.symbols.WasmSymbolKind.{WasmSymbolKind}
 use Rattle.wl_custom.specs.declared.symbols.WasmSymbolKind.TheVariants.{Func}
-use Rattle.wl_reloc.specs.declared.index_map.WasmObjectIndexMap.{WasmObjectIndexMap}
-use Rattle.wl_slots.specs.ImportSlots.{ImportSlot, object_slots, import_slots}
-use Rattle.wl_slots.specs.Left.{same_field, same_import, first_like, is_stub, first_imports}
-use Rattle.wl_slots.specs.SlotTargets.{by_definition, by_symbol_name, by_field_name, slot_target}
-use Rattle.wl_slots.specs.declared.targets.SlotTarget.{SlotTarget}
-use Rattle.wl_slots.specs.declared.targets.SlotTarget.TheVariants as slot
+use Rattle.wl_index.specs.declared.index_map.WasmObjectIndexMap.{WasmObjectIndexMap}
+use Rattle.wl_symbols.specs.ImportSlots.{ImportSlot, object_slots, import_slots}
+use Rattle.wl_symbols.specs.Left.{same_field, same_import, first_like, is_stub, first_imports}
+use Rattle.wl_symbols.specs.SlotTargets.{by_definition, by_symbol_name, by_field_name, slot_target}
+use Rattle.wl_symbols.specs.declared.targets.SlotTarget.{SlotTarget}
+use Rattle.wl_symbols.specs.declared.targets.SlotTarget.TheVariants as slot
 use Rattle.wl_symbols.specs.declared.linker_symbol.WasmLinkerSymbol.{WasmLinkerSymbol}
 use Rattle.wl_symbols.specs.declared.linker_symbol.WasmLinkerSymbol.TheVariants as made
 use Rattle.wl_types.specs.Types.{max_entries}
 use Rattle.wl_bind.specs.FunctionBinding.{left_functions, link_stubs, host_functions, named_function, by_stub, by_host, binds_function}
 use Rattle.wl_bind.specs.FunctionSpace.{FunctionEntry, FunctionOf, host_function_part, function_space, function_slot_entry, own_function_entry, local_functions}
-use Rattle.wl_bind.specs.Input.{Input}
-use Rattle.wl_bind.specs.KeptSlots.{slots_from, is_kept_slot, kept_slots}
+use Rattle.wl_symbols.specs.Input.{Input}
+use Rattle.wl_symbols.specs.KeptSlots.{slots_from, is_kept_slot, kept_slots}
 use Rattle.wl_bind.specs.Made.{is_made, table_minimum, greatest}
 use Rattle.wl_bind.specs.MadeIndices.{StandsAt, IsMadeIndex}
 use Rattle.wl_bind.specs.Parts.{IsIndexOf, IsPlaceOf}

@@ -7,14 +7,14 @@ use Rattle.std.proofs.lemmas.Iterator.Adapters.{position_from-zero}
 use Rattle.std.proofs.lemmas.List.{take_all, length-map}
 use Rattle.std.proofs.lemmas.List.Quantifiers.{position-Some}
 use Rattle.std.proofs.lemmas.Option.{slice_get-get_or, slice_get_within}
-use Rattle.wl_slots.specs.ImportSlots.{ImportSlot}
-use Rattle.wl_slots.specs.Left.{first_imports}
+use Rattle.wl_symbols.specs.ImportSlots.{ImportSlot}
+use Rattle.wl_symbols.specs.Left.{first_imports}
 use Rattle.wl_symbols.specs.declared.linker_symbol.WasmLinkerSymbol.TheVariants.{CallCtors, InitTls}
 use Rattle.wl_types.specs.Types.{max_entries}
-use Rattle.wl_types.specs.declared.types.TheConstants.{WASM_DEAD_INDEX}
+use Rattle.wl_index.specs.declared.index.TheConstants.{WASM_DEAD_INDEX}
 use Rattle.wl_bind.specs.FunctionBinding.{link_stubs, host_functions}
 use Rattle.wl_bind.specs.FunctionSpace.{FunctionEntry, FunctionOf, InitMemory, host_function_part, made_function_part, init_memory_part, stub_part, kept_functions, functions_of, object_functions, function_parts, function_space}
-use Rattle.wl_bind.specs.Input.{Input}
+use Rattle.wl_symbols.specs.Input.{Input}
 use Rattle.wl_bind.specs.Made.{is_made, has_init_memory}
 use Rattle.wl_bind.specs.Sameness.{same_target}
 use Rattle.wl_bind.specs.Scan.{table_functions}

@@ -25,14 +25,14 @@ use Rattle.wl_bind.specs.EntryTypes.{type_of_entry}
 use Rattle.wl_bind.specs.FunctionSpace.{FunctionEntry, FunctionOf, InitMemory, function_space}
 use Rattle.wl_bind.specs.GlobalSpace.{global_space}
 use Rattle.wl_bind.specs.IndexMaps.{symbol_function}
-use Rattle.wl_bind.specs.Input.{Input}
+use Rattle.wl_symbols.specs.Input.{Input}
 use Rattle.wl_bind.specs.OutputTypes.{output_types}
 use Rattle.wl_bind.specs.Parts.{StandOnce}
-use Rattle.wl_bind.specs.Scan.{relocations}
+use Rattle.wl_symbols.specs.Relocations.{relocations}
 use Rattle.wl_bind.specs.declared.binding.FunctionTarget.TheVariants.{Defined, Made, Host, Stub}
-use Rattle.wl_bind.specs.declared.relocated.FixupPlace.{FixupPlace}
-use Rattle.wl_bind.specs.declared.relocated.FixupPlace.TheVariants.{Code, Segment}
-use Rattle.wl_bind.specs.declared.relocated.Relocated.{Relocated}
+use Rattle.wl_symbols.specs.declared.relocated.FixupPlace.{FixupPlace}
+use Rattle.wl_symbols.specs.declared.relocated.FixupPlace.TheVariants.{Code, Segment}
+use Rattle.wl_symbols.specs.declared.relocated.Relocated.{Relocated}
 use Rattle.wl_exports.specs.Exports.{Entity, OfFunction}
 use Rattle.wl_exports.specs.Wrappers.{wrapped}
 use Rattle.wl_plan.specs.Bodies.{new_number, IsMovedBy, IsRenumbered, body_in, IsBodyIn, IsMadeBody, IsCtorsBody, IsLinkerBody, called, IsBodyOf, AreOwnBodies, IsWrapperBody, AreBodies, IsMovedAt}

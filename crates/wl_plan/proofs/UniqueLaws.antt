@@ -10,13 +10,13 @@ use Rattle.wl_data.specs.DataPlaces.{DataInput, IsDataPlaces}
 use Rattle.wl_data.specs.Segments.{SegmentLayout}
 use Rattle.wl_data.specs.Sizes.{segment_count, all_encoded_bytes}
 use Rattle.wl_data.specs.declared.places.DataPlaces.{DataPlaces}
-use Rattle.wl_reloc.specs.declared.index_map.WasmObjectIndexMap.{WasmObjectIndexMap}
-use Rattle.wl_symbols.specs.Args.{emits_stripped_section}
+use Rattle.wl_index.specs.declared.index_map.WasmObjectIndexMap.{WasmObjectIndexMap}
+use Rattle.wl_words.specs.Args.{emits_stripped_section}
 use Rattle.wl_symbols.specs.Link.{Link}
 use Rattle.wl_features.specs.Taken.{AreTaken}
 use Rattle.wl_bind.specs.FunctionSpace.{function_space}
 use Rattle.wl_bind.specs.GlobalSpace.{global_space}
-use Rattle.wl_bind.specs.Input.{Input}
+use Rattle.wl_symbols.specs.Input.{Input}
 use Rattle.wl_bind.specs.OutputTypes.{output_types}
 use Rattle.wl_bind.specs.Parts.{StandOnce}
 use Rattle.wl_exports.specs.Wrapped.{AreOutputExports}

@@ -3,12 +3,12 @@
 use Rattle.std.proofs.Common.{◌≡◌, ◌∙◌, ℕ, ◌+◌, List, [], ◌∷◌, ◌++◌, length, refl, sym, ap, arith, Option, Some, None}
 use Rattle.std.specs.List.{AllZip}
 use Rattle.wl_linking.specs.Object.{Object}
-use Rattle.wl_reloc.specs.declared.index_map.WasmObjectIndexMap.{WasmObjectIndexMap}
-use Rattle.wl_data.specs.declared.segments.WasmDataAddress.{WasmDataAddress}
+use Rattle.wl_index.specs.declared.index_map.WasmObjectIndexMap.{WasmObjectIndexMap}
+use Rattle.wl_index.specs.declared.data_address.WasmDataAddress.{WasmDataAddress}
 use Rattle.wl_bind.specs.FunctionSpace.{function_space, local_functions}
 use Rattle.wl_bind.specs.GlobalSpace.{global_space, local_globals}
 use Rattle.wl_bind.specs.IndexMaps.{symbol_functions, got_mem_globals, got_func_globals}
-use Rattle.wl_bind.specs.Input.{Input}
+use Rattle.wl_symbols.specs.Input.{Input}
 use Rattle.wl_bind.specs.OutputTypes.{output_types, local_types}
 use Rattle.wl_bind.specs.Parts.{StandOnce, IsIndexOf, AreIndicesOf, IsPlaceOf, ArePlacesOf, AreRows}
 use Rattle.wl_plan.specs.Addresses.{segment_space, local_segments}

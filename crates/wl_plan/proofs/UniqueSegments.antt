@@ -8,8 +8,8 @@ use Rattle.wl_linking.specs.Object.{Object}
 use Rattle.wl_data.specs.DataPlaces.{HasLayout, HaveLayouts, in_output_order, is_thread_local}
 use Rattle.wl_data.specs.Segments.{KeptData, SegmentLayout}
 use Rattle.wl_data.specs.declared.options.DataOptions.{DataOptions}
-use Rattle.wl_live.specs.declared.units.WasmGcUnit.TheVariants.{DataSegment}
-use Rattle.wl_bind.specs.Input.{Input, keeps}
+use Rattle.wl_symbols.specs.declared.units.WasmGcUnit.TheVariants.{DataSegment}
+use Rattle.wl_symbols.specs.Input.{Input, keeps}
 use Rattle.wl_bind.specs.Parts.{StandOnce}
 use Rattle.wl_plan.specs.Addresses.{numbers_from, segment_space}
 use Rattle.wl_plan.specs.KeptData.{kept_from, kept_segments, segments_from}

@@ -11,15 +11,15 @@ use Rattle.wl_bytes.specs.Cursor.{Cursor}
 use Rattle.wl_bytes.specs.Grammar.{Items}
 use Rattle.wl_bytes.specs.Leb.{IsSigned, low_bits, s32_form}
 use Rattle.wl_bytes.specs.declared.reader.TheConstants.{MAX_LEN}
-use Rattle.wl_module.specs.Chains.{once_in_turn}
+use Rattle.wl_bytes.specs.Chains.{once_in_turn}
 use Rattle.wl_module.specs.Imports.{ArePlacedImports, Imported, IsEntity, IsImport, PlacedImported, memory_import_once, plain_imports}
 use Rattle.wl_module.specs.Limits.{IsMemoryType, are_within, limits_fit}
-use Rattle.wl_module.specs.Lists.{Listed}
+use Rattle.wl_bytes.specs.Lists.{Listed}
 use Rattle.wl_module.specs.Memories.{AreMemories, memory_once}
 use Rattle.wl_module.specs.Sections.{Section}
 use Rattle.wl_module.specs.Segments.{AreTargeted, IsSegment, Segment, Targeted, plain_segments}
-use Rattle.wl_module.specs.declared.error.ReadError.TheVariants.{Malformed}
-use Rattle.wl_module.specs.declared.error.Why.TheVariants.{Repeated}
+use Rattle.wl_bytes.specs.declared.read_error.ReadError.TheVariants.{Malformed}
+use Rattle.wl_bytes.specs.declared.read_error.Why.TheVariants.{Repeated}
 use Rattle.wl_module.specs.declared.imports.ExternalKind.{ExternalKind}
 use Rattle.wl_module.specs.declared.imports.ExternalKind.TheVariants as external
 use Rattle.wl_module.specs.declared.imports.ImportEntity.{ImportEntity}

@@ -7,8 +7,8 @@ use Rattle.wl_linking.specs.declared.error.LinkError.{LinkError}
 use Rattle.wl_linking.specs.declared.error.LinkError.TheVariants.{TooLarge}
 use Rattle.wl_linking.specs.declared.error.Quantity.TheVariants.{Address}
 use Rattle.wl_data.specs.Segments.{SegmentLayout}
-use Rattle.wl_data.specs.declared.segments.WasmDataAddress.{WasmDataAddress}
-use Rattle.wl_bind.specs.Input.{Input}
+use Rattle.wl_index.specs.declared.data_address.WasmDataAddress.{WasmDataAddress}
+use Rattle.wl_symbols.specs.Input.{Input}
 use Rattle.wl_bind.specs.Parts.{AreRows}
 use Rattle.wl_plan.specs.Addresses.{segment_start, segment_starts, symbol_address, IsHigh}
 use Rattle.wl_plan.specs.Placing.{IsPlacing}

@@ -15,12 +15,12 @@ use Rattle.wl_symbols.specs.declared.entry.Definition.TheVariants.{Symbol, Made}
 use Rattle.wl_symbols.specs.declared.linker_symbol.WasmLinkerSymbol.{WasmLinkerSymbol}
 use Rattle.wl_data.specs.DataPlaces.{lies_in_memory}
 use Rattle.wl_data.specs.Segments.{SegmentLayout}
-use Rattle.wl_data.specs.declared.segments.WasmDataAddress.{WasmDataAddress}
-use Rattle.wl_data.specs.declared.segments.WasmDataAddress.TheVariants.{Missing, Placed, Passive, TlsOffset}
-use Rattle.wl_live.specs.declared.units.WasmGcUnit.TheVariants.{DataSegment}
+use Rattle.wl_index.specs.declared.data_address.WasmDataAddress.{WasmDataAddress}
+use Rattle.wl_index.specs.declared.data_address.WasmDataAddress.TheVariants.{Missing, Placed, Passive, TlsOffset}
+use Rattle.wl_symbols.specs.declared.units.WasmGcUnit.TheVariants.{DataSegment}
 use Rattle.wl_bind.specs.ExportedAddresses.{exported_addresses}
 use Rattle.wl_bind.specs.IndexMaps.{is_data_symbol}
-use Rattle.wl_bind.specs.Input.{Input, keeps}
+use Rattle.wl_symbols.specs.Input.{Input, keeps}
 use Rattle.wl_bind.specs.Parts.{AreIndicesOf}
 use Rattle.wl_plan.specs.declared.placing.Placing.{Placing}
 

@@ -14,16 +14,16 @@ use Rattle.wl_ops.specs.declared.op.DataIndexImm.{DataIndexImm}
 use Rattle.wl_synth.specs.Bodies.{call_sequence_ops, wrapper_ops}
 use Rattle.wl_synth.specs.Encoding.{IsEncoded}
 use Rattle.wl_synth.specs.declared.calls.TheConstants.{UNREACHABLE_FUNCTION_BODY}
-use Rattle.wl_live.specs.declared.units.WasmGcUnit.TheVariants.{DataSegment}
+use Rattle.wl_symbols.specs.declared.units.WasmGcUnit.TheVariants.{DataSegment}
 use Rattle.wl_ctors.specs.InitCalls.{AreInitCalls}
 use Rattle.wl_ctors.specs.declared.calls.InitCall.{InitCall}
 use Rattle.wl_bind.specs.EntryTypes.{type_of_entry}
 use Rattle.wl_bind.specs.FunctionSpace.{FunctionEntry, FunctionOf, InitMemory, function_space}
-use Rattle.wl_bind.specs.Input.{Input, keeps}
+use Rattle.wl_symbols.specs.Input.{Input, keeps}
 use Rattle.wl_bind.specs.declared.binding.FunctionTarget.TheVariants.{Defined, Made, Host, Stub}
-use Rattle.wl_bind.specs.declared.relocated.FixupPlace.{FixupPlace}
-use Rattle.wl_bind.specs.declared.relocated.FixupPlace.TheVariants.{Code, Segment}
-use Rattle.wl_bind.specs.declared.relocated.Relocated.{Relocated}
+use Rattle.wl_symbols.specs.declared.relocated.FixupPlace.{FixupPlace}
+use Rattle.wl_symbols.specs.declared.relocated.FixupPlace.TheVariants.{Code, Segment}
+use Rattle.wl_symbols.specs.declared.relocated.Relocated.{Relocated}
 use Rattle.wl_exports.specs.Exports.{ExportEntry, OfFunction}
 use Rattle.wl_exports.specs.Wrappers.{wrapped}
 use Rattle.wl_plan.specs.Addresses.{segment_space}

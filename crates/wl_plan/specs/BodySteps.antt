@@ -6,12 +6,12 @@ use Rattle.wl_custom.specs.Debug.{DebugInput}
 use Rattle.wl_linking.specs.Fitting.{IsWhole}
 use Rattle.wl_linking.specs.Steps.{Clear}
 use Rattle.wl_ops.specs.Rewriting.{new_index}
-use Rattle.wl_types.specs.declared.types.TheConstants.{WASM_DEAD_INDEX}
+use Rattle.wl_index.specs.declared.index.TheConstants.{WASM_DEAD_INDEX}
 use Rattle.wl_live.specs.Faults.{IsKeptFault}
-use Rattle.wl_live.specs.Live.{IsLiveOf}
-use Rattle.wl_live.specs.declared.units.WasmGcUnit.TheVariants.{DefinedFunction, DataSegment}
+use Rattle.wl_symbols.specs.Live.{IsLiveOf}
+use Rattle.wl_symbols.specs.declared.units.WasmGcUnit.TheVariants.{DefinedFunction, DataSegment}
 use Rattle.wl_bind.specs.FunctionSpace.{FunctionEntry}
-use Rattle.wl_bind.specs.Input.{Input, keeps}
+use Rattle.wl_symbols.specs.Input.{Input, keeps}
 use Rattle.wl_plan.specs.Bodies.{IsRenumbered, IsMadeBody, IsBodyOf, body_in, new_number}
 use Rattle.wl_plan.specs.declared.placing.Placing.{Placing}
 

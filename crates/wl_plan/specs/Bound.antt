@@ -3,7 +3,7 @@ use Rattle.std.specs.Prelude.{◌≡◌, ◌≤◌, length}
 use Rattle.wl_types.specs.Types.{max_entries}
 use Rattle.wl_bind.specs.FunctionSpace.{function_space}
 use Rattle.wl_bind.specs.FunctionTypes.{stub_types}
-use Rattle.wl_bind.specs.Input.{Input}
+use Rattle.wl_symbols.specs.Input.{Input}
 use Rattle.wl_bind.specs.MadeIndices.{AreMadeIndices}
 use Rattle.wl_bind.specs.OutputTypes.{output_types}
 use Rattle.wl_bind.specs.References.{IsSettled}

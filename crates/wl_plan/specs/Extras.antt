@@ -1,7 +1,7 @@
 -- What a plan tells beside the module's own sections: the features, and the debug sections.
 use Rattle.std.specs.Prelude.{◌≡◌, ℕ, ◌||◌, Bool, true, false, List, [], codes, if◌then◌else◌}
 use Rattle.wl_custom.specs.Debug.{DebugInput}
-use Rattle.wl_symbols.specs.Args.{emits_stripped_section}
+use Rattle.wl_words.specs.Args.{emits_stripped_section}
 use Rattle.wl_symbols.specs.Link.{Link}
 use Rattle.wl_features.specs.Taken.{AreTaken}
 use Rattle.wl_plan.specs.Bodies.{object_debug_sections}

@@ -11,9 +11,9 @@ use Rattle.wl_data.specs.Sizes.{all_encoded_bytes, body_bytes}
 use Rattle.wl_features.specs.Faults.{feature_steps}
 use Rattle.wl_live.specs.Entry.{IsEntryFault}
 use Rattle.wl_live.specs.Faults.{IsKeptFault}
-use Rattle.wl_live.specs.Live.{Live, IsLiveOf}
+use Rattle.wl_symbols.specs.Live.{Live, IsLiveOf}
 use Rattle.wl_bind.specs.Bound.{bind_steps}
-use Rattle.wl_bind.specs.Input.{Input}
+use Rattle.wl_symbols.specs.Input.{Input}
 use Rattle.wl_bind.specs.SpaceFaults.{IsSpaceTooLarge}
 use Rattle.wl_exports.specs.Faults.{IsExportFault}
 use Rattle.wl_exports.specs.Wrapped.{AreTooManyWrappers}

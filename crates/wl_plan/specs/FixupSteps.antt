@@ -6,8 +6,8 @@ use Rattle.wl_linking.specs.declared.error.LinkError.{LinkError}
 use Rattle.wl_custom.specs.declared.relocation_type.RelocationType.{RelocationType}
 use Rattle.wl_custom.specs.declared.relocation_type.RelocationType.TheVariants.{MemoryAddrLeb, MemoryAddrSleb, MemoryAddrI32, MemoryAddrRelSleb, MemoryAddrTlsSleb}
 use Rattle.wl_custom.specs.declared.relocations.WasmRelocation.{WasmRelocation}
-use Rattle.wl_data.specs.declared.segments.WasmDataAddress.{WasmDataAddress}
-use Rattle.wl_data.specs.declared.segments.WasmDataAddress.TheVariants.{Missing, Placed, Passive, TlsOffset}
+use Rattle.wl_index.specs.declared.data_address.WasmDataAddress.{WasmDataAddress}
+use Rattle.wl_index.specs.declared.data_address.WasmDataAddress.TheVariants.{Missing, Placed, Passive, TlsOffset}
 use Rattle.wl_types.specs.Types.{max_entries}
 use Rattle.wl_reloc.specs.Takings.{taking_of}
 use Rattle.wl_reloc.specs.declared.addresses.AddressBases.{AddressBases}
@@ -16,11 +16,11 @@ use Rattle.wl_reloc.specs.declared.takings.AddressBase.{AddressBase}
 use Rattle.wl_reloc.specs.declared.takings.Taking.{Taking}
 use Rattle.wl_reloc.specs.declared.takings.Taking.TheVariants.{Address}
 use Rattle.wl_bind.specs.GlobalSpace.{global_space}
-use Rattle.wl_bind.specs.Input.{Input}
+use Rattle.wl_symbols.specs.Input.{Input}
 use Rattle.wl_bind.specs.OutputTypes.{output_types}
 use Rattle.wl_bind.specs.References.{IsSettled}
 use Rattle.wl_bind.specs.Scan.{table_functions}
-use Rattle.wl_bind.specs.declared.relocated.Relocated.{Relocated}
+use Rattle.wl_symbols.specs.declared.relocated.Relocated.{Relocated}
 use Rattle.wl_plan.specs.Fixups.{address_named, address_taken, address_refusal, IsTaken}
 use Rattle.wl_plan.specs.IndexedMaps.{AreWholeMaps}
 use Rattle.wl_plan.specs.Table.{space_slots}

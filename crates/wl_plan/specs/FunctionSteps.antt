@@ -2,9 +2,9 @@
 use Rattle.std.specs.Prelude.{◌≡◌, ℕ, List, [], ◌∷◌, ◌++◌, Some, if◌then◌else◌, slice_get}
 use Rattle.std.specs.List.{AllZip}
 use Rattle.wl_module.specs.Types.{FunctionType}
-use Rattle.wl_live.specs.declared.units.WasmGcUnit.TheVariants.{DefinedFunction}
+use Rattle.wl_symbols.specs.declared.units.WasmGcUnit.TheVariants.{DefinedFunction}
 use Rattle.wl_bind.specs.FunctionSpace.{FunctionEntry, FunctionOf}
-use Rattle.wl_bind.specs.Input.{Input, keeps}
+use Rattle.wl_symbols.specs.Input.{Input, keeps}
 use Rattle.wl_bind.specs.OutputTypes.{output_types}
 use Rattle.wl_bind.specs.declared.binding.FunctionTarget.TheVariants.{Defined}
 use Rattle.wl_plan.specs.Functions.{IsOutputFunction}

@@ -8,14 +8,14 @@ use Rattle.wl_linking.specs.declared.error.LinkError.{LinkError}
 use Rattle.wl_symbols.specs.declared.entry.Definition.{Definition}
 use Rattle.wl_symbols.specs.declared.linker_symbol.WasmLinkerSymbol.{WasmLinkerSymbol}
 use Rattle.wl_symbols.specs.declared.linker_symbol.WasmLinkerSymbol.TheVariants as linker
-use Rattle.wl_live.specs.declared.units.WasmGcUnit.TheVariants.{DefinedGlobal as OwnGlobal}
+use Rattle.wl_symbols.specs.declared.units.WasmGcUnit.TheVariants.{DefinedGlobal as OwnGlobal}
 use Rattle.wl_bind.specs.GlobalSpace.{GlobalEntry, GlobalOf, made_global_part, address_part, got_mem_part, got_func_part, dynamic_part, forced_part}
-use Rattle.wl_bind.specs.Input.{Input, keeps}
+use Rattle.wl_symbols.specs.Input.{Input, keeps}
 use Rattle.wl_bind.specs.Sameness.{same_definition}
 use Rattle.wl_bind.specs.Scan.{got_mem_of, got_func}
 use Rattle.wl_bind.specs.declared.binding.FunctionTarget.{FunctionTarget}
 use Rattle.wl_bind.specs.declared.binding.GlobalTarget.TheVariants.{Defined}
-use Rattle.wl_bind.specs.declared.relocated.Relocated.{Relocated}
+use Rattle.wl_symbols.specs.declared.relocated.Relocated.{Relocated}
 use Rattle.wl_plan.specs.AddressSteps.{IsBook}
 use Rattle.wl_plan.specs.Addresses.{IsAddressTooHigh}
 use Rattle.wl_plan.specs.Bound.{AreBindings}

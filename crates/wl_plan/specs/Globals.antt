@@ -5,7 +5,7 @@ use Rattle.std.specs.List.{AllZip}
 use Rattle.std.specs.Option.{option_map_or, option_and_then}
 use Rattle.wl_bytes.specs.Leb.{AppendsSleb}
 use Rattle.wl_module.specs.Globals.{DefinedGlobal}
-use Rattle.wl_module.specs.declared.error.Form.TheVariants.{PassiveAddress, TlsAddress}
+use Rattle.wl_bytes.specs.declared.read_error.Form.TheVariants.{PassiveAddress, TlsAddress}
 use Rattle.wl_module.specs.declared.globals.GlobalType.{GlobalType}
 use Rattle.wl_module.specs.declared.types.ValType.TheVariants.{I32}
 use Rattle.wl_linking.specs.Object.{Object}
@@ -16,17 +16,18 @@ use Rattle.wl_symbols.specs.Entries.{symbol_in}
 use Rattle.wl_symbols.specs.declared.entry.Definition.{Definition}
 use Rattle.wl_symbols.specs.declared.linker_symbol.WasmLinkerSymbol.{WasmLinkerSymbol}
 use Rattle.wl_symbols.specs.declared.linker_symbol.WasmLinkerSymbol.TheVariants as linker
-use Rattle.wl_data.specs.declared.segments.WasmDataAddress.{WasmDataAddress}
-use Rattle.wl_data.specs.declared.segments.WasmDataAddress.TheVariants.{Missing, Placed, Passive, TlsOffset}
+use Rattle.wl_index.specs.declared.data_address.WasmDataAddress.{WasmDataAddress}
+use Rattle.wl_index.specs.declared.data_address.WasmDataAddress.TheVariants.{Missing, Placed, Passive, TlsOffset}
 use Rattle.wl_bind.specs.GlobalSpace.{GlobalEntry, GlobalOf, AddressOf, DataOf, global_space, host_global_part}
-use Rattle.wl_bind.specs.Input.{Input}
+use Rattle.wl_symbols.specs.Input.{Input}
 use Rattle.wl_bind.specs.Made.{has_shared_tls, memory_base_value}
 use Rattle.wl_bind.specs.Sameness.{same_definition}
-use Rattle.wl_bind.specs.Scan.{got_mem, got_func, got_mem_of, relocations}
+use Rattle.wl_bind.specs.Scan.{got_mem, got_func, got_mem_of}
+use Rattle.wl_symbols.specs.Relocations.{relocations}
 use Rattle.wl_bind.specs.declared.binding.FunctionTarget.{FunctionTarget}
 use Rattle.wl_bind.specs.declared.binding.GlobalTarget.TheVariants.{Defined, Made, GotMem, GotFunc, Host}
 use Rattle.wl_bind.specs.declared.exported.DataSymbol.{DataSymbol}
-use Rattle.wl_bind.specs.declared.relocated.Relocated.{Relocated}
+use Rattle.wl_symbols.specs.declared.relocated.Relocated.{Relocated}
 use Rattle.wl_plan.specs.Addresses.{address_of_definition, symbol_address, linker_address}
 use Rattle.wl_plan.specs.Table.{slot_of}
 use Rattle.wl_plan.specs.declared.layout.GlobalOrigin.{GlobalOrigin}

@@ -7,8 +7,8 @@ use Rattle.wl_module.specs.Types.{FunctionType}
 use Rattle.wl_module.specs.declared.globals.GlobalType.{GlobalType}
 use Rattle.wl_linking.specs.Object.{Object}
 use Rattle.wl_custom.specs.declared.symbols.WasmSymbolKind.TheVariants.{Func}
-use Rattle.wl_slots.specs.ImportSlots.{import_slots}
-use Rattle.wl_slots.specs.Left.{HostImport}
+use Rattle.wl_symbols.specs.ImportSlots.{import_slots}
+use Rattle.wl_symbols.specs.Left.{HostImport}
 use Rattle.wl_bind.specs.FunctionTypes.{slot_type}
 use Rattle.wl_plan.specs.Imports.{global_type_in}
 use Rattle.wl_plan.specs.PlannedImports.{PlannedImport}

@@ -8,11 +8,11 @@ use Rattle.wl_module.specs.declared.imports.ImportEntity.{ImportEntity}
 use Rattle.wl_module.specs.declared.imports.ImportEntity.TheVariants as imported
 use Rattle.wl_module.specs.declared.limits.MemoryType.{MemoryType}
 use Rattle.wl_custom.specs.declared.symbols.WasmSymbolKind.TheVariants.{Global as GlobalKind}
-use Rattle.wl_symbols.specs.Values.{MemoryName}
-use Rattle.wl_slots.specs.ImportSlots.{ImportSlot, import_slots}
-use Rattle.wl_slots.specs.Left.{HostImport}
+use Rattle.wl_words.specs.Values.{MemoryName}
+use Rattle.wl_symbols.specs.ImportSlots.{ImportSlot, import_slots}
+use Rattle.wl_symbols.specs.Left.{HostImport}
 use Rattle.wl_bind.specs.EntryTypes.{type_of_slot}
-use Rattle.wl_bind.specs.Input.{Input}
+use Rattle.wl_symbols.specs.Input.{Input}
 use Rattle.wl_bind.specs.Shared.{function_imports, global_imports}
 use Rattle.wl_plan.specs.Functions.{IsTypeNumber}
 use Rattle.wl_plan.specs.PlannedImports.{PlannedImport}

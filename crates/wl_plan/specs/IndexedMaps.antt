@@ -1,11 +1,11 @@
 -- Where the things of each object stand in the output, its segments and data among them.
 use Rattle.std.specs.Prelude.{◌≡◌, ℕ, List}
 use Rattle.wl_linking.specs.Object.{Object}
-use Rattle.wl_reloc.specs.declared.index_map.WasmObjectIndexMap.{WasmObjectIndexMap}
+use Rattle.wl_index.specs.declared.index_map.WasmObjectIndexMap.{WasmObjectIndexMap}
 use Rattle.wl_bind.specs.FunctionSpace.{function_space, local_functions}
 use Rattle.wl_bind.specs.GlobalSpace.{global_space, local_globals}
 use Rattle.wl_bind.specs.IndexMaps.{symbol_functions, got_mem_globals, got_func_globals}
-use Rattle.wl_bind.specs.Input.{Input}
+use Rattle.wl_symbols.specs.Input.{Input}
 use Rattle.wl_bind.specs.OutputTypes.{AreTypeIndices}
 use Rattle.wl_bind.specs.Parts.{AreRows, AreIndicesOf, ArePlacesOf}
 use Rattle.wl_plan.specs.Addresses.{AreSegmentIndices, symbol_addresses}

@@ -5,8 +5,8 @@ use Rattle.wl_module.specs.Segments.{Segment}
 use Rattle.wl_custom.specs.Infos.{SegmentInfo}
 use Rattle.wl_linking.specs.Object.{Object}
 use Rattle.wl_data.specs.Segments.{KeptData}
-use Rattle.wl_live.specs.declared.units.WasmGcUnit.TheVariants.{DataSegment}
-use Rattle.wl_bind.specs.Input.{Input, keeps}
+use Rattle.wl_symbols.specs.declared.units.WasmGcUnit.TheVariants.{DataSegment}
+use Rattle.wl_symbols.specs.Input.{Input, keeps}
 use Rattle.wl_bind.specs.Made.{is_active}
 use Rattle.wl_bind.specs.ThreadData.{is_thread_data}
 

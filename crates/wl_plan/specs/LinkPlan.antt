@@ -2,10 +2,10 @@
 use Rattle.std.specs.Prelude.{◌⊎◌, ℕ, List}
 use Rattle.wl_linking.specs.Object.{Object}
 use Rattle.wl_linking.specs.declared.error.LinkError.{LinkError}
-use Rattle.wl_symbols.specs.declared.args.WasmArgs.{WasmArgs}
+use Rattle.wl_words.specs.declared.args.WasmArgs.{WasmArgs}
 use Rattle.wl_linking.specs.Steps.{Clear}
 use Rattle.wl_symbols.specs.Link.{Link, link_of}
-use Rattle.wl_live.specs.Live.{Live, IsLiveOf}
+use Rattle.wl_symbols.specs.Live.{Live, IsLiveOf}
 use Rattle.wl_plan.specs.Objects.{AreObjects, IsBadObject}
 use Rattle.wl_plan.specs.Faults.{link_fault, input_of}
 use Rattle.wl_plan.specs.Plan.{IsPlan}

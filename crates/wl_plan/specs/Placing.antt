@@ -16,7 +16,7 @@ use Rattle.wl_data.specs.MemorySize.{MemoryNeeds, needs_of, needed_bytes, raised
 use Rattle.wl_data.specs.Stack.{stack_start, IsBadStackSize, IsStackTooHigh}
 use Rattle.wl_data.specs.declared.options.DataOptions.{DataOptions}
 use Rattle.wl_data.specs.declared.places.DataPlaces.{DataPlaces}
-use Rattle.wl_bind.specs.Input.{Input}
+use Rattle.wl_symbols.specs.Input.{Input}
 use Rattle.wl_bind.specs.Made.{linker_needs, has_shared_tls, greatest}
 use Rattle.wl_plan.specs.KeptData.{all_segments}
 use Rattle.wl_plan.specs.declared.placing.Placing.{Placing}

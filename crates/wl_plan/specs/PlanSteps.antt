@@ -3,7 +3,7 @@ use Rattle.std.specs.Prelude.{◌≡◌, ◌≤◌, MatchOption, false, length, 
 use Rattle.wl_types.specs.Types.{max_entries}
 use Rattle.wl_bind.specs.FunctionSpace.{InitMemory, function_space}
 use Rattle.wl_bind.specs.Made.{has_init_memory, has_shared_tls}
-use Rattle.wl_bind.specs.Input.{Input}
+use Rattle.wl_symbols.specs.Input.{Input}
 use Rattle.wl_bind.specs.OutputTypes.{output_types}
 use Rattle.wl_exports.specs.Wrapped.{AreOutputExports, AreWrappers}
 use Rattle.wl_plan.specs.AddressSteps.{IsBook}

@@ -7,14 +7,14 @@ use Rattle.wl_linking.specs.Steps.{Clear}
 use Rattle.wl_reloc.specs.Resolving.{resolved}
 use Rattle.wl_reloc.specs.Takings.{taking_of}
 use Rattle.wl_reloc.specs.declared.error.RelocError.{RelocError}
-use Rattle.wl_reloc.specs.declared.index_map.WasmObjectIndexMap.{WasmObjectIndexMap}
+use Rattle.wl_index.specs.declared.index_map.WasmObjectIndexMap.{WasmObjectIndexMap}
 use Rattle.wl_reloc.specs.declared.takings.AddressBase.{AddressBase}
 use Rattle.wl_reloc.specs.declared.takings.Taking.TheVariants.{Address}
-use Rattle.wl_live.specs.Live.{IsLiveOf}
-use Rattle.wl_bind.specs.Input.{Input}
-use Rattle.wl_bind.specs.Scan.{relocations}
+use Rattle.wl_symbols.specs.Live.{IsLiveOf}
+use Rattle.wl_symbols.specs.Input.{Input}
+use Rattle.wl_symbols.specs.Relocations.{relocations}
 use Rattle.wl_bind.specs.SpaceFaults.{index_fault}
-use Rattle.wl_bind.specs.declared.relocated.Relocated.{Relocated}
+use Rattle.wl_symbols.specs.declared.relocated.Relocated.{Relocated}
 use Rattle.wl_plan.specs.Fixups.{address_taken, bases_of, IsAddressReason}
 use Rattle.wl_plan.specs.Table.{space_slots}
 use Rattle.wl_plan.specs.declared.placing.Placing.{Placing}

@@ -3,8 +3,8 @@ use Rattle.std.specs.Prelude.{◌≡◌, ℕ, ◌+◌, List, ◌++◌, map, if�
 use Rattle.std.specs.List.{AllZip}
 use Rattle.std.specs.Option.{option_map}
 use Rattle.wl_module.specs.declared.limits.TableType.{TableType}
-use Rattle.wl_types.specs.declared.types.TheConstants.{WASM_DEAD_INDEX}
-use Rattle.wl_bind.specs.Input.{Input}
+use Rattle.wl_index.specs.declared.index.TheConstants.{WASM_DEAD_INDEX}
+use Rattle.wl_symbols.specs.Input.{Input}
 use Rattle.wl_bind.specs.FunctionSpace.{FunctionEntry, FunctionOf, InitMemory, function_space}
 use Rattle.wl_bind.specs.Made.{has_table, table_size}
 use Rattle.wl_bind.specs.Sameness.{same_target}

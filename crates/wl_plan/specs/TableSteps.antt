@@ -5,9 +5,9 @@ use Rattle.std.specs.List.{list_any}
 use Rattle.std.specs.Option.{option_and_then, option_map}
 use Rattle.wl_module.specs.Imports.{Imported}
 use Rattle.wl_linking.specs.Object.{Object}
-use Rattle.wl_types.specs.declared.types.TheConstants.{WASM_DEAD_INDEX}
-use Rattle.wl_reloc.specs.declared.index_map.WasmObjectIndexMap.{WasmObjectIndexMap}
-use Rattle.wl_slots.specs.ImportSlots.{ImportSlot}
+use Rattle.wl_index.specs.declared.index.TheConstants.{WASM_DEAD_INDEX}
+use Rattle.wl_index.specs.declared.index_map.WasmObjectIndexMap.{WasmObjectIndexMap}
+use Rattle.wl_symbols.specs.ImportSlots.{ImportSlot}
 use Rattle.wl_bind.specs.FunctionSpace.{FunctionEntry, FunctionOf, InitMemory}
 use Rattle.wl_bind.specs.Made.{table_minimum}
 use Rattle.wl_bind.specs.Sameness.{same_target}

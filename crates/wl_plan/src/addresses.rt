@@ -12,10 +12,12 @@ ghost use Rattle.wl_plan.specs.Placing.{IsPlacing};
 
 use crate::placing::Placing;
 use std::alloc::{AllocError, Global};
-use wl_bind::{ExportedData, LinkInput, is_data};
-use wl_data::{WasmDataAddress, WasmDataSegmentLayout, past_last_address, segments_have_layouts};
-use wl_linking::{File, ItemList, LinkError, WasmSymbol, whole_objects};
-use wl_symbols::{Definition, WasmLinkerSymbol};
+use wl_bind::{ExportedData, is_data};
+use wl_data::{WasmDataSegmentLayout, past_last_address, segments_have_layouts};
+use wl_index::WasmDataAddress;
+use wl_linking::{File, LinkError, WasmSymbol, whole_objects};
+use wl_lists::ItemList;
+use wl_symbols::{Definition, LinkInput, WasmLinkerSymbol};
 
 // ---- segments
 

@@ -7,7 +7,7 @@ use std::alloc::{AllocError, Global};
 use std::mem;
 use wl_bind::{LinkerDefinedIndices, RelocScan, SharedUnresolvedImports, TypeMerger};
 use wl_ctors::InitCall;
-use wl_linking::ItemList;
+use wl_lists::ItemList;
 use wl_module::FuncType;
 
 /// What the references of a link are bound to, what the linker makes for them, and what is called

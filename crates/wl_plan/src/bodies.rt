@@ -22,16 +22,15 @@ use crate::parsing::link_error;
 use crate::placing::Placing;
 use std::alloc::{AllocError, Global};
 use std::borrow::CowSlice;
-use wl_bind::{LinkInput, WASM_DEAD_INDEX, WasmObjectIndexMap, stub_imports};
+use wl_bind::stub_imports;
 use wl_ctors::InitCall;
 use wl_data::segments_have_layouts;
-use wl_linking::{
-    DebugSectionInput, File, ItemList, LinkError, parts_of_objects_stand, whole_objects,
-};
-use wl_live::{WasmGcUnit, live_units_are_closed};
+use wl_index::{WASM_DEAD_INDEX, WasmObjectIndexMap};
+use wl_linking::{DebugSectionInput, File, LinkError, parts_of_objects_stand, whole_objects};
+use wl_lists::ItemList;
 use wl_module::{WasmFunctionBody, copy_bytes};
 use wl_ops::remap_body_data_indices;
-use wl_symbols::WasmLinkerSymbol;
+use wl_symbols::{LinkInput, WasmGcUnit, WasmLinkerSymbol, live_units_are_closed};
 use wl_synth::{UNREACHABLE_FUNCTION_BODY, encode_call_sequence_body};
 
 // ---- numbers of segments

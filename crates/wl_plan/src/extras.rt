@@ -8,8 +8,9 @@ ghost use Rattle.wl_plan.specs.Extras.{AreOutputFeatures, output_debug_sections}
 use crate::bodies::all_debug_sections;
 use std::alloc::{AllocError, Global};
 use wl_features::FeatureList;
-use wl_linking::{DebugSectionInput, FileList, ItemList, TARGET_FEATURES_SECTION_NAME};
-use wl_symbols::WasmArgs;
+use wl_linking::{DebugSectionInput, FileList, TARGET_FEATURES_SECTION_NAME};
+use wl_lists::ItemList;
+use wl_words::WasmArgs;
 
 /// The features that the output has, unless the words leave them out.
 pub(crate) fn output_features<'a>(

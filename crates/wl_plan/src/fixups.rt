@@ -6,7 +6,7 @@ ghost use Rattle.wl_linking.specs.Steps.{Clear, Refuses};
 ghost use Rattle.wl_reloc.specs.Takings.{taking_of};
 ghost use Rattle.wl_reloc.specs.declared.takings.AddressBase.{AddressBase as Base};
 ghost use Rattle.wl_reloc.specs.declared.takings.Taking.TheVariants.{Address};
-ghost use Rattle.wl_bind.specs.Scan.{relocations};
+ghost use Rattle.wl_symbols.specs.Relocations.{relocations};
 ghost use Rattle.wl_plan.specs.Bodies.{IsMovedIn};
 ghost use Rattle.wl_plan.specs.FixupSteps.{AreFixupSources, AnswersFrom, is_absolute, left_at, left_of, counted_base, number_by, IsRefusedAt};
 ghost use Rattle.wl_plan.specs.Fixups.{no_address, address_named, bases_of, address_refusal, IsFixup, AreFixups, IsFixupFault};
@@ -14,14 +14,13 @@ ghost use Rattle.wl_plan.specs.Fixups.{no_address, address_named, bases_of, addr
 use crate::layout::{Fixup, FixupTo};
 use crate::placing::Placing;
 use std::alloc::Global;
-use wl_bind::{
-    LinkInput, Relocated, WasmObjectIndexMap, kept_relocations, references_are_kept,
-    same_targets_are_one, table_functions_stand_once,
-};
-use wl_data::WasmDataAddress;
-use wl_linking::{File, ItemList, LinkError, RelocationType};
-use wl_module::Form;
+use wl_bind::{references_are_kept, same_targets_are_one, table_functions_stand_once};
+use wl_bytes::Form;
+use wl_index::{WasmDataAddress, WasmObjectIndexMap};
+use wl_linking::{File, LinkError, RelocationType};
+use wl_lists::ItemList;
 use wl_reloc::{RelocError, resolve_reloc};
+use wl_symbols::{LinkInput, Relocated, kept_relocations};
 
 /// What fixups are made from.
 #[derive(Drop)]

@@ -13,11 +13,11 @@ ghost use Rattle.wl_plan.specs.OriginsSeen.{origin_seen};
 use crate::bindings::Bindings;
 use crate::layout::{FunctionOrigin, OutputFunction};
 use std::alloc::{AllocError, Global};
-use wl_bind::{LinkInput, TypeMerger, WASM_DEAD_INDEX, entries_have_types, stub_imports};
+use wl_bind::{TypeMerger, entries_have_types, stub_imports};
+use wl_index::WASM_DEAD_INDEX;
 use wl_linking::{File, whole_objects};
-use wl_live::WasmGcUnit;
 use wl_module::FuncType;
-use wl_symbols::WasmLinkerSymbol;
+use wl_symbols::{LinkInput, WasmGcUnit, WasmLinkerSymbol};
 use wl_types::same_types_are_one;
 
 /// The number of a type among these, of which it is one.

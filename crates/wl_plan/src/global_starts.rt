@@ -16,14 +16,11 @@ use crate::addresses::{AddressBook, linker_address};
 use crate::bindings::Bindings;
 use crate::table::slot_of;
 use bitflags::Flags;
-use wl_bind::{
-    DataSymbol, FunctionTarget, LinkInput, Relocated, WasmObjectIndexMap, got_mem_of,
-    kept_relocations,
-};
-use wl_data::WasmDataAddress;
+use wl_bind::{DataSymbol, FunctionTarget, got_mem_of};
+use wl_bytes::Form;
+use wl_index::{WasmDataAddress, WasmObjectIndexMap};
 use wl_linking::{LinkError, SymbolFlags};
-use wl_module::Form;
-use wl_symbols::{Definition, WasmLinkerSymbol};
+use wl_symbols::{Definition, LinkInput, Relocated, WasmLinkerSymbol, kept_relocations};
 
 // ---- numbers
 

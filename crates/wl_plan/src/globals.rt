@@ -16,10 +16,10 @@ use std::alloc::{AllocError, Global};
 use std::borrow::CowSlice;
 use wl_bind::DataSymbol;
 use wl_bytes::push_sleb;
-use wl_linking::{File, ItemList, LinkError};
-use wl_live::WasmGcUnit;
+use wl_linking::{File, LinkError};
+use wl_lists::ItemList;
 use wl_module::{GlobalType, OutputGlobal, ValType};
-use wl_symbols::WasmLinkerSymbol;
+use wl_symbols::{WasmGcUnit, WasmLinkerSymbol};
 
 // ---- constants
 

@@ -14,12 +14,13 @@ use crate::functions::type_number;
 use crate::layout::{OutputImport, OutputImportEntity};
 use crate::placing::Placing;
 use std::alloc::{AllocError, Global};
-use wl_bind::{
-    HostImport, LinkInput, SlotTypes, TypeMerger, WASM_DEAD_INDEX, entries_have_types, type_of_slot,
-};
-use wl_linking::{File, FileList, ItemList};
+use wl_bind::{SlotTypes, TypeMerger, entries_have_types, type_of_slot};
+use wl_index::WASM_DEAD_INDEX;
+use wl_linking::{File, FileList};
+use wl_lists::ItemList;
 use wl_module::{GlobalType, ImportEntity};
-use wl_symbols::WasmArgs;
+use wl_symbols::{HostImport, LinkInput};
+use wl_words::WasmArgs;
 
 // ---- functions
 

@@ -11,9 +11,11 @@ ghost use Rattle.wl_plan.specs.IndexSteps.{numbers_among, segments_before, IsMap
 
 use crate::addresses::{AddressBook, layouts_of};
 use std::alloc::{AllocError, Global};
-use wl_bind::{LinkInput, WASM_DEAD_INDEX, WasmObjectIndexMap};
 use wl_data::{WasmDataSegmentLayout, segments_have_layouts};
-use wl_linking::{File, ItemList, LinkError};
+use wl_index::{WASM_DEAD_INDEX, WasmObjectIndexMap};
+use wl_linking::{File, LinkError};
+use wl_lists::ItemList;
+use wl_symbols::LinkInput;
 
 /// The number in the output of each segment of an object, of which the first has that number there:
 /// 4294967295 where it isn't kept.

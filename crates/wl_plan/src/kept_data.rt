@@ -2,17 +2,18 @@
 
 ghost use Rattle.std.specs.Prelude.{◌≡◌, [], ◌∷◌, ◌++◌, if◌then◌else◌, Some, IfOk, OnOk, slice_get};
 ghost use Rattle.wl_linking.specs.Fitting.{IsWhole};
-ghost use Rattle.wl_live.specs.declared.units.WasmGcUnit.TheVariants.{DataSegment};
-ghost use Rattle.wl_bind.specs.Input.{keeps};
+ghost use Rattle.wl_symbols.specs.declared.units.WasmGcUnit.TheVariants.{DataSegment};
+ghost use Rattle.wl_symbols.specs.Input.{keeps};
 ghost use Rattle.wl_bind.specs.ThreadData.{is_thread_data};
 ghost use Rattle.wl_plan.specs.KeptData.{alignment_of, payload_start, kept_data, kept_segments, all_segments};
 
 use std::alloc::{AllocError, Global};
-use wl_bind::{LinkInput, thread_data};
+use wl_bind::thread_data;
 use wl_data::KeptSegment;
-use wl_linking::{File, ItemList};
-use wl_live::WasmGcUnit;
+use wl_linking::File;
+use wl_lists::ItemList;
 use wl_module::{DataKind, WasmDataSegment};
+use wl_symbols::{LinkInput, WasmGcUnit};
 
 /// The alignment of the segment of that number in bytes.
 fn alignment_of(file: &File<'_>, number: usize) -> u32

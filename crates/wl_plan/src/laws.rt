@@ -4,11 +4,11 @@ ghost use Rattle.std.specs.Prelude.{◌≡◌, ℕ, List, Err};
 ghost use Rattle.wl_linking.specs.Object.{Object as SpecObject};
 ghost use Rattle.wl_linking.specs.declared.error.LinkError.{LinkError as SpecError};
 ghost use Rattle.wl_reloc.specs.declared.error.RelocError.{RelocError as Why};
-ghost use Rattle.wl_reloc.specs.declared.index_map.WasmObjectIndexMap.{WasmObjectIndexMap as Map};
+ghost use Rattle.wl_index.specs.declared.index_map.WasmObjectIndexMap.{WasmObjectIndexMap as Map};
 ghost use Rattle.wl_symbols.specs.Link.{Link};
-ghost use Rattle.wl_symbols.specs.declared.args.WasmArgs.{WasmArgs as SpecArgs};
-ghost use Rattle.wl_bind.specs.Input.{Input};
-ghost use Rattle.wl_bind.specs.declared.relocated.Relocated.{Relocated as KeptRelocation};
+ghost use Rattle.wl_words.specs.declared.args.WasmArgs.{WasmArgs as SpecArgs};
+ghost use Rattle.wl_symbols.specs.Input.{Input};
+ghost use Rattle.wl_symbols.specs.declared.relocated.Relocated.{Relocated as KeptRelocation};
 ghost use Rattle.wl_plan.specs.Faults.{link_fault};
 ghost use Rattle.wl_plan.specs.IndexedMaps.{AreWholeMaps};
 ghost use Rattle.wl_plan.specs.LinkPlan.{IsPlanOf, IsLinkPlan, HasLinkFault};
@@ -26,8 +26,8 @@ use wl_data::{places_are_one, segments_have_layouts};
 use wl_exports::exports_are_one;
 use wl_features::features_are_one;
 use wl_linking::object_or_fault;
-use wl_live::live_sets_are_one;
 use wl_ops::numbers_are_one;
+use wl_symbols::live_sets_are_one;
 use wl_synth::body_or_fault;
 
 /// A link has one plan at most, and none where a step has a cause.

@@ -35,5 +35,7 @@ pub use layout::{
 pub use link::{plan_files, plan_link};
 pub use module_layout::build_output_module_layout;
 pub use objects::{MAX_OBJECT, ObjectList, PushError};
-pub use wl_bind::{FixupPlace, TypeMerger, WASM_DEAD_INDEX, WasmObjectIndexMap};
+pub use wl_bind::TypeMerger;
+pub use wl_index::{WASM_DEAD_INDEX, WasmObjectIndexMap};
 pub use wl_reloc::{RelocError, deferred_tls_template_pointer, resolve_reloc};
+pub use wl_symbols::FixupPlace;

@@ -14,11 +14,11 @@ use crate::parsing::parse_objects;
 use crate::plan::plan_kept;
 use crate::planned::check_options;
 use std::alloc::Global;
-use wl_bind::LinkInput;
 use wl_features::check_features;
 use wl_linking::{FileList, LinkError};
-use wl_live::{check_entry, collect_live, live_sets_are_one};
-use wl_symbols::{SymbolTable, WasmArgs};
+use wl_live::{check_entry, collect_live};
+use wl_symbols::{LinkInput, SymbolTable, live_sets_are_one};
+use wl_words::WasmArgs;
 
 /// Each object of a list is whole.
 fn objects_are_whole(files: &FileList<'_>)

@@ -9,9 +9,9 @@ ghost use Rattle.wl_plan.specs.Plan.{IsLayout};
 use crate::layout::WasmLayout;
 use crate::plan::plan_kept;
 use std::alloc::Global;
-use wl_bind::LinkInput;
 use wl_features::taken_features;
 use wl_linking::LinkError;
+use wl_symbols::LinkInput;
 
 /// The layout of the output module: that of the plan of whole objects, of which it is known what is
 /// kept. What is judged before that is to have no cause: kept bodies are decoded.

@@ -22,12 +22,15 @@ use crate::functions::own_functions;
 use crate::layout::OutputFunction;
 use crate::wrappers::with_wrappers;
 use std::alloc::{AllocError, Global};
-use wl_bind::{BoundIndices, LinkInput, WasmObjectIndexMap};
+use wl_bind::BoundIndices;
 use wl_ctors::init_calls;
 use wl_exports::{ExportSources, OutputInterface, check_exports, output_interface};
 use wl_features::FeatureList;
-use wl_linking::{ItemList, LinkError};
-use wl_symbols::WasmArgs;
+use wl_index::WasmObjectIndexMap;
+use wl_linking::LinkError;
+use wl_lists::ItemList;
+use wl_symbols::LinkInput;
+use wl_words::WasmArgs;
 
 /// What of the output is known before it is known where its data lies.
 #[derive(Drop)]

@@ -7,8 +7,8 @@ ghost use Rattle.wl_plan.specs.Parsing.{link_error_of};
 
 use crate::objects::ObjectList;
 use std::alloc::Global;
+use wl_bytes::ReadError;
 use wl_linking::{FileList, LinkError, parse_wasm_module};
-use wl_module::ReadError;
 
 /// What is wrong with an object, as a refusal of the plan.
 pub(crate) fn link_error(object: usize, error: ReadError) -> LinkError

@@ -8,7 +8,7 @@ ghost use Rattle.wl_data.specs.DataPlaces.{IsDataPlaces};
 ghost use Rattle.wl_data.specs.Stack.{IsBadStackSize};
 ghost use Rattle.wl_bind.specs.Made.{linker_needs, greatest};
 ghost use Rattle.wl_types.specs.Types.{max_entries};
-ghost use Rattle.wl_bind.specs.Input.{Input};
+ghost use Rattle.wl_symbols.specs.Input.{Input};
 ghost use Rattle.wl_plan.specs.Addresses.{segment_space};
 ghost use Rattle.wl_plan.specs.KeptData.{all_segments};
 ghost use Rattle.wl_plan.specs.Placing.{has_memory, defines_memory, least_pages, first_pages, memory_base, data_options, data_input, placing_of, IsPlacing, AreTooManySegments, memory_steps, place_fault};
@@ -17,15 +17,17 @@ ghost use Rattle.wl_plan.specs.declared.placing.Placing.{Placing as SpecPlacing}
 
 use crate::kept_data::all_segments;
 use std::alloc::Global;
-use wl_bind::{LinkInput, LinkerImportAbsorption};
+use wl_bind::LinkerImportAbsorption;
 use wl_data::{
     DataOptions, DataPlaces, KeptSegment, ensure_memory_covers, ensure_stack_size_aligned,
     heap_end_from_initial_pages, place_all, places_are_one, segments_have_layouts,
     stack_pointer_init,
 };
-use wl_linking::{File, ItemList, LinkError, Quantity};
+use wl_index::MAX_ENTRIES;
+use wl_linking::{File, LinkError, Quantity};
+use wl_lists::ItemList;
 use wl_module::{Import, ImportEntity, MemoryType};
-use wl_types::MAX_ENTRIES;
+use wl_symbols::LinkInput;
 
 /// Where data, stack and heap lie, and the memory that holds them.
 #[derive(Drop)]

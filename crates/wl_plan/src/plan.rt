@@ -7,7 +7,7 @@ ghost use Rattle.wl_types.specs.Types.{max_entries};
 ghost use Rattle.wl_features.specs.Taken.{AreTaken};
 ghost use Rattle.wl_bind.specs.FunctionSpace.{function_space};
 ghost use Rattle.wl_bind.specs.IndexMaps.{AreIndexMaps};
-ghost use Rattle.wl_bind.specs.Input.{Input};
+ghost use Rattle.wl_symbols.specs.Input.{Input};
 ghost use Rattle.wl_plan.specs.Addresses.{segment_space, IsAddressTooHigh};
 ghost use Rattle.wl_plan.specs.Bodies.{AreBodies};
 ghost use Rattle.wl_plan.specs.BodySteps.{AreAllNumbers, AreSoundBodies};
@@ -39,18 +39,20 @@ use crate::wrappers::{push_wrapper_bodies, push_wrapper_slots};
 use std::alloc::Global;
 use std::mem;
 use wl_bind::{
-    LinkInput, WasmObjectIndexMap, build_index_maps, entries_stand_once, same_targets_are_one,
-    table_functions_stand_once,
+    build_index_maps, entries_stand_once, same_targets_are_one, table_functions_stand_once,
 };
 use wl_bytes::shortest_form_is_one;
 use wl_ctors::init_calls_are_one;
 use wl_exports::Wrapper;
 use wl_features::FeatureList;
-use wl_linking::{DebugSectionInput, ItemList, LinkError};
+use wl_index::WasmObjectIndexMap;
+use wl_linking::{DebugSectionInput, LinkError};
+use wl_lists::ItemList;
 use wl_module::{FuncType, MemoryType, OutputExport, TableType, WasmFunctionBody};
 use wl_ops::numbers_are_one;
-use wl_symbols::WasmArgs;
+use wl_symbols::LinkInput;
 use wl_synth::body_or_fault;
+use wl_words::WasmArgs;
 
 /// What a plan is made from, where it is known where things lie.
 #[derive(Drop)]
@@ -243,7 +245,7 @@ fn output_parts<'a>(
 }
 
 /// What the options and the bindings say of the module as a whole.
-#[derive(Clone, Copy, Debug, PartialEq, Eq)]
+#[derive(Clone, Copy, PartialEq, Eq)]
 struct OutputModule {
     memory: Option<MemoryType>,
     table: Option<TableType>,

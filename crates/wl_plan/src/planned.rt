@@ -4,9 +4,9 @@ ghost use Rattle.std.specs.Prelude.{OnOk, IfErr};
 ghost use Rattle.wl_linking.specs.Steps.{Clear, Refuses};
 ghost use Rattle.wl_plan.specs.Planned.{IsUnplannedOption};
 
+use wl_bytes::Form;
 use wl_linking::LinkError;
-use wl_module::Form;
-use wl_symbols::WasmArgs;
+use wl_words::WasmArgs;
 
 /// Refuses words that ask for what can't be planned yet: a shared memory.
 ///

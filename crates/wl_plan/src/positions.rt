@@ -4,9 +4,9 @@ ghost use Rattle.std.specs.Prelude.{◌≡◌, ◌<◌, map, length, Some, IfOk,
 ghost use Rattle.std.specs.List.{AllByRecursion, AllZip};
 ghost use Rattle.std.specs.Cow.{cow_slice_items};
 ghost use Rattle.wl_linking.specs.declared.error.LinkError.TheVariants.{OutOfMemory};
-ghost use Rattle.wl_bind.specs.Scan.{relocations};
-ghost use Rattle.wl_bind.specs.declared.relocated.FixupPlace.TheVariants.{Code, Segment};
-ghost use Rattle.wl_bind.specs.declared.relocated.Relocated.{Relocated as KeptRelocation};
+ghost use Rattle.wl_symbols.specs.Relocations.{relocations};
+ghost use Rattle.wl_symbols.specs.declared.relocated.FixupPlace.TheVariants.{Code, Segment};
+ghost use Rattle.wl_symbols.specs.declared.relocated.Relocated.{Relocated as KeptRelocation};
 ghost use Rattle.wl_plan.specs.Bodies.{IsMovedIn};
 ghost use Rattle.wl_plan.specs.BodySteps.{AreAllNumbers, AreNewNumbers, AreSoundBodies, HasSoundBody};
 ghost use Rattle.wl_plan.specs.PositionSteps.{share_body, goes_on, AreOfOneBody, AreKept, IsThere};
@@ -15,11 +15,11 @@ use crate::parsing::link_error;
 use crate::placing::Placing;
 use std::alloc::{AllocError, Global};
 use std::borrow::CowSlice;
-use wl_bind::{FixupPlace, LinkInput, Relocated, kept_relocations};
-use wl_linking::{File, ItemList, LinkError, parts_of_objects_stand, whole_objects};
-use wl_live::live_units_are_closed;
+use wl_linking::{File, LinkError, parts_of_objects_stand, whole_objects};
+use wl_lists::ItemList;
 use wl_module::WasmFunctionBody;
 use wl_ops::remap_body_data_indices;
+use wl_symbols::{FixupPlace, LinkInput, Relocated, kept_relocations, live_units_are_closed};
 
 /// The two fields lie in one body.
 fn share_body(first: &Relocated, other: &Relocated) -> bool

@@ -19,13 +19,14 @@ use crate::bindings::Bindings;
 use crate::placing::Placing;
 use std::alloc::{AllocError, Global};
 use wl_bind::{
-    FunctionTarget, LinkInput, RelocScan, WASM_DEAD_INDEX, WasmObjectIndexMap, entries_have_types,
-    entries_stand_once, same_targets_are_one, stubs_have_no_slot, table_functions_are_kept,
-    table_functions_stand_once,
+    FunctionTarget, RelocScan, entries_have_types, entries_stand_once, same_targets_are_one,
+    stubs_have_no_slot, table_functions_are_kept, table_functions_stand_once,
 };
-use wl_linking::{File, ItemList, whole_objects};
+use wl_index::{WASM_DEAD_INDEX, WasmObjectIndexMap};
+use wl_linking::{File, whole_objects};
+use wl_lists::ItemList;
 use wl_module::{ImportEntity, TableType};
-use wl_slots::slots_are_numbered;
+use wl_symbols::{LinkInput, slots_are_numbered};
 
 /// The place of a function among those of the table.
 fn table_place(scan: &RelocScan<'_>, target: FunctionTarget) -> Option<usize>

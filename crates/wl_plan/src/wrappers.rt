@@ -4,7 +4,7 @@ ghost use Rattle.std.specs.Prelude.{◌≡◌, ◌≤◌, ◌-◌, ◌++◌, len
 ghost use Rattle.wl_module.specs.Types.{FunctionType};
 ghost use Rattle.wl_synth.specs.Bodies.{wrapper_ops};
 ghost use Rattle.wl_synth.specs.Encoding.{IsEncoded};
-ghost use Rattle.wl_types.specs.declared.types.TheConstants.{WASM_DEAD_INDEX as dead};
+ghost use Rattle.wl_index.specs.declared.index.TheConstants.{WASM_DEAD_INDEX as dead};
 ghost use Rattle.wl_bind.specs.FunctionSpace.{host_function_part};
 ghost use Rattle.wl_bind.specs.OutputTypes.{output_types};
 ghost use Rattle.wl_exports.specs.Wrapped.{WrapperEntry, AreWrappers};
@@ -18,12 +18,13 @@ use crate::bindings::Bindings;
 use crate::bodies::push_made;
 use crate::layout::{FunctionOrigin, OutputFunction};
 use std::alloc::{AllocError, Global};
-use wl_bind::{LinkInput, TypeMerger, WASM_DEAD_INDEX};
+use wl_bind::TypeMerger;
 use wl_exports::{Wrapper, wrappers_call_functions};
-use wl_facts::types_are_short;
-use wl_linking::ItemList;
+use wl_index::WASM_DEAD_INDEX;
+use wl_linking::types_are_short;
+use wl_lists::ItemList;
 use wl_module::WasmFunctionBody;
-use wl_symbols::WasmLinkerSymbol;
+use wl_symbols::{LinkInput, WasmLinkerSymbol};
 use wl_synth::encode_command_export_wrapper_body;
 
 // ---- functions

@@ -4,8 +4,8 @@ use Rattle.wl_custom.specs.RelocationTypes.{has_addend}
 use Rattle.wl_custom.specs.declared.relocation_type.RelocationType.{RelocationType}
 use Rattle.wl_custom.specs.declared.relocation_type.RelocationType.TheVariants.{MemoryAddrI32}
 use Rattle.wl_custom.specs.declared.relocations.WasmRelocation.{WasmRelocation}
-use Rattle.wl_data.specs.declared.segments.WasmDataAddress.{WasmDataAddress}
-use Rattle.wl_data.specs.declared.segments.WasmDataAddress.TheVariants.{Missing, Placed, Passive, TlsOffset}
+use Rattle.wl_index.specs.declared.data_address.WasmDataAddress.{WasmDataAddress}
+use Rattle.wl_index.specs.declared.data_address.WasmDataAddress.TheVariants.{Missing, Placed, Passive, TlsOffset}
 use Rattle.wl_reloc.specs.declared.error.RelocError.{RelocError}
 use Rattle.wl_reloc.specs.declared.error.RelocError.TheVariants.{Unsupported, Range}
 use Rattle.wl_reloc.specs.declared.addresses.AddressBases.{AddressBases}

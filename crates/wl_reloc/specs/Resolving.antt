@@ -4,14 +4,14 @@ use Rattle.wl_custom.specs.Symbols.{Symbol}
 use Rattle.wl_custom.specs.declared.relocations.WasmRelocation.{WasmRelocation}
 use Rattle.wl_custom.specs.declared.symbols.WasmSymbolKind.{WasmSymbolKind}
 use Rattle.wl_custom.specs.declared.symbols.WasmSymbolKind.TheVariants.{Func, Data, Global, Section, Event, Table}
-use Rattle.wl_data.specs.declared.segments.WasmDataAddress.{WasmDataAddress}
-use Rattle.wl_types.specs.declared.types.TheConstants.{WASM_DEAD_INDEX}
+use Rattle.wl_index.specs.declared.data_address.WasmDataAddress.{WasmDataAddress}
+use Rattle.wl_index.specs.declared.index.TheConstants.{WASM_DEAD_INDEX}
 use Rattle.wl_reloc.specs.Addresses.{address_value, as_word}
 use Rattle.wl_reloc.specs.Takings.{taking_of}
 use Rattle.wl_reloc.specs.declared.addresses.AddressBases.{AddressBases}
 use Rattle.wl_reloc.specs.declared.error.RelocError.{RelocError}
 use Rattle.wl_reloc.specs.declared.error.RelocError.TheVariants.{OutOfRange, Removed, WrongKind, NoSlot, NoGot}
-use Rattle.wl_reloc.specs.declared.index_map.WasmObjectIndexMap.{WasmObjectIndexMap}
+use Rattle.wl_index.specs.declared.index_map.WasmObjectIndexMap.{WasmObjectIndexMap}
 use Rattle.wl_reloc.specs.declared.takings.AddressBase.{AddressBase}
 use Rattle.wl_reloc.specs.declared.takings.Taking.{Taking}
 use Rattle.wl_reloc.specs.declared.takings.Taking.TheVariants.{FunctionIndex, Slot, SlotBehindBase, GlobalIndex, TableNumber, Address}

@@ -4,13 +4,12 @@ ghost use Rattle.std.specs.Prelude.{◌≡◌, pos, ◌-ℤ◌, ◌+ℤ◌};
 ghost use Rattle.wl_reloc.specs.Addresses.{s32_or_range, behind_thread_data, address_value, word_of, as_word, deferred_value, deferred_at, deferred_pointer};
 
 use crate::error::RelocError;
-use crate::index_map::WasmObjectIndexMap;
 use crate::takings::AddressBase;
-use wl_data::WasmDataAddress;
+use wl_index::{WasmDataAddress, WasmObjectIndexMap};
 use wl_linking::{RelocationType, WasmRelocation};
 
 /// From where addresses are counted.
-#[derive(Clone, Copy, Debug, PartialEq, Eq)]
+#[derive(Clone, Copy, PartialEq, Eq)]
 pub struct AddressBases {
     /// The value of `__memory_base`.
     pub memory_base: u32,

@@ -7,12 +7,11 @@
 
 mod addresses;
 mod error;
-mod index_map;
 mod resolving;
 mod takings;
 
 pub use addresses::{AddressBases, deferred_tls_template_pointer};
 pub use error::RelocError;
-pub use index_map::WasmObjectIndexMap;
 pub use resolving::resolve_reloc;
 pub use takings::{AddressBase, Taking};
+pub use wl_index::WasmObjectIndexMap;

@@ -5,12 +5,10 @@ ghost use Rattle.wl_reloc.specs.Resolving.{kept_index, redirect, got_global, slo
 
 use crate::addresses::{AddressBases, address_value};
 use crate::error::RelocError;
-use crate::index_map::WasmObjectIndexMap;
 use crate::takings::{AddressBase, Taking, taking_of};
 use std::marker::Model;
-use wl_data::WasmDataAddress;
+use wl_index::{WASM_DEAD_INDEX, WasmDataAddress, WasmObjectIndexMap};
 use wl_linking::{WasmRelocation, WasmSymbol, WasmSymbolKind};
-use wl_types::WASM_DEAD_INDEX;
 
 /// What is known beside a relocation. Clauses see it as a record of the same name.
 #[derive(Drop)]

@@ -7,7 +7,7 @@ ghost use Rattle.wl_reloc.specs.Takings.{taking_of};
 use wl_linking::RelocationType;
 
 /// From where an address is counted.
-#[derive(Clone, Copy, Debug, PartialEq, Eq)]
+#[derive(Clone, Copy, PartialEq, Eq)]
 pub enum AddressBase {
     /// From the start of the memory.
     Memory,
@@ -18,7 +18,7 @@ pub enum AddressBase {
 }
 
 /// What a relocation takes of the symbol that it names.
-#[derive(Clone, Copy, Debug, PartialEq, Eq)]
+#[derive(Clone, Copy, PartialEq, Eq)]
 pub enum Taking {
     /// The index of the function that a symbol leads to.
     FunctionIndex,

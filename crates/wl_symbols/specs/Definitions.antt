@@ -7,7 +7,7 @@ use Rattle.wl_symbols.specs.LinkerNames.{made_of}
 use Rattle.wl_symbols.specs.Entries.{is_private, entries_of}
 use Rattle.wl_symbols.specs.Names.{chosen, def_for}
 use Rattle.wl_symbols.specs.Adding.{Holds}
-use Rattle.wl_symbols.specs.declared.args.WasmArgs.{WasmArgs}
+use Rattle.wl_words.specs.declared.args.WasmArgs.{WasmArgs}
 use Rattle.wl_symbols.specs.declared.entry.Firsts.{Firsts}
 use Rattle.wl_symbols.specs.declared.entry.Definition.{Definition}
 use Rattle.wl_symbols.specs.declared.entry.Definition.TheVariants.{Symbol}

@@ -6,7 +6,7 @@ use Rattle.wl_custom.specs.declared.symbols.WasmSymbolKind.{WasmSymbolKind}
 use Rattle.wl_custom.specs.declared.symbols.WasmSymbolKind.TheVariants.{Func, Data, Global}
 use Rattle.wl_custom.specs.Symbols.{is_data}
 use Rattle.wl_symbols.specs.LinkerRows.{LinkerRow}
-use Rattle.wl_symbols.specs.declared.args.WasmArgs.{WasmArgs}
+use Rattle.wl_words.specs.declared.args.WasmArgs.{WasmArgs}
 use Rattle.wl_symbols.specs.declared.linker_symbol.MadeUnder.{MadeUnder}
 use Rattle.wl_symbols.specs.declared.linker_symbol.MadeUnder.TheVariants.{AnyOptions, SharedMemory}
 use Rattle.wl_symbols.specs.declared.linker_symbol.WasmLinkerSymbol.{WasmLinkerSymbol}

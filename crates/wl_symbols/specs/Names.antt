@@ -6,7 +6,7 @@ use Rattle.wl_linking.specs.Object.{Object}
 use Rattle.wl_symbols.specs.Link.{Link}
 use Rattle.wl_symbols.specs.LinkerNames.{name_of, exists_under, made_of}
 use Rattle.wl_symbols.specs.Entries.{strength_of, is_private, entries_of, firsts_of, symbol_in}
-use Rattle.wl_symbols.specs.declared.args.WasmArgs.{WasmArgs}
+use Rattle.wl_words.specs.declared.args.WasmArgs.{WasmArgs}
 use Rattle.wl_symbols.specs.declared.linker_symbol.WasmLinkerSymbol.{WasmLinkerSymbol}
 use Rattle.wl_symbols.specs.declared.entry.Place.{Place}
 use Rattle.wl_symbols.specs.declared.entry.Firsts.{Firsts}

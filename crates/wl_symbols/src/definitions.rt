@@ -6,13 +6,14 @@ ghost use Rattle.wl_symbols.specs.Entries.{entries_at, entries_from, entries_of,
 ghost use Rattle.wl_symbols.specs.Adding.{firsts_in};
 ghost use Rattle.wl_symbols.specs.Definitions.{defined_by, row_from, rows_from};
 
-use crate::args::WasmArgs;
 use crate::entry::{Definition, Place, is_private};
 use crate::names::CountedNames;
 use std::alloc::{AllocError, Global};
 use std::sync::ledger::Ledger;
-use wl_linking::{FileList, ItemList, WasmSymbol};
+use wl_linking::{FileList, WasmSymbol};
+use wl_lists::ItemList;
 use wl_steps::Steps;
+use wl_words::WasmArgs;
 
 /// What each symbol stands for, a row for each object.
 #[derive(Drop)]

@@ -6,12 +6,12 @@ ghost use Rattle.wl_symbols.specs.LinkerNames.{made_of};
 ghost use Rattle.wl_symbols.specs.Names.{at_place, chosen};
 ghost use Rattle.wl_symbols.specs.Adding.{no_firsts, with_place};
 
-use crate::args::WasmArgs;
 use crate::linker_symbol::WasmLinkerSymbol;
 use wl_linking::WasmSymbol;
+use wl_words::WasmArgs;
 
 /// A symbol, by the number of its object and its number there.
-#[derive(Clone, Copy, Debug, PartialEq, Eq)]
+#[derive(Clone, Copy, PartialEq, Eq)]
 pub(crate) struct Place {
     /// The object's number.
     pub(crate) object: usize,
@@ -20,7 +20,7 @@ pub(crate) struct Place {
 }
 
 /// What a name or a symbol stands for.
-#[derive(Clone, Copy, Debug, PartialEq, Eq, Hash)]
+#[derive(Clone, Copy, PartialEq, Eq, Hash)]
 pub enum Definition {
     /// The symbol of that number in the object of that number.
     Symbol { object: usize, symbol: u32 },
@@ -29,7 +29,7 @@ pub enum Definition {
 }
 
 /// How a symbol defines its name.
-#[derive(Clone, Copy, Debug, PartialEq, Eq)]
+#[derive(Clone, Copy, PartialEq, Eq)]
 pub(crate) enum Strength {
     /// For good: no other object may define the name so.
     Strong,
@@ -40,7 +40,7 @@ pub(crate) enum Strength {
 }
 
 /// The first symbol of each strength.
-#[derive(Clone, Copy, Debug, PartialEq, Eq)]
+#[derive(Clone, Copy, PartialEq, Eq)]
 pub(crate) struct Firsts {
     pub(crate) strong: Option<Place>,
     pub(crate) weak: Option<Place>,

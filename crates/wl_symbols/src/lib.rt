@@ -1,33 +1,72 @@
-//! The words of the command line, and the names that objects have in common.
+//! The link: what names stand for, which units and import slots objects have, and what it is to be
+//! kept.
 //!
-//! [`WasmArgs::parse`] reads the words; [`args_or_fault`] says that words are options and names of
-//! objects, or have a first fault. [`SymbolTable::build`] gathers the names of all objects, and
-//! sees that no two define one name. The table then answers what a name or a symbol stands for: a
-//! symbol, or what the linker makes ([`WasmLinkerSymbol`]). [`name_by_cases`] says the same by
-//! places.
+//! [`SymbolTable::build`] gathers the names of all objects, and sees that no two define one name.
+//! The table then answers what a name or a symbol stands for: a symbol, or what the linker makes
+//! ([`WasmLinkerSymbol`]). [`name_by_cases`] says the same by places. [`import_slots`] tells the
+//! slots of an object, each with the undefined symbols that stand for it, and [`slot_targets`] what
+//! they are bound to whatever is kept; slots to which names bind nothing are divided by
+//! [`divide_slots`] into those of stubs and those that are left to the host. A [`LiveSet`] tells
+//! which units are kept, and [`LinkInput`] holds all of these for what is above.
 #![tactic(auto)]
 
+// Names.
 mod adding;
-mod args;
 mod definitions;
 mod entry;
-mod error;
-mod laws;
 mod linker_symbol;
 mod names;
-mod options;
 mod table;
-mod texts;
-mod values;
 
-pub use args::{DEFAULT_STACK_SIZE, WasmArgs, args_or_fault};
+// Units.
+mod live_set;
+mod unit_numbers;
+mod units;
+
+// The link.
+mod candidates;
+mod input;
+mod kept_units;
+mod relocated;
+
+// Import slots.
+mod kept_imports;
+mod left;
+mod slots;
+mod targets;
+
+// Laws.
+mod kept_laws;
+mod name_laws;
+mod slot_laws;
+
+pub use candidates::{definition_at, is_candidate};
 pub use entry::Definition;
-pub use error::ArgError;
-pub use laws::{made_names_differ, name_by_cases, names_or_repeat};
+pub use input::LinkInput;
+pub use kept_imports::{is_kept_slot, kept_slots, left_slots};
+pub use kept_laws::{
+    kept_units_are_closed, live_sets_are_one, live_units_are_closed, ordinals_are_dense,
+    undecoded_bodies_refer_to_none, units_are_numbered,
+};
+pub use left::{DividedSlots, HostImport, HostImports, Stubs, divide_slots, host_imports};
 pub use linker_symbol::{
     LINKER_MEMORY_BASE, LINKER_TABLE_BASE, STACK_ALIGNMENT, WASM_PAGE_SIZE, WasmLinkerSymbol,
 };
-pub use options::{Flag, MemoryOption, OptionKind, Setting};
+pub use live_set::LiveSet;
+pub use name_laws::{made_names_differ, name_by_cases, names_or_repeat};
+pub use relocated::{FixupPlace, KeptRelocations, Relocated, kept_of_object, kept_relocations};
+pub use slot_laws::{
+    definitions_have_numbers, host_imports_are_found, imports_stand_once, slots_are_numbered,
+    slots_have_one_name, stubs_are_found_by_name, targets_by_cases,
+};
+pub use slots::{ImportSlot, import_slots, is_slot_of};
 pub use table::SymbolTable;
-pub use texts::Texts;
-pub use values::MemoryName;
+pub use targets::{
+    SlotTarget, object_target, own_number, slot_target, slot_targets, symbol_target,
+};
+pub use unit_numbers::UnitNumbers;
+pub use units::{
+    LinkUnit, UnitCounts, WasmGcUnit, counts_of, defined, imported, sibling_of, unit_in,
+    unit_index, wasm_gc_unit_for_symbol,
+};
+pub use wl_words::{ArgError, DEFAULT_STACK_SIZE, MemoryName, Texts, WasmArgs, args_or_fault};

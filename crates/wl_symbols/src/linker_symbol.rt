@@ -5,9 +5,9 @@ ghost use Rattle.wl_symbols.specs.LinkerNames.{row_of, name_of, symbol_named, ex
 ghost use Rattle.wl_symbols.specs.LinkerAddresses.{heap_base, data_places, address_of, IsTooHigh};
 ghost use Rattle.wl_linking.specs.declared.error.Quantity.TheVariants.{Address};
 
-use crate::args::WasmArgs;
 use std::marker::Model;
 use wl_linking::{LinkError, Quantity, WasmSymbolKind};
+use wl_words::WasmArgs;
 
 /// The bytes of a page of memory (core specification, "Memory Instances").
 pub const WASM_PAGE_SIZE: u32 = 65_536;
@@ -24,7 +24,7 @@ pub const LINKER_MEMORY_BASE: u32 = 1024;
 pub const LINKER_TABLE_BASE: u32 = 1;
 
 /// The options under which a name exists.
-#[derive(Clone, Copy, Debug, PartialEq, Eq)]
+#[derive(Clone, Copy, PartialEq, Eq)]
 pub(crate) enum MadeUnder {
     /// Under all.
     AnyOptions,
@@ -56,7 +56,7 @@ fn row(name: &'static str, kind: WasmSymbolKind, under: MadeUnder) -> LinkerRow
 }
 
 /// A name that the linker makes, where no object defines it.
-#[derive(Clone, Copy, Debug, PartialEq, Eq, Hash)]
+#[derive(Clone, Copy, PartialEq, Eq, Hash)]
 pub enum WasmLinkerSymbol {
     /// The end of the data.
     DataEnd,

@@ -8,15 +8,16 @@ ghost use Rattle.wl_symbols.specs.Names.{named, def};
 ghost use Rattle.wl_symbols.specs.Repeats.{HasOneStrong, refusal_of, IsDuplicate};
 
 use crate::adding::{Repeat, add_files};
-use crate::args::WasmArgs;
 use crate::definitions::DefinitionRows;
 use crate::entry::Definition;
 use crate::names::{CountedNames, NameMap};
 use std::alloc::{AllocError, Global};
 use std::marker::{Brand, Model};
 use std::sync::ledger::{Blank, Ledger};
-use wl_linking::{FileList, LinkError, Text, WasmSymbol};
+use wl_linking::{FileList, LinkError, WasmSymbol};
+use wl_lists::Text;
 use wl_steps::Steps;
+use wl_words::WasmArgs;
 
 /// Which definition each name has that objects have in common. Clauses see it as what is linked:
 /// the objects and the options that it was built of.

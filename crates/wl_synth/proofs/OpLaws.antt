@@ -4,7 +4,7 @@ use Rattle.std.proofs.lemmas.List.{append-nil, append_cancel_right}
 use Rattle.wl_bytes.specs.Parse.{IsReadAgain}
 use Rattle.wl_bytes.specs.Leb.{IsU32, IsSigned, s32_form, s33_form, s64_form, IsShortest, IsShortestSleb, IsWithin}
 use Rattle.wl_bytes.specs.Grammar.{Items}
-use Rattle.wl_module.specs.Checks.{When}
+use Rattle.wl_bytes.specs.Checks.{When}
 use Rattle.wl_ops.specs.declared.table.Single.TheVariants.{Number, Alignment, BlockType, Signed32, Signed64}
 use Rattle.wl_ops.specs.declared.table.Immediate.{Immediate}
 use Rattle.wl_ops.specs.declared.table.Immediate.TheVariants.{One, ListOf}

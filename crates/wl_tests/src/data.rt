@@ -10,7 +10,8 @@ use wl_data::{
     output_data_has_passive, output_data_segment_count, output_data_segment_encoded_size,
     place_all, segments_can_be_numbered, stack_high_after_data, stack_pointer_init,
 };
-use wl_linking::{ItemList, LinkError, MemoryBound, Quantity};
+use wl_linking::{LinkError, MemoryBound, Quantity};
+use wl_lists::ItemList;
 use wl_module::{MemoryType, WasmFunctionBody};
 
 /// A memory of one page.

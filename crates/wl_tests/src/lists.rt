@@ -1,7 +1,7 @@
 //! Lists in records.
 
 use std::test::Fail;
-use wl_linking::ItemList;
+use wl_lists::ItemList;
 
 #[test]
 fn items_stay_in_order(rt: HostRuntime) -> Result<(), Fail> {

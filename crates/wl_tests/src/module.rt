@@ -2,10 +2,11 @@
 //! and the texts of errors.
 
 use std::test::Fail;
+use wl_bytes::{Form, ReadError, Why};
 use wl_module::{
-    DataKind, ExternalKind, Form, FuncType, ImportEntity, ReadError, ValType, Why, read_bodies,
-    read_exports, read_functions, read_globals, read_imports, read_memories, read_placed_imports,
-    read_segments, read_targeted_segments, read_types, split_sections,
+    DataKind, ExternalKind, FuncType, ImportEntity, ValType, read_bodies, read_exports,
+    read_functions, read_globals, read_imports, read_memories, read_placed_imports, read_segments,
+    read_targeted_segments, read_types, split_sections,
 };
 
 /// A count of 4294967295 with nothing behind it.

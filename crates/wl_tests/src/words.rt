@@ -2,7 +2,7 @@
 
 use std::alloc::{AllocError, Global};
 use std::test::Fail;
-use wl_symbols::WasmArgs;
+use wl_words::WasmArgs;
 
 /// These words.
 fn words_of(alloc: Global, texts: &[&str]) -> Result<Vec<String>, AllocError> {

@@ -8,4 +8,4 @@ mod laws;
 mod types;
 
 pub use laws::{same_types_are_one, types_stand_once};
-pub use types::{MAX_ENTRIES, TypeMerger, WASM_DEAD_INDEX, copy_type};
+pub use types::{TypeMerger, copy_type};

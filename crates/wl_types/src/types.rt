@@ -8,14 +8,10 @@ ghost use Rattle.wl_types.specs.Types.{max_entries, add_type, IsFull};
 use indexmap::IndexSet;
 use std::alloc::{AllocError, Global};
 use std::marker::Model;
-use wl_linking::{ItemList, LinkError, Quantity};
+use wl_index::MAX_ENTRIES;
+use wl_linking::{LinkError, Quantity};
+use wl_lists::ItemList;
 use wl_module::FuncType;
-
-/// The greatest number of entries of a space.
-pub const MAX_ENTRIES: usize = 4_294_967_294;
-
-/// The index of what the output doesn't hold.
-pub const WASM_DEAD_INDEX: u32 = 4_294_967_295;
 
 /// The same type, in memory of its own.
 ///

@@ -1,6 +1,6 @@
 use Rattle.std.proofs.Common.{◌≡◌, ◌∙◌, ◌+◌, ◌∷◌, ℕ, List, sym, ap, find, drop}
 use Rattle.std.specs.Option.{option_map}
-use Rattle.wl_slots.specs.Left.{same_import, place_of_import}
+use Rattle.wl_symbols.specs.Left.{same_import, place_of_import}
 use Rattle.wl_bind.specs.ConflictSteps.{slot_at}
 use Rattle.wl_bind.proofs.ConflictLaws.{Met, met_next, host_first, met_more, met_conflict}
 use Rattle.wl_bind.proofs.conflicts.find_host_conflict.Goals as goal

@@ -1,5 +1,5 @@
 use Rattle.std.proofs.Common.{drop}
-use Rattle.wl_slots.specs.Left.{same_import}
+use Rattle.wl_symbols.specs.Left.{same_import}
 use Rattle.wl_bind.proofs.ConflictLaws.{Met}
 use Rattle.wl_bind.proofs.conflicts.find_host_conflict.Given as goal
 

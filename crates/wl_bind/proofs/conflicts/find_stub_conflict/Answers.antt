@@ -1,6 +1,6 @@
 use Rattle.std.proofs.Common.{◌≡◌, ◌∙◌, ◌+◌, ◌∷◌, ℕ, List, sym, ap, find, drop}
 use Rattle.std.specs.Option.{option_map}
-use Rattle.wl_slots.specs.Left.{same_field, place_of_name}
+use Rattle.wl_symbols.specs.Left.{same_field, place_of_name}
 use Rattle.wl_bind.specs.ConflictSteps.{slot_at}
 use Rattle.wl_bind.proofs.ConflictLaws.{Met, met_next, stub_first, met_more, met_conflict}
 use Rattle.wl_bind.proofs.conflicts.find_stub_conflict.Goals as goal

@@ -1,6 +1,6 @@
 use Rattle.std.proofs.Common.{◌≡◌, ◌∙◌, ◌+◌, ℕ, List, ap, find, drop}
 use Rattle.std.specs.Option.{option_map}
-use Rattle.wl_slots.specs.Left.{same_field, place_of_name}
+use Rattle.wl_symbols.specs.Left.{same_field, place_of_name}
 use Rattle.wl_bind.specs.ConflictSteps.{slot_at}
 use Rattle.wl_bind.proofs.ConflictLaws.{first_of_stub, firsts_more, firsts_next}
 use Rattle.wl_bind.proofs.first_slots.first_stub_slots.Goals as goal

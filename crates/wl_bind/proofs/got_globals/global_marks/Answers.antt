@@ -2,8 +2,8 @@ use Rattle.std.proofs.Common.{◌≡◌, ◌∙◌, ◌∷◌, [], ℕ, List, fa
 use Rattle.std.specs.List.{list_any, range_with_len}
 use Rattle.wl_custom.specs.Symbols.{Symbol}
 use Rattle.wl_bind.specs.IndexMaps.{is_global_of}
-use Rattle.wl_bind.specs.Relocations.{object_relocations}
-use Rattle.wl_bind.specs.declared.relocated.Relocated.{Relocated}
+use Rattle.wl_symbols.specs.Relocations.{object_relocations}
+use Rattle.wl_symbols.specs.declared.relocated.Relocated.{Relocated}
 use Rattle.wl_bind.proofs.GotGlobalLaws.{relocation_more}
 use Rattle.wl_bind.proofs.MarkLaws.{none_marked}
 use Rattle.wl_bind.proofs.got_globals.global_marks.Goals as goal

@@ -1,8 +1,8 @@
 use Rattle.std.proofs.Common.{◌≡◌, ◌++◌, map, length}
 use Rattle.std.specs.List.{list_any, range_with_len}
 use Rattle.wl_bind.specs.IndexMaps.{is_global_of}
-use Rattle.wl_bind.specs.KeptRelocations.{relocations_left}
-use Rattle.wl_bind.specs.Relocations.{object_relocations}
+use Rattle.wl_symbols.specs.KeptRelocations.{relocations_left}
+use Rattle.wl_symbols.specs.Relocations.{object_relocations}
 use Rattle.wl_bind.proofs.got_globals.global_marks.Given as goal
 
 abbrev pub invariant-loop-relocated : goal.invariant-loop-relocated

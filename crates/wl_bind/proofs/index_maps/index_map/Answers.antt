@@ -2,7 +2,7 @@ use Rattle.std.proofs.Common.{ℕ, List}
 use Rattle.wl_linking.specs.Object.{Object}
 use Rattle.wl_bind.specs.FunctionSpace.{function_space, local_functions}
 use Rattle.wl_bind.specs.GlobalSpace.{global_space, local_globals}
-use Rattle.wl_bind.specs.Input.{Input}
+use Rattle.wl_symbols.specs.Input.{Input}
 use Rattle.wl_bind.specs.OutputTypes.{AreTypeIndices}
 use Rattle.wl_bind.specs.Parts.{AreIndicesOf}
 use Rattle.wl_bind.proofs.RedirectLaws.{row_within, row_found}

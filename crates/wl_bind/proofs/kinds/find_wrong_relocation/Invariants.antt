@@ -1,7 +1,7 @@
 use Rattle.std.proofs.Common.{◌≡◌, find}
-use Rattle.wl_bind.specs.KeptRelocations.{relocations_left}
+use Rattle.wl_symbols.specs.KeptRelocations.{relocations_left}
 use Rattle.wl_bind.specs.KindSteps.{is_wrong_relocation}
-use Rattle.wl_bind.specs.Scan.{relocations}
+use Rattle.wl_symbols.specs.Relocations.{relocations}
 use Rattle.wl_bind.proofs.kinds.find_wrong_relocation.Given as goal
 
 abbrev pub invariant-loop-relocated : goal.invariant-loop-relocated

@@ -1,6 +1,7 @@
 use Rattle.std.proofs.Common.{filter_map}
 use Rattle.wl_bind.specs.Sameness.{same_definition, same_target, same_pair}
-use Rattle.wl_bind.specs.Scan.{relocations, got_mem_of, got_func_of, table_function_of}
+use Rattle.wl_symbols.specs.Relocations.{relocations}
+use Rattle.wl_bind.specs.Scan.{got_mem_of, got_func_of, table_function_of}
 use Rattle.wl_bind.proofs.SameLaws.{definition_one, target_one, pair_one, first_once}
 use Rattle.wl_bind.proofs.laws.table_functions_stand_once.Goals as goal
 

@@ -1,6 +1,6 @@
 use Rattle.std.proofs.Common.{◌≡◌, drop, bytes_eq}
 use Rattle.std.specs.List.{list_any}
-use Rattle.wl_symbols.specs.Texts.{texts}
+use Rattle.wl_words.specs.Texts.{texts}
 use Rattle.wl_bind.proofs.needs.is_among.Given as goal
 
 abbrev pub invariant-loop-other : goal.invariant-loop-other

@@ -2,8 +2,8 @@ use Rattle.std.proofs.Common.{◌≡◌, ◌∙◌, ◌&&◌, ◌+◌, ◌<◌, 
 use Rattle.std.specs.Option.{option_map_or}
 use Rattle.std.proofs.lemmas.List.FromFn.{length-map-range_with_len, get_or-map-range_with_len}
 use Rattle.wl_module.specs.Segments.{Segment}
-use Rattle.wl_live.specs.declared.units.WasmGcUnit.TheVariants.{DataSegment}
-use Rattle.wl_bind.specs.Input.{keeps}
+use Rattle.wl_symbols.specs.declared.units.WasmGcUnit.TheVariants.{DataSegment}
+use Rattle.wl_symbols.specs.Input.{keeps}
 use Rattle.wl_bind.specs.Made.{is_filled, is_kept_thread_data, is_kept_common_data, keeps_thread_data, keeps_common_data}
 use Rattle.wl_bind.specs.ThreadData.{is_thread_data}
 use Rattle.wl_bind.proofs.NeedLaws.{number_more, number_end, here_at}

@@ -1,5 +1,5 @@
 use Rattle.std.proofs.Common.{◌≤◌, ℕ, subst}
-use Rattle.wl_bind.specs.Input.{keeps}
+use Rattle.wl_symbols.specs.Input.{keeps}
 use Rattle.wl_bind.specs.OwnIndices.{own_unit, own_count}
 use Rattle.wl_bind.proofs.OwnLaws.{passing_all}
 use Rattle.wl_bind.proofs.own_indices.count_kept.Goals as goal

@@ -1,7 +1,8 @@
 use Rattle.std.proofs.Common.{◌≡◌, ◌∙◌, refl, map, [], filter_map}
 use Rattle.wl_bind.specs.GotSteps.{func_entry, func_key, with_all_func}
 use Rattle.wl_bind.specs.Sameness.{same_pair}
-use Rattle.wl_bind.specs.Scan.{got_func_of, got_func_entry, relocations}
+use Rattle.wl_bind.specs.Scan.{got_func_of, got_func_entry}
+use Rattle.wl_symbols.specs.Relocations.{relocations}
 use Rattle.wl_bind.proofs.GotLaws.{all_as}
 use Rattle.wl_bind.proofs.scan.got_func.Goals as goal
 

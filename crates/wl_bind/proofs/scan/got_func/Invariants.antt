@@ -1,7 +1,8 @@
 use Rattle.std.proofs.Common.{◌≡◌, map, [], filter_map}
 use Rattle.wl_bind.specs.GotSteps.{ArePlaces, func_entry, with_all_func}
-use Rattle.wl_bind.specs.KeptRelocations.{relocations_left}
-use Rattle.wl_bind.specs.Scan.{got_func_of, relocations}
+use Rattle.wl_symbols.specs.KeptRelocations.{relocations_left}
+use Rattle.wl_bind.specs.Scan.{got_func_of}
+use Rattle.wl_symbols.specs.Relocations.{relocations}
 use Rattle.wl_bind.proofs.scan.got_func.Given as goal
 
 abbrev pub invariant-loop-relocated : goal.invariant-loop-relocated

@@ -1,7 +1,8 @@
 use Rattle.std.proofs.Common.{◌≡◌, ◌∙◌, refl, map, [], filter_map}
 use Rattle.wl_bind.specs.GotSteps.{mem_entry, mem_key, with_all_mem}
 use Rattle.wl_bind.specs.Sameness.{same_definition}
-use Rattle.wl_bind.specs.Scan.{got_mem_of, got_mem_entry, relocations}
+use Rattle.wl_bind.specs.Scan.{got_mem_of, got_mem_entry}
+use Rattle.wl_symbols.specs.Relocations.{relocations}
 use Rattle.wl_bind.proofs.GotLaws.{all_as}
 use Rattle.wl_bind.proofs.scan.got_mem.Goals as goal
 

@@ -1,7 +1,8 @@
 use Rattle.std.proofs.Common.{◌≡◌, map, [], filter_map}
 use Rattle.wl_bind.specs.GotSteps.{ArePlaces, mem_entry, with_all_mem}
-use Rattle.wl_bind.specs.KeptRelocations.{relocations_left}
-use Rattle.wl_bind.specs.Scan.{got_mem_of, relocations}
+use Rattle.wl_symbols.specs.KeptRelocations.{relocations_left}
+use Rattle.wl_bind.specs.Scan.{got_mem_of}
+use Rattle.wl_symbols.specs.Relocations.{relocations}
 use Rattle.wl_bind.proofs.scan.got_mem.Given as goal
 
 abbrev pub invariant-loop-relocated : goal.invariant-loop-relocated

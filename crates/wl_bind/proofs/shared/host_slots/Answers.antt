@@ -1,5 +1,5 @@
 use Rattle.std.proofs.Common.{◌∙◌, ap, subst, ◌<◌, ℕ, length, List}
-use Rattle.wl_slots.specs.ImportSlots.{import_slots}
+use Rattle.wl_symbols.specs.ImportSlots.{import_slots}
 use Rattle.wl_symbols.specs.Link.{Link}
 use Rattle.wl_linking.specs.Object.{Object}
 use Rattle.wl_bind.specs.SharedSteps.{hosts_of}

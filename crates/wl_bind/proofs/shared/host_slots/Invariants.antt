@@ -1,5 +1,5 @@
 use Rattle.std.proofs.Common.{◌≡◌, ◌++◌, drop, filter}
-use Rattle.wl_bind.specs.KeptSlots.{slots_from}
+use Rattle.wl_symbols.specs.KeptSlots.{slots_from}
 use Rattle.wl_bind.specs.Undefined.{is_host_slot}
 use Rattle.wl_bind.specs.SharedSteps.{hosts_of}
 use Rattle.wl_bind.proofs.shared.host_slots.Given as goal

@@ -1,5 +1,5 @@
 use Rattle.std.proofs.Common.{◌≡◌, ◌∙◌, ap, map, subst, IfOk, ℕ, List, Option}
-use Rattle.wl_slots.specs.ImportSlots.{import_slots}
+use Rattle.wl_symbols.specs.ImportSlots.{import_slots}
 use Rattle.wl_symbols.specs.Link.{Link}
 use Rattle.wl_bind.specs.SharedSteps.{place_of}
 use Rattle.wl_bind.proofs.SharedLaws.{places_here}

@@ -1,7 +1,7 @@
 use Rattle.std.proofs.Common.{◌≡◌, ◌∙◌, ap, List, map}
 use Rattle.wl_symbols.specs.Link.{Link}
-use Rattle.wl_slots.specs.ImportSlots.{ImportSlot}
-use Rattle.wl_slots.specs.Left.{HostImport, first_slot, stubs}
+use Rattle.wl_symbols.specs.ImportSlots.{ImportSlot}
+use Rattle.wl_symbols.specs.Left.{HostImport, first_slot, stubs}
 use Rattle.wl_bind.specs.Stepped.{stepped}
 use Rattle.wl_bind.specs.Later.{functions_walked}
 use Rattle.wl_bind.specs.FunctionBinding.{left_functions, link_stubs}

@@ -1,6 +1,6 @@
 use Rattle.std.proofs.Common.{◌≡◌, rules, map, sym, Contains}
 use Rattle.wl_custom.specs.declared.symbols.WasmSymbolKind.TheVariants.{Func}
-use Rattle.wl_slots.specs.ImportSlots.{import_slots}
+use Rattle.wl_symbols.specs.ImportSlots.{import_slots}
 use Rattle.wl_bind.specs.FunctionSymbols.{kept_binding}
 use Rattle.wl_bind.proofs.RowLaws.{entry_pushed, slot_is_one}
 use Rattle.wl_bind.proofs.targets.bind_row.Goals as goal

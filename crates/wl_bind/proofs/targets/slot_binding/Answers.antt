@@ -1,6 +1,6 @@
 use Rattle.std.proofs.Common.{◌≡◌, rules, true, None}
-use Rattle.wl_slots.specs.SlotTargets.{slot_target}
-use Rattle.wl_bind.specs.KeptSlots.{is_kept_slot}
+use Rattle.wl_symbols.specs.SlotTargets.{slot_target}
+use Rattle.wl_symbols.specs.KeptSlots.{is_kept_slot}
 use Rattle.wl_bind.proofs.LeftLaws.{left_binds}
 use Rattle.wl_bind.proofs.targets.slot_binding.Goals as goal
 

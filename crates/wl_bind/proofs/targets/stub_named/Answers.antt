@@ -1,7 +1,7 @@
 use Rattle.std.proofs.Common.{◌≡◌, ◌∙◌, rules, arith, sym, bytes_eq, None, Some, option_map, slice_get, Bor}
 use Rattle.std.proofs.lemmas.Grind.{common_steps}
 use Rattle.std.proofs.lemmas.Option.{gets}
-use Rattle.wl_slots.specs.Left.{HostImport}
+use Rattle.wl_symbols.specs.Left.{HostImport}
 use Rattle.wl_bind.proofs.LeftLaws.{no_place, some_place}
 use Rattle.wl_bind.proofs.targets.stub_named.Goals as goal
 

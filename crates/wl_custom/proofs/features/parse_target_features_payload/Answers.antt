@@ -1,5 +1,5 @@
 use Rattle.wl_custom.specs.Features.{feature_at}
-use Rattle.wl_module.proofs.ListLaws.{reads_list}
+use Rattle.wl_bytes.proofs.ListLaws.{reads_list}
 use Rattle.wl_custom.proofs.FeatureLaws.{feature_reading}
 use Rattle.wl_custom.proofs.features.parse_target_features_payload.Goals as goal
 

@@ -1,6 +1,6 @@
 use Rattle.std.proofs.Common.{◌≡◌, ◌∙◌, ap}
-use Rattle.wl_symbols.specs.Texts.{texts}
-use Rattle.wl_symbols.specs.declared.args.WasmArgs.{WasmArgs}
+use Rattle.wl_words.specs.Texts.{texts}
+use Rattle.wl_words.specs.declared.args.WasmArgs.{WasmArgs}
 use Rattle.wl_exports.specs.FaultSteps.{IsSoundName}
 use Rattle.wl_exports.proofs.EntryLaws.{name_in}
 use Rattle.wl_exports.proofs.FaultLaws.{each_next, each_all}

@@ -1,5 +1,5 @@
 use Rattle.std.proofs.Common.{ℕ, List, take, Contains}
-use Rattle.wl_symbols.specs.Texts.{texts}
+use Rattle.wl_words.specs.Texts.{texts}
 use Rattle.wl_exports.specs.FaultSteps.{IsSoundName}
 use Rattle.wl_exports.proofs.checking.check_required.Given as goal
 

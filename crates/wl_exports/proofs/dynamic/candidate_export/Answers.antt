@@ -3,7 +3,7 @@ use Rattle.std.specs.Option.{option_map}
 use Rattle.wl_custom.specs.Symbols.{Symbol as LinkedSymbol, has_name}
 use Rattle.wl_custom.specs.declared.symbols.WasmSymbolKind.{WasmSymbolKind}
 use Rattle.wl_symbols.specs.Link.{Link}
-use Rattle.wl_live.specs.Roots.{is_candidate}
+use Rattle.wl_symbols.specs.Roots.{is_candidate}
 use Rattle.wl_exports.specs.Exports.{ExportEntry, defined_entity, export_of}
 use Rattle.wl_exports.specs.ExportSteps.{IsPlainIf, takes}
 use Rattle.wl_exports.proofs.EntryLaws.{candidate_is, both_true}

@@ -1,5 +1,5 @@
 use Rattle.std.proofs.Common.{◌≡◌, ◌∙◌, ◌++◌, true, List, sym, ap}
-use Rattle.wl_symbols.specs.declared.args.WasmArgs.{WasmArgs}
+use Rattle.wl_words.specs.declared.args.WasmArgs.{WasmArgs}
 use Rattle.wl_exports.specs.Exports.{ExportEntry, stack_pointer_export, candidates, is_code, dynamic_exports}
 use Rattle.wl_custom.specs.Symbols.{is_data}
 use Rattle.wl_exports.specs.ExportSteps.{AddsExports}

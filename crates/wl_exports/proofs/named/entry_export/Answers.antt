@@ -6,7 +6,7 @@ use Rattle.wl_symbols.specs.Link.{Link}
 use Rattle.wl_symbols.specs.Names.{named}
 use Rattle.wl_symbols.specs.declared.entry.Definition.{Definition}
 use Rattle.wl_symbols.specs.declared.entry.Definition.TheVariants.{Symbol}
-use Rattle.wl_live.specs.Entry.{is_defined_function}
+use Rattle.wl_custom.specs.Symbols.{is_defined_function}
 use Rattle.wl_bind.specs.FunctionSpace.{local_functions}
 use Rattle.wl_bind.specs.References.{there}
 use Rattle.wl_exports.specs.Exports.{OfFunction, export_of, defined_entity, named_function}

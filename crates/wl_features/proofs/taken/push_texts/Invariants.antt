@@ -1,5 +1,5 @@
 use Rattle.std.proofs.Common.{◌≡◌, ◌++◌, map, take}
-use Rattle.wl_symbols.specs.Texts.{texts}
+use Rattle.wl_words.specs.Texts.{texts}
 use Rattle.wl_features.proofs.taken.push_texts.Given as goal
 
 abbrev pub invariant-loop-text : goal.invariant-loop-text

@@ -1,5 +1,5 @@
 use Rattle.std.proofs.Common.{take}
-use Rattle.wl_module.specs.declared.error.ReadError.{ReadError}
+use Rattle.wl_bytes.specs.declared.read_error.ReadError.{ReadError}
 use Rattle.wl_live.specs.Faults.{HasSegmentNumberFault}
 use Rattle.wl_live.proofs.faults.numbers_fault.Given as goal
 

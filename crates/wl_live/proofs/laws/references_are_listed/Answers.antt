@@ -1,4 +1,4 @@
-use Rattle.wl_live.specs.Units.{units_of}
+use Rattle.wl_symbols.specs.Units.{units_of}
 use Rattle.wl_live.proofs.FactLaws.{references-one}
 use Rattle.wl_live.proofs.ReferenceLaws.{in_references, references_in}
 use Rattle.wl_live.proofs.laws.references_are_listed.Goals as goal

@@ -1,5 +1,5 @@
 use Rattle.std.proofs.Common.{◌≡◌, ◌++◌, drop}
-use Rattle.wl_live.specs.Units.{unit_number_if}
+use Rattle.wl_symbols.specs.Units.{unit_number_if}
 use Rattle.wl_live.specs.Table.{found}
 use Rattle.wl_live.proofs.marking.collect_numbers.Given as goal
 

@@ -2,7 +2,7 @@ use Rattle.std.proofs.Common.{◌≡◌, ◌∙◌, ap, subst, arith, length, Li
 use Rattle.wl_reach.specs.Graph.{HasEdges, graph_of}
 use Rattle.wl_reach.specs.Search.{steps_of}
 use Rattle.wl_reach.specs.declared.graph.Edge.{Edge}
-use Rattle.wl_live.specs.Units.{unit_number_if, total_of}
+use Rattle.wl_symbols.specs.Units.{unit_number_if, total_of}
 use Rattle.wl_live.specs.Table.{found, edge_of}
 use Rattle.wl_live.proofs.ReachLaws.{IsGraphOf, numbers-lt, edges_from-lt, edges_to-lt, UnitsReached-from}
 use Rattle.wl_live.proofs.StepLaws.{steps_reached}

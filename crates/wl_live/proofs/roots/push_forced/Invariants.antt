@@ -1,6 +1,6 @@
 use Rattle.std.proofs.Common.{◌≡◌, ◌++◌, drop}
 use Rattle.wl_live.specs.Table.{forced_roots}
-use Rattle.wl_symbols.specs.Texts.{texts}
+use Rattle.wl_words.specs.Texts.{texts}
 use Rattle.wl_live.proofs.roots.push_forced.Given as goal
 
 abbrev pub invariant-loop-name : goal.invariant-loop-name

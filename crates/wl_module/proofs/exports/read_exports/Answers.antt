@@ -1,5 +1,5 @@
 use Rattle.wl_module.specs.Exports.{export_at}
-use Rattle.wl_module.proofs.ListLaws.{reads_list}
+use Rattle.wl_bytes.proofs.ListLaws.{reads_list}
 use Rattle.wl_module.proofs.ImportLaws.{export_reading}
 use Rattle.wl_module.proofs.CountLaws.{count_of, exports_few}
 use Rattle.wl_module.proofs.exports.read_exports.Goals as goal

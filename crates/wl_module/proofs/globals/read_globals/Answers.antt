@@ -1,5 +1,5 @@
 use Rattle.wl_module.specs.Globals.{global_at}
-use Rattle.wl_module.proofs.ListLaws.{reads_list}
+use Rattle.wl_bytes.proofs.ListLaws.{reads_list}
 use Rattle.wl_module.proofs.GlobalLaws.{global_reading}
 use Rattle.wl_module.proofs.CountLaws.{count_of, globals_few}
 use Rattle.wl_module.proofs.globals.read_globals.Goals as goal

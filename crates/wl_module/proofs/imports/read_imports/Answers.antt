@@ -1,5 +1,5 @@
 use Rattle.std.proofs.Common.{rules}
-use Rattle.wl_module.proofs.ListLaws.{reads_whole}
+use Rattle.wl_bytes.proofs.ListLaws.{reads_whole}
 use Rattle.wl_module.proofs.ImportLaws.{imports_reading}
 use Rattle.wl_module.proofs.CountLaws.{count_of, imports_few}
 use Rattle.wl_module.proofs.imports.read_imports.Goals as goal

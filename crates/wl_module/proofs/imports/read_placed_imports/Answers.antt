@@ -1,4 +1,4 @@
-use Rattle.wl_module.proofs.ListLaws.{reads_whole}
+use Rattle.wl_bytes.proofs.ListLaws.{reads_whole}
 use Rattle.wl_module.proofs.ImportLaws.{placed_imports_reading}
 use Rattle.wl_module.proofs.CountLaws.{count_of, placed_imports_few}
 use Rattle.wl_module.proofs.imports.read_placed_imports.Goals as goal

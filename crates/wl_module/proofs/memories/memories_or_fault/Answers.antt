@@ -1,4 +1,4 @@
-use Rattle.wl_module.proofs.ListLaws.{exact}
+use Rattle.wl_bytes.proofs.ListLaws.{exact}
 use Rattle.wl_module.proofs.GlobalLaws.{memories_reading}
 use Rattle.wl_module.proofs.memories.memories_or_fault.Goals as goal
 

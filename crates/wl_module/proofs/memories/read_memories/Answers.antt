@@ -1,4 +1,4 @@
-use Rattle.wl_module.proofs.ListLaws.{reads_whole}
+use Rattle.wl_bytes.proofs.ListLaws.{reads_whole}
 use Rattle.wl_module.proofs.GlobalLaws.{memories_reading}
 use Rattle.wl_module.proofs.CountLaws.{count_of, memories_few}
 use Rattle.wl_module.proofs.memories.read_memories.Goals as goal

@@ -1,6 +1,6 @@
 use Rattle.std.proofs.Common.{◌≡◌, Ok, refl}
-use Rattle.wl_module.specs.Lists.{number_at}
-use Rattle.wl_module.specs.Bodies.{stretch_at}
+use Rattle.wl_bytes.specs.Lists.{number_at}
+use Rattle.wl_bytes.specs.Lists.{stretch_at}
 use Rattle.wl_module.proofs.SegmentLaws.{segment_read}
 use Rattle.wl_module.proofs.segments.read_segment.Goals as goal
 

@@ -1,6 +1,6 @@
 use Rattle.std.proofs.Common.{rules}
-use Rattle.wl_module.proofs.ListLaws.{reads_whole}
-use Rattle.wl_module.proofs.Loops.{list_kept}
+use Rattle.wl_bytes.proofs.ListLaws.{reads_whole}
+use Rattle.wl_bytes.proofs.Loops.{list_kept}
 use Rattle.wl_module.proofs.SegmentLaws.{segments_reading}
 use Rattle.wl_module.proofs.CountLaws.{count_of, segments_few}
 use Rattle.wl_module.proofs.segments.read_segments.Goals as goal

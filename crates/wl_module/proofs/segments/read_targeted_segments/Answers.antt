@@ -1,5 +1,5 @@
 use Rattle.wl_module.specs.Segments.{segment_at}
-use Rattle.wl_module.proofs.ListLaws.{reads_list}
+use Rattle.wl_bytes.proofs.ListLaws.{reads_list}
 use Rattle.wl_module.proofs.SegmentLaws.{segment_reading}
 use Rattle.wl_module.proofs.CountLaws.{count_of, targeted_few}
 use Rattle.wl_module.proofs.segments.read_targeted_segments.Goals as goal

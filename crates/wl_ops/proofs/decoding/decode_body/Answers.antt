@@ -1,4 +1,4 @@
-use Rattle.wl_module.proofs.ListLaws.{reads_whole}
+use Rattle.wl_bytes.proofs.ListLaws.{reads_whole}
 use Rattle.wl_ops.specs.Decoding.{AreTaken, DecodeFault, decoded}
 use Rattle.wl_ops.proofs.CountLaws.{items_few}
 use Rattle.wl_ops.proofs.DecodeLaws.{decoded_reading, few_of}

@@ -1,7 +1,7 @@
 use Rattle.std.proofs.Common.{◌∙◌}
 use Rattle.std.proofs.lemmas.Result.{err_from_is_err_and}
 use Rattle.wl_bytes.specs.Grammar.{times_at}
-use Rattle.wl_module.specs.Checks.{any_at}
+use Rattle.wl_bytes.specs.Checks.{any_at}
 use Rattle.wl_ops.specs.Decoding.{local_at}
 use Rattle.wl_ops.proofs.Passing.{passes_on, passing_ends, passing_done}
 use Rattle.wl_ops.proofs.decoding.pass_locals.Goals as goal

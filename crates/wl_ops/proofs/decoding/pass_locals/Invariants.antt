@@ -1,7 +1,7 @@
 use Rattle.std.proofs.Common.{◌≡◌, ◌-◌}
 use Rattle.wl_bytes.specs.Cursor.{end_of}
 use Rattle.wl_bytes.specs.Grammar.{times_at}
-use Rattle.wl_module.specs.Checks.{any_at}
+use Rattle.wl_bytes.specs.Checks.{any_at}
 use Rattle.wl_ops.specs.Decoding.{local_at}
 use Rattle.wl_ops.proofs.decoding.pass_locals.Given as goal
 

@@ -1,5 +1,5 @@
 use Rattle.std.proofs.Common.{refl, inr}
-use Rattle.wl_module.proofs.ListLaws.{whole_alternatives}
+use Rattle.wl_bytes.proofs.ListLaws.{whole_alternatives}
 use Rattle.wl_ops.specs.Decoding.{AreTaken, DecodeFault, decoded}
 use Rattle.wl_ops.proofs.DecodeLaws.{decoded_reading}
 use Rattle.wl_ops.proofs.LieLaws.{numbers_lie}

@@ -1,4 +1,4 @@
-use Rattle.wl_module.proofs.ListLaws.{exact}
+use Rattle.wl_bytes.proofs.ListLaws.{exact}
 use Rattle.wl_ops.proofs.DecodeLaws.{decoded_reading}
 use Rattle.wl_ops.proofs.laws.operators_or_fault.Goals as goal
 

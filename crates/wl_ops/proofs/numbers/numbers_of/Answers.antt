@@ -1,7 +1,7 @@
 use Rattle.std.proofs.lemmas.Result.{err_from_is_err_and}
 use Rattle.wl_ops.proofs.DecodeLaws.{locals_reading}
 use Rattle.wl_ops.proofs.NumberLaws.{numbers_whole, locals_fail}
-use Rattle.wl_module.specs.Lists.{start}
+use Rattle.wl_bytes.specs.Lists.{start}
 use Rattle.wl_ops.proofs.numbers.numbers_of.Goals as goal
 
 pub returns-in_err-skip_locals : goal.returns-in_err-skip_locals

@@ -1,7 +1,7 @@
 use Rattle.std.proofs.Common.{◌≡◌, ◌∙◌, ◌<◌, ℕ, length, set, refl, ap, arith, vec_len}
 use Rattle.std.proofs.lemmas.Option.{slice_get_read}
 use Rattle.wl_data.specs.Segments.{SegmentLayout}
-use Rattle.wl_data.specs.declared.segments.WasmDataAddress.{WasmDataAddress}
+use Rattle.wl_index.specs.declared.data_address.WasmDataAddress.{WasmDataAddress}
 use Rattle.wl_plan.proofs.AddressLaws.{all_missing, starts_long, start_more}
 use Rattle.wl_plan.proofs.addresses.object_starts.Goals as goal
 

@@ -1,6 +1,6 @@
 use Rattle.std.proofs.Common.{◌≡◌, true}
-use Rattle.wl_live.specs.declared.units.WasmGcUnit.TheVariants.{DefinedFunction}
-use Rattle.wl_bind.specs.Input.{keeps}
+use Rattle.wl_symbols.specs.declared.units.WasmGcUnit.TheVariants.{DefinedFunction}
+use Rattle.wl_symbols.specs.Input.{keeps}
 use Rattle.wl_plan.proofs.GrowLaws.{adds_kept, kept_is}
 use Rattle.wl_plan.proofs.bodies.push_kept.Goals as goal
 

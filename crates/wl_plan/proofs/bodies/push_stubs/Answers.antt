@@ -1,7 +1,7 @@
 use Rattle.std.proofs.Common.{◌≡◌, ◌∙◌, ◌≤◌, ◌<◌, ℕ, List, length, map, take, ap, arith, subst}
 use Rattle.std.proofs.lemmas.List.{take_all, length-map}
-use Rattle.wl_slots.specs.ImportSlots.{ImportSlot}
-use Rattle.wl_slots.specs.Left.{first_slot}
+use Rattle.wl_symbols.specs.ImportSlots.{ImportSlot}
+use Rattle.wl_symbols.specs.Left.{first_slot}
 use Rattle.wl_bind.specs.FunctionBinding.{link_stubs}
 use Rattle.wl_bind.specs.FunctionSpace.{stub_part}
 use Rattle.wl_plan.specs.BodySteps.{AddsMadeBody}

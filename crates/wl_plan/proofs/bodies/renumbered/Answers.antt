@@ -1,7 +1,7 @@
 use Rattle.std.proofs.Common.{◌≡◌, ◌∙◌, ℕ, List, refl, ap, subst}
 use Rattle.std.specs.Cow.{cow_slice_items}
 use Rattle.wl_module.specs.Bodies.{Body}
-use Rattle.wl_module.specs.Outcome.{HasCause}
+use Rattle.wl_bytes.specs.Outcome.{HasCause}
 use Rattle.wl_ops.specs.Rewriting.{new_index, RemapFault}
 use Rattle.wl_plan.proofs.BodyLaws.{no_remap_fault, told_memory, renumbered_is}
 use Rattle.wl_plan.proofs.bodies.renumbered.Goals as goal

@@ -2,9 +2,9 @@ use Rattle.std.proofs.Common.{◌≡◌, ◌<◌, ◌∙◌, ◌∷◌, [], List
 use Rattle.std.specs.List.{AllZip}
 use Rattle.std.proofs.lemmas.Result.{err_from_is_err_and}
 use Rattle.wl_linking.specs.Steps.{Clear}
-use Rattle.wl_bind.specs.KeptRelocations.{relocations_left}
-use Rattle.wl_bind.specs.Scan.{relocations}
-use Rattle.wl_bind.specs.declared.relocated.Relocated.{Relocated}
+use Rattle.wl_symbols.specs.KeptRelocations.{relocations_left}
+use Rattle.wl_symbols.specs.Relocations.{relocations}
+use Rattle.wl_symbols.specs.declared.relocated.Relocated.{Relocated}
 use Rattle.wl_plan.specs.Bodies.{IsMovedIn}
 use Rattle.wl_plan.specs.FixupSteps.{IsRefusedAt}
 use Rattle.wl_plan.specs.Fixups.{IsFixup}

@@ -1,7 +1,7 @@
 use Rattle.std.proofs.Common.{◌≡◌, ◌++◌}
 use Rattle.std.specs.List.{AllZip}
-use Rattle.wl_bind.specs.KeptRelocations.{relocations_left}
-use Rattle.wl_bind.specs.Scan.{relocations}
+use Rattle.wl_symbols.specs.KeptRelocations.{relocations_left}
+use Rattle.wl_symbols.specs.Relocations.{relocations}
 use Rattle.wl_plan.specs.FixupSteps.{NoneRefused}
 use Rattle.wl_plan.specs.Fixups.{IsFixup}
 use Rattle.wl_plan.proofs.fixups.all_fixups.Given as goal

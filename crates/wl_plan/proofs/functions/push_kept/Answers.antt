@@ -1,8 +1,8 @@
 use Rattle.std.proofs.Common.{◌≡◌, ◌∙◌, [], ◌∷◌, true, false, ap, sym, refl}
-use Rattle.wl_live.specs.Live.{Live, is_live}
-use Rattle.wl_live.specs.declared.units.WasmGcUnit.TheVariants.{DefinedFunction}
+use Rattle.wl_symbols.specs.Live.{Live, is_live}
+use Rattle.wl_symbols.specs.declared.units.WasmGcUnit.TheVariants.{DefinedFunction}
 use Rattle.wl_bind.specs.FunctionSpace.{FunctionOf}
-use Rattle.wl_bind.specs.Input.{keeps}
+use Rattle.wl_symbols.specs.Input.{keeps}
 use Rattle.wl_bind.specs.OutputTypes.{output_types}
 use Rattle.wl_bind.specs.declared.binding.FunctionTarget.TheVariants.{Defined}
 use Rattle.wl_plan.specs.FunctionSteps.{AddsFunction, AddsFunctions, own_function_part}

@@ -1,6 +1,6 @@
 use Rattle.std.proofs.Common.{◌≡◌, ◌∙◌, ◌<◌, ◌≤◌, List, length, map, get_or, ap, sym, subst}
 use Rattle.wl_module.specs.Types.{FunctionType}
-use Rattle.wl_slots.specs.Left.{HostImport, first_slot}
+use Rattle.wl_symbols.specs.Left.{HostImport, first_slot}
 use Rattle.wl_bind.specs.FunctionBinding.{link_stubs}
 use Rattle.wl_bind.specs.FunctionTypes.{stub_types}
 use Rattle.wl_bind.specs.OutputTypes.{output_types}

@@ -1,7 +1,7 @@
 use Rattle.std.proofs.Common.{◌≡◌, ◌∙◌, ◌<◌, ◌≤◌, List, length, get_or, ap, sym, subst, Some, slice_get}
 use Rattle.std.proofs.lemmas.Option.{slice_get-get_or}
 use Rattle.wl_module.specs.Types.{FunctionType}
-use Rattle.wl_slots.specs.Left.{HostImport}
+use Rattle.wl_symbols.specs.Left.{HostImport}
 use Rattle.wl_bind.specs.OutputTypes.{output_types}
 use Rattle.wl_bind.specs.Shared.{Shared, function_imports}
 use Rattle.wl_plan.specs.ImportSteps.{HasTypeAmong}

@@ -1,7 +1,7 @@
 use Rattle.std.proofs.Common.{◌≡◌, ◌∙◌, ◌<◌, ◌≤◌, List, length, map, get_or, ap, sym, subst, refl, Some, slice_get}
 use Rattle.std.proofs.lemmas.Option.{slice_get-get_or}
 use Rattle.wl_linking.specs.Object.{Object}
-use Rattle.wl_slots.specs.Left.{HostImport}
+use Rattle.wl_symbols.specs.Left.{HostImport}
 use Rattle.wl_bind.specs.Shared.{Shared, global_imports}
 use Rattle.wl_plan.specs.ImportSteps.{global_types_in}
 use Rattle.wl_plan.specs.Imports.{IsGlobalImport}

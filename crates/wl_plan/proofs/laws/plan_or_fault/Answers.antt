@@ -1,5 +1,5 @@
 use Rattle.std.proofs.Common.{subst}
-use Rattle.wl_live.specs.Live.{Live}
+use Rattle.wl_symbols.specs.Live.{Live}
 use Rattle.wl_plan.specs.Faults.{input_of}
 use Rattle.wl_plan.specs.Plan.{IsPlan}
 use Rattle.wl_plan.proofs.UniqueBodies.{FormsAreOne}

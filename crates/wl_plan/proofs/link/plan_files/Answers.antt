@@ -5,8 +5,8 @@ use Rattle.wl_symbols.specs.Link.{Link, link_of}
 use Rattle.wl_symbols.specs.Repeats.{IsDuplicate}
 use Rattle.wl_live.specs.Entry.{IsEntryFault}
 use Rattle.wl_live.specs.Faults.{IsKeptFault}
-use Rattle.wl_live.specs.Live.{IsLiveOf}
-use Rattle.wl_bind.specs.Input.{Input}
+use Rattle.wl_symbols.specs.Live.{IsLiveOf}
+use Rattle.wl_symbols.specs.Input.{Input}
 use Rattle.wl_plan.specs.Faults.{input_of}
 use Rattle.wl_plan.specs.Planned.{IsUnplannedOption}
 use Rattle.wl_plan.proofs.LinkLaws.{AreClear, feature_is_row, feature_row, features_by, files_err, files_ok, input_alone, sound_by}

@@ -2,7 +2,7 @@ use Rattle.std.proofs.Common.{◌≡◌, ◌∙◌, ◌≤◌, ℕ, List, length
 use Rattle.std.specs.List.{All, AllZip}
 use Rattle.std.proofs.lemmas.List.Elements.{All-from_recursion}
 use Rattle.wl_module.specs.Bodies.{Body}
-use Rattle.wl_module.specs.Outcome.{HasCause}
+use Rattle.wl_bytes.specs.Outcome.{HasCause}
 use Rattle.wl_ops.specs.Numbers.{AreTold}
 use Rattle.wl_ops.specs.Rewriting.{new_index, AllMove, RemapFault}
 use Rattle.wl_plan.specs.Bodies.{IsMovedIn}

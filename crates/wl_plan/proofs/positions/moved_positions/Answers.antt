@@ -1,7 +1,7 @@
 use Rattle.std.proofs.Common.{◌≡◌, ◌++◌, ◌∷◌, [], List, refl, sym, subst, true}
 use Rattle.std.specs.List.{AllZip}
-use Rattle.wl_bind.specs.KeptRelocations.{relocations_left}
-use Rattle.wl_bind.specs.declared.relocated.Relocated.{Relocated}
+use Rattle.wl_symbols.specs.KeptRelocations.{relocations_left}
+use Rattle.wl_symbols.specs.declared.relocated.Relocated.{Relocated}
 use Rattle.wl_plan.specs.Bodies.{IsMovedIn}
 use Rattle.wl_plan.specs.PositionSteps.{AreKept, goes_on}
 use Rattle.wl_plan.proofs.PositionLaws.{after_run, all_done, in_run, part_is_kept}

@@ -1,6 +1,6 @@
 use Rattle.std.proofs.Common.{◌≡◌, ◌∙◌, ◌<◌, ◌≤◌, List, length, arith, subst, take}
 use Rattle.wl_module.specs.Types.{FunctionType}
-use Rattle.wl_types.specs.declared.types.TheConstants.{WASM_DEAD_INDEX}
+use Rattle.wl_index.specs.declared.index.TheConstants.{WASM_DEAD_INDEX}
 use Rattle.wl_bind.specs.FunctionBinding.{link_stubs}
 use Rattle.wl_bind.specs.FunctionSpace.{FunctionOf, function_space}
 use Rattle.wl_bind.specs.FunctionTypes.{stub_types}

@@ -1,6 +1,6 @@
 use Rattle.std.proofs.Common.{◌∙◌, ◌++◌, List, ap, map, sym}
 use Rattle.std.proofs.lemmas.List.{append-nil, take_all}
-use Rattle.wl_types.specs.declared.types.TheConstants.{WASM_DEAD_INDEX}
+use Rattle.wl_index.specs.declared.index.TheConstants.{WASM_DEAD_INDEX}
 use Rattle.wl_exports.specs.Wrapped.{WrapperEntry}
 use Rattle.wl_plan.proofs.ListLaws.{item_at}
 use Rattle.wl_plan.proofs.WrapperLaws.{dead_more}

@@ -1,5 +1,5 @@
 use Rattle.std.proofs.Common.{◌≡◌, ◌++◌, map, take}
-use Rattle.wl_types.specs.declared.types.TheConstants.{WASM_DEAD_INDEX}
+use Rattle.wl_index.specs.declared.index.TheConstants.{WASM_DEAD_INDEX}
 use Rattle.wl_exports.specs.Wrapped.{WrapperEntry}
 use Rattle.wl_plan.proofs.wrappers.push_wrapper_slots.Given as goal
 

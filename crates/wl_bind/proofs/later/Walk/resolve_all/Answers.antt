@@ -1,6 +1,6 @@
 use Rattle.std.proofs.Common.{◌∙◌, sym, ap, arith}
 use Rattle.wl_module.specs.Imports.{Imported}
-use Rattle.wl_slots.specs.ImportSlots.{is_slot_of}
+use Rattle.wl_symbols.specs.ImportSlots.{is_slot_of}
 use Rattle.wl_bind.specs.Later.{walk_of, walked_at, walked}
 use Rattle.wl_bind.proofs.WalkLaws.{walk_slot, walk_other, walk_end}
 use Rattle.wl_bind.proofs.later.Walk.resolve_all.Goals.{then-is_slot_of, else-is_slot_of}

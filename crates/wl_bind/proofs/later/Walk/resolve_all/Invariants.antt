@@ -1,5 +1,5 @@
 use Rattle.std.proofs.Common.{◌≡◌, ◌≤◌, drop}
-use Rattle.wl_slots.specs.ImportSlots.{slot_imports}
+use Rattle.wl_symbols.specs.ImportSlots.{slot_imports}
 use Rattle.wl_bind.specs.Stepped.{stepped_behind}
 use Rattle.wl_bind.specs.Later.{walk_of, walked_at, walked}
 use Rattle.wl_bind.proofs.later.Walk.resolve_all.Given as goal

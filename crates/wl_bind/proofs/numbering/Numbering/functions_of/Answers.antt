@@ -2,8 +2,8 @@ use Rattle.std.proofs.Common.{◌∙◌, ℕ, List, map, ap, sym, subst}
 use Rattle.std.proofs.lemmas.Option.{slice_get_within}
 use Rattle.wl_module.specs.declared.imports.ExternalKind.TheVariants as external
 use Rattle.wl_custom.specs.declared.symbols.WasmSymbolKind.TheVariants.{Func}
-use Rattle.wl_live.specs.declared.units.WasmGcUnit.TheVariants.{DefinedFunction}
-use Rattle.wl_slots.specs.ImportSlots.{ImportSlot}
+use Rattle.wl_symbols.specs.declared.units.WasmGcUnit.TheVariants.{DefinedFunction}
+use Rattle.wl_symbols.specs.ImportSlots.{ImportSlot}
 use Rattle.wl_bind.specs.NumberingSteps.{FitsOwn, resolution_of}
 use Rattle.wl_bind.proofs.NumberingLaws.{row_there, slots_here, functions_fit, row_few}
 use Rattle.wl_bind.proofs.SlotIndexLaws.{ImportLaws, functions_have, all_functions}

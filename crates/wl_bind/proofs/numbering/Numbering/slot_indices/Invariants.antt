@@ -1,6 +1,6 @@
 use Rattle.std.specs.List.{AllZip}
 use Rattle.std.proofs.Common.{take}
-use Rattle.wl_slots.specs.ImportSlots.{import_slots}
+use Rattle.wl_symbols.specs.ImportSlots.{import_slots}
 use Rattle.wl_bind.specs.NumberingSteps.{IsSlotIndex}
 use Rattle.wl_bind.proofs.numbering.Numbering.slot_indices.Given as goal
 

@@ -2,7 +2,7 @@ use Rattle.std.proofs.Common.{◌≡◌, rules, true}
 use Rattle.std.proofs.lemmas.Result.{IfErr-weaker}
 use Rattle.wl_custom.specs.Symbols.{is_undefined}
 use Rattle.wl_custom.specs.declared.symbols.WasmSymbolKind.TheVariants.{Func}
-use Rattle.wl_bind.specs.Input.{keeps_slot}
+use Rattle.wl_symbols.specs.Input.{keeps_slot}
 use Rattle.wl_bind.proofs.MismatchLaws.{slot_told}
 use Rattle.wl_bind.proofs.signatures.TypeCheck.check_undefined.Goals as goal
 

@@ -1,6 +1,6 @@
 use Rattle.std.proofs.Common.{◌≡◌, rules, map}
 use Rattle.wl_custom.specs.declared.symbols.WasmSymbolKind.TheVariants.{Func}
-use Rattle.wl_slots.specs.ImportSlots.{import_slots}
+use Rattle.wl_symbols.specs.ImportSlots.{import_slots}
 use Rattle.wl_bind.specs.FunctionSymbols.{kept_binding, function_bindings}
 use Rattle.wl_bind.proofs.RowLaws.{row_pushed}
 use Rattle.wl_bind.proofs.targets.FunctionBindings.new.Goals as goal

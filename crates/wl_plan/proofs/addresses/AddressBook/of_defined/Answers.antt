@@ -1,6 +1,6 @@
 use Rattle.std.proofs.Common.{◌≡◌, ◌∙◌, ◌<◌, ℕ, true, length, sym, ap, subst, rules, OnOk}
 use Rattle.wl_custom.specs.Symbols.{Symbol as LinkedSymbol, is_data}
-use Rattle.wl_data.specs.declared.segments.WasmDataAddress.{WasmDataAddress}
+use Rattle.wl_index.specs.declared.data_address.WasmDataAddress.{WasmDataAddress}
 use Rattle.wl_plan.specs.Addresses.{IsHigh}
 use Rattle.wl_plan.proofs.AddressLaws.{segment_within, data_found}
 use Rattle.wl_plan.proofs.addresses.AddressBook.of_defined.Goals as goal

@@ -1,7 +1,7 @@
 use Rattle.std.proofs.Common.{◌∙◌, ap, Option}
 use Rattle.std.specs.Option.{unwrap_or}
-use Rattle.wl_data.specs.declared.segments.WasmDataAddress.{WasmDataAddress}
-use Rattle.wl_data.specs.declared.segments.WasmDataAddress.TheVariants.{Missing}
+use Rattle.wl_index.specs.declared.data_address.WasmDataAddress.{WasmDataAddress}
+use Rattle.wl_index.specs.declared.data_address.WasmDataAddress.TheVariants.{Missing}
 use Rattle.wl_plan.proofs.FieldLaws.{object_of, object_within}
 use Rattle.wl_plan.proofs.FixupLaws.{address_found, map_of, maps_within}
 use Rattle.wl_plan.proofs.fixups.FixupSources.address.Goals as goal

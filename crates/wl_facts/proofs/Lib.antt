@@ -1,2 +1,0 @@
-pub mod TypeLaws
-pub mod InitLaws

@@ -1,0 +1,7 @@
+//! Indices of the spaces of the output.
+
+/// The greatest number of entries of a space.
+pub const MAX_ENTRIES: usize = 4_294_967_294;
+
+/// The index of what the output doesn't hold.
+pub const WASM_DEAD_INDEX: u32 = 4_294_967_295;

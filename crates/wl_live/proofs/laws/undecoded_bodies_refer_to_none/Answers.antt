@@ -1,5 +1,0 @@
-use Rattle.wl_live.proofs.KeptLaws.{undecoded_refers}
-use Rattle.wl_live.proofs.laws.undecoded_bodies_refer_to_none.Goals as goal
-
-pub returns : goal.returns
-returns c = λ link u v by none. undecoded_refers c.numbers_are_one.ensures.one link u v by none

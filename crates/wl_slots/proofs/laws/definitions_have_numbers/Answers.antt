@@ -1,5 +1,0 @@
-use Rattle.wl_slots.proofs.NumberLaws.{definition_number}
-use Rattle.wl_slots.proofs.laws.definitions_have_numbers.Goals as goal
-
-pub returns : goal.returns
-returns c = λ kind o k s whole here defines. definition_number kind o k s whole.object.fitting.names here defines

@@ -1,6 +1,0 @@
-pub mod ImportSlots
-pub mod SlotSteps
-pub mod SlotTargets
-pub mod SlotCases
-pub mod Left
-pub mod LeftSteps

@@ -1,5 +1,0 @@
-use Rattle.wl_symbols.proofs.MadeLaws.{parse_name}
-use Rattle.wl_symbols.proofs.laws.made_names_differ.Goals as goal
-
-pub returns : goal.returns
-returns c = parse_name

@@ -1,6 +1,0 @@
-use Rattle.std.proofs.Common.{◌≡◌, drop}
-use Rattle.wl_symbols.specs.Options.{taken_in}
-use Rattle.wl_symbols.proofs.options.taken_in.Given as goal
-
-abbrev pub invariant-loop-option : goal.invariant-loop-option
-invariant-loop-option l = taken_in l.options l.front ≡ taken_in (drop l.option-index l.options) l.front

@@ -1,0 +1,181 @@
+-- What the words of the command line ask for.
+use Rattle.std.specs.Prelude.{◌≡◌, ◌||◌, not, ℕ, Bool, true, false, List, [], length, Option, Some, None, unwrap_or, codes, slice_get}
+use Rattle.std.specs.Str.{bytes_eq}
+use Rattle.std.specs.List.{filter_map, last_or, list_any}
+use Rattle.wl_words.specs.Values.{number_of, stack_size, names_in, MemoryName, memory_name}
+use Rattle.wl_words.specs.Items.{ArgItem, Object, Given, Set, Memory, AreArgItems}
+use Rattle.wl_words.specs.Faults.{WordsFault}
+use Rattle.wl_words.specs.declared.options.Flag.TheVariants as flag
+use Rattle.wl_words.specs.declared.options.Setting.TheVariants as setting
+use Rattle.wl_words.specs.declared.options.MemoryOption.TheVariants as memory
+use Rattle.wl_words.specs.declared.args.WasmArgs.{WasmArgs}
+use Rattle.wl_words.specs.declared.error.ArgError.{ArgError}
+use Rattle.wl_words.specs.declared.error.ArgError.TheVariants.{OutOfMemory, UnknownOption, MissingValue, BadNumber, NoInputs}
+
+-- ---- what an item says of a field
+
+-- the number of the word that names an object
+abbrev pub input_of : ArgItem → Option ℕ
+input_of (Object word) = Some word
+input_of _ = None
+
+-- a name that is exported where it is defined
+abbrev pub export_symbol_of : ArgItem → Option (List ℕ)
+export_symbol_of (Set setting.Export name) = Some name
+export_symbol_of (Set setting.ExportIfDefined name) = Some name
+export_symbol_of _ = None
+
+-- a name that is exported and has to be defined
+abbrev pub required_export_symbol_of : ArgItem → Option (List ℕ)
+required_export_symbol_of (Set setting.Export name) = Some name
+required_export_symbol_of _ = None
+
+-- that what objects define and don't hide is exported
+abbrev pub export_dynamic_of : ArgItem → Option Bool
+export_dynamic_of (Given flag.ExportDynamic) = Some true
+export_dynamic_of _ = None
+
+-- that names that nothing defines are left to the host
+abbrev pub allow_undefined_of : ArgItem → Option Bool
+allow_undefined_of (Given flag.AllowUndefined) = Some true
+allow_undefined_of _ = None
+
+-- whether the stack lies in front of the data
+abbrev pub stack_first_of : ArgItem → Option Bool
+stack_first_of (Given (flag.StackFirst on)) = Some on
+stack_first_of _ = None
+
+-- whether what nothing refers to is left out
+abbrev pub gc_sections_of : ArgItem → Option Bool
+gc_sections_of (Given (flag.GcSections on)) = Some on
+gc_sections_of _ = None
+
+-- whether the features of the objects are compared
+abbrev pub check_features_of : ArgItem → Option Bool
+check_features_of (Given (flag.CheckFeatures on)) = Some on
+check_features_of _ = None
+
+-- the entry function, or that there is none
+abbrev pub entry_of : ArgItem → Option (Option (List ℕ))
+entry_of (Given flag.NoEntry) = Some None
+entry_of (Set setting.Entry name) = Some (Some name)
+entry_of _ = None
+
+-- the bytes of the stack
+abbrev pub z_stack_size_of : ArgItem → Option ℕ
+z_stack_size_of (Set setting.Keyword value) = stack_size value
+z_stack_size_of _ = None
+
+-- the bytes that the memory begins with
+abbrev pub initial_memory_of : ArgItem → Option ℕ
+initial_memory_of (Set setting.InitialMemory value) = number_of 64 value
+initial_memory_of _ = None
+
+-- the bytes that the memory may grow to
+abbrev pub max_memory_of : ArgItem → Option ℕ
+max_memory_of (Set setting.MaxMemory value) = number_of 64 value
+max_memory_of _ = None
+
+-- the module and the name of an imported memory
+abbrev pub import_memory_of : ArgItem → Option MemoryName
+import_memory_of (Memory memory.Import value) = Some (memory_name value)
+import_memory_of _ = None
+
+-- the name by which the memory is exported
+abbrev pub export_memory_of : ArgItem → Option (List ℕ)
+export_memory_of (Memory memory.Export value) = Some (unwrap_or value (codes "memory"))
+export_memory_of _ = None
+
+-- the features that are used beside those of the objects
+abbrev pub extra_features_of : ArgItem → Option (List (List ℕ))
+extra_features_of (Set setting.ExtraFeatures value) = Some (names_in value)
+extra_features_of _ = None
+
+-- that sections that the program doesn't need are left out
+abbrev pub strip_all_of : ArgItem → Option Bool
+strip_all_of (Given flag.StripAll) = Some true
+strip_all_of _ = None
+
+-- that debug sections are left out
+abbrev pub strip_debug_of : ArgItem → Option Bool
+strip_debug_of (Given flag.StripDebug) = Some true
+strip_debug_of _ = None
+
+-- the name of a section that is left in
+abbrev pub keep_section_of : ArgItem → Option (List ℕ)
+keep_section_of (Set setting.KeepSection name) = Some name
+keep_section_of _ = None
+
+-- the name of a file
+abbrev pub output_of : ArgItem → Option (List ℕ)
+output_of (Set setting.Output name) = Some name
+output_of _ = None
+
+-- ---- the fields
+
+-- all that the items say, in their order
+abbrev pub all_of : {X : Type 0} → (ArgItem → Option X) → List ArgItem → List X
+all_of says items = filter_map says items
+
+-- the last that the items say, if they say anything
+abbrev pub said_of : {X : Type 0} → (ArgItem → Option X) → List ArgItem → Option X
+said_of says items = last_or None (filter_map says items)
+
+-- the last that the items say, or this where they say nothing
+abbrev pub last_of : {X : Type 0} → (ArgItem → Option X) → X → List ArgItem → X
+last_of says default items = unwrap_or (said_of says items) default
+
+-- what the items ask for; none asks for shared memory so far
+pub record AsksFor (items : List ArgItem) (args : WasmArgs) : Type 0 where
+  pub inputs : args.inputs ≡ all_of input_of items
+  pub export_symbols : args.export_symbols ≡ all_of export_symbol_of items
+  pub required_export_symbols : args.required_export_symbols
+      ≡ all_of required_export_symbol_of items
+  pub export_dynamic : args.export_dynamic ≡ last_of export_dynamic_of false items
+  pub allow_undefined : args.allow_undefined ≡ last_of allow_undefined_of false items
+  pub shared_memory : args.shared_memory ≡ false
+  pub stack_first : args.stack_first ≡ last_of stack_first_of false items
+  pub gc_sections : args.gc_sections ≡ last_of gc_sections_of true items
+  pub check_features : args.check_features ≡ last_of check_features_of true items
+  pub entry : args.entry ≡ last_of entry_of (Some (codes "_start")) items
+  pub z_stack_size : args.z_stack_size ≡ last_of z_stack_size_of 65536 items
+  pub initial_memory : args.initial_memory ≡ said_of initial_memory_of items
+  pub max_memory : args.max_memory ≡ said_of max_memory_of items
+  pub import_memory : args.import_memory ≡ said_of import_memory_of items
+  pub export_memory : args.export_memory ≡ said_of export_memory_of items
+  pub extra_features : args.extra_features ≡ last_of extra_features_of [] items
+  pub strip_all : args.strip_all ≡ last_of strip_all_of false items
+  pub strip_debug : args.strip_debug ≡ last_of strip_debug_of false items
+  pub keep_sections : args.keep_sections ≡ all_of keep_section_of items
+  pub output : args.output ≡ said_of output_of items
+
+-- the words are items, and this is what they ask for
+pub record IsArgs (words : List (List ℕ)) (args : WasmArgs) : Type 0 where
+  pub items : List ArgItem
+  pub spelled : AreArgItems words 0 items (length words)
+  pub asked : AsksFor items args
+
+-- the words are no items, or they are and none names an object
+abbrev pub HasArgFault : List (List ℕ) → ArgError → Type 0
+HasArgFault words OutOfMemory = ⊥
+HasArgFault words (UnknownOption word) = WordsFault words (UnknownOption word)
+HasArgFault words (MissingValue word) = WordsFault words (MissingValue word)
+HasArgFault words (BadNumber word) = WordsFault words (BadNumber word)
+HasArgFault words NoInputs = (args : WasmArgs) × IsArgs words args × (args.inputs ≡ [])
+
+-- the names of the files that are read, in the order in which they are read: those of the objects
+abbrev pub files_to_read : List (List ℕ) → WasmArgs → List (List ℕ)
+files_to_read words args = filter_map (slice_get words) args.inputs
+
+-- a section that the program doesn't need is left in: no such section is left out, or its name is
+-- kept
+abbrev pub emits_stripped_section : WasmArgs → List ℕ → Bool
+emits_stripped_section args name =
+    not args.strip_all || list_any (λ kept. bytes_eq kept name) args.keep_sections
+
+-- the name by which the memory is exported: the one that is asked for; else an imported memory has
+-- none, and any other is called memory
+abbrev pub export_name : Option (List ℕ) → Option MemoryName → Option (List ℕ)
+export_name (Some name) imported = Some name
+export_name None (Some imported) = None
+export_name None None = Some (codes "memory")
