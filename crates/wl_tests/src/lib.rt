@@ -11,6 +11,8 @@ mod custom;
 #[cfg(test)]
 mod data;
 #[cfg(test)]
+mod files;
+#[cfg(test)]
 mod lists;
 #[cfg(test)]
 mod module;
