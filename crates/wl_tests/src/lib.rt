@@ -17,6 +17,8 @@ mod lists;
 #[cfg(test)]
 mod module;
 #[cfg(test)]
+mod numeric;
+#[cfg(test)]
 mod ops;
 #[cfg(test)]
 mod reach;
