@@ -17,6 +17,10 @@ use Rattle.wl_lists.proofs.In.{Contains-none}
 use Rattle.wl_ops.specs.Numbers.{HasNumbers}
 use Rattle.wl_ops.specs.declared.op.DataIndexImm.{DataIndexImm}
 
+-- a body has one list of numbers
+abbrev pub OneNumbers : Type 0
+OneNumbers = (body : List ℕ) (numbers others : List DataIndexImm) → HasNumbers numbers body → HasNumbers others body → numbers ≡ others
+
 -- ---- one step more
 
 pub kept_root : (link : Link) (u : LinkUnit) → IsRoot link u → IsKept link u
@@ -102,7 +106,3 @@ pub undecoded_refers : OneNumbers → (link : Link) (u v : LinkUnit) (b : Refers
 undecoded_refers only link u v b none =
     let same : b.numbers ≡ [] = only b.body.bytes b.numbers [] b.are (inr (none, refl)) in
     Contains-none b.number (rw same at b.one)
-
--- a body has one list of numbers
-abbrev pub OneNumbers : Type 0
-OneNumbers = (body : List ℕ) (numbers others : List DataIndexImm) → HasNumbers numbers body → HasNumbers others body → numbers ≡ others

@@ -5,6 +5,7 @@ use Rattle.wl_linking.specs.Object.{Object}
 use Rattle.wl_custom.specs.declared.symbols.WasmSymbolKind.{WasmSymbolKind}
 use Rattle.wl_symbols.specs.ImportSlots.{ImportSlot, import_slots}
 use Rattle.wl_symbols.specs.KeptSlots.{slots_from}
+use Rattle.wl_lists.proofs.Splits.{splits}
 
 -- those of one more object
 pub slots_more : (kind : WasmSymbolKind) (objects : List Object) (k : ℕ) → k < length objects
