@@ -27,7 +27,7 @@ fn what_a_stream_took_a_file_gives(rt: HostRuntime) -> Result<(), Fail> {
     assert!(rt; write_all(&mut sink, BYTES).is_ok());
     let mut files = StdFiles::new(&rt);
     let read = read_object(alloc, &mut files, "written.txt", 1000);
-    assert!(rt; read.is_ok_and(|bytes| bytes.as_slice() == BYTES));
+    assert!(rt; read.is_ok_and(|bytes| bytes.as_slice() == BYTES.as_slice()));
     let missing = read_object(alloc, &mut files, "not written.txt", 1000);
     assert_eq!(rt; missing.err(), Some(ReadObject::Fault));
     fs::remove_file(&rt, "written.txt")?;
