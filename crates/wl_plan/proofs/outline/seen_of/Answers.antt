@@ -1,6 +1,6 @@
 use Rattle.std.proofs.Common.{◌≡◌, ◌∙◌, ap, arith, length, sym}
 use Rattle.wl_bind.specs.FunctionSpace.{function_space, host_function_part}
-use Rattle.wl_bind.specs.Input.{Input}
+use Rattle.wl_symbols.specs.Input.{Input}
 use Rattle.wl_bind.specs.Shared.{Shared, function_imports}
 use Rattle.wl_plan.proofs.PlanLaws.{functions_all, hosts_length}
 use Rattle.wl_plan.proofs.outline.seen_of.Goals as goal
