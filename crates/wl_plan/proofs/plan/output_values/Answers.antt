@@ -3,7 +3,7 @@ use Rattle.wl_linking.specs.Steps.{Clear}
 use Rattle.wl_bind.specs.FunctionSpace.{function_space}
 use Rattle.wl_bind.specs.Scan.{table_functions}
 use Rattle.wl_types.specs.Types.{max_entries}
-use Rattle.wl_types.specs.declared.types.TheConstants.{WASM_DEAD_INDEX}
+use Rattle.wl_index.specs.declared.index.TheConstants.{WASM_DEAD_INDEX}
 use Rattle.wl_exports.specs.Wrapped.{WrapperEntry}
 use Rattle.wl_plan.specs.Fixups.{IsFixupFault}
 use Rattle.wl_plan.specs.Globals.{ArePlannedGlobals, IsGlobalFault}
