@@ -1,22 +1,13 @@
 -- The steps of a search by the edges: one for each marked node, and one for each edge that leads from one.
-use Rattle.std.proofs.Common.{◌≡◌, ℕ, zero, suc, ◌+◌, ◌<◌, Bool, true, false, cond, count_by, List, [], ◌∷◌, length, get_or, set, inl, inr, refl, ap, sym, ◌∙◌, arith, All, get_or-set_same, get_or-set_other, replicate, subst}
-use Rattle.std.proofs.lemmas.Bool.{cases_eq}
-use Rattle.std.proofs.lemmas.List.{length-set, length-replicate, get_or-replicate, same_lists}
+use Rattle.std.proofs.Common.{◌≡◌, ℕ, zero, suc, ◌+◌, ◌<◌, Bool, true, false, cond, count_by, List, [], ◌∷◌, length, get_or, set, refl, ap, sym, ◌∙◌, arith, All, replicate}
 use Rattle.std.proofs.lemmas.List.Sums.{sum_by-cons}
 use Rattle.wl_reach.specs.declared.graph.Edge.{Edge}
 use Rattle.wl_reach.specs.Graph.{graph_of}
 use Rattle.wl_reach.specs.Marks.{count_set}
 use Rattle.wl_reach.specs.Search.{steps_of}
-use Rattle.wl_reach.proofs.GraphLaws.{targets_of_none, targets_of-cons_same, targets_of-cons_other, length-graph_of, get_or-graph_of}
+use Rattle.wl_reach.proofs.GraphLaws.{graph_of_none, graph_of-cons, length-graph_of}
 
 -- ---- no edges
-
-graph_of_none : (n : ℕ) → graph_of n [] ≡ replicate n []
-graph_of_none n =
-    same_lists _ _ (length-graph_of n [] ∙ sym (length-replicate n []))
-    (λ k d lt.
-    let below : k < n = rw length-graph_of at lt in
-    get_or-graph_of n [] k d below ∙ (targets_of_none k ∙ sym (get_or-replicate n k [] d below)))
 
 steps_of-unlinked : (marks : List Bool) → steps_of marks (replicate (length marks) []) ≡ count_set marks
 steps_of-unlinked [] = refl
@@ -24,23 +15,6 @@ steps_of-unlinked (true ∷ marks) = omega (arith, steps_of-unlinked marks, sum_
 steps_of-unlinked (false ∷ marks) = omega (arith, steps_of-unlinked marks, sum_by-cons (λ (m : Bool). cond m 1 0) false marks)
 
 -- ---- one more edge
-
-graph_of-cons : (n : ℕ) (e : Edge) (edges : List Edge) → e.from < n → graph_of n (e ∷ edges) ≡ set (graph_of n edges) e.from (e.to ∷ get_or (graph_of n edges) e.from [])
-graph_of-cons n e edges lt =
-    let rows = graph_of n edges in
-    let row = e.to ∷ get_or rows e.from [] in
-    let inside : e.from < length rows = rw length-graph_of lt in
-    same_lists _ _ (length-graph_of n (e ∷ edges) ∙ sym (length-set rows e.from row ∙ length-graph_of n edges))
-    (λ k d within.
-    let below : k < n = rw length-graph_of at within in
-    get_or-graph_of n (e ∷ edges) k d below
-    ∙ elim (cases_eq e.from k) [
-      | inl same ↦
-          let right : get_or (set rows e.from row) k d ≡ row = subst (λ (j : ℕ). get_or (set rows e.from row) j d ≡ row) same (get_or-set_same rows e.from row d inside) in
-          targets_of-cons_same e edges k same ∙ (ap (λ (l : List ℕ). e.to ∷ l) (sym (get_or-graph_of n edges k [] below) ∙ ap (λ (j : ℕ). get_or rows j []) (sym same)) ∙ sym right)
-      | inr other ↦
-          targets_of-cons_other e edges k other ∙ (sym (get_or-graph_of n edges k d below) ∙ sym (get_or-set_other rows e.from k row d (λ same. other (sym same))))
-    ])
 
 steps_of-longer : (marks : List Bool) (rows : List (List ℕ)) (v t : ℕ) → length marks ≡ length rows → v < length rows → steps_of marks (set rows v (t ∷ get_or rows v [])) ≡ steps_of marks rows + cond (get_or marks v false) 1 0
 steps_of-longer marks [] v t size lt = absurd (omega arith)

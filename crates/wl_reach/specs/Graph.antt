@@ -1,5 +1,5 @@
 -- A graph, by its edges and by the stretch of each node.
-use Rattle.std.specs.Prelude.{◌≡◌, ℕ, ◌+◌, ◌<◌, ◌≤◌, ◌==◌, ◌↔◌, List, [], length, map, filter, take, drop, All, Contains, slice_index, slice_index_or, slice_range, sum, sum_by}
+use Rattle.std.specs.Prelude.{◌≡◌, ℕ, ◌+◌, ◌<◌, ◌≤◌, ◌==◌, ◌↔◌, List, [], ◌∷◌, ◌++◌, length, map, filter, take, All, Contains, slice_index, slice_index_or, slice_range, slice_set, sum}
 use Rattle.std.specs.List.{range_with_len}
 use Rattle.wl_reach.specs.declared.graph.Edge.{Edge}
 
@@ -43,32 +43,37 @@ pub record IsLaid (starts ends targets : List ℕ) : Type 0 where
   pub nodes : (k : ℕ) → k < length starts
       → All (λ t. t < length starts) (stretch starts ends targets k)
 
--- the first i edges are counted, for so many nodes
-pub record Counted (n : ℕ) (edges : List Edge) (i : ℕ) (counts : List ℕ) : Type 0 where
-  pub size : length counts ≡ n
-  pub at : (k : ℕ) → k < n → slice_index counts k ≡ degree (take i edges) k
-  pub all : sum counts ≡ i
-
 -- each of the first n entries is the sum of the counts before it
 pub record AreSums (counts : List ℕ) (n : ℕ) (starts : List ℕ) : Type 0 where
   pub size : length starts ≡ n
   pub at : (k : ℕ) → k < n → slice_index starts k ≡ sum (take k counts)
 
--- where stretches begin that hold the edges of each node, apart from each other and inside the
--- table
-pub record AreStarts (edges : List Edge) (starts : List ℕ) : Type 0 where
-  pub room : (k : ℕ) → k < length starts → slice_index starts k + degree edges k ≤ length edges
-  pub apart : (j k : ℕ) → j < k → k < length starts
-      → slice_index starts j + degree edges j ≤ slice_index starts k
-  pub count : sum_by length (graph_of (length starts) edges) ≡ length edges
+-- ---- a graph that is laid edge by edge
 
--- the first i edges are laid, each node's from its start to its end
-pub record Filled (starts : List ℕ) (edges : List Edge) (i : ℕ) (ends targets : List ℕ)
-    : Type 0 where
+-- room for so many edges more at a node
+abbrev pub with_room : List ℕ → ℕ → ℕ → List ℕ
+with_room rooms node more = slice_set rooms node (slice_index rooms node + more)
+
+-- there is room for these edges
+abbrev pub HasRoom : List ℕ → List Edge → Type 0
+HasRoom rooms edges = (k : ℕ) → k < length rooms → degree edges k ≤ slice_index rooms k
+
+-- one edge more, behind those from its node
+abbrev pub with_edge : List (List ℕ) → Edge → List (List ℕ)
+with_edge graph e = slice_set graph e.from (slice_index_or graph e.from [] ++ e.to ∷ [])
+
+-- the graph of the edges that are laid, and for how many from each node there is room in all
+pub record Building : Type 0 where
+  pub graph : List (List ℕ)
+  pub rooms : List ℕ
+
+-- stretches with their room stand one behind the other, and hold nodes no further than that
+pub record IsBuilding (rooms starts ends targets : List ℕ) : Type 0 where
+  pub begins : AreSums rooms (length rooms) starts
   pub size : length ends ≡ length starts
-  pub room : length targets ≡ length edges
-  pub ends_at : (k : ℕ) → k < length starts
-      → slice_index ends k ≡ slice_index starts k + degree (take i edges) k
-  pub laid_at : (k : ℕ) → k < length starts
-      → take (degree (take i edges) k) (drop (slice_index starts k) targets)
-      ≡ targets_of (take i edges) k
+  pub order : (k : ℕ) → k < length starts → slice_index starts k ≤ slice_index ends k
+  pub within : (k : ℕ) → k < length starts
+      → slice_index ends k ≤ slice_index starts k + slice_index rooms k
+  pub all : length targets ≡ sum rooms
+  pub nodes : (k : ℕ) → k < length starts
+      → All (λ t. t < length starts) (stretch starts ends targets k)

@@ -5,6 +5,6 @@ mod graph;
 mod marks;
 mod search;
 
-pub use graph::{Edge, Graph};
+pub use graph::{Edge, Graph, GraphBuilder, Rooms};
 pub use marks::{Marks, RankedMarks};
 pub use search::{reach, reach_counted};
