@@ -22,6 +22,24 @@ README = ROOT / "README.md"
 FLAGS = ["--no-gc-sections", "--no-entry"]
 LARGEST = 1 << 30
 
+# Constants that code and definitions cite by name, each with the file that is its home, and what stands for it.
+CONSTANTS = {
+    "WASM_PAGE_SIZE": ("wl_module/src/limits.rt", "65536"),
+    "MAX_PAGES": ("wl_module/src/limits.rt", "65536"),
+    "STACK_ALIGNMENT": ("wl_index/src/memory.rt", None),
+    "LINKER_MEMORY_BASE": ("wl_index/src/memory.rt", "1024"),
+    "LINKER_TABLE_BASE": ("wl_index/src/index.rt", None),
+    "MAX_ENTRIES": ("wl_index/src/index.rt", "4294967294"),
+    "WASM_DEAD_INDEX": ("wl_index/src/index.rt", "4294967295"),
+    "TARGET_FEATURE_SHARED_MEM": ("wl_features/src/taken.rt", '"shared-mem"'),
+    "TARGET_FEATURE_ATOMICS": ("wl_features/src/taken.rt", '"atomics"'),
+    "TARGET_FEATURE_BULK_MEMORY": ("wl_features/src/taken.rt", '"bulk-memory"'),
+    "TARGET_FEATURE_MUTABLE_GLOBALS": ("wl_features/src/taken.rt", '"mutable-globals"'),
+}
+# Where 65536 is something else: bytes that are read at once, the default of an option, the third byte of a number.
+OTHER_CONSTANTS = {"wl_files/src/read.rt", "wl_words/src/args.rt", "wl_synth/specs/Machine.antt"}
+SYMBOLS = "wl_custom/src/symbols.rt"
+
 passed = 0
 failed = 0
 
@@ -509,6 +527,43 @@ def wrong_bodies():
             note(f"{name}, {edit.stem}: {fault}", not fault, "wrong bodies")
 
 
+def code_of(path):
+    """A file of code or definitions without its comments, and without what divides the digits of a number."""
+    mark = "--" if path.suffix == ".antt" else "//"
+    lines = [line.partition(mark)[0] for line in path.read_text().splitlines()]
+    return re.sub(r"(?<=\d)_(?=\d)", "", "\n".join(lines))
+
+
+def sources():
+    """Code and definitions of all crates, by their paths; tests spell the numbers that they want."""
+    crates = ROOT / "crates"
+    paths = [*crates.glob("*/src/**/*.rt"), *crates.glob("*/specs/**/*.antt")]
+    named = {str(path.relative_to(crates)): path for path in paths}
+    return {name: code_of(path) for name, path in sorted(named.items())
+            if not name.startswith("wl_tests/") and not name.endswith("/tests.rt")}
+
+
+def constants(texts):
+    """Each constant is declared once, and what stands for it stands in its home alone."""
+    for constant, (home, value) in CONSTANTS.items():
+        declared = [name for name, text in texts.items() if re.search(rf"\bconst {constant}\b", text)]
+        note(f"{constant}: {declared}", declared == [home], "constants")
+        if value is not None:
+            pattern = re.compile(rf"(?<![\w.]){re.escape(value)}(?!\w)")
+            places = {name for name, text in texts.items() if pattern.search(text)} - OTHER_CONSTANTS
+            note(f"{value}: {sorted(places)}", places == {home}, "constants")
+
+
+def symbol_kinds(texts):
+    """Whether a symbol is of one kind is asked by a predicate: no code compares kinds by their names, or tells true
+    and false by a match over them, but that of the predicates."""
+    kinds = r"(?:\|?\s*WasmSymbolKind::\w+\s*)+"
+    compared = rf"[=!]= WasmSymbolKind::|matches!\(\s*[\w.]+,\s*{kinds}"
+    told = rf"match [^{{}}]*{{(?:\s*{kinds}=>\s*(?:true|false),)+\s*}}"
+    found = [name for name, text in texts.items() if name != SYMBOLS and re.search(rf"{compared}|{told}", text)]
+    note(f"written out in {found}", not found, "kinds of symbols")
+
+
 def launched(folder):
     """The launcher runs the proved program, and where there is none the sources, and says so."""
     ended = subprocess.run([ROOT / "wildplan"], stdin=subprocess.DEVNULL, capture_output=True, timeout=600)
@@ -528,6 +583,9 @@ def main():
         sys.exit("the program isn't built yet, .ci/run does: 0 passed, 1 failed")
     objects_as_written()
     wrong_bodies()
+    texts = sources()
+    constants(texts)
+    symbol_kinds(texts)
     documented_names()
     documented_options()
     documented_words()

@@ -9,7 +9,7 @@ use Rattle.wl_module.specs.declared.imports.ExternalKind.TheVariants as external
 use Rattle.wl_linking.specs.Object.{Object}
 use Rattle.wl_custom.specs.RelocationTypes.{names_a_type}
 use Rattle.wl_linking.specs.Spaces.{count_imports, spaces_of, symbol_exists}
-use Rattle.wl_custom.specs.Symbols.{Symbol as LinkedSymbol, is_data, is_undefined}
+use Rattle.wl_custom.specs.Symbols.{Symbol as LinkedSymbol, is_data, is_undefined, is_function}
 use Rattle.wl_custom.specs.declared.relocation_type.RelocationType.{RelocationType}
 use Rattle.wl_custom.specs.declared.relocation_type.RelocationType.TheVariants as type
 use Rattle.wl_linking.specs.declared.spaces.Counts.{Counts}
@@ -17,7 +17,6 @@ use Rattle.wl_custom.specs.declared.symbols.WasmSymbolKind.{WasmSymbolKind}
 use Rattle.wl_custom.specs.declared.symbols.WasmSymbolKind.TheVariants.{Func, Data, Global, Section, Event, Table}
 use Rattle.wl_symbols.specs.LinkerNames.{is_imported_as}
 use Rattle.wl_symbols.specs.declared.entry.Definition.{Definition}
-use Rattle.wl_custom.specs.Symbols.{is_function_kind}
 use Rattle.wl_symbols.specs.declared.units.WasmGcUnit.TheVariants.{DefinedGlobal, GlobalImport}
 use Rattle.wl_symbols.specs.ImportSlots.{ImportSlot, object_slots, import_slots}
 use Rattle.wl_symbols.specs.SlotTargets.{is_definition_of}
@@ -148,9 +147,9 @@ function_global : Laws → (input : Input) (r : Relocated) → IsSettled input �
 function_global laws input r settled listed so n kind =
     let number : ℕ = r.relocation.index in
     let d : Definition = definition_of input r in
-    let of_kind : is_function_kind n.symbol.kind ≡ true = ap is_function_kind kind in
+    let of_kind : is_function n.symbol.kind ≡ true = ap is_function kind in
     let of : names_function input r ≡ true =
-    ap (λ (x : Option LinkedSymbol). option_map_or (λ (s : LinkedSymbol). is_function_kind s.kind) x false) n.found ∙ of_kind in
+    ap (λ (x : Option LinkedSymbol). option_map_or (λ (s : LinkedSymbol). is_function s.kind) x false) n.found ∙ of_kind in
     let out = fun_leads laws input r settled n of_kind in
     let pair : Definition × FunctionTarget = (d, out.target) in
     let given : got_func_of input r ≡ Some pair =

@@ -7,7 +7,7 @@ use Rattle.std.proofs.lemmas.List.Quantifiers.{position-Some}
 use Rattle.std.proofs.lemmas.Option.{slice_get-get_or}
 use Rattle.std.proofs.lemmas.Slice.Eq.{bytes_eq-Decides}
 use Rattle.indexmap.specs.IndexSet.{insert_all}
-use Rattle.wl_types.specs.Types.{max_entries}
+use Rattle.wl_index.specs.declared.index.TheConstants.{MAX_ENTRIES}
 use Rattle.wl_custom.specs.Symbols.{is_data}
 use Rattle.wl_linking.specs.declared.error.LinkError.{LinkError}
 use Rattle.wl_linking.specs.declared.error.LinkError.TheVariants as fault
@@ -52,7 +52,7 @@ length_numbered f a (suc n) = ap suc (length_numbered f (a + 1) n)
 -- starts by the lengths of parts are those of the parts
 pub starts_ok : {X : Type 0} (r : Result PartStarts LinkError) (parts : List (List X)) (lengths : List ℕ)
     → lengths ≡ lengths_of parts → IfOk r (λ s. s.starts ≡ starts_from 0 lengths) → IfOk r (λ s. s.end ≡ total lengths)
-    → IfOk r (λ s. s.end ≤ max_entries) → IfOk r (AreStarts parts)
+    → IfOk r (λ s. s.end ≤ MAX_ENTRIES) → IfOk r (AreStarts parts)
 starts_ok (Ok s) parts lengths same starts end room = record {
   starts = starts ∙ ap (starts_from 0) same;
   end = end ∙ ap total same;
@@ -66,14 +66,14 @@ starts_err r parts lengths same err = subst (λ (ls : List ℕ). IfErr r (IsOver
 
 -- ---- where parts are too long, so is the space
 
-longer : {X : Type 0} (parts : List (List X)) (rest : List X) → max_entries < total (lengths_of parts)
-    → max_entries < length (joined parts ++ rest)
+longer : {X : Type 0} (parts : List (List X)) (rest : List X) → MAX_ENTRIES < total (lengths_of parts)
+    → MAX_ENTRIES < length (joined parts ++ rest)
 longer parts rest lt =
     let all = length-append (joined parts) rest in
     let front = joined_length parts in
     omega (arith, lt, all, front)
 
-pub over_as : (input : Input) (count : ℕ) (e : LinkError) → (max_entries < count → AreTooMany input) → IsOver count e
+pub over_as : (input : Input) (count : ℕ) (e : LinkError) → (MAX_ENTRIES < count → AreTooMany input) → IsOver count e
     → IsSpaceOver input e
 over_as input count fault.OutOfMemory many over = tt
 over_as input count (fault.TooLarge what) many over = (over.0, many over.1)

@@ -6,9 +6,9 @@ use Rattle.std.proofs.lemmas.List.{get_or-set_same, get_or-set_other, length-set
 use Rattle.std.proofs.lemmas.List.Folds.{list_any_more}
 use Rattle.std.proofs.lemmas.List.FromFn.{length-map-range_with_len, get_or-map-range_with_len, fill_by_all}
 use Rattle.wl_custom.specs.Infos.{SegmentInfo, is_tls}
-use Rattle.wl_custom.specs.Symbols.{Symbol}
-use Rattle.wl_bind.specs.ThreadData.{is_thread_symbol_on, is_thread_data_by}
-use Rattle.wl_bind.specs.ThreadSteps.{is_thread_symbol, marked}
+use Rattle.wl_custom.specs.Symbols.{Symbol, is_thread_data}
+use Rattle.wl_bind.specs.ThreadData.{is_thread_symbol_on, is_thread_segment_by}
+use Rattle.wl_bind.specs.ThreadSteps.{marked}
 use Rattle.wl_bind.proofs.ListLaws.{or_false, or_true}
 
 -- ---- a mark for each number
@@ -60,11 +60,11 @@ pub symbol_more : (n : ℕ) (symbols : List Symbol) (i : ℕ) (s : Symbol) (old 
 symbol_more n symbols i s old new lt at is so_far =
     let f = λ (k : ℕ). list_any (is_thread_symbol_on k) (take i symbols) in
     let g = λ (k : ℕ). list_any (is_thread_symbol_on k) (take (i + 1) symbols) in
-    let more : (k : ℕ) → g k ≡ (f k || (is_thread_symbol s && (s.index == k))) = λ k.
+    let more : (k : ℕ) → g k ≡ (f k || (is_thread_data s && (s.index == k))) = λ k.
     list_any_more (is_thread_symbol_on k) symbols i s lt
     ∙ ap (λ (z : Symbol). f k || is_thread_symbol_on k z) (sym at) in
     is ∙ (ap (λ (bs : List Bool). marked bs s) so_far
-    ∙ one_more f g n s.index (is_thread_symbol s) more)
+    ∙ one_more f g n s.index (is_thread_data s) more)
 
 -- ---- by infos
 
@@ -87,22 +87,22 @@ taken_other (y ∷ xs) (suc i) (suc k) ne = taken_other xs i k (λ e. ne (ap suc
 pub info_more : (n : ℕ) (symbols : List Symbol) (infos : List SegmentInfo) (i : ℕ)
     (info : SegmentInfo) (old new : List Bool)
     → i < length infos → info ≡ get_or infos i info → new ≡ set old i (is_tls info)
-    → old ≡ map (λ k. is_thread_data_by symbols k (slice_get (take i infos) k)) (range_with_len 0 n)
-    → new ≡ map (λ k. is_thread_data_by symbols k (slice_get (take (i + 1) infos) k))
+    → old ≡ map (λ k. is_thread_segment_by symbols k (slice_get (take i infos) k)) (range_with_len 0 n)
+    → new ≡ map (λ k. is_thread_segment_by symbols k (slice_get (take (i + 1) infos) k))
     (range_with_len 0 n)
 info_more n symbols infos i info old new lt at is so_far =
     let next : i + 1 ≡ suc i = omega arith in
-    let f = λ (k : ℕ). is_thread_data_by symbols k (slice_get (take i infos) k) in
-    let g = λ (k : ℕ). is_thread_data_by symbols k (slice_get (take (suc i) infos) k) in
+    let f = λ (k : ℕ). is_thread_segment_by symbols k (slice_get (take i infos) k) in
+    let g = λ (k : ℕ). is_thread_segment_by symbols k (slice_get (take (suc i) infos) k) in
     rw next (is ∙ (ap (λ (bs : List Bool). set bs i (is_tls info)) so_far
     ∙ one_set f g n i (is_tls info)
-    (ap (is_thread_data_by symbols i) (taken_here infos i info lt at))
-    (λ k ne. ap (is_thread_data_by symbols k) (taken_other infos i k ne))))
+    (ap (is_thread_segment_by symbols i) (taken_here infos i info lt at))
+    (λ k ne. ap (is_thread_segment_by symbols k) (taken_other infos i k ne))))
 
 -- the last info
 pub infos_end : (n : ℕ) (symbols : List Symbol) (infos : List SegmentInfo) (i : ℕ)
     (marks : List Bool) → length infos ≤ i
-    → marks ≡ map (λ k. is_thread_data_by symbols k (slice_get (take i infos) k))
+    → marks ≡ map (λ k. is_thread_segment_by symbols k (slice_get (take i infos) k))
     (range_with_len 0 n)
-    → marks ≡ map (λ k. is_thread_data_by symbols k (slice_get infos k)) (range_with_len 0 n)
+    → marks ≡ map (λ k. is_thread_segment_by symbols k (slice_get infos k)) (range_with_len 0 n)
 infos_end n symbols infos i marks le so_far = rw (take_all i infos le) at so_far

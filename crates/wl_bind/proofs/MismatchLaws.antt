@@ -7,13 +7,12 @@ use Rattle.wl_module.specs.Types.{FunctionType, same_type}
 use Rattle.wl_linking.specs.Object.{Object}
 use Rattle.wl_custom.specs.RelocationTypes.{names_a_type}
 use Rattle.wl_linking.specs.Steps.{Clear}
-use Rattle.wl_custom.specs.Symbols.{Symbol, is_undefined}
+use Rattle.wl_custom.specs.Symbols.{Symbol, is_undefined, is_function}
 use Rattle.wl_linking.specs.declared.error.LinkError.{LinkError}
 use Rattle.wl_linking.specs.declared.error.LinkError.TheVariants.{SignatureMismatch}
 use Rattle.wl_custom.specs.declared.infos.WasmInitFunc.{WasmInitFunc}
 use Rattle.wl_custom.specs.declared.symbols.WasmSymbolKind.TheVariants.{Func}
 use Rattle.wl_symbols.specs.Entries.{symbol_in}
-use Rattle.wl_custom.specs.Symbols.{is_function_kind}
 use Rattle.wl_symbols.specs.Input.{Input, keeps_slot}
 use Rattle.wl_bind.specs.FunctionSymbols.{fun}
 use Rattle.wl_bind.specs.FunctionTypes.{declared_type, target_type}
@@ -48,8 +47,8 @@ not_false b h = rw h refl
 pub mismatch : (input : Input) (object number : ℕ) (e : LinkError) → IsLookedAt input object number → TellsMismatch input object number e → IsMismatch input e
 mismatch input object number e looked h =
     let leads : Symbol → Bool = λ (s : Symbol). option_map_or (differs input object s) (fun input object number) false in
-    let s = there (λ (s : Symbol). is_function_kind s.kind && leads s) (symbol_in input.link.objects object number) h.so in
-    let f = there (differs input object s.x) (fun input object number) (right_and (is_function_kind s.x.kind) (leads s.x) s.so) in
+    let s = there (λ (s : Symbol). is_function s.kind && leads s) (symbol_in input.link.objects object number) h.so in
+    let f = there (differs input object s.x) (fun input object number) (right_and (is_function s.x.kind) (leads s.x) s.so) in
     let d = there (λ (t : FunctionType). is_other_type input.link.objects t f.x) (declared_type input.link.objects object s.x) f.so in
     let a = there (λ (t : FunctionType). not (same_type d.x t)) (target_type input.link.objects f.x) d.so in
     record {
@@ -58,7 +57,7 @@ mismatch input object number e looked h =
       looked_at = looked;
       symbol = s.x;
       is = s.is;
-      function = left_and (is_function_kind s.x.kind) (leads s.x) s.so;
+      function = left_and (is_function s.x.kind) (leads s.x) s.so;
       target = f.x;
       leads = f.is;
       declared = d.x;
@@ -76,7 +75,7 @@ is_one input e m =
     let a = passing (λ (t : FunctionType). not (same_type m.declared t)) (target_type input.link.objects m.target) m.actual m.actual_is (not_false (same_type m.declared m.actual) m.differ) in
     let d = passing (λ (t : FunctionType). is_other_type input.link.objects t m.target) (declared_type input.link.objects m.object m.symbol) m.declared m.declared_is a in
     let f = passing (differs input m.object m.symbol) (fun input m.object m.number) m.target m.leads d in
-    passing (λ (s : Symbol). is_function_kind s.kind && leads s) (symbol_in input.link.objects m.object m.number) m.symbol m.is (and_both (is_function_kind m.symbol.kind) (leads m.symbol) m.function f)
+    passing (λ (s : Symbol). is_function s.kind && leads s) (symbol_in input.link.objects m.object m.number) m.symbol m.is (and_both (is_function m.symbol.kind) (leads m.symbol) m.function f)
 
 -- none of those that are looked at is one
 pub all_clear : (input : Input) → ((object number : ℕ) → IsLookedAt input object number → is_mismatch input object number ≡ false) → Clear (IsMismatch input)
@@ -186,7 +185,7 @@ init_at input object o k d list e here same lt h =
 -- ---- the law
 
 pub types_agree : (input : Input) (object number : ℕ) (s : Symbol) (target : FunctionTarget) (declared actual : FunctionType) → Clear (IsMismatch input) → IsLookedAt input object number
-    → symbol_in input.link.objects object number ≡ Some s → is_function_kind s.kind ≡ true → fun input object number ≡ Some target
+    → symbol_in input.link.objects object number ≡ Some s → is_function s.kind ≡ true → fun input object number ≡ Some target
     → declared_type input.link.objects object s ≡ Some declared → target_type input.link.objects target ≡ Some actual → same_type declared actual ≡ true
 types_agree input object number s target declared actual clear looked is function leads declared_is actual_is = elim (cases_Bool (same_type declared actual)) [
   | inl same ↦ same

@@ -17,8 +17,7 @@ use Rattle.wl_symbols.specs.declared.units.UnitCounts.{UnitCounts}
 use Rattle.wl_symbols.specs.declared.units.WasmGcUnit.{WasmGcUnit}
 use Rattle.wl_symbols.specs.declared.units.WasmGcUnit.TheVariants.{DefinedFunction, DefinedGlobal, DataSegment, FunctionImport, GlobalImport}
 use Rattle.wl_symbols.specs.ImportSlots.{ImportSlot, object_slots, import_slots}
-use Rattle.wl_types.specs.Types.{max_entries}
-use Rattle.wl_index.specs.declared.index.TheConstants.{WASM_DEAD_INDEX}
+use Rattle.wl_index.specs.declared.index.TheConstants.{WASM_DEAD_INDEX, MAX_ENTRIES}
 use Rattle.wl_bind.specs.FunctionSpace.{FunctionOf, function_parts, function_space, own_function_entry}
 use Rattle.wl_bind.specs.GlobalSpace.{GlobalOf, global_parts, global_space, own_global_entry}
 use Rattle.wl_symbols.specs.Input.{Input, keeps, keeps_slot}
@@ -144,7 +143,7 @@ own_at {Y} input own entry parts object k n live is =
     }
 
 -- there is room for it
-pub fits : {Y : Type 0} (firsts : List ℕ) (space : List Y) (object n : ℕ) (y : Y) → length space ≤ max_entries
+pub fits : {Y : Type 0} (firsts : List ℕ) (space : List Y) (object n : ℕ) (y : Y) → length space ≤ MAX_ENTRIES
     → OwnAt firsts space object n y → HasRoom firsts object n
 fits firsts space object n y room at =
     let lt : at.first + n < length space = slice_get_within space (at.first + n) y at.stands in
@@ -356,11 +355,11 @@ globals_over input start e is over =
     (λ lt. let long = globals_long input in inr (omega (arith, lt, is, long))) over
 
 pub functions_room : (input : Input) (start : ℕ) → start ≡ total (lengths_of (function_parts input))
-    → start + kept_count input Functions 0 input.link.objects ≤ max_entries → length (function_space input) ≤ max_entries
+    → start + kept_count input Functions 0 input.link.objects ≤ MAX_ENTRIES → length (function_space input) ≤ MAX_ENTRIES
 functions_room input start is room = let long = functions_long input in omega (arith, room, is, long)
 
 pub globals_room : (input : Input) (start : ℕ) → start ≡ total (lengths_of (global_parts input))
-    → start + kept_count input Globals 0 input.link.objects ≤ max_entries → length (global_space input) ≤ max_entries
+    → start + kept_count input Globals 0 input.link.objects ≤ MAX_ENTRIES → length (global_space input) ≤ MAX_ENTRIES
 globals_room input start is room = let long = globals_long input in omega (arith, room, is, long)
 
 -- ---- rows

@@ -10,7 +10,7 @@ use Rattle.wl_module.specs.declared.imports.ExternalKind.TheVariants as external
 use Rattle.wl_linking.specs.Fitting.{IsWhole, IsFitting}
 use Rattle.wl_linking.specs.Object.{Object}
 use Rattle.wl_linking.specs.Spaces.{count_imports, spaces_of, symbol_exists}
-use Rattle.wl_custom.specs.Symbols.{Symbol as LinkedSymbol, is_undefined, is_weak}
+use Rattle.wl_custom.specs.Symbols.{Symbol as LinkedSymbol, is_undefined, is_weak, is_function}
 use Rattle.wl_linking.specs.declared.spaces.Counts.{Counts}
 use Rattle.wl_custom.specs.declared.symbols.WasmSymbolKind.{WasmSymbolKind}
 use Rattle.wl_custom.specs.declared.symbols.WasmSymbolKind.TheVariants.{Func, Data, Global, Section, Event, Table}
@@ -18,14 +18,14 @@ use Rattle.wl_symbols.specs.LinkerNames.{is_imported_as}
 use Rattle.wl_symbols.specs.Names.{def}
 use Rattle.wl_symbols.specs.declared.entry.Definition.{Definition}
 use Rattle.wl_symbols.specs.declared.entry.Definition.TheVariants.{Symbol, Made as MadeName}
-use Rattle.wl_custom.specs.Symbols.{is_function_kind, is_defined_function}
+use Rattle.wl_custom.specs.Symbols.{is_defined_function}
 use Rattle.wl_symbols.specs.Live.{IsLiveOf}
 use Rattle.wl_symbols.specs.ImportSlots.{ImportSlot, object_slots, import_slots}
-use Rattle.wl_symbols.specs.SlotTargets.{own_number, defined_under, is_definition_of, object_target, symbol_target, slot_target}
+use Rattle.wl_symbols.specs.Units.{defined_number}
+use Rattle.wl_symbols.specs.SlotTargets.{own_number, is_definition_of, object_target, symbol_target, slot_target}
 use Rattle.wl_symbols.specs.declared.targets.SlotTarget.{SlotTarget}
 use Rattle.wl_symbols.specs.declared.targets.SlotTarget.TheVariants as slot
-use Rattle.wl_types.specs.Types.{max_entries}
-use Rattle.wl_index.specs.declared.index.TheConstants.{WASM_DEAD_INDEX}
+use Rattle.wl_index.specs.declared.index.TheConstants.{WASM_DEAD_INDEX, MAX_ENTRIES}
 use Rattle.wl_symbols.specs.Left.{same_field, same_import, is_stub, first_imports, first_like}
 use Rattle.wl_bind.specs.FunctionBinding.{named_function, binds_function, by_stub, by_host, left_functions, link_stubs, host_functions}
 use Rattle.wl_bind.specs.FunctionSpace.{FunctionEntry, FunctionOf, function_space, function_slot_entry, own_function_entry, local_functions}
@@ -88,14 +88,14 @@ row_found {X} P objects rows k o row are at found =
 -- ---- an index as a place
 
 -- an index in a space with room isn't that of nothing
-not_dead : (index count : ℕ) → index < count → count ≤ max_entries → (index == WASM_DEAD_INDEX) ≡ false
+not_dead : (index count : ℕ) → index < count → count ≤ MAX_ENTRIES → (index == WASM_DEAD_INDEX) ≡ false
 not_dead index count lt room = elim (cases_Bool (index == WASM_DEAD_INDEX)) [
   | inl y ↦ absurd (let e : index ≡ WASM_DEAD_INDEX = eqb-true index WASM_DEAD_INDEX y in omega (arith, e, lt, room))
   | inr n ↦ n
 ]
 
 -- the place that an index is
-place_of_index : {X : Type 0} (space : List X) (e : Option X) (index : ℕ) → length space ≤ max_entries
+place_of_index : {X : Type 0} (space : List X) (e : Option X) (index : ℕ) → length space ≤ MAX_ENTRIES
     → IsIndexOf space e index → IsPlaceOf space e (as_place index)
 place_of_index space None index room is = rw is refl
 place_of_index space (Some x) index room is =
@@ -103,7 +103,7 @@ place_of_index space (Some x) index room is =
 
 -- the same at a place of a list
 place_in_row : {X : Type 0} (space : List X) (entries : List (Option X)) (row : List ℕ) (k : ℕ) (e : Option X)
-    → length space ≤ max_entries → AreIndicesOf space entries row → slice_get entries k ≡ Some e
+    → length space ≤ MAX_ENTRIES → AreIndicesOf space entries row → slice_get entries k ≡ Some e
     → IsPlaceOf space e (option_and_then as_place (slice_get row k))
 place_in_row space [] row k e room zip at = absurd cc
 place_in_row space (x ∷ xs) [] k e room zip at = absurd zip
@@ -118,7 +118,7 @@ place_in_row space (x ∷ xs) (n ∷ ns) (suc k) e room zip at = place_in_row sp
 pub record IsGiven (input : Input) (rows : List (List ℕ)) : Type 0 where
   pub rows_are : AreRows (λ object o. AreIndicesOf (function_space input) (local_functions input object o)) 0
       input.link.objects rows
-  pub room : length (function_space input) ≤ max_entries
+  pub room : length (function_space input) ≤ MAX_ENTRIES
   pub live : IsLiveOf input.link input.live
   pub whole : AllByRecursion IsWhole input.link.objects
   pub laws : SlotLaws
@@ -160,7 +160,7 @@ neither true b h = absurd cc
 neither false b h = (refl, h)
 
 -- the number among what is defined, and the index
-pub under : (imports count index n : ℕ) → defined_under imports count index ≡ Some n → (imports + n ≡ index) × (n < count)
+pub under : (imports count index n : ℕ) → defined_number imports count index ≡ Some n → (imports + n ≡ index) × (n < count)
 under imports count index n is = elim (cases_Bool (nat_lt index imports || nat_le count (index - imports))) [
   | inl y ↦ absurd (let none : None ≡ Some n = rw y at is in cc)
   | inr not_so ↦
@@ -204,7 +204,7 @@ defined_leads input rows given object o s n here number =
     (own_entry input object o s.index n (given.slots object o) number)
 
 -- two tests for the same
-same_kind : (k : WasmSymbolKind) → is_imported_as Func k ≡ is_function_kind k
+same_kind : (k : WasmSymbolKind) → is_imported_as Func k ≡ is_function k
 same_kind Func = refl
 same_kind Data = refl
 same_kind Global = refl
@@ -283,7 +283,7 @@ entry_is : (input : Input) (kept : Bool) (target : FunctionTarget) → (kept ≡
 entry_is input true target there = ap (λ (b : Bool). if b then Some (FunctionOf target) else None) (there refl)
 entry_is input false target there = refl
 
-pub kind_is : (k : WasmSymbolKind) → is_function_kind k ≡ true → k ≡ Func
+pub kind_is : (k : WasmSymbolKind) → is_function k ≡ true → k ≡ Func
 kind_is Func e = refl
 kind_is Data e = absurd cc
 kind_is Global e = absurd cc
@@ -293,7 +293,7 @@ kind_is Table e = absurd cc
 
 -- an undefined symbol leads to what its slot is bound to
 import_leads : (input : Input) (rows : List (List ℕ)) → IsGiven input rows → (object k : ℕ) (o : Object) (s : LinkedSymbol)
-    → slice_get input.link.objects object ≡ Some o → slice_get o.symbols k ≡ Some s → is_function_kind s.kind ≡ true
+    → slice_get input.link.objects object ≡ Some o → slice_get o.symbols k ≡ Some s → is_function s.kind ≡ true
     → is_undefined s ≡ true → Leads input rows (binding_at input object s.index) (at_index object s)
 import_leads input rows given object k o s here at of_kind so =
     let fit : IsFitting o = given.fitting o (all_at IsWhole input.link.objects object o given.whole here) in
@@ -345,7 +345,7 @@ symbol_defines input rows given object k o s here at so =
 
 -- a symbol that is defined leads to its own function
 own_leads : (input : Input) (rows : List (List ℕ)) → IsGiven input rows → (object k : ℕ) (o : Object) (s : LinkedSymbol)
-    → slice_get input.link.objects object ≡ Some o → slice_get o.symbols k ≡ Some s → is_function_kind s.kind ≡ true
+    → slice_get input.link.objects object ≡ Some o → slice_get o.symbols k ≡ Some s → is_function s.kind ≡ true
     → is_undefined s ≡ false → Leads input rows (own_function object o s) (at_index object s)
 own_leads input rows given object k o s here at of_kind so =
     let is : is_defined_function s ≡ true =
@@ -433,12 +433,12 @@ kind_leads input rows false target f leads = refl
 -- the function, and its index, of a symbol at a place
 abbrev function_at : Input → ℕ → ℕ → Object → Option LinkedSymbol → Option FunctionTarget
 function_at input object k o found =
-    option_and_then (λ s. if is_function_kind s.kind then function_of input object k o s else None) found
+    option_and_then (λ s. if is_function s.kind then function_of input object k o s else None) found
 
 abbrev index_at : Input → List (List ℕ) → ℕ → ℕ → Option LinkedSymbol → Option ℕ
 index_at input rows object k found =
     option_and_then
-    (λ s. if is_function_kind s.kind then row_place rows (leads_to input.link object k s) else None) found
+    (λ s. if is_function s.kind then row_place rows (leads_to input.link object k s) else None) found
 
 -- the index of each symbol is the place of its function
 found_place : (input : Input) (rows : List (List ℕ)) → IsGiven input rows → (object k : ℕ) (o : Object) (found : Option LinkedSymbol)
@@ -447,7 +447,7 @@ found_place : (input : Input) (rows : List (List ℕ)) → IsGiven input rows �
     (index_at input rows object k found)
 found_place input rows given object k o None here at = refl
 found_place input rows given object k o (Some s) here at =
-    kind_leads input rows (is_function_kind s.kind) (function_of input object k o s) (leads_to input.link object k s)
+    kind_leads input rows (is_function s.kind) (function_of input object k o s) (leads_to input.link object k s)
     (λ of_kind. case_leads input rows (is_undefined s) (is_weak s) (binding_at input object s.index) (own_function object o s)
     (object_target input.link Func (def input.link object k)) (at_index object s)
     (definition_function input.link.objects (def input.link object k))

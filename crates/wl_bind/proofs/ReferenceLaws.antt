@@ -9,7 +9,7 @@ use Rattle.wl_linking.specs.Fitting.{IsWhole, IsFitting}
 use Rattle.wl_linking.specs.Object.{Object}
 use Rattle.wl_custom.specs.RelocationTypes.{names_a_type}
 use Rattle.wl_linking.specs.Spaces.{count_imports, spaces_of, symbol_exists, relocation_exists}
-use Rattle.wl_custom.specs.Symbols.{Symbol as LinkedSymbol, is_data, is_undefined, is_weak}
+use Rattle.wl_custom.specs.Symbols.{Symbol as LinkedSymbol, is_data, is_undefined, is_weak, is_function}
 use Rattle.wl_linking.specs.declared.error.LinkError.TheVariants.{WrongKind}
 use Rattle.wl_custom.specs.declared.relocation_type.RelocationType.{RelocationType}
 use Rattle.wl_custom.specs.declared.relocation_type.RelocationType.TheVariants as type
@@ -25,7 +25,6 @@ use Rattle.wl_symbols.specs.Names.{def}
 use Rattle.wl_symbols.specs.declared.entry.Definition.{Definition}
 use Rattle.wl_symbols.specs.declared.entry.Definition.TheVariants.{Symbol, Made as MadeName}
 use Rattle.wl_symbols.specs.DefinedUnits.{unit_at, other_unit, is_replaceable, gives_way}
-use Rattle.wl_custom.specs.Symbols.{is_function_kind}
 use Rattle.wl_symbols.specs.Live.{Live, is_live, IsLiveOf}
 use Rattle.wl_symbols.specs.References.{HasRelocation, RefersBySymbol}
 use Rattle.wl_symbols.specs.Units.{units_of, unit_of, unit_in as unit_by_counts}
@@ -505,10 +504,10 @@ function_leads laws input r settled n kind =
 -- the function that a symbol of a place leads to
 abbrev function_at : Input → ℕ → ℕ → Object → Option LinkedSymbol → Option FunctionTarget
 function_at input object number o found =
-    option_and_then (λ s. if is_function_kind s.kind then function_of input object number o s else None) found
+    option_and_then (λ s. if is_function s.kind then function_of input object number o s else None) found
 
 fun_is : (input : Input) (object number : ℕ) (o : Object) (s : LinkedSymbol) → slice_get input.link.objects object ≡ Some o
-    → slice_get o.symbols number ≡ Some s → is_function_kind s.kind ≡ true
+    → slice_get o.symbols number ≡ Some s → is_function s.kind ≡ true
     → fun input object number ≡ function_of input object number o s
 fun_is input object number o s here at so =
     ap (λ (x : Option Object). option_and_then (λ (p : Object). function_at input object number p (slice_get p.symbols number)) x) here
@@ -516,11 +515,11 @@ fun_is input object number o s here at so =
     ∙ ap (λ (b : Bool). if b then function_of input object number o s else None) so)
 
 names_of_kind : (input : Input) (r : Relocated) → (n : Names input r) → names_function input r ≡ true
-    → is_function_kind n.symbol.kind ≡ true
+    → is_function n.symbol.kind ≡ true
 names_of_kind input r n so =
-    sym (ap (λ (x : Option LinkedSymbol). option_map_or (λ (s : LinkedSymbol). is_function_kind s.kind) x false) n.found) ∙ so
+    sym (ap (λ (x : Option LinkedSymbol). option_map_or (λ (s : LinkedSymbol). is_function s.kind) x false) n.found) ∙ so
 
-pub fun_leads : Laws → (input : Input) (r : Relocated) → IsSettled input → (n : Names input r) → is_function_kind n.symbol.kind ≡ true
+pub fun_leads : Laws → (input : Input) (r : Relocated) → IsSettled input → (n : Names input r) → is_function n.symbol.kind ≡ true
     → LeadsOut input (fun input r.object r.relocation.index)
 fun_leads laws input r settled n so =
     let out = function_leads laws input r settled n (kind_is n.symbol.kind so) in

@@ -7,7 +7,7 @@ use Rattle.wl_module.specs.Imports.{Imported}
 use Rattle.wl_module.specs.Types.{FunctionType, same_type}
 use Rattle.wl_linking.specs.Object.{Object}
 use Rattle.wl_custom.specs.RelocationTypes.{names_a_type}
-use Rattle.wl_custom.specs.Symbols.{Symbol, is_weak, is_function_kind}
+use Rattle.wl_custom.specs.Symbols.{Symbol, is_weak, is_function}
 use Rattle.wl_linking.specs.declared.error.LinkError.{LinkError}
 use Rattle.wl_linking.specs.declared.error.LinkError.TheVariants.{SignatureMismatch}
 use Rattle.wl_symbols.specs.Entries.{symbol_in}
@@ -94,7 +94,7 @@ differs input object s target =
 abbrev pub is_mismatch : Input → ℕ → ℕ → Bool
 is_mismatch input object number =
     option_map_or
-    (λ (s : Symbol). is_function_kind s.kind
+    (λ (s : Symbol). is_function s.kind
     && option_map_or (differs input object s) (fun input object number) false)
     (symbol_in input.link.objects object number) false
 

@@ -4,7 +4,7 @@ use Rattle.std.specs.List.{filter, filter_map}
 use Rattle.std.specs.Option.{option_map_or, option_and_then}
 use Rattle.indexmap.specs.IndexSet.{insert_all}
 use Rattle.wl_linking.specs.Object.{Object}
-use Rattle.wl_custom.specs.Symbols.{Symbol as LinkedSymbol, is_data, is_undefined, has_name}
+use Rattle.wl_custom.specs.Symbols.{Symbol as LinkedSymbol, is_data, is_defined_data, has_name}
 use Rattle.wl_symbols.specs.Entries.{symbol_in}
 use Rattle.wl_symbols.specs.LinkerNames.{symbol_named}
 use Rattle.wl_symbols.specs.Names.{named}
@@ -58,10 +58,6 @@ is_dynamic input d =
     input.link.args.export_dynamic
     && option_map_or (is_dynamic_data input d.object d.symbol)
     (symbol_in input.link.objects d.object d.symbol) false
-
--- the symbol is data that its object defines
-abbrev pub is_defined_data : LinkedSymbol → Bool
-is_defined_data s = is_data s.kind && not (is_undefined s)
 
 -- the data of an object, where this is its definition
 abbrev pub data_of : Input → Definition → Option DataSymbol

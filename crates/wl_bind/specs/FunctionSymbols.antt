@@ -2,10 +2,9 @@
 use Rattle.std.specs.Prelude.{ℕ, ◌+◌, if◌then◌else◌, List, [], ◌∷◌, map, Option, Some, None, slice_get}
 use Rattle.std.specs.Option.{option_or, option_map, option_and_then}
 use Rattle.wl_linking.specs.Object.{Object}
-use Rattle.wl_custom.specs.Symbols.{Symbol, is_undefined, is_weak}
+use Rattle.wl_custom.specs.Symbols.{Symbol, is_undefined, is_weak, is_function}
 use Rattle.wl_custom.specs.declared.symbols.WasmSymbolKind.TheVariants.{Func}
 use Rattle.wl_symbols.specs.Names.{def}
-use Rattle.wl_custom.specs.Symbols.{is_function_kind}
 use Rattle.wl_symbols.specs.ImportSlots.{ImportSlot, object_slots, import_slots}
 use Rattle.wl_symbols.specs.SlotTargets.{object_target, symbol_target}
 use Rattle.wl_symbols.specs.Input.{Input}
@@ -46,7 +45,7 @@ abbrev pub fun : Input → ℕ → ℕ → Option FunctionTarget
 fun input object number =
     option_and_then
     (λ o. option_and_then
-    (λ s. if is_function_kind s.kind then function_of input object number o s else None)
+    (λ s. if is_function s.kind then function_of input object number o s else None)
     (slice_get o.symbols number))
     (slice_get input.link.objects object)
 

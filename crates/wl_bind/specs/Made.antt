@@ -3,6 +3,8 @@ use Rattle.std.specs.Prelude.{ℕ, ◌+◌, ◌==◌, ◌&&◌, ◌||◌, Bool, 
 use Rattle.std.specs.List.{list_any, flat_map, range_with_len}
 use Rattle.std.specs.Option.{option_map_or}
 use Rattle.std.specs.Str.{bytes_eq}
+use Rattle.wl_index.specs.declared.index.TheConstants.{LINKER_TABLE_BASE}
+use Rattle.wl_index.specs.declared.memory.TheConstants.{LINKER_MEMORY_BASE}
 use Rattle.wl_module.specs.Imports.{Imported}
 use Rattle.wl_module.specs.Segments.{Segment}
 use Rattle.wl_module.specs.declared.imports.ImportEntity.{ImportEntity}
@@ -22,7 +24,7 @@ use Rattle.wl_bind.specs.Sameness.{same_made}
 use Rattle.wl_bind.specs.FunctionBinding.{binds_function}
 use Rattle.wl_bind.specs.GlobalBinding.{binds_global}
 use Rattle.wl_bind.specs.Scan.{needs_of, table_functions}
-use Rattle.wl_bind.specs.ThreadData.{is_thread_data}
+use Rattle.wl_bind.specs.ThreadData.{is_thread_segment}
 use Rattle.wl_bind.specs.Parts.{any_object}
 use Rattle.wl_bind.specs.declared.binding.FunctionTarget.{FunctionTarget}
 use Rattle.wl_bind.specs.declared.binding.FunctionTarget.TheVariants as function
@@ -78,12 +80,12 @@ is_filled s = is_active s.kind && not (length s.payload == 0)
 -- the segment is kept, and each thread has its own of it
 abbrev pub is_kept_thread_data : Input → ℕ → Object → ℕ → Bool
 is_kept_thread_data input object o segment =
-    keeps input object (DataSegment segment) && is_thread_data o segment
+    keeps input object (DataSegment segment) && is_thread_segment o segment
 
 -- the segment is kept, all threads have it in common, and it has bytes that go into the memory
 abbrev pub is_kept_common_data : Input → ℕ → Object → ℕ → Bool
 is_kept_common_data input object o segment =
-    keeps input object (DataSegment segment) && not (is_thread_data o segment)
+    keeps input object (DataSegment segment) && not (is_thread_segment o segment)
     && option_map_or is_filled (slice_get o.segments segment) false
 
 -- some segment of the object is such a one
@@ -142,20 +144,20 @@ is_made input m = is_forced input m
 
 -- the value of `__memory_base`: 0 where it is made for an export alone
 abbrev pub memory_base_value : Input → ℕ
-memory_base_value input = if (linker_needs input).needs_memory_base then 1024 else 0
+memory_base_value input = if (linker_needs input).needs_memory_base then LINKER_MEMORY_BASE else 0
 
 -- ---- the table
 
 -- what is imported is a table
-abbrev pub is_table : ImportEntity → Bool
-is_table (entity.Table t) = true
-is_table (entity.Func number) = false
-is_table (entity.Memory m) = false
-is_table (entity.Global g) = false
+abbrev pub is_table_import : ImportEntity → Bool
+is_table_import (entity.Table t) = true
+is_table_import (entity.Func number) = false
+is_table_import (entity.Memory m) = false
+is_table_import (entity.Global g) = false
 
 -- the object imports one
 abbrev pub imports_table : Object → Bool
-imports_table o = list_any (λ (i : Imported). is_table i.entity) o.imports
+imports_table o = list_any (λ (i : Imported). is_table_import i.entity) o.imports
 
 -- there is a table: a kept relocation asks for it, or an object imports one
 abbrev pub has_table : Input → Bool
@@ -177,6 +179,6 @@ greatest (n ∷ ns) = max n (greatest ns)
 -- for
 abbrev pub table_size : Input → ℕ
 table_size input =
-    max (length (table_functions input) + 1)
+    max (length (table_functions input) + LINKER_TABLE_BASE)
     (greatest (flat_map (λ (o : Object). map (λ (i : Imported). table_minimum i.entity) o.imports)
     input.link.objects))

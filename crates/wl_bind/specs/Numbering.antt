@@ -1,6 +1,6 @@
 -- What the things of objects are numbered by.
 use Rattle.std.specs.Prelude.{◌≡◌, ◌≤◌, length}
-use Rattle.wl_types.specs.Types.{max_entries}
+use Rattle.wl_index.specs.declared.index.TheConstants.{MAX_ENTRIES}
 use Rattle.wl_symbols.specs.Input.{Input}
 use Rattle.wl_bind.specs.FunctionSpace.{function_space}
 use Rattle.wl_bind.specs.GlobalSpace.{global_space}
@@ -20,5 +20,5 @@ pub record IsNumbering (input : Input) (n : Numbering) : Type 0 where
   pub indices : AreMadeIndices input n.indices.now
   pub function_firsts : n.function_firsts.items ≡ function_firsts input
   pub global_firsts : n.global_firsts.items ≡ global_firsts input
-  pub functions_fit : length (function_space input) ≤ max_entries
-  pub globals_fit : length (global_space input) ≤ max_entries
+  pub functions_fit : length (function_space input) ≤ MAX_ENTRIES
+  pub globals_fit : length (global_space input) ≤ MAX_ENTRIES

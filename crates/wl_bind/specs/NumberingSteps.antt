@@ -9,8 +9,7 @@ use Rattle.wl_symbols.specs.declared.linker_symbol.WasmLinkerSymbol.{WasmLinkerS
 use Rattle.wl_symbols.specs.Live.{ordinal_of}
 use Rattle.wl_symbols.specs.declared.units.WasmGcUnit.{WasmGcUnit}
 use Rattle.wl_symbols.specs.ImportSlots.{ImportSlot}
-use Rattle.wl_types.specs.Types.{max_entries}
-use Rattle.wl_index.specs.declared.index.TheConstants.{WASM_DEAD_INDEX}
+use Rattle.wl_index.specs.declared.index.TheConstants.{WASM_DEAD_INDEX, MAX_ENTRIES}
 use Rattle.wl_bind.specs.FunctionSpace.{stub_part, function_space}
 use Rattle.wl_bind.specs.GlobalSpace.{GlobalOf, global_space}
 use Rattle.wl_symbols.specs.Input.{Input}
@@ -33,7 +32,7 @@ use Rattle.wl_bind.specs.declared.resolution.ImportResolution.TheVariants.{Unres
 pub record HasRoom (firsts : List ℕ) (object n : ℕ) : Type 0 where
   pub first : ℕ
   pub first_is : slice_get firsts object ≡ Some first
-  pub room : first + n ≤ max_entries
+  pub room : first + n ≤ MAX_ENTRIES
 
 -- that number behind the first index of the object
 abbrev pub behind_first : List ℕ → ℕ → ℕ → ℕ
@@ -55,7 +54,7 @@ own_indices_of input own firsts object o =
 -- the place has room
 abbrev pub FitsPlace : Option ℕ → Type 0
 FitsPlace None = ⊤
-FitsPlace (Some place) = place ≤ max_entries
+FitsPlace (Some place) = place ≤ MAX_ENTRIES
 
 -- there is an index for what a slot is resolved to, for which the host's import has that place
 abbrev pub HasIndex : Numbering → Option ℕ → ImportResolution → Type 0

@@ -5,8 +5,7 @@ use Rattle.wl_linking.specs.Object.{Object}
 use Rattle.wl_linking.specs.declared.error.LinkError.{LinkError}
 use Rattle.wl_linking.specs.declared.error.LinkError.TheVariants.{OutOfMemory, TooLarge}
 use Rattle.wl_linking.specs.declared.error.Quantity.TheVariants.{Space}
-use Rattle.wl_types.specs.Types.{max_entries}
-use Rattle.wl_index.specs.declared.index.TheConstants.{WASM_DEAD_INDEX}
+use Rattle.wl_index.specs.declared.index.TheConstants.{WASM_DEAD_INDEX, MAX_ENTRIES}
 use Rattle.wl_bind.specs.declared.parts.PartStarts.{PartStarts}
 
 -- ---- parts
@@ -34,7 +33,7 @@ total (len ∷ lengths) = len + total lengths
 pub record AreStarts {X : Type 0} (parts : List (List X)) (s : PartStarts) : Type 0 where
   pub starts : s.starts ≡ starts_from 0 (lengths_of parts)
   pub end : s.end ≡ total (lengths_of parts)
-  pub room : s.end ≤ max_entries
+  pub room : s.end ≤ MAX_ENTRIES
 
 -- where a part begins; where the last one ends, behind the last part
 abbrev pub start_of : PartStarts → ℕ → ℕ
@@ -78,7 +77,7 @@ ArePlacesOf space entries places = AllZip (IsPlaceOf space) entries places
 -- memory ran out, or there would be too many entries
 abbrev pub IsOver : ℕ → LinkError → Type 0
 IsOver count OutOfMemory = ⊤
-IsOver count (TooLarge what) = (what ≡ Space) × (max_entries < count)
+IsOver count (TooLarge what) = (what ≡ Space) × (MAX_ENTRIES < count)
 IsOver count _ = ⊥
 
 -- ---- objects

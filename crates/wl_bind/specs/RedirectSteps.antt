@@ -3,12 +3,12 @@ use Rattle.std.specs.Prelude.{ℕ, ◌==◌, ◌||◌, not, List, map, length, i
 use Rattle.std.specs.List.{range_with_len}
 use Rattle.std.specs.Option.{option_and_then}
 use Rattle.wl_linking.specs.Object.{Object}
-use Rattle.wl_custom.specs.Symbols.{Symbol as LinkedSymbol, is_undefined, is_weak}
+use Rattle.wl_custom.specs.Symbols.{Symbol as LinkedSymbol, is_undefined, is_weak, is_function}
 use Rattle.wl_symbols.specs.Link.{Link}
 use Rattle.wl_symbols.specs.Names.{def}
 use Rattle.wl_symbols.specs.declared.entry.Definition.{Definition}
 use Rattle.wl_symbols.specs.declared.entry.Definition.TheVariants.{Symbol, Made}
-use Rattle.wl_custom.specs.Symbols.{is_function_kind, is_defined_function}
+use Rattle.wl_custom.specs.Symbols.{is_defined_function}
 use Rattle.wl_index.specs.declared.index.TheConstants.{WASM_DEAD_INDEX}
 use Rattle.wl_bind.specs.declared.redirects.LocalFunction.{LocalFunction}
 
@@ -52,7 +52,7 @@ abbrev pub redirect_of : Link → List (List ℕ) → ℕ → ℕ → Option ℕ
 redirect_of link rows object number =
     option_and_then
     (λ o. option_and_then
-    (λ s. if is_function_kind s.kind then row_place rows (leads_to link object number s) else None)
+    (λ s. if is_function s.kind then row_place rows (leads_to link object number s) else None)
     (slice_get o.symbols number))
     (slice_get link.objects object)
 

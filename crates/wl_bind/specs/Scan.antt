@@ -4,7 +4,7 @@ use Rattle.std.specs.Prelude.{ℕ, ◌&&◌, ◌||◌, Bool, true, false, List, 
 use Rattle.std.specs.List.{filter_map, list_any}
 use Rattle.std.specs.Option.{option_map, option_map_or, option_and_then}
 use Rattle.indexmap.specs.IndexSet.{insert_all}
-use Rattle.wl_custom.specs.Symbols.{Symbol as LinkedSymbol, is_data, is_function_kind}
+use Rattle.wl_custom.specs.Symbols.{Symbol as LinkedSymbol, is_data, is_function}
 use Rattle.wl_custom.specs.declared.relocation_type.RelocationType.{RelocationType}
 use Rattle.wl_custom.specs.declared.relocation_type.RelocationType.TheVariants.{TableIndexSleb, TableIndexI32, GlobalIndexLeb, MemoryAddrRelSleb, TableIndexRelSleb, GlobalIndexI32, TableNumberLeb}
 use Rattle.wl_symbols.specs.Entries.{symbol_in}
@@ -64,7 +64,7 @@ names_data input r = option_map_or (λ (s : LinkedSymbol). is_data s.kind) (symb
 -- it names a function symbol
 abbrev pub names_function : Input → Relocated → Bool
 names_function input r =
-    option_map_or (λ (s : LinkedSymbol). is_function_kind s.kind) (symbol_of input r) false
+    option_map_or (λ (s : LinkedSymbol). is_function s.kind) (symbol_of input r) false
 
 -- what the symbol that it names stands for
 abbrev pub definition_of : Input → Relocated → Definition

@@ -3,13 +3,12 @@ use Rattle.std.specs.Prelude.{◌≡◌, ◌⊎◌, ℕ, true, false, Contains, 
 use Rattle.wl_module.specs.Types.{FunctionType, same_type}
 use Rattle.wl_linking.specs.Object.{Object}
 use Rattle.wl_custom.specs.RelocationTypes.{names_a_type}
-use Rattle.wl_custom.specs.Symbols.{Symbol, is_undefined}
+use Rattle.wl_custom.specs.Symbols.{Symbol, is_undefined, is_function}
 use Rattle.wl_linking.specs.declared.error.LinkError.{LinkError}
 use Rattle.wl_linking.specs.declared.error.LinkError.TheVariants.{SignatureMismatch}
 use Rattle.wl_custom.specs.declared.infos.WasmInitFunc.{WasmInitFunc}
 use Rattle.wl_custom.specs.declared.symbols.WasmSymbolKind.TheVariants.{Func}
 use Rattle.wl_symbols.specs.Entries.{symbol_in}
-use Rattle.wl_custom.specs.Symbols.{is_function_kind}
 use Rattle.wl_symbols.specs.Input.{Input, keeps_slot}
 use Rattle.wl_bind.specs.FunctionSymbols.{fun}
 use Rattle.wl_bind.specs.FunctionTypes.{declared_type, target_type}
@@ -54,7 +53,7 @@ pub record IsMismatch (input : Input) (e : LinkError) : Type 0 where
   pub looked_at : IsLookedAt input object number
   pub symbol : Symbol
   pub is : symbol_in input.link.objects object number ≡ Some symbol
-  pub function : is_function_kind symbol.kind ≡ true
+  pub function : is_function symbol.kind ≡ true
   pub target : FunctionTarget
   pub leads : fun input object number ≡ Some target
   pub declared : FunctionType

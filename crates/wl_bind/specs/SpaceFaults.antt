@@ -4,7 +4,7 @@ use Rattle.wl_linking.specs.declared.error.LinkError.{LinkError}
 use Rattle.wl_linking.specs.declared.error.LinkError.TheVariants.{OutOfMemory, TooLarge}
 use Rattle.wl_linking.specs.declared.error.Quantity.TheVariants.{Space}
 use Rattle.wl_linking.specs.Steps.{Step, NoStep}
-use Rattle.wl_types.specs.Types.{max_entries}
+use Rattle.wl_index.specs.declared.index.TheConstants.{MAX_ENTRIES}
 use Rattle.wl_symbols.specs.Input.{Input}
 use Rattle.wl_bind.specs.Bound.{bind_steps}
 use Rattle.wl_bind.specs.FunctionSpace.{function_space}
@@ -14,7 +14,7 @@ use Rattle.wl_bind.specs.OutputTypes.{output_types}
 -- the function space or the global space has too many entries
 abbrev pub AreTooMany : Input → Type 0
 AreTooMany input =
-    (max_entries < length (function_space input)) ⊎ (max_entries < length (global_space input))
+    (MAX_ENTRIES < length (function_space input)) ⊎ (MAX_ENTRIES < length (global_space input))
 
 -- memory ran out, or one of the two would have too many
 abbrev pub IsSpaceOver : Input → LinkError → Type 0
@@ -26,7 +26,7 @@ IsSpaceOver input _ = ⊥
 -- on top of these
 pub record IsSpaceTooLarge (input : Input) (e : LinkError) : Type 0 where
   pub told : e ≡ TooLarge Space
-  pub over : (max_entries < length (output_types input)) ⊎ AreTooMany input
+  pub over : (MAX_ENTRIES < length (output_types input)) ⊎ AreTooMany input
 
 -- the reasons, in the order in which they are judged
 abbrev pub index_fault : Input → LinkError → Type 0

@@ -6,7 +6,7 @@ use Rattle.std.specs.Str.{bytes_eq}
 use Rattle.indexmap.specs.IndexSet.{insert_all}
 use Rattle.wl_linking.specs.Object.{Object}
 use Rattle.wl_custom.specs.RelocationTypes.{names_a_type}
-use Rattle.wl_custom.specs.Symbols.{Symbol as LinkedSymbol, is_data, is_undefined, is_weak, has_flag}
+use Rattle.wl_custom.specs.Symbols.{Symbol as LinkedSymbol, is_data, is_undefined, is_weak, is_explicit_name}
 use Rattle.wl_linking.specs.declared.error.LinkError.{LinkError}
 use Rattle.wl_linking.specs.declared.error.LinkError.TheVariants.{UndefinedSymbols}
 use Rattle.wl_linking.specs.declared.error.UndefinedSymbol.{UndefinedSymbol}
@@ -28,10 +28,9 @@ use Rattle.wl_bind.specs.declared.binding.GlobalTarget.{GlobalTarget}
 use Rattle.wl_bind.specs.declared.binding.GlobalTarget.TheVariants as global
 use Rattle.wl_symbols.specs.declared.relocated.Relocated.{Relocated}
 
--- the symbol has to be defined: it is undefined, isn't weak, and has no name of its own,
--- EXPLICIT_NAME, 0x40 (object file linking, version 2, "Symbol Table Subsection")
+-- the symbol has to be defined: it is undefined, isn't weak, and has no name of its own
 abbrev pub wants_definition : LinkedSymbol → Bool
-wants_definition s = is_undefined s && not (is_weak s) && not (has_flag s.flags 0x40)
+wants_definition s = is_undefined s && not (is_weak s) && not (is_explicit_name s)
 
 -- the same object and the same name
 abbrev pub same_undefined : UndefinedSymbol → UndefinedSymbol → Bool

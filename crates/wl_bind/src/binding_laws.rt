@@ -3,10 +3,9 @@
 ghost use Rattle.std.specs.Prelude.{◌≡◌, ℕ, Some, true, Contains};
 ghost use Rattle.wl_module.specs.Types.{FunctionType, same_type};
 ghost use Rattle.wl_linking.specs.Steps.{Clear};
-ghost use Rattle.wl_custom.specs.Symbols.{Symbol as LinkedSymbol};
+ghost use Rattle.wl_custom.specs.Symbols.{Symbol as LinkedSymbol, is_function};
 ghost use Rattle.wl_custom.specs.declared.symbols.WasmSymbolKind.TheVariants.{Func};
 ghost use Rattle.wl_symbols.specs.Entries.{symbol_in};
-ghost use Rattle.wl_custom.specs.Symbols.{is_function_kind};
 ghost use Rattle.wl_symbols.specs.ImportSlots.{ImportSlot as Slot};
 ghost use Rattle.wl_symbols.specs.Input.{Input};
 ghost use Rattle.wl_symbols.specs.KeptSlots.{kept_slots};
@@ -22,7 +21,7 @@ ghost use Rattle.wl_bind.specs.declared.binding.FunctionTarget.{FunctionTarget a
 pub fn functions_have_their_types()
     ensures { (input : Input) (object number : ℕ) (s : LinkedSymbol) (target : Target)
         (declared actual : FunctionType) → Clear (IsMismatch input) → IsLookedAt input object number
-        → symbol_in input.link.objects object number ≡ Some s → is_function_kind s.kind ≡ true
+        → symbol_in input.link.objects object number ≡ Some s → is_function s.kind ≡ true
         → fun input object number ≡ Some target
         → declared_type input.link.objects object s ≡ Some declared
         → target_type input.link.objects target ≡ Some actual → same_type declared actual ≡ true }

@@ -8,7 +8,6 @@ ghost use Rattle.wl_bind.specs.GotSteps.{insert_some};
 ghost use Rattle.wl_bind.specs.Made.{linker_needs};
 ghost use Rattle.wl_bind.specs.MadeIndices.{AreExported};
 
-use crate::kinds::is_data;
 use crate::needs::{LinkerImportAbsorption, is_made};
 use indexmap::IndexSet;
 use std::alloc::{AllocError, Global};
@@ -95,7 +94,7 @@ fn is_dynamic_data(
 ) -> bool
     ensures { result ≡ is_dynamic_data input.now object number symbol.now }
 {
-    is_data(symbol.kind)
+    symbol.kind.is_data()
         && symbol.has_name()
         && is_candidate(input.symbols(), object, number, symbol)
 }
@@ -186,7 +185,7 @@ fn data_of(input: &LinkInput<'_, '_>, definition: Definition) -> Option<DataSymb
         return None;
     };
     let found = input.symbols().symbol(object, symbol)?;
-    if is_data(found.kind) && !found.is_undefined() {
+    if found.is_defined_data() {
         Some(DataSymbol { object, symbol })
     } else {
         None

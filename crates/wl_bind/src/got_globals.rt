@@ -10,7 +10,6 @@ ghost use Rattle.wl_bind.specs.IndexMaps.{has_global, is_data_symbol, mem_place,
 ghost use Rattle.wl_bind.specs.Numbering.{IsNumbering};
 ghost use Rattle.wl_bind.specs.Parts.{IsPlaceOf, ArePlacesOf};
 
-use crate::kinds::is_data;
 use crate::numbering::Numbering;
 use crate::scan::is_global_index;
 use crate::targets::FunctionBindings;
@@ -68,7 +67,7 @@ fn is_data_symbol(input: &LinkInput<'_, '_>, object: usize, number: u32) -> bool
 {
     match input.symbols().symbol(object, number) {
         None => false,
-        Some(symbol) => is_data(symbol.kind),
+        Some(symbol) => symbol.kind.is_data(),
     }
 }
 

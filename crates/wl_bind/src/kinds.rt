@@ -14,28 +14,17 @@ ghost use Rattle.wl_symbols.specs.Relocations.{relocations};
 use crate::binding::FunctionTarget;
 use crate::targets::FunctionBindings;
 use crate::types::type_of_defined;
-use wl_custom::{is_defined_function, is_function_kind};
 use wl_linking::{LinkError, RelocationType, WasmInitFunc, WasmSymbol, WasmSymbolKind};
 use wl_symbols::{Definition, LinkInput, Relocated, WasmLinkerSymbol, kept_relocations};
 
 // ---- relocations
-
-/// Whether symbols of that kind are data.
-pub fn is_data(kind: WasmSymbolKind) -> bool
-    ensures { result ≡ is_data kind }
-{
-    matches!(kind, WasmSymbolKind::Data)
-}
 
 /// Whether the number of a symbol of that kind may be that of a global: data and functions have
 /// entries of GOT lists.
 fn has_global(kind: WasmSymbolKind) -> bool
     ensures { result ≡ has_global kind }
 {
-    matches!(
-        kind,
-        WasmSymbolKind::Global | WasmSymbolKind::Data | WasmSymbolKind::Func
-    )
+    kind.is_global() || kind.is_data() || kind.is_function()
 }
 
 /// Whether a relocation of that type takes symbols of that kind.
@@ -47,14 +36,14 @@ fn takes_kind(ty: RelocationType, kind: WasmSymbolKind) -> bool
         | RelocationType::FunctionIndexI32
         | RelocationType::TableIndexSleb
         | RelocationType::TableIndexI32
-        | RelocationType::TableIndexRelSleb => is_function_kind(kind),
+        | RelocationType::TableIndexRelSleb => kind.is_function(),
         RelocationType::MemoryAddrLeb
         | RelocationType::MemoryAddrSleb
         | RelocationType::MemoryAddrI32
         | RelocationType::MemoryAddrRelSleb
-        | RelocationType::MemoryAddrTlsSleb => is_data(kind),
+        | RelocationType::MemoryAddrTlsSleb => kind.is_data(),
         RelocationType::GlobalIndexLeb | RelocationType::GlobalIndexI32 => has_global(kind),
-        RelocationType::TableNumberLeb => matches!(kind, WasmSymbolKind::Table),
+        RelocationType::TableNumberLeb => kind.is_table(),
         RelocationType::TypeIndexLeb => false,
     }
 }
@@ -76,7 +65,7 @@ fn is_no_data(input: &LinkInput<'_, '_>, definition: Definition) -> bool
     match definition {
         Definition::Symbol { object, symbol } => match input.symbols().symbol(object, symbol) {
             None => false,
-            Some(symbol) => !symbol.is_undefined() && !is_data(symbol.kind),
+            Some(symbol) => symbol.is_defined() && !symbol.kind.is_data(),
         },
         Definition::Made(made) => !is_made_data(made),
     }
@@ -91,7 +80,7 @@ fn is_wrong_use(input: &LinkInput<'_, '_>, relocated: &Relocated, symbol: &WasmS
     if !takes_kind(relocated.relocation.ty, symbol.kind) {
         return true;
     }
-    is_data(symbol.kind) && is_no_data(input, input.symbols().definition(relocated.object, number))
+    symbol.kind.is_data() && is_no_data(input, input.symbols().definition(relocated.object, number))
 }
 
 /// Whether the relocation names a symbol, and doesn't take it.
@@ -186,7 +175,7 @@ fn is_wrong_init(
     match input.symbols().symbol(object, number) {
         None => false,
         Some(symbol) => {
-            !is_defined_function(symbol) || leads_to_parameters(input, bindings, object, number)
+            !symbol.is_defined_function() || leads_to_parameters(input, bindings, object, number)
         }
     }
 }

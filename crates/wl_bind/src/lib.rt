@@ -51,7 +51,6 @@ pub use build::{BoundIndices, build_index_maps};
 pub use exported::{DataSymbol, ExportedData};
 pub use got::{GotFunc, GotMem, TableFunctions};
 pub use indices::LinkerDefinedIndices;
-pub use kinds::is_data;
 pub use laws::{same_targets_are_one, stubs_have_no_slot, table_functions_stand_once};
 pub use merging::{MergedTypes, merge_live_output_types};
 pub use needs::{LinkerImportAbsorption, has_init_functions};

@@ -3,8 +3,7 @@
 ghost use Rattle.std.specs.Prelude.{◌≡◌, ◌<◌, ◌≤◌, ◌^◌, ◌++◌, ℕ, true, false, length, map, IfOk, IfErr, OnOk, Some, unwrap_or, slice_get};
 ghost use Rattle.std.specs.List.{AllZip};
 ghost use Rattle.wl_symbols.specs.ImportSlots.{import_slots};
-ghost use Rattle.wl_types.specs.Types.{max_entries};
-ghost use Rattle.wl_index.specs.declared.index.TheConstants.{WASM_DEAD_INDEX};
+ghost use Rattle.wl_index.specs.declared.index.TheConstants.{WASM_DEAD_INDEX, MAX_ENTRIES};
 ghost use Rattle.wl_bind.specs.FunctionSpace.{function_space, local_functions};
 ghost use Rattle.wl_bind.specs.GlobalSpace.{global_space, local_globals};
 ghost use Rattle.wl_symbols.specs.Input.{keeps_slot};
@@ -79,7 +78,7 @@ fn function_firsts(
 ) -> Result<Vec<u32>, LinkError>
     requires { AreMadeIndices input.now indices.now }
     ensures firsts { IfOk result (λ firsts. firsts.items ≡ function_firsts input.now) }
-    ensures room { OnOk result (length (function_space input.now) ≤ max_entries) }
+    ensures room { OnOk result (length (function_space input.now) ≤ MAX_ENTRIES) }
     ensures err { IfErr result (IsSpaceOver input.now) }
 {
     first_indices(alloc, input, Own::Functions, indices.functions_end())
@@ -93,7 +92,7 @@ fn global_firsts(
 ) -> Result<Vec<u32>, LinkError>
     requires { AreMadeIndices input.now indices.now }
     ensures firsts { IfOk result (λ firsts. firsts.items ≡ global_firsts input.now) }
-    ensures room { OnOk result (length (global_space input.now) ≤ max_entries) }
+    ensures room { OnOk result (length (global_space input.now) ≤ MAX_ENTRIES) }
     ensures err { IfErr result (IsSpaceOver input.now) }
 {
     first_indices(alloc, input, Own::Globals, indices.globals_end())

@@ -1,7 +1,7 @@
 //! The indices of what objects define.
 
 ghost use Rattle.std.specs.Prelude.{◌≡◌, ◌≤◌, ◌+◌, length, IfOk, IfErr, OnOk};
-ghost use Rattle.wl_types.specs.Types.{max_entries};
+ghost use Rattle.wl_index.specs.declared.index.TheConstants.{MAX_ENTRIES};
 ghost use Rattle.wl_bind.specs.OwnIndices.{own_unit, own_count, kept_own, firsts_from, kept_count};
 ghost use Rattle.wl_bind.specs.Parts.{IsOver};
 
@@ -63,11 +63,11 @@ pub(crate) fn first_indices(
     own: Own,
     start: u32,
 ) -> Result<Vec<u32>, LinkError>
-    requires { start ≤ max_entries }
+    requires { start ≤ MAX_ENTRIES }
     ensures firsts { IfOk result
         (λ firsts. firsts.items ≡ firsts_from input.now own start 0 input.now.link.objects) }
     ensures room { OnOk result
-        (start + kept_count input.now own 0 input.now.link.objects ≤ max_entries) }
+        (start + kept_count input.now own 0 input.now.link.objects ≤ MAX_ENTRIES) }
     ensures err { IfErr result
         (IsOver (start + kept_count input.now own 0 input.now.link.objects)) }
 {

@@ -1,7 +1,7 @@
 //! Where the parts of a space begin.
 
 ghost use Rattle.std.specs.Prelude.{◌≡◌, ◌<◌, ◌≤◌, ◌+◌, ◌^◌, IfOk, IfErr};
-ghost use Rattle.wl_types.specs.Types.{max_entries};
+ghost use Rattle.wl_index.specs.declared.index.TheConstants.{MAX_ENTRIES};
 ghost use Rattle.wl_bind.specs.PartSteps.{entry_of};
 ghost use Rattle.wl_bind.specs.Parts.{starts_from, total, start_of, single_of, HasEntry, IsOver};
 
@@ -24,9 +24,9 @@ pub struct PartStarts {
 /// # Errors
 /// `TooLarge` where that is above 4294967294.
 pub(crate) fn behind(start: u32, len: usize) -> Result<u32, LinkError>
-    requires { start ≤ max_entries }
+    requires { start ≤ MAX_ENTRIES }
     ensures ok { IfOk result (λ end. end ≡ start + len) }
-    ensures room { IfOk result (λ end. end ≤ max_entries) }
+    ensures room { IfOk result (λ end. end ≤ MAX_ENTRIES) }
     ensures err { IfErr result (IsOver (start + len)) }
 {
     let room = MAX_ENTRIES - start as usize;
@@ -46,7 +46,7 @@ impl PartStarts {
     pub(crate) fn new(alloc: Global, lengths: &[usize]) -> Result<Self, LinkError>
         ensures starts { IfOk result (λ s. s.starts ≡ starts_from 0 lengths.now) }
         ensures end { IfOk result (λ s. s.end ≡ total lengths.now) }
-        ensures room { IfOk result (λ s. s.end ≤ max_entries) }
+        ensures room { IfOk result (λ s. s.end ≤ MAX_ENTRIES) }
         ensures err { IfErr result (IsOver (total lengths.now)) }
     {
         let mut starts = ItemList::empty(alloc);

@@ -2,14 +2,13 @@
 
 ghost use Rattle.std.specs.Prelude.{◌≡◌, ◌≤◌, length, slice_get, IfOk, IsSome, Some};
 ghost use Rattle.wl_symbols.specs.Entries.{symbol_in};
-ghost use Rattle.wl_types.specs.Types.{max_entries};
+ghost use Rattle.wl_index.specs.declared.index.TheConstants.{MAX_ENTRIES};
 ghost use Rattle.wl_bind.specs.FunctionSpace.{function_space, local_functions};
 ghost use Rattle.wl_bind.specs.IndexMaps.{symbol_functions};
 ghost use Rattle.wl_bind.specs.Parts.{AreIndicesOf, ArePlacesOf, AreRows};
 ghost use Rattle.wl_bind.specs.RedirectSteps.{as_place, row_place, defined_by, definition_function, leads_to, redirect_of, redirects_of};
 
 use std::alloc::{AllocError, Global};
-use wl_custom::{is_defined_function, is_function_kind};
 use wl_index::WASM_DEAD_INDEX;
 use wl_linking::{File, WasmSymbol, whole_objects};
 use wl_lists::ItemList;
@@ -51,7 +50,7 @@ fn defined_by(input: &LinkInput<'_, '_>, object: usize, number: u32) -> Option<L
 {
     let file = input.files().get(object)?;
     let symbol = file.symbols().get(number as usize)?;
-    if is_defined_function(symbol) {
+    if symbol.is_defined_function() {
         Some(LocalFunction {
             object,
             index: symbol.index,
@@ -108,7 +107,7 @@ fn redirect(
 {
     let file = input.files().get(object)?;
     let symbol = file.symbols().get(number as usize)?;
-    if is_function_kind(symbol.kind) {
+    if symbol.kind.is_function() {
         row_place(rows, leads_to(input, object, number, symbol))
     } else {
         None
@@ -148,7 +147,7 @@ pub(crate) fn function_redirects(
 ) -> Result<ItemList<Option<u32>>, AllocError>
     requires rows { AreRows (λ object o. AreIndicesOf (function_space input.now)
         (local_functions input.now object o)) 0 input.now.link.objects function_rows.now }
-    requires room { length (function_space input.now) ≤ max_entries }
+    requires room { length (function_space input.now) ≤ MAX_ENTRIES }
     requires here { slice_get input.now.link.objects object ≡ Some file.now }
     ensures { IfOk result (λ list. ArePlacesOf (function_space input.now)
         (symbol_functions input.now object file.now) list) }

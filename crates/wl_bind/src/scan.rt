@@ -8,11 +8,9 @@ ghost use Rattle.wl_bind.specs.Scan.{is_global_index, is_table_index, is_table_n
 
 use crate::binding::FunctionTarget;
 use crate::got::{GotFunc, GotMem, NamedKeys, TableFunctions};
-use crate::kinds::is_data;
 use crate::targets::FunctionBindings;
 use std::alloc::{AllocError, Global};
 use std::marker::Model;
-use wl_custom::is_function_kind;
 use wl_linking::RelocationType;
 use wl_symbols::{Definition, LinkInput, Relocated, kept_relocations};
 
@@ -106,7 +104,7 @@ pub(crate) fn names_data(input: &LinkInput<'_, '_>, relocated: &Relocated) -> bo
         .symbol(relocated.object, relocated.relocation.index)
     {
         None => false,
-        Some(symbol) => is_data(symbol.kind),
+        Some(symbol) => symbol.kind.is_data(),
     }
 }
 
@@ -119,7 +117,7 @@ pub(crate) fn names_function(input: &LinkInput<'_, '_>, relocated: &Relocated) -
         .symbol(relocated.object, relocated.relocation.index)
     {
         None => false,
-        Some(symbol) => is_function_kind(symbol.kind),
+        Some(symbol) => symbol.kind.is_function(),
     }
 }
 

@@ -12,7 +12,6 @@ use crate::binding::FunctionTarget;
 use crate::targets::FunctionBindings;
 use crate::types::{SlotTypes, declared_type, is_other_type};
 use std::alloc::Global;
-use wl_custom::is_function_kind;
 use wl_linking::{File, LinkError, WasmSymbol, WasmSymbolKind};
 use wl_symbols::{LinkInput, Relocated, kept_relocations};
 
@@ -45,7 +44,7 @@ impl<'c, 'i, 'a> TypeCheck<'c, 'i, 'a> {
         let Some(symbol) = self.input.symbols().symbol(object, number) else {
             return false;
         };
-        if !is_function_kind(symbol.kind) {
+        if !symbol.kind.is_function() {
             return false;
         }
         match self.bindings.function(self.input, object, number) {

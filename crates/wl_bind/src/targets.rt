@@ -13,7 +13,6 @@ ghost use Rattle.wl_bind.specs.BindingSteps.{row_at, stub_named, host_named, hos
 use crate::binding::FunctionTarget;
 use std::alloc::{AllocError, Global};
 use std::marker::Model;
-use wl_custom::is_function_kind;
 use wl_linking::{File, WasmSymbol, WasmSymbolKind};
 use wl_lists::ItemList;
 use wl_symbols::{
@@ -262,7 +261,7 @@ impl FunctionBindings {
     {
         let file = input.files().get(object)?;
         let entry = file.symbols().get(symbol as usize)?;
-        if !is_function_kind(entry.kind) {
+        if !entry.kind.is_function() {
             None
         } else if entry.is_undefined() {
             self.binding(input, object, entry.index)

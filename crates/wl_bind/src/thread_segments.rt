@@ -3,22 +3,11 @@
 ghost use Rattle.std.specs.Prelude.{◌≡◌, map, slice_set, IfOk};
 ghost use Rattle.std.specs.List.{list_any, range_with_len};
 ghost use Rattle.wl_bind.specs.ThreadData.{is_thread_symbol_on, thread_data};
-ghost use Rattle.wl_bind.specs.ThreadSteps.{is_thread_symbol, marked};
+ghost use Rattle.wl_custom.specs.Symbols.{is_thread_data};
+ghost use Rattle.wl_bind.specs.ThreadSteps.{marked};
 
-use crate::kinds::is_data;
-use bitflags::Flags;
 use std::alloc::{AllocError, Global};
-use wl_linking::{File, SymbolFlags, WasmSymbol};
-
-/// Whether data of a thread that its object defines lies on a segment.
-fn is_thread_symbol(symbol: &WasmSymbol<'_>) -> bool
-    ensures { result ≡ is_thread_symbol symbol.now }
-{
-    is_data(symbol.kind)
-        && !symbol.is_undefined()
-        && !symbol.is_absolute()
-        && symbol.flags.contains(SymbolFlags::TLS)
-}
+use wl_linking::{File, WasmSymbol};
 
 /// Marks a segment, if there is one of that number.
 fn set_mark(marks: &mut Vec<bool>, segment: usize, mark: bool)
@@ -33,7 +22,7 @@ fn set_mark(marks: &mut Vec<bool>, segment: usize, mark: bool)
 fn mark_by_symbol(marks: &mut Vec<bool>, symbol: &WasmSymbol<'_>)
     ensures { marks.new.items ≡ marked marks.old.items symbol.now }
 {
-    if is_thread_symbol(symbol) {
+    if symbol.is_thread_data() {
         set_mark(marks, symbol.index as usize, true);
     }
 }

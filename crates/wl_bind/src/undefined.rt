@@ -8,7 +8,6 @@ ghost use Rattle.wl_bind.specs.UndefinedSteps.{named_in, as_undefined, insert_so
 ghost use Rattle.wl_bind.specs.Scan.{symbol_of};
 ghost use Rattle.wl_symbols.specs.Relocations.{relocations};
 
-use crate::kinds::is_data;
 use indexmap::IndexSet;
 use std::alloc::{AllocError, Global};
 use std::marker::Model;
@@ -135,7 +134,7 @@ fn is_undefined_data(
     ensures { result ≡ is_undefined_data input.now relocated.now symbol.now }
 {
     let number = relocated.relocation.index;
-    is_data(symbol.kind)
+    symbol.kind.is_data()
         && wants_definition(symbol)
         && is_undefined_definition(input, input.symbols().definition(relocated.object, number))
 }

@@ -11,7 +11,7 @@ use Rattle.wl_linking.specs.Fitting.{IsWhole}
 use Rattle.wl_linking.specs.Object.{Object}
 use Rattle.wl_linking.specs.Spaces.{count_imports}
 use Rattle.wl_linking.specs.Steps.{Clear}
-use Rattle.wl_custom.specs.Symbols.{Symbol as LinkedSymbol, is_undefined, is_weak}
+use Rattle.wl_custom.specs.Symbols.{Symbol as LinkedSymbol, is_undefined, is_weak, is_function}
 use Rattle.wl_linking.specs.declared.error.LinkError.TheVariants.{WrongKind, SignatureMismatch}
 use Rattle.wl_custom.specs.declared.infos.WasmInitFunc.{WasmInitFunc}
 use Rattle.wl_custom.specs.declared.symbols.WasmSymbolKind.{WasmSymbolKind}
@@ -23,13 +23,13 @@ use Rattle.wl_symbols.specs.Names.{def}
 use Rattle.wl_symbols.specs.declared.entry.Definition.{Definition}
 use Rattle.wl_symbols.specs.declared.entry.Definition.TheVariants.{Symbol, Made as MadeName}
 use Rattle.wl_symbols.specs.DefinedUnits.{unit_at, defined_unit, definition_unit, other_unit}
-use Rattle.wl_custom.specs.Symbols.{is_function_kind, is_defined_function}
+use Rattle.wl_custom.specs.Symbols.{is_defined_function}
 use Rattle.wl_symbols.specs.Live.{Live, is_live, IsLiveOf}
 use Rattle.wl_symbols.specs.Roots.{IsRoot, by_init}
-use Rattle.wl_symbols.specs.Units.{counts_of, units_of, units_at}
+use Rattle.wl_symbols.specs.Units.{counts_of, units_of, units_at, defined_number}
 use Rattle.wl_symbols.specs.declared.units.LinkUnit.{LinkUnit}
 use Rattle.wl_symbols.specs.declared.units.WasmGcUnit.TheVariants.{DefinedFunction}
-use Rattle.wl_symbols.specs.SlotTargets.{own_number, is_definition_of, defined_under, object_target, symbol_target}
+use Rattle.wl_symbols.specs.SlotTargets.{own_number, is_definition_of, object_target, symbol_target}
 use Rattle.wl_symbols.specs.declared.targets.SlotTarget.{SlotTarget}
 use Rattle.wl_symbols.specs.declared.targets.SlotTarget.TheVariants as slot
 use Rattle.wl_bind.specs.FunctionBinding.{named_function}
@@ -78,7 +78,7 @@ not_so : (a : Bool) → not a ≡ true → a ≡ false
 not_so true e = absurd cc
 not_so false e = refl
 
-function_kind : (kind : WasmSymbolKind) → is_function_kind kind ≡ true → kind ≡ Func
+function_kind : (kind : WasmSymbolKind) → is_function kind ≡ true → kind ≡ Func
 function_kind Func e = refl
 function_kind Data e = absurd cc
 function_kind Global e = absurd cc
@@ -100,7 +100,7 @@ unless_past true x n e = absurd cc
 unless_past false x n e = (refl, same_Some x n e)
 
 -- a number among what is defined is below the count
-below : (imports count index n : ℕ) → defined_under imports count index ≡ Some n → n < count
+below : (imports count index n : ℕ) → defined_number imports count index ≡ Some n → n < count
 below imports count index n e =
     let given = unless_past (nat_lt index imports || nat_le count (index - imports))
     (index - imports) n e in
@@ -183,7 +183,7 @@ init_is laws input object o f settled here one =
     let found = laws.symbols o f whole one in
     let s : LinkedSymbol = found.0 in
     let at : slice_get o.symbols f.symbol_index ≡ Some s = found.1 in
-    let parts = both (is_function_kind s.kind) (not (is_undefined s))
+    let parts = both (is_function s.kind) (not (is_undefined s))
     (defined_init input object o f s settled here one at) in
     let kind : s.kind ≡ Func = function_kind s.kind parts.0 in
     let defined : is_undefined s ≡ false = not_so (is_undefined s) parts.1 in
@@ -454,8 +454,8 @@ agree input object o f declared actual target clear one i own leads typed =
     elim (cases_Bool (same_type declared actual)) [
       | inl so ↦ so
       | inr differ ↦
-          let function : is_function_kind i.symbol.kind ≡ true =
-          ap is_function_kind i.defines.kind in
+          let function : is_function i.symbol.kind ≡ true =
+          ap is_function i.defines.kind in
           absurd (clear.none (SignatureMismatch object f.symbol_index) (record {
             object = object;
             number = f.symbol_index;

@@ -6,7 +6,7 @@ use Rattle.wl_bytes.specs.Checks.{WhenFault}
 use Rattle.wl_bytes.proofs.ReadingLaws.{both, seen}
 use Rattle.wl_bytes.proofs.ListLaws.{number_reading, one_byte_reading, list_reading, whole_reading, IsWholeReading}
 use Rattle.wl_bytes.proofs.CheckLaws.{when_reading, placed_name_reading}
-use Rattle.wl_custom.specs.Symbols.{symbol_of, symbol_kind_verdict, based_name, IsBasedName, name_or_none, extent_or_none, is_named, is_defined, numbered_from, located_from, sectioned_from, IsNameWhere, IsExtent, ExtentFault, IsExtentWhere, IsNumbered, IsLocated, SymbolContext, symbol_context, IsDetails, NumberedFault, LocatedFault, DetailsFault, AreParts, IsSymbol, SymbolFault, AreSymbols, SymbolsFault}
+use Rattle.wl_custom.specs.Symbols.{symbol_of, symbol_kind_verdict, based_name, IsBasedName, name_or_none, extent_or_none, is_named, has_extent, numbered_from, located_from, sectioned_from, IsNameWhere, IsExtent, ExtentFault, IsExtentWhere, IsNumbered, IsLocated, SymbolContext, symbol_context, IsDetails, NumberedFault, LocatedFault, DetailsFault, AreParts, IsSymbol, SymbolFault, AreSymbols, SymbolsFault}
 use Rattle.wl_custom.specs.SymbolsReading.{based_name_at, name_where_at, extent_at, extent_where_at, numbered_at, located_at, sectioned_at, details_at, parts_at, symbol_at, symbols_of}
 use Rattle.wl_custom.specs.declared.symbols.WasmSymbolKind.{WasmSymbolKind}
 use Rattle.wl_custom.specs.declared.symbols.WasmSymbolKind.TheVariants.{Func, Data, Global, Section, Event, Table}
@@ -34,7 +34,7 @@ numbered_reading base flags = seen numbered_from (both number_reading (λ _. nam
 
 located_reading : (base flags : ℕ) → IsReading (IsLocated base flags) (LocatedFault base flags) (located_at base flags)
 unfolding located_at
-located_reading base flags = seen located_from (both (based_name_reading base) (λ _. extent_where_reading (is_defined flags)))
+located_reading base flags = seen located_from (both (based_name_reading base) (λ _. extent_where_reading (has_extent flags)))
 
 section_reading : (context : SymbolContext) → IsReading (IsDetails Section context) NumberFault sectioned_at
 unfolding sectioned_at

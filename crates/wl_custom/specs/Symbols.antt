@@ -29,6 +29,28 @@ pub record Symbol : Type 0 where
   pub name : List ℕ
   pub name_range : ℕ × ℕ
 
+-- ---- kinds
+
+-- a function
+abbrev pub is_function : WasmSymbolKind → Bool
+is_function Func = true
+is_function _ = false
+
+-- data, which lies in a segment; symbols of other kinds have no offset there
+abbrev pub is_data : WasmSymbolKind → Bool
+is_data Data = true
+is_data _ = false
+
+-- a global
+abbrev pub is_global : WasmSymbolKind → Bool
+is_global Global = true
+is_global _ = false
+
+-- a table
+abbrev pub is_table : WasmSymbolKind → Bool
+is_table Table = true
+is_table _ = false
+
 -- ---- flags
 
 -- these bits are set
@@ -43,18 +65,53 @@ is_weak s = has_flag s.flags 1
 abbrev pub is_local : Symbol → Bool
 is_local s = has_flag s.flags 2
 
+-- its name isn't exported by itself: HIDDEN, 4
+abbrev pub is_hidden : Symbol → Bool
+is_hidden s = has_flag s.flags 4
+
 -- the object doesn't define it: UNDEFINED, 0x10
 abbrev pub is_undefined : Symbol → Bool
 is_undefined s = has_flag s.flags 0x10
 
--- data lies in a segment; other symbols have no offset there
-abbrev pub is_data : WasmSymbolKind → Bool
-is_data Data = true
-is_data _ = false
+-- it is kept for the host: EXPORTED, 0x20
+abbrev pub is_exported : Symbol → Bool
+is_exported s = has_flag s.flags 0x20
+
+-- where it is undefined, it has a name beside that of its import: EXPLICIT_NAME, 0x40
+abbrev pub is_explicit_name : Symbol → Bool
+is_explicit_name s = has_flag s.flags 0x40
+
+-- it is kept though nothing refers to it: NO_STRIP, 0x80
+abbrev pub is_no_strip : Symbol → Bool
+is_no_strip s = has_flag s.flags 0x80
+
+-- each thread has its own: TLS, 0x100
+abbrev pub is_thread_local : Symbol → Bool
+is_thread_local s = has_flag s.flags 0x100
+
+-- ---- definitions
+
+-- the object defines it
+abbrev pub is_defined : Symbol → Bool
+is_defined s = not (is_undefined s)
+
+-- a function that the object defines
+abbrev pub is_defined_function : Symbol → Bool
+is_defined_function s = is_function s.kind && is_defined s
+
+-- data that the object defines
+abbrev pub is_defined_data : Symbol → Bool
+is_defined_data s = is_data s.kind && is_defined s
 
 -- defined data whose offset is its address, in no segment: ABSOLUTE, 0x200
 abbrev pub is_absolute : Symbol → Bool
-is_absolute s = is_data s.kind && not (is_undefined s) && has_flag s.flags 0x200
+is_absolute s = is_defined_data s && has_flag s.flags 0x200
+
+-- data on a segment of which each thread has a copy
+abbrev pub is_thread_data : Symbol → Bool
+is_thread_data s = is_defined_data s && not (is_absolute s) && is_thread_local s
+
+-- ---- names
 
 -- an empty name is no name
 abbrev pub has_name : Symbol → Bool
@@ -112,9 +169,9 @@ extent_or_none (Some extent) = extent
 abbrev pub is_named : ℕ → Bool
 is_named flags = not (has_flag flags 0x10) || has_flag flags 0x40
 
--- a symbol that the object defines
-abbrev pub is_defined : ℕ → Bool
-is_defined flags = not (has_flag flags 0x10)
+-- data that the object defines has an extent
+abbrev pub has_extent : ℕ → Bool
+has_extent flags = not (has_flag flags 0x10)
 
 -- a number and a name
 abbrev pub numbered_from : ℕ × (List ℕ × (ℕ × ℕ)) → SymbolDetails
@@ -152,7 +209,7 @@ IsNumbered base flags = Seen (Then IsU32 (λ _. IsNameWhere base (is_named flags
 -- a name, and where the data lies where the object defines it
 abbrev pub IsLocated : ℕ → ℕ → ℕ → SymbolDetails → List ℕ → Type 0
 IsLocated base flags =
-    Seen (Then (IsBasedName base) (λ _. IsExtentWhere (is_defined flags))) located_from
+    Seen (Then (IsBasedName base) (λ _. IsExtentWhere (has_extent flags))) located_from
 
 -- what stands behind the flags is read under: how many bytes of the object lie before those of the
 -- table, and the flags
@@ -180,7 +237,7 @@ NumberedFault flags = ThenFault IsU32 NumberFault (λ _. WhenFault WordFault (is
 -- the name is at fault, or one of the three numbers behind it
 abbrev pub LocatedFault : ℕ → ℕ → ReadError → Cursor → Type 0
 LocatedFault base flags =
-    ThenFault (IsBasedName base) WordFault (λ _. WhenFault ExtentFault (is_defined flags))
+    ThenFault (IsBasedName base) WordFault (λ _. WhenFault ExtentFault (has_extent flags))
 
 -- the first of them at fault
 abbrev pub DetailsFault : WasmSymbolKind → SymbolContext → ReadError → Cursor → Type 0
@@ -233,12 +290,3 @@ AreSymbols base = Whole (Listed (IsSymbol base))
 abbrev pub SymbolsFault : ℕ → ReadError → List ℕ → Type 0
 SymbolsFault base =
     WholeFault (Listed (IsSymbol base)) (ListedFault (IsSymbol base) (SymbolFault base))
-
--- the symbol is a function's
-abbrev pub is_function_kind : WasmSymbolKind → Bool
-is_function_kind Func = true
-is_function_kind _ = false
-
--- the symbol is a function that its object defines
-abbrev pub is_defined_function : Symbol → Bool
-is_defined_function s = is_function_kind s.kind && not (is_undefined s)

@@ -7,7 +7,7 @@ use Rattle.wl_bytes.specs.Checks.{when_at}
 use Rattle.wl_bytes.specs.Words.{placed_name_at}
 use Rattle.wl_bytes.specs.declared.read_error.ReadError.{ReadError}
 use Rattle.wl_custom.specs.Verdict.{judged_at}
-use Rattle.wl_custom.specs.Symbols.{Symbol, SymbolDetails, SymbolContext, symbol_context, SymbolParts, symbol_of, symbol_kind_verdict, based_name, name_or_none, extent_or_none, is_named, is_defined, numbered_from, located_from, sectioned_from}
+use Rattle.wl_custom.specs.Symbols.{Symbol, SymbolDetails, SymbolContext, symbol_context, SymbolParts, symbol_of, symbol_kind_verdict, based_name, name_or_none, extent_or_none, is_named, has_extent, numbered_from, located_from, sectioned_from}
 use Rattle.wl_custom.specs.declared.symbols.WasmSymbolKind.{WasmSymbolKind}
 use Rattle.wl_custom.specs.declared.symbols.WasmSymbolKind.TheVariants.{Func, Data, Global, Section, Event, Table}
 
@@ -35,7 +35,7 @@ numbered_at base flags c =
 -- a name and perhaps where data lies, read from a place
 unfoldable pub located_at : ℕ → ℕ → Cursor → Result (SymbolDetails × Cursor) ReadError
 located_at base flags c =
-    map_at located_from (then_at (based_name_at base) (λ _. extent_where_at (is_defined flags))) c
+    map_at located_from (then_at (based_name_at base) (λ _. extent_where_at (has_extent flags))) c
 
 -- the number of a section, read from a place
 unfoldable pub sectioned_at : Cursor → Result (SymbolDetails × Cursor) ReadError

@@ -32,6 +32,4 @@ pub use relocation_type::{FieldForm, RelocationType, relocation_type_to_string};
 pub use relocations::{
     RelocHeld, RelocationList, Target, WasmRelocSection, WasmRelocation, read_held_entries,
 };
-pub use symbols::{
-    WasmSymbol, WasmSymbolKind, is_defined_function, is_exported, is_function_kind, range_of,
-};
+pub use symbols::{WasmSymbol, WasmSymbolKind, range_of};

@@ -4,7 +4,7 @@
 ghost use Rattle.std.specs.Prelude.{◌≡◌, ◌≤◌, ◌<◌, ◌^◌, ◌+◌, ◌-◌, length};
 ghost use Rattle.wl_bytes.specs.declared.reader.TheConstants.{MAX_LEN};
 ghost use Rattle.wl_bytes.specs.Outcome.{Yields, Gives};
-ghost use Rattle.wl_custom.specs.Symbols.{symbol_kind_verdict, has_flag, has_name, is_undefined, is_function_kind, is_defined_function, is_weak, is_local, is_absolute, with_name, range_of, symbol_context};
+ghost use Rattle.wl_custom.specs.Symbols.{symbol_kind_verdict, is_function, is_data, is_global, is_table, has_name, is_undefined, is_defined, is_defined_function, is_defined_data, is_weak, is_local, is_hidden, is_exported, is_explicit_name, is_no_strip, is_thread_local, is_absolute, is_thread_data, with_name, range_of, symbol_context};
 ghost use Rattle.wl_custom.specs.SymbolsReading.{based_name_at, name_where_at, extent_where_at, numbered_at, located_at, sectioned_at, details_at, symbols_of};
 
 use crate::base::Base;
@@ -30,6 +30,36 @@ pub enum WasmSymbolKind {
     Event,
     /// A table.
     Table,
+}
+
+impl WasmSymbolKind {
+    /// Whether symbols of that kind are functions'.
+    pub fn is_function(self) -> bool
+        ensures { result ≡ is_function self }
+    {
+        matches!(self, WasmSymbolKind::Func)
+    }
+
+    /// Whether they are bytes of a segment.
+    pub fn is_data(self) -> bool
+        ensures { result ≡ is_data self }
+    {
+        matches!(self, WasmSymbolKind::Data)
+    }
+
+    /// Whether they are globals'.
+    pub fn is_global(self) -> bool
+        ensures { result ≡ is_global self }
+    {
+        matches!(self, WasmSymbolKind::Global)
+    }
+
+    /// Whether they are tables'.
+    pub fn is_table(self) -> bool
+        ensures { result ≡ is_table self }
+    {
+        matches!(self, WasmSymbolKind::Table)
+    }
 }
 
 /// A symbol of an object (object file linking, version 2, "Symbol Table Subsection"). Clauses see
@@ -92,6 +122,27 @@ impl<'a> WasmSymbol<'a> {
         self.flags.contains(SymbolFlags::UNDEFINED)
     }
 
+    /// Whether the object defines it.
+    pub fn is_defined(&self) -> bool
+        ensures { result ≡ is_defined self.now }
+    {
+        !self.is_undefined()
+    }
+
+    /// Whether it is a function that the object defines.
+    pub fn is_defined_function(&self) -> bool
+        ensures { result ≡ is_defined_function self.now }
+    {
+        self.kind.is_function() && self.is_defined()
+    }
+
+    /// Whether it is data that the object defines.
+    pub fn is_defined_data(&self) -> bool
+        ensures { result ≡ is_defined_data self.now }
+    {
+        self.kind.is_data() && self.is_defined()
+    }
+
     /// Whether another definition of the name comes before this one.
     pub fn is_weak(&self) -> bool
         ensures { result ≡ is_weak self.now }
@@ -108,16 +159,37 @@ impl<'a> WasmSymbol<'a> {
 
     /// Whether its name isn't exported by itself.
     pub fn is_hidden(&self) -> bool
-        ensures { result ≡ has_flag self.now.flags 4 }
+        ensures { result ≡ is_hidden self.now }
     {
         self.flags.contains(SymbolFlags::HIDDEN)
     }
 
+    /// Whether it is kept for the host.
+    pub fn is_exported(&self) -> bool
+        ensures { result ≡ is_exported self.now }
+    {
+        self.flags.contains(SymbolFlags::EXPORTED)
+    }
+
     /// Whether it has a name of its own where it is undefined, beside that of its import.
     pub fn is_explicit_name(&self) -> bool
-        ensures { result ≡ has_flag self.now.flags 0x40 }
+        ensures { result ≡ is_explicit_name self.now }
     {
         self.flags.contains(SymbolFlags::EXPLICIT_NAME)
+    }
+
+    /// Whether it is kept though nothing refers to it.
+    pub fn is_no_strip(&self) -> bool
+        ensures { result ≡ is_no_strip self.now }
+    {
+        self.flags.contains(SymbolFlags::NO_STRIP)
+    }
+
+    /// Whether each thread has its own.
+    pub fn is_thread_local(&self) -> bool
+        ensures { result ≡ is_thread_local self.now }
+    {
+        self.flags.contains(SymbolFlags::TLS)
     }
 
     /// Whether it is data that the object defines, and its offset is an address: it lies in no
@@ -125,9 +197,14 @@ impl<'a> WasmSymbol<'a> {
     pub fn is_absolute(&self) -> bool
         ensures { result ≡ is_absolute self.now }
     {
-        self.kind == WasmSymbolKind::Data
-            && !self.is_undefined()
-            && self.flags.contains(SymbolFlags::ABSOLUTE)
+        self.is_defined_data() && self.flags.contains(SymbolFlags::ABSOLUTE)
+    }
+
+    /// Whether it is data on a segment of which each thread has a copy.
+    pub fn is_thread_data(&self) -> bool
+        ensures { result ≡ is_thread_data self.now }
+    {
+        self.is_defined_data() && !self.is_absolute() && self.is_thread_local()
     }
 
     /// The flags as they stand in the object.
@@ -366,32 +443,4 @@ pub(crate) fn read_symbols(
 {
     let symbols = read_payload(alloc, Base::new(base), payload)?;
     Ok(ItemList::new(symbols))
-}
-
-/// Whether symbols of that kind are functions'.
-pub fn is_function_kind(kind: WasmSymbolKind) -> bool
-    ensures { result ≡ is_function_kind kind }
-{
-    match kind {
-        WasmSymbolKind::Func => true,
-        WasmSymbolKind::Data
-        | WasmSymbolKind::Global
-        | WasmSymbolKind::Section
-        | WasmSymbolKind::Event
-        | WasmSymbolKind::Table => false,
-    }
-}
-
-/// Whether the symbol is a function that its object defines.
-pub fn is_defined_function(symbol: &WasmSymbol<'_>) -> bool
-    ensures { result ≡ is_defined_function symbol.now }
-{
-    is_function_kind(symbol.kind) && !symbol.is_undefined()
-}
-
-/// Whether a symbol is kept for the host.
-pub fn is_exported(symbol: &WasmSymbol<'_>) -> bool
-    ensures { result ≡ has_flag symbol.now.flags 0x20 }
-{
-    symbol.flags.contains(SymbolFlags::EXPORTED)
 }

@@ -5,7 +5,7 @@ use Rattle.wl_data.specs.declared.options.DataOptions.{DataOptions}
 use Rattle.wl_data.specs.declared.pass.Frontier.{Frontier}
 use Rattle.wl_data.specs.declared.pass.Pass.{Pass}
 use Rattle.wl_data.specs.Segments.{KeptData, SegmentLayout}
-use Rattle.wl_data.specs.Stack.{behind_data, stack_top}
+use Rattle.wl_index.specs.Memory.{behind_data, stack_top}
 use Rattle.wl_data.specs.DataPlaces.{AreObjectsLaid, in_one_row, DataInput, ArePlaces, AddressRange, ComeInOrder, lies_in_memory, memory_ranges, block_ranges, segment_ranges, first_stack, last_stack, flag_ranges, data_start, tls_start, has_tls, has_init, data_end, flag_of, flag_place, pass_over, greatest_alignment, tls_segments}
 use Rattle.wl_data.proofs.LayoutLaws.{objects_laid}
 use Rattle.wl_data.proofs.RangeLaws.{order_append, laid_in_order, block_in_order, taken-append}

@@ -12,7 +12,7 @@ use Rattle.wl_data.specs.declared.pass.Pass.{Pass}
 use Rattle.wl_data.specs.Segments.{KeptData, SegmentLayout}
 use Rattle.wl_data.specs.Sizes.{HasSegmentSize}
 use Rattle.wl_data.specs.Layouts.{CanBePlaced, goes_to_block, PlacedData, ArePlaced, is_common, is_shared_init, is_passive, destination_of, AreLaidOut}
-use Rattle.wl_data.specs.Stack.{behind_data, stack_top}
+use Rattle.wl_index.specs.Memory.{behind_data, stack_top}
 
 -- the segments of all objects in a row
 abbrev pub in_one_row : {X : Type 0} → List (List X) → List X

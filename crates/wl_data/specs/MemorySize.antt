@@ -5,8 +5,10 @@ use Rattle.wl_linking.specs.declared.error.LinkError.{LinkError}
 use Rattle.wl_linking.specs.declared.error.LinkError.TheVariants.{BadMemorySize}
 use Rattle.wl_linking.specs.declared.error.MemoryBound.TheVariants.{Initial, Maximum}
 use Rattle.wl_linking.specs.Steps.{Step, NoStep}
-use Rattle.wl_data.specs.declared.memory.TheConstants.{PAGE_BYTES, MAX_INITIAL_BYTES, MAX_BYTES}
-use Rattle.wl_data.specs.Stack.{stack_top, IsStackTooHigh}
+use Rattle.wl_module.specs.declared.limits.TheConstants.{WASM_PAGE_SIZE}
+use Rattle.wl_data.specs.declared.memory.TheConstants.{MAX_INITIAL_BYTES, MAX_BYTES}
+use Rattle.wl_index.specs.Memory.{stack_top}
+use Rattle.wl_data.specs.Stack.{IsStackTooHigh}
 
 -- ---- what the memory has to hold
 
@@ -41,12 +43,12 @@ needed_bytes n =
 -- the pages that so many bytes take up, and at least as many as were there and are asked for
 abbrev pub raised_pages : ℕ → ℕ → Option ℕ → ℕ
 raised_pages initial needed asked =
-    max (max initial (div_ceil needed PAGE_BYTES)) (unwrap_or asked 0 / PAGE_BYTES)
+    max (max initial (div_ceil needed WASM_PAGE_SIZE)) (unwrap_or asked 0 / WASM_PAGE_SIZE)
 
 -- the maximum: the one that is asked for; else with shared memory one that the initial size doesn't
 -- pass; else the one that was there
 abbrev pub new_maximum : Option ℕ → Option ℕ → Bool → ℕ → Option ℕ
-new_maximum given (Some bytes) shared pages = Some (bytes / PAGE_BYTES)
+new_maximum given (Some bytes) shared pages = Some (bytes / WASM_PAGE_SIZE)
 new_maximum given None shared pages = if shared then Some (max (unwrap_or given 0) pages) else given
 
 -- ---- refusals
@@ -55,13 +57,13 @@ new_maximum given None shared pages = if shared then Some (max (unwrap_or given 
 -- than are needed
 pub record IsBadInitial (asked : Option ℕ) (needed requested : ℕ) : Type 0 where
   pub asked_for : asked ≡ Some requested
-  pub bad : (requested % PAGE_BYTES ≢ 0) ⊎ (MAX_INITIAL_BYTES < requested) ⊎ (requested < needed)
+  pub bad : (requested % WASM_PAGE_SIZE ≢ 0) ⊎ (MAX_INITIAL_BYTES < requested) ⊎ (requested < needed)
 
 -- so many bytes were asked for at most, and that is no whole number of pages, too many, or fewer
 -- than the memory has at first
 pub record IsBadMaximum (asked : Option ℕ) (needed requested : ℕ) : Type 0 where
   pub asked_for : asked ≡ Some requested
-  pub bad : (requested % PAGE_BYTES ≢ 0) ⊎ (MAX_BYTES < requested) ⊎ (requested < needed)
+  pub bad : (requested % WASM_PAGE_SIZE ≢ 0) ⊎ (MAX_BYTES < requested) ⊎ (requested < needed)
 
 -- the size at first is refused, and so many bytes are needed
 abbrev pub IsInitialRefused : Option ℕ → ℕ → LinkError → Type 0
@@ -81,5 +83,5 @@ abbrev pub memory_fault : MemoryNeeds → Option ℕ → Option ℕ → ℕ → 
 memory_fault n asked most initial =
     Step (IsStackTooHigh (stack_need n.data_end n.stack_size n.stack_first))
     (Step (IsInitialRefused asked (needed_bytes n))
-    (Step (IsMaximumRefused most (raised_pages initial (needed_bytes n) asked * PAGE_BYTES))
+    (Step (IsMaximumRefused most (raised_pages initial (needed_bytes n) asked * WASM_PAGE_SIZE))
     NoStep))

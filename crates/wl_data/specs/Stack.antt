@@ -1,29 +1,10 @@
--- The stack and the heap.
-use Rattle.std.specs.Prelude.{◌≡◌, ◌≢◌, ◌≤◌, ◌<◌, ℕ, ◌+◌, ◌%◌, ◌^◌, Bool, if◌then◌else◌, Result, Ok, Err}
-use Rattle.std.specs.Int.{next_multiple_of}
+-- Places of the stack and the heap that are no addresses.
+use Rattle.std.specs.Prelude.{◌≡◌, ◌≢◌, ◌≤◌, ◌<◌, ℕ, ◌%◌, ◌^◌, Result, Ok, Err}
 use Rattle.wl_linking.specs.declared.error.LinkError.{LinkError}
 use Rattle.wl_linking.specs.declared.error.LinkError.TheVariants.{TooLarge, BadStackSize}
 use Rattle.wl_linking.specs.declared.error.Quantity.{Quantity}
 use Rattle.wl_linking.specs.declared.error.Quantity.TheVariants.{Address}
-use Rattle.wl_data.specs.declared.stack.TheConstants.{STACK_ALIGNMENT}
-
--- the first place for the stack or the heap behind the data
-abbrev pub behind_data : ℕ → ℕ
-behind_data data_end = next_multiple_of data_end STACK_ALIGNMENT
-
--- where the stack ends that stands behind the data
-abbrev pub stack_top : ℕ → ℕ → ℕ
-stack_top data_end stack_size = behind_data data_end + stack_size
-
--- where the stack begins: it grows downwards
-abbrev pub stack_start : ℕ → ℕ → Bool → ℕ
-stack_start data_end stack_size stack_first =
-    if stack_first then stack_size else stack_top data_end stack_size
-
--- where the heap begins: behind the data, or behind the stack where that stands behind the data
-abbrev pub heap_start : ℕ → ℕ → Bool → ℕ
-heap_start data_end stack_size stack_first =
-    if stack_first then behind_data data_end else stack_top data_end stack_size
+use Rattle.wl_index.specs.declared.memory.TheConstants.{STACK_ALIGNMENT}
 
 -- the answer is the value where that fits 32 bits, and else that quantity is told as too large
 abbrev pub AnswersUpTo : Quantity → ℕ → Result ℕ LinkError → Type 0

@@ -2,21 +2,22 @@
 
 ghost use Rattle.std.specs.Prelude.{◌≡◌, ◌≤◌, ◌/◌, ◌*◌, OnOk, IfOk, IfErr, OnErr, unwrap_or};
 ghost use Rattle.wl_linking.specs.Steps.{Clear};
+ghost use Rattle.wl_module.specs.declared.limits.TheConstants.{MAX_PAGES};
 ghost use Rattle.wl_data.specs.Stack.{IsStackTooHigh};
 ghost use Rattle.wl_data.specs.MemorySize.{needs_of, stack_need, needed_bytes, raised_pages, new_maximum, IsInitialRefused, IsMaximumRefused, memory_fault};
 
 use crate::stack::stack_high_after_data;
 use wl_linking::{LinkError, MemoryBound};
-use wl_module::MemoryType;
+use wl_module::{MAX_PAGES, MemoryType, WASM_PAGE_SIZE};
 
-/// The bytes of a page of memory (core specification, "Memory Instances").
-pub(crate) const PAGE_BYTES: u64 = 65_536;
+/// The bytes of a page of memory.
+pub(crate) const PAGE_BYTES: u64 = WASM_PAGE_SIZE as u64;
 
 /// The most bytes that a memory may have at first: a page less than there are addresses.
-pub(crate) const MAX_INITIAL_BYTES: u64 = 4_294_901_760;
+pub(crate) const MAX_INITIAL_BYTES: u64 = (MAX_PAGES - 1) * PAGE_BYTES;
 
 /// The most bytes that a memory may ever have: as many as there are addresses.
-pub(crate) const MAX_BYTES: u64 = 4_294_967_296;
+pub(crate) const MAX_BYTES: u64 = MAX_PAGES * PAGE_BYTES;
 
 /// The top of the stack, where the memory has to hold it.
 fn needed_by_stack(data_end: u32, stack_size: u32, stack_first: bool) -> Result<u32, LinkError>
@@ -34,7 +35,7 @@ fn needed_by_stack(data_end: u32, stack_size: u32, stack_first: bool) -> Result<
 /// The size that is asked for at first, in pages: 0 where none is.
 fn asked_pages(initial_memory: Option<u64>, needed: u64) -> Result<u64, LinkError>
     ensures ok { IfOk result (λ pages. pages ≡ unwrap_or initial_memory 0 / PAGE_BYTES) }
-    ensures small { IfOk result (λ pages. pages ≤ 65535) }
+    ensures small { IfOk result (λ pages. pages < MAX_PAGES) }
     ensures clear { OnOk result (Clear (IsInitialRefused initial_memory needed)) }
     ensures err { IfErr result (IsInitialRefused initial_memory needed) }
 {
@@ -58,7 +59,7 @@ fn most_pages(
     shared_memory: bool,
     pages: u64,
 ) -> Result<Option<u64>, LinkError>
-    requires { pages ≤ 65536 }
+    requires { pages ≤ MAX_PAGES }
     ensures ok { IfOk result (λ most. most ≡ new_maximum given max_memory shared_memory pages) }
     ensures clear { OnOk result (Clear (IsMaximumRefused max_memory (pages * PAGE_BYTES))) }
     ensures err { IfErr result (IsMaximumRefused max_memory (pages * PAGE_BYTES)) }
@@ -101,10 +102,10 @@ pub fn ensure_memory_covers(
     max_memory: Option<u64>,
     shared_memory: bool,
 ) -> Result<u64, LinkError>
-    requires { memory.old.initial ≤ 65536 }
+    requires { memory.old.initial ≤ MAX_PAGES }
     ensures pages { IfOk result (λ pages. pages ≡ raised_pages memory.old.initial
         (needed_bytes (needs_of data_end memory_base stack_size stack_first)) initial_memory) }
-    ensures small { IfOk result (λ pages. pages ≤ 65536) }
+    ensures small { IfOk result (λ pages. pages ≤ MAX_PAGES) }
     ensures raised { IfOk result (λ pages. memory.new ≡ record memory.old {
       initial = pages;
       maximum = new_maximum memory.old.maximum max_memory shared_memory pages;

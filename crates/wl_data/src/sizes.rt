@@ -3,12 +3,14 @@
 ghost use Rattle.std.specs.Prelude.{◌≡◌, ◌≤◌, ◌<◌, ℕ, ◌+◌, ◌^◌, List, length, IfOk, IfErr, OnOk, IsTrue, ◌↔◌, min, false};
 ghost use Rattle.std.specs.Int.{w32, cast_signed};
 ghost use Rattle.wl_bytes.specs.Leb.{IsShortest, IsShortestSleb};
+ghost use Rattle.wl_index.specs.declared.index.TheConstants.{MAX_ENTRIES};
 ghost use Rattle.wl_linking.specs.Steps.{Clear};
 ghost use Rattle.wl_data.specs.Sizes.{IsMemoryName, Destination, IsDestination, HasSegmentSize, IsHugeSegment, HasSectionSize, AreBodiesText, segment_count, any_is_passive, has_passive, encoded_bytes, all_encoded_bytes, HasEntrySize, body_bytes};
 
 use crate::segments::SegmentLayouts;
 use std::borrow::CowSlice;
 use wl_bytes::{sleb_len, uleb_len};
+use wl_index::MAX_ENTRIES;
 use wl_linking::{LinkError, Quantity};
 use wl_module::WasmFunctionBody;
 
@@ -68,29 +70,29 @@ pub fn output_data_segment_encoded_size(
 {
     let count = uleb_len(u64::from(data_len)) as u64;
     let size = target_size(offset, memory_index, passive) + count + u64::from(data_len);
-    if size > 4294967295 {
-        return Err(LinkError::TooLarge {
+    match u32::try_from(size) {
+        Ok(size) => Ok(size),
+        Err(_) => Err(LinkError::TooLarge {
             what: Quantity::Size,
-        });
+        }),
     }
-    Ok(size as u32)
 }
 
-/// Whether the output's segments can be numbered: there are fewer than 4294967295. Calls on all of
-/// them ask for that.
+/// Whether the output's segments can be numbered: a space has room for them. Calls on all of them
+/// ask for that.
 pub fn segments_can_be_numbered(layouts: &[SegmentLayouts<'_>]) -> bool
-    ensures { IsTrue result ↔ (segment_count layouts.now < 4294967295) }
+    ensures { IsTrue result ↔ (segment_count layouts.now ≤ MAX_ENTRIES) }
 {
     let mut count: u64 = 0;
     for object in layouts {
         count = count.saturating_add(object.as_slice().len() as u64);
     }
-    count < 4_294_967_295
+    count <= MAX_ENTRIES as u64
 }
 
 /// How many segments the output has.
 pub fn output_data_segment_count(layouts: &[SegmentLayouts<'_>]) -> usize
-    requires { segment_count layouts.now < 4294967295 }
+    requires { segment_count layouts.now ≤ MAX_ENTRIES }
     ensures { result ≡ segment_count layouts.now }
 {
     layouts.iter().map(|object| object.as_slice().len()).sum()
@@ -158,7 +160,7 @@ fn section_size(count: u64, bytes: u64) -> u64
 
 /// How many bytes the data section takes in the output: none without a segment.
 pub fn compute_data_section_size(layouts: &[SegmentLayouts<'_>]) -> u64
-    requires count { segment_count layouts.now < 4294967295 }
+    requires count { segment_count layouts.now ≤ MAX_ENTRIES }
     requires bytes { all_encoded_bytes layouts.now < 2 ^ 62 }
     ensures { HasSectionSize (segment_count layouts.now) (all_encoded_bytes layouts.now) result }
 {
@@ -202,7 +204,7 @@ fn entry_size(body: &WasmFunctionBody<'_>) -> u64
 
 /// How many bytes the code section takes in the output: none without a body.
 pub fn compute_code_section_size(bodies: &[WasmFunctionBody<'_>]) -> u64
-    requires count { length bodies.now < 4294967295 }
+    requires count { length bodies.now ≤ MAX_ENTRIES }
     requires bytes { body_bytes bodies.now < 2 ^ 62 }
     ensures { (text : List ℕ) × AreBodiesText bodies.now text
         × HasSectionSize (length bodies.now) (length text) result }

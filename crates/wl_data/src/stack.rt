@@ -3,15 +3,15 @@
 ghost use Rattle.std.specs.Prelude.{◌≡◌, ◌%◌, ◌*◌, OnOk, IfOk, IfErr, ◌<◌, ◌^◌};
 ghost use Rattle.wl_linking.specs.declared.error.Quantity.TheVariants.{Address, HeapEnd};
 ghost use Rattle.wl_linking.specs.Steps.{Clear, Step, NoStep};
-ghost use Rattle.wl_data.specs.Stack.{behind_data, stack_top, stack_start, heap_start, AnswersUpTo, IsBadStackSize, IsStackTooHigh};
-ghost use Rattle.wl_data.specs.declared.memory.TheConstants.{PAGE_BYTES};
+ghost use Rattle.wl_index.specs.Memory.{behind_data, stack_top, stack_start, heap_start};
+ghost use Rattle.wl_data.specs.Stack.{AnswersUpTo, IsBadStackSize, IsStackTooHigh};
+ghost use Rattle.wl_module.specs.declared.limits.TheConstants.{WASM_PAGE_SIZE};
 
-use crate::align::{align_up, past_last_address};
+use crate::align::past_last_address;
 use crate::memory::PAGE_BYTES;
+use wl_index::{STACK_ALIGNMENT, behind_data, heap_start, stack_top};
 use wl_linking::{LinkError, Quantity};
-
-/// The stack begins and ends at multiples of this many bytes.
-pub(crate) const STACK_ALIGNMENT: u32 = 16;
+use wl_module::MAX_PAGES;
 
 /// Where the heap begins that stands behind the data: at the next multiple of 16.
 ///
@@ -20,7 +20,7 @@ pub(crate) const STACK_ALIGNMENT: u32 = 16;
 pub fn heap_base_after_data(data_end: u32) -> Result<u32, LinkError>
     ensures { AnswersUpTo Address (behind_data data_end) result }
 {
-    match align_up(data_end, STACK_ALIGNMENT) {
+    match behind_data(data_end) {
         Some(base) => Ok(base),
         None => Err(past_last_address()),
     }
@@ -33,8 +33,7 @@ pub fn heap_base_after_data(data_end: u32) -> Result<u32, LinkError>
 pub fn stack_high_after_data(data_end: u32, stack_size: u32) -> Result<u32, LinkError>
     ensures { AnswersUpTo Address (stack_top data_end stack_size) result }
 {
-    let base = align_up(data_end, STACK_ALIGNMENT);
-    match base.and_then(|base| base.checked_add(stack_size)) {
+    match stack_top(data_end, stack_size) {
         Some(top) => Ok(top),
         None => Err(past_last_address()),
     }
@@ -51,10 +50,9 @@ pub fn heap_base_address(
 ) -> Result<u32, LinkError>
     ensures { AnswersUpTo Address (heap_start data_end stack_size stack_first) result }
 {
-    if stack_first {
-        heap_base_after_data(data_end)
-    } else {
-        stack_high_after_data(data_end, stack_size)
+    match heap_start(data_end, stack_size, stack_first) {
+        Some(start) => Ok(start),
+        None => Err(past_last_address()),
     }
 }
 
@@ -63,9 +61,9 @@ pub fn heap_base_address(
 /// # Errors
 /// `TooLarge` where that is no address.
 pub fn heap_end_from_initial_pages(pages: u64) -> Result<u32, LinkError>
-    ensures { AnswersUpTo HeapEnd (pages * PAGE_BYTES) result }
+    ensures { AnswersUpTo HeapEnd (pages * WASM_PAGE_SIZE) result }
 {
-    if pages >= 65_536 {
+    if pages >= MAX_PAGES {
         return Err(LinkError::TooLarge {
             what: Quantity::HeapEnd,
         });

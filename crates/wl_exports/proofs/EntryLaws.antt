@@ -6,14 +6,14 @@ use Rattle.std.specs.declared.alloc.Global.{Global}
 use Rattle.std.proofs.lemmas.List.{take_all, take_more}
 use Rattle.wl_module.specs.Exports.{Exported}
 use Rattle.wl_linking.specs.Object.{Object}
-use Rattle.wl_custom.specs.Symbols.{Symbol as LinkedSymbol, is_data, has_name, is_undefined}
+use Rattle.wl_custom.specs.Symbols.{Symbol as LinkedSymbol, is_data, has_name, is_undefined, is_function}
 use Rattle.wl_custom.specs.declared.symbols.WasmSymbolKind.{WasmSymbolKind}
 use Rattle.wl_custom.specs.declared.symbols.WasmSymbolKind.TheVariants.{Func, Data, Global as GlobalKind, Section, Event, Table}
 use Rattle.wl_symbols.specs.Names.{named}
 use Rattle.wl_words.specs.Texts.{texts}
 use Rattle.wl_symbols.specs.declared.entry.Definition.{Definition}
 use Rattle.wl_symbols.specs.declared.entry.Definition.TheVariants.{Symbol}
-use Rattle.wl_custom.specs.Symbols.{is_function_kind, is_defined_function}
+use Rattle.wl_custom.specs.Symbols.{is_defined_function}
 use Rattle.wl_symbols.specs.Roots.{is_candidate}
 use Rattle.wl_bind.specs.ExportedData.{is_made_name}
 use Rattle.wl_bind.specs.FunctionSpace.{FunctionEntry, FunctionOf}
@@ -108,7 +108,7 @@ unless_is input name unmade = rw unmade refl
 
 -- ---- the entry's function
 
-function_kind : (kind : WasmSymbolKind) → is_function_kind kind ≡ true → kind ≡ Func
+function_kind : (kind : WasmSymbolKind) → is_function kind ≡ true → kind ≡ Func
 function_kind Func e = refl
 function_kind Data e = absurd cc
 function_kind GlobalKind e = absurd cc
@@ -118,7 +118,7 @@ function_kind Table e = absurd cc
 
 pub function_parts_of : (s : LinkedSymbol) → is_defined_function s ≡ true → (s.kind ≡ Func) × (is_undefined s ≡ false)
 function_parts_of s e =
-    let h = both (is_function_kind s.kind) (not (is_undefined s)) e in
+    let h = both (is_function s.kind) (not (is_undefined s)) e in
     (function_kind s.kind h.0, not_true (is_undefined s) h.1)
 
 all_functions : (f : ℕ → FunctionEntry) (n : Option ℕ)

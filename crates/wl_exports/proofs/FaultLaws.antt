@@ -12,7 +12,7 @@ use Rattle.wl_module.specs.Exports.{Exported}
 use Rattle.wl_linking.specs.Fitting.{IsWhole}
 use Rattle.wl_linking.specs.Object.{Object}
 use Rattle.wl_linking.specs.Steps.{Clear, Refuses}
-use Rattle.wl_custom.specs.Symbols.{Symbol as LinkedSymbol, is_undefined}
+use Rattle.wl_custom.specs.Symbols.{Symbol as LinkedSymbol, is_undefined, is_table}
 use Rattle.wl_linking.specs.declared.error.LinkError.{LinkError}
 use Rattle.wl_linking.specs.declared.error.LinkError.TheVariants.{ExportNotFound, DuplicateExport, WrongKind}
 use Rattle.wl_custom.specs.declared.symbols.WasmSymbolKind.{WasmSymbolKind}
@@ -27,7 +27,7 @@ use Rattle.wl_symbols.specs.Input.{Input}
 use Rattle.wl_exports.specs.Exports.{ExportEntry, Entity, defined_of_kind, object_entity, named_entity, first_exports}
 use Rattle.wl_exports.specs.ExportSteps.{AddsExports}
 use Rattle.wl_exports.specs.FaultSteps.{IsSoundSymbol, IsSymbolFault, no_room, a_table, nothing, IsSoundName, is_made, is_defined, IsNameFault, no_memory, is_a_table, is_missing, AreSoundNames, AreDistinct, IsRepeat, lack, twice, AreSoundFirst}
-use Rattle.wl_exports.specs.Faults.{is_table_kind, is_table, IsExportFault}
+use Rattle.wl_exports.specs.Faults.{IsExportFault, is_table_symbol}
 use Rattle.wl_exports.specs.NameSteps.{has_export}
 use Rattle.wl_exports.specs.Sources.{IsPlainExport}
 use Rattle.wl_exports.proofs.ListLaws.{IsIn, at_read, in_list, in_split, list_in, zip_at, zip_from}
@@ -40,14 +40,14 @@ use Rattle.wl_exports.proofs.ShownLaws.{AreNumbered, Found, found, entity_found,
 -- there is a symbol of those numbers
 pub table_by : (input : Input) (object number : ℕ) (s : LinkedSymbol)
     → symbol_in input.link.objects object number ≡ Some s
-    → is_table input (Some (Symbol object number)) ≡ is_table_kind s.kind
+    → is_table_symbol input (Some (Symbol object number)) ≡ is_table s.kind
 table_by input object number s at =
-    ap (λ (o : Option LinkedSymbol). option_map_or (λ (t : LinkedSymbol). is_table_kind t.kind) o false) at
+    ap (λ (o : Option LinkedSymbol). option_map_or (λ (t : LinkedSymbol). is_table t.kind) o false) at
 
 no_table : (input : Input) (object number : ℕ) → symbol_in input.link.objects object number ≡ None
-    → is_table input (Some (Symbol object number)) ≡ false
+    → is_table_symbol input (Some (Symbol object number)) ≡ false
 no_table input object number none =
-    ap (λ (o : Option LinkedSymbol). option_map_or (λ (t : LinkedSymbol). is_table_kind t.kind) o false) none
+    ap (λ (o : Option LinkedSymbol). option_map_or (λ (t : LinkedSymbol). is_table t.kind) o false) none
 
 pub gone : (input : Input) (name : List ℕ) (object number : ℕ)
     → symbol_in input.link.objects object number ≡ None
@@ -59,7 +59,7 @@ pub table_fault : (input : Input) (name : List ℕ) (object number : ℕ) (s : L
     → symbol_in input.link.objects object number ≡ Some s → s.kind ≡ Table
     → IsSymbolFault input name object number (WrongKind object number)
 table_fault input name object number s at kind =
-    a_table (table_by input object number s at ∙ ap is_table_kind kind) refl
+    a_table (table_by input object number s at ∙ ap is_table kind) refl
 
 -- the entity of a symbol that its object defines
 entity_by : (input : Input) (object number : ℕ) (s : LinkedSymbol)
@@ -74,7 +74,7 @@ some_of o x e = rw e refl
 pub sound_symbol : AreNumbered → (input : Input) (object number : ℕ) (s : LinkedSymbol) (kind : WasmSymbolKind)
     → AllByRecursion IsWhole input.link.objects
     → symbol_in input.link.objects object number ≡ Some s → s.kind ≡ kind → is_undefined s ≡ false
-    → is_table_kind kind ≡ false
+    → is_table kind ≡ false
     → ((o : Object) → IsWhole o → slice_get o.symbols number ≡ Some s
     → (e : Entity) × (defined_of_kind object number o kind s.index ≡ Some e))
     → IsSoundSymbol input object number
@@ -86,7 +86,7 @@ sound_symbol numbered input object number s kind whole at is defined fails gives
     ∙ (ap (λ (k : WasmSymbolKind). defined_of_kind object number f.owner k s.index) is ∙ e.1) in
     record {
       defined = some_of (object_entity input (Symbol object number)) e.0 stands;
-      no_table = table_by input object number s at ∙ (ap is_table_kind is ∙ fails);
+      no_table = table_by input object number s at ∙ (ap is_table is ∙ fails);
     }
 
 pub gives_function : AreNumbered → (object number : ℕ) (s : LinkedSymbol) (o : Object) → s.kind ≡ Func
@@ -116,16 +116,16 @@ pub sound_name : (input : Input) (name : List ℕ) (object number : ℕ)
 sound_name input name object number names sound =
     is_defined
     (subst (λ (e : Option Entity). IsSome e) (sym (entity_named input name object number names)) sound.defined)
-    (ap (is_table input) names ∙ sound.no_table)
+    (ap (is_table_symbol input) names ∙ sound.no_table)
 
 pub name_fault : (input : Input) (name : List ℕ) (object number : ℕ) (e : LinkError)
     → is_made_name input name ≡ false → named input.link name ≡ Some (Symbol object number)
     → IsSymbolFault input name object number e → IsNameFault input name e
 name_fault input name object number e unmade names (no_room told) = no_memory told
 name_fault input name object number e unmade names (a_table holds told) =
-    is_a_table unmade object number names (ap (is_table input) names ∙ holds) told
+    is_a_table unmade object number names (ap (is_table_symbol input) names ∙ holds) told
 name_fault input name object number e unmade names (nothing fails none told) =
-    is_missing unmade (entity_named input name object number names ∙ none) (ap (is_table input) names ∙ fails) told
+    is_missing unmade (entity_named input name object number names ∙ none) (ap (is_table_symbol input) names ∙ fails) told
 
 -- what is told of a name that has to be exported is a fault
 pub required_fault : (input : Input) (name : List ℕ) (e : LinkError)
@@ -154,7 +154,7 @@ required_fault input name e asked (is_missing unmade none fails told) = record {
 }
 
 sound_no_table : (input : Input) (name : List ℕ) → IsSoundName input name → is_made_name input name ≡ false
-    → is_table input (named input.link name) ≡ true → ⊥
+    → is_table_symbol input (named input.link name) ≡ true → ⊥
 sound_no_table input name (is_made made) unmade table = absurd (true≢false (sym made ∙ unmade))
 sound_no_table input name (is_defined some fails) unmade table = absurd (true≢false (sym table ∙ fails))
 

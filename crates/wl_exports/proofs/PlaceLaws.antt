@@ -4,8 +4,7 @@ use Rattle.std.specs.List.{range_with_len}
 use Rattle.std.specs.Option.{option_map}
 use Rattle.std.proofs.lemmas.Bool.{cases_Bool, leb-false, ltb-false}
 use Rattle.std.proofs.lemmas.Option.{same_Some, slice_get_within}
-use Rattle.wl_types.specs.Types.{max_entries}
-use Rattle.wl_index.specs.declared.index.TheConstants.{WASM_DEAD_INDEX}
+use Rattle.wl_index.specs.declared.index.TheConstants.{WASM_DEAD_INDEX, MAX_ENTRIES}
 use Rattle.wl_module.specs.Exports.{Exported}
 use Rattle.wl_module.specs.declared.imports.ExternalKind.TheVariants as external
 use Rattle.wl_linking.specs.Object.{Object}
@@ -14,7 +13,8 @@ use Rattle.wl_custom.specs.declared.symbols.WasmSymbolKind.TheVariants as symbol
 use Rattle.wl_symbols.specs.declared.units.WasmGcUnit.TheVariants.{DefinedFunction, DefinedGlobal}
 use Rattle.wl_index.specs.declared.index_map.WasmObjectIndexMap.{WasmObjectIndexMap}
 use Rattle.wl_symbols.specs.ImportSlots.{object_slots}
-use Rattle.wl_symbols.specs.SlotTargets.{own_number, defined_under}
+use Rattle.wl_symbols.specs.Units.{defined_number}
+use Rattle.wl_symbols.specs.SlotTargets.{own_number}
 use Rattle.wl_bind.specs.FunctionSpace.{FunctionEntry, FunctionOf, function_space, function_slot_entry, own_function_entry, local_functions}
 use Rattle.wl_bind.specs.GlobalSpace.{GlobalEntry, GlobalOf, global_space, global_slot_entry, own_global_entry, local_globals}
 use Rattle.wl_bind.specs.IndexMaps.{IsIndexMap, AreIndexMaps}
@@ -44,7 +44,7 @@ rows_at {X} IsRow n zero m (p ∷ objects) (row ∷ rows) o are same at =
 rows_at IsRow n (suc i) m (p ∷ objects) (row ∷ rows) o are same at =
     rows_at IsRow (n + 1) i m objects rows o are.1 (omega (arith, same)) at
 
-alive : (index : ℕ) → index < max_entries → unless_dead index ≡ Some index
+alive : (index : ℕ) → index < MAX_ENTRIES → unless_dead index ≡ Some index
 alive index lt = elim (cases_Bool (index == WASM_DEAD_INDEX)) [
   | inl dead ↦
       let e : index ≡ WASM_DEAD_INDEX = eqb-true index WASM_DEAD_INDEX dead in
@@ -53,15 +53,15 @@ alive index lt = elim (cases_Bool (index == WASM_DEAD_INDEX)) [
 ]
 
 one_place : {X : Type 0} (space : List X) (entry : Option X) (index : ℕ) → IsIndexOf space entry index
-    → length space ≤ max_entries → IsPlaceOf space entry (unless_dead index)
+    → length space ≤ MAX_ENTRIES → IsPlaceOf space entry (unless_dead index)
 one_place space None index is room = ap unless_dead is
 one_place space (Some x) index is room =
     let within = slice_get_within space index x is in
-    let lt : index < max_entries = omega (arith, within, room) in
+    let lt : index < MAX_ENTRIES = omega (arith, within, room) in
     subst (λ (p : Option ℕ). IsPlaceOf space (Some x) p) (sym (alive index lt)) is
 
 place_there : {X : Type 0} (space : List X) (entries : List (Option X)) (indices : List ℕ) (k : ℕ)
-    → AreIndicesOf space entries indices → length space ≤ max_entries
+    → AreIndicesOf space entries indices → length space ≤ MAX_ENTRIES
     → IsPlaceOf space (there entries k) (index_at indices k)
 place_there space [] [] k are room = refl
 place_there space [] (index ∷ indices) k are room = absurd are
@@ -106,8 +106,8 @@ pub record HasMap (input : Input) (maps : List WasmObjectIndexMap) (object : ℕ
       (global_at name (index_at map_is.global_indices index))
 
 pub has_map : (input : Input) (maps : List WasmObjectIndexMap) (object : ℕ) (o : Object)
-    → AreIndexMaps input maps → length (function_space input) ≤ max_entries
-    → length (global_space input) ≤ max_entries → slice_get input.link.objects object ≡ Some o
+    → AreIndexMaps input maps → length (function_space input) ≤ MAX_ENTRIES
+    → length (global_space input) ≤ MAX_ENTRIES → slice_get input.link.objects object ≡ Some o
     → HasMap input maps object o
 has_map input maps object o are functions globals here =
     let row = rows_at (IsIndexMap input) 0 object object input.link.objects maps o are (omega arith) here in
@@ -144,7 +144,7 @@ record StandsBehind (imports count index n : ℕ) : Type 0 where
   pub behind : index ≡ imports + n
   pub within : n < count
 
-stands_behind : (imports count index n : ℕ) → defined_under imports count index ≡ Some n
+stands_behind : (imports count index n : ℕ) → defined_number imports count index ≡ Some n
     → StandsBehind imports count index n
 stands_behind imports count index n e =
     let given = unless_past (nat_lt index imports || nat_le count (index - imports)) (index - imports) n e in

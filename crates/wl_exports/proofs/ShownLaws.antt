@@ -7,7 +7,7 @@ use Rattle.std.proofs.lemmas.Option.{same_Some}
 use Rattle.wl_module.specs.Exports.{Exported}
 use Rattle.wl_linking.specs.Fitting.{IsWhole}
 use Rattle.wl_linking.specs.Object.{Object}
-use Rattle.wl_custom.specs.Symbols.{Symbol as LinkedSymbol, is_data, is_undefined, has_name}
+use Rattle.wl_custom.specs.Symbols.{Symbol as LinkedSymbol, is_data, is_undefined, has_name, is_defined_data}
 use Rattle.wl_custom.specs.declared.symbols.WasmSymbolKind.{WasmSymbolKind}
 use Rattle.wl_custom.specs.declared.symbols.WasmSymbolKind.TheVariants.{Func, Data, Global}
 use Rattle.wl_symbols.specs.Entries.{symbol_in}
@@ -24,7 +24,7 @@ use Rattle.wl_symbols.specs.declared.units.UnitCounts.{UnitCounts}
 use Rattle.wl_symbols.specs.declared.units.WasmGcUnit.{WasmGcUnit}
 use Rattle.wl_symbols.specs.declared.units.WasmGcUnit.TheVariants.{DefinedFunction, DefinedGlobal}
 use Rattle.wl_symbols.specs.SlotTargets.{own_number, is_definition_of}
-use Rattle.wl_bind.specs.ExportedData.{is_dynamic_data, dynamic_from, dynamic_in, dynamic_data, is_made_name, is_dynamic, is_defined_data, data_of, forced_by, forced_data}
+use Rattle.wl_bind.specs.ExportedData.{is_dynamic_data, dynamic_from, dynamic_in, dynamic_data, is_made_name, is_dynamic, data_of, forced_by, forced_data}
 use Rattle.wl_bind.specs.FunctionSpace.{FunctionOf, local_functions}
 use Rattle.wl_bind.specs.GlobalSpace.{GlobalOf, DataOf, local_globals}
 use Rattle.wl_symbols.specs.Input.{Input, keeps}

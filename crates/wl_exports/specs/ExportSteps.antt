@@ -3,6 +3,7 @@ use Rattle.std.specs.Prelude.{◌≡◌, ℕ, ◌==◌, Bool, true, false, List,
 use Rattle.std.specs.List.{AllZip, list_any}
 use Rattle.std.specs.Option.{option_map, option_and_then}
 use Rattle.std.specs.Str.{bytes_eq}
+use Rattle.wl_features.specs.declared.taken.TheConstants.{TARGET_FEATURE_MUTABLE_GLOBALS}
 use Rattle.wl_module.specs.Exports.{Exported}
 use Rattle.wl_module.specs.declared.imports.ExternalKind.{ExternalKind}
 use Rattle.wl_module.specs.declared.imports.ExternalKind.TheVariants as external
@@ -70,7 +71,7 @@ kind_of_made m = kind_of_symbol (row_of m).kind
 
 -- globals that may change are used
 abbrev pub uses_mutable_globals : Link → Bool
-uses_mutable_globals link = list_any (bytes_eq (codes "mutable-globals")) (taken_names link)
+uses_mutable_globals link = list_any (bytes_eq TARGET_FEATURE_MUTABLE_GLOBALS.now) (taken_names link)
 
 -- ---- symbols
 

@@ -3,6 +3,7 @@ use Rattle.std.specs.Prelude.{ℕ, ◌+◌, ◌&&◌, Bool, not, List, [], ◌�
 use Rattle.std.specs.List.{filter_map, list_any}
 use Rattle.std.specs.Option.{option_map, option_and_then, option_to_list}
 use Rattle.std.specs.Str.{bytes_eq}
+use Rattle.wl_features.specs.declared.taken.TheConstants.{TARGET_FEATURE_MUTABLE_GLOBALS}
 use Rattle.wl_module.specs.Exports.{Exported}
 use Rattle.wl_module.specs.declared.imports.ExternalKind.{ExternalKind}
 use Rattle.wl_module.specs.declared.imports.ExternalKind.TheVariants as external
@@ -174,7 +175,7 @@ forced_exports input = by_names (unless_made input) input.link.args.export_symbo
 -- the stack pointer, where globals that may change are used
 abbrev pub stack_pointer_export : Input → List ExportEntry
 stack_pointer_export input =
-    if list_any (bytes_eq (codes "mutable-globals")) (taken_names input.link)
+    if list_any (bytes_eq TARGET_FEATURE_MUTABLE_GLOBALS.now) (taken_names input.link)
     then export_of (name_of made.StackPointer) (made_entity made.StackPointer) ∷ [] else []
 
 -- a symbol that has a name, defines something, and is exported by the option

@@ -8,29 +8,29 @@ use Rattle.wl_symbols.specs.declared.entry.Definition.TheVariants.{Symbol}
 use Rattle.wl_bind.specs.ExportedData.{is_made_name}
 use Rattle.wl_symbols.specs.Input.{Input}
 use Rattle.wl_exports.specs.Exports.{ExportEntry, object_entity, named_entity, first_exports}
-use Rattle.wl_exports.specs.Faults.{is_table}
+use Rattle.wl_exports.specs.Faults.{is_table_symbol}
 
 -- ---- names
 
 -- the symbol defines something that can be exported
 pub record IsSoundSymbol (input : Input) (object number : ℕ) : Type 0 where
   pub defined : IsSome (object_entity input (Symbol object number))
-  pub no_table : is_table input (Some (Symbol object number)) ≡ false
+  pub no_table : is_table_symbol input (Some (Symbol object number)) ≡ false
 
 -- what is told of a symbol that a name stands for
 pub data IsSymbolFault (input : Input) (name : List ℕ) (object number : ℕ) (e : LinkError)
     : Type 0 where
   no_room : e ≡ OutOfMemory → IsSymbolFault input name object number e
-  a_table : is_table input (Some (Symbol object number)) ≡ true → e ≡ WrongKind object number
+  a_table : is_table_symbol input (Some (Symbol object number)) ≡ true → e ≡ WrongKind object number
       → IsSymbolFault input name object number e
-  nothing : is_table input (Some (Symbol object number)) ≡ false
+  nothing : is_table_symbol input (Some (Symbol object number)) ≡ false
       → object_entity input (Symbol object number) ≡ None → e ≡ ExportNotFound name
       → IsSymbolFault input name object number e
 
 -- nothing is told of the name
 pub data IsSoundName (input : Input) (name : List ℕ) : Type 0 where
   is_made : is_made_name input name ≡ true → IsSoundName input name
-  is_defined : IsSome (named_entity input name) → is_table input (named input.link name) ≡ false
+  is_defined : IsSome (named_entity input name) → is_table_symbol input (named input.link name) ≡ false
       → IsSoundName input name
 
 -- what is told of a name
@@ -38,10 +38,10 @@ pub data IsNameFault (input : Input) (name : List ℕ) (e : LinkError) : Type 0 
   no_memory : e ≡ OutOfMemory → IsNameFault input name e
   is_a_table : is_made_name input name ≡ false → (object number : ℕ)
       → named input.link name ≡ Some (Symbol object number)
-      → is_table input (named input.link name) ≡ true → e ≡ WrongKind object number
+      → is_table_symbol input (named input.link name) ≡ true → e ≡ WrongKind object number
       → IsNameFault input name e
   is_missing : is_made_name input name ≡ false → named_entity input name ≡ None
-      → is_table input (named input.link name) ≡ false → e ≡ ExportNotFound name
+      → is_table_symbol input (named input.link name) ≡ false → e ≡ ExportNotFound name
       → IsNameFault input name e
 
 -- nothing is told of the names that have to be exported

@@ -1,11 +1,9 @@
 -- Why there can't be these exports.
 use Rattle.std.specs.Prelude.{◌≡◌, ◌⊎◌, ℕ, ◌<◌, Bool, true, false, List, Contains, Option, None, Some, slice_get}
 use Rattle.std.specs.Option.{option_map_or}
-use Rattle.wl_custom.specs.Symbols.{Symbol as LinkedSymbol}
+use Rattle.wl_custom.specs.Symbols.{Symbol as LinkedSymbol, is_table}
 use Rattle.wl_linking.specs.declared.error.LinkError.{LinkError}
 use Rattle.wl_linking.specs.declared.error.LinkError.TheVariants.{ExportNotFound, DuplicateExport, WrongKind}
-use Rattle.wl_custom.specs.declared.symbols.WasmSymbolKind.{WasmSymbolKind}
-use Rattle.wl_custom.specs.declared.symbols.WasmSymbolKind.TheVariants.{Table}
 use Rattle.wl_symbols.specs.Entries.{symbol_in}
 use Rattle.wl_symbols.specs.Names.{named}
 use Rattle.wl_symbols.specs.declared.entry.Definition.{Definition}
@@ -14,17 +12,12 @@ use Rattle.wl_bind.specs.ExportedData.{is_made_name}
 use Rattle.wl_symbols.specs.Input.{Input}
 use Rattle.wl_exports.specs.Exports.{ExportEntry, named_entity, first_exports}
 
--- the symbol is a table's
-abbrev pub is_table_kind : WasmSymbolKind → Bool
-is_table_kind Table = true
-is_table_kind _ = false
-
 -- the definition is a symbol of a table
-abbrev pub is_table : Input → Option Definition → Bool
-is_table input (Some (Symbol object number)) =
-    option_map_or (λ (s : LinkedSymbol). is_table_kind s.kind)
+abbrev pub is_table_symbol : Input → Option Definition → Bool
+is_table_symbol input (Some (Symbol object number)) =
+    option_map_or (λ (s : LinkedSymbol). is_table s.kind)
     (symbol_in input.link.objects object number) false
-is_table input _ = false
+is_table_symbol input _ = false
 
 -- a name that has to be exported, and that the linker doesn't make
 pub record IsRequired (input : Input) (name : List ℕ) : Type 0 where
@@ -38,7 +31,7 @@ pub record IsTableName (input : Input) (e : LinkError) : Type 0 where
   pub object : ℕ
   pub number : ℕ
   pub stands : named input.link name ≡ Some (Symbol object number)
-  pub table : is_table input (named input.link name) ≡ true
+  pub table : is_table_symbol input (named input.link name) ≡ true
   pub told : e ≡ WrongKind object number
 
 -- such a name under which no object defines anything, and that isn't a table's
@@ -46,7 +39,7 @@ pub record IsNotFound (input : Input) (e : LinkError) : Type 0 where
   pub name : List ℕ
   pub required : IsRequired input name
   pub undefined : named_entity input name ≡ None
-  pub no_table : is_table input (named input.link name) ≡ false
+  pub no_table : is_table_symbol input (named input.link name) ≡ false
   pub told : e ≡ ExportNotFound name
 
 -- two of what objects export and of the memory have one name

@@ -3,7 +3,7 @@ use Rattle.std.specs.Prelude.{◌≡◌, ◌≤◌, List, length, Some, slice_ge
 use Rattle.std.specs.List.{AllZip}
 use Rattle.wl_module.specs.Exports.{Exported}
 use Rattle.wl_module.specs.declared.imports.ExternalKind.TheVariants.{Func, Global, Table, Memory}
-use Rattle.wl_types.specs.Types.{max_entries}
+use Rattle.wl_index.specs.declared.index.TheConstants.{MAX_ENTRIES}
 use Rattle.wl_features.specs.Taken.{AreTaken}
 use Rattle.wl_bind.specs.FunctionSpace.{function_space}
 use Rattle.wl_bind.specs.GlobalSpace.{global_space}
@@ -21,8 +21,8 @@ pub record AreSources (s : ExportSources) : Type 0 where
   pub maps : AreIndexMaps s.input.now s.maps.now
   pub indices : AreMadeIndices s.input.now s.indices.now
   pub features : AreTaken s.input.now.link s.features.now
-  pub functions : length (function_space s.input.now) ≤ max_entries
-  pub globals : length (global_space s.input.now) ≤ max_entries
+  pub functions : length (function_space s.input.now) ≤ MAX_ENTRIES
+  pub globals : length (global_space s.input.now) ≤ MAX_ENTRIES
 
 -- ---- exports by their indices
 

@@ -6,7 +6,7 @@ use Rattle.wl_module.specs.declared.imports.ExternalKind.TheVariants.{Func}
 use Rattle.wl_linking.specs.declared.error.LinkError.{LinkError}
 use Rattle.wl_linking.specs.declared.error.LinkError.TheVariants.{TooLarge}
 use Rattle.wl_linking.specs.declared.error.Quantity.TheVariants.{Space}
-use Rattle.wl_types.specs.Types.{max_entries}
+use Rattle.wl_index.specs.declared.index.TheConstants.{MAX_ENTRIES}
 use Rattle.wl_bind.specs.FunctionSpace.{FunctionEntry, function_space}
 use Rattle.wl_symbols.specs.Input.{Input}
 use Rattle.wl_exports.specs.Exports.{ExportEntry, OfFunction, exports}
@@ -56,4 +56,4 @@ AreWrappers input ws = AllZip (IsWrapper input) (wrapped input) ws
 -- with the wrappers the functions are too many
 abbrev pub AreTooManyWrappers : Input → LinkError → Type 0
 AreTooManyWrappers input e =
-    (e ≡ TooLarge Space) × (max_entries < length (function_space input) + length (wrapped input))
+    (e ≡ TooLarge Space) × (MAX_ENTRIES < length (function_space input) + length (wrapped input))

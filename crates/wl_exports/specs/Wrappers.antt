@@ -20,17 +20,17 @@ abbrev pub is_ctors_name : List ℕ → Bool
 is_ctors_name = bytes_eq (name_of CallCtors)
 
 -- what is imported is a function
-abbrev pub is_function : ImportEntity → Bool
-is_function (entity.Func number) = true
-is_function (entity.Table t) = false
-is_function (entity.Memory m) = false
-is_function (entity.Global g) = false
+abbrev pub is_function_import : ImportEntity → Bool
+is_function_import (entity.Func number) = true
+is_function_import (entity.Table t) = false
+is_function_import (entity.Memory m) = false
+is_function_import (entity.Global g) = false
 
 -- the object calls the constructors itself: it imports a function of that name, or exports
 -- something
 abbrev pub calls_ctors : Object → Bool
 calls_ctors o =
-    list_any (λ (i : Imported). is_function i.entity && is_ctors_name i.name) o.imports
+    list_any (λ (i : Imported). is_function_import i.entity && is_ctors_name i.name) o.imports
     || list_any (λ (e : Exported). is_ctors_name e.name) o.exports
 
 -- functions that run at the start are called around each export: there are some, no object calls

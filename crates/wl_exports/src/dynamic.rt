@@ -30,13 +30,9 @@ impl Wanted {
     fn takes(self, kind: WasmSymbolKind) -> bool
         ensures { result ≡ takes self kind }
     {
-        match kind {
-            WasmSymbolKind::Data => self == Wanted::Data,
-            WasmSymbolKind::Func
-            | WasmSymbolKind::Global
-            | WasmSymbolKind::Section
-            | WasmSymbolKind::Event
-            | WasmSymbolKind::Table => self == Wanted::Code,
+        match self {
+            Wanted::Code => !kind.is_data(),
+            Wanted::Data => kind.is_data(),
         }
     }
 }

@@ -13,6 +13,7 @@ ghost use Rattle.wl_exports.specs.Sources.{AreSources};
 use crate::adding::push_some;
 use crate::sources::ExportSources;
 use std::alloc::AllocError;
+use wl_features::TARGET_FEATURE_MUTABLE_GLOBALS;
 use wl_module::{ExternalKind, OutputExport};
 use wl_symbols::WasmLinkerSymbol;
 
@@ -27,9 +28,6 @@ const TLS_ALIGN: &str = "__tls_align";
 
 /// The name of what fills the block of a thread.
 pub(crate) const INIT_TLS: &str = "__wasm_init_tls";
-
-/// The feature of a machine whose globals may change.
-const MUTABLE_GLOBALS: &str = "mutable-globals";
 
 /// Whether what the linker makes under a name is exported as a function; all else is a global.
 fn kind_of(made: WasmLinkerSymbol) -> ExternalKind
@@ -146,7 +144,7 @@ fn uses_mutable_globals(sources: &ExportSources<'_, '_, '_>) -> bool
     requires { AreSources sources.now }
     ensures { result ≡ uses_mutable_globals sources.now.input.now.link }
 {
-    has_name(sources.features.as_slice(), MUTABLE_GLOBALS)
+    has_name(sources.features.as_slice(), TARGET_FEATURE_MUTABLE_GLOBALS)
 }
 
 /// Adds the export of the stack pointer, where globals that may change are used.

@@ -15,7 +15,6 @@ use crate::made::is_made_name;
 use crate::sources::ExportSources;
 use std::alloc::AllocError;
 use wl_bind::DataSymbol;
-use wl_custom::is_defined_function;
 use wl_linking::{WasmSymbol, WasmSymbolKind};
 use wl_module::OutputExport;
 use wl_symbols::{Definition, definitions_have_numbers, live_units_are_closed, slots_are_numbered};
@@ -69,7 +68,7 @@ fn entry_export<'a>(sources: &ExportSources<'_, '_, '_>, name: &'a str) -> Optio
         return None;
     };
     let symbol = symbols.symbol(object, symbol)?;
-    if is_defined_function(symbol) {
+    if symbol.is_defined_function() {
         function_export(sources, name, object, symbol.index)
     } else {
         None

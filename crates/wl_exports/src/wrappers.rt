@@ -2,14 +2,14 @@
 
 ghost use Rattle.std.specs.Prelude.{◌≡◌, ◌≤◌, ◌<◌, ◌+◌, ◌^◌, ◌&&◌, [], ◌∷◌, ◌++◌, length, IfOk, OnOk};
 ghost use Rattle.std.specs.List.{list_any};
-ghost use Rattle.wl_types.specs.Types.{max_entries};
+ghost use Rattle.wl_index.specs.declared.index.TheConstants.{MAX_ENTRIES};
 ghost use Rattle.wl_bind.specs.FunctionSpace.{host_function_part, function_space};
 ghost use Rattle.wl_symbols.specs.Input.{Input as Linked};
 ghost use Rattle.wl_exports.specs.Exports.{ExportEntry};
 ghost use Rattle.wl_exports.specs.Sources.{IsPlainExport, ArePlainExports};
 ghost use Rattle.wl_exports.specs.WrapSteps.{with_export, with_wrapper};
 ghost use Rattle.wl_exports.specs.Wrapped.{AreOutputExports, AreWrappers};
-ghost use Rattle.wl_exports.specs.Wrappers.{is_ctors_name, is_function, calls_ctors, wraps, can_wrap, is_own_function, wrapped};
+ghost use Rattle.wl_exports.specs.Wrappers.{is_ctors_name, calls_ctors, wraps, can_wrap, is_own_function, wrapped, is_function_import};
 
 use crate::made::INIT_TLS;
 use std::alloc::{AllocError, Global};
@@ -50,8 +50,8 @@ fn is_ctors_name(name: &str) -> bool
 }
 
 /// Whether what is imported is a function.
-fn is_function(entity: ImportEntity) -> bool
-    ensures { result ≡ is_function entity }
+fn is_function_import(entity: ImportEntity) -> bool
+    ensures { result ≡ is_function_import entity }
 {
     match entity {
         ImportEntity::Func(_) => true,
@@ -61,14 +61,14 @@ fn is_function(entity: ImportEntity) -> bool
 
 /// Whether it is the import of a function that calls the constructors.
 fn is_ctors_import(import: &Import<'_>) -> bool
-    ensures { result ≡ (is_function import.now.entity && is_ctors_name import.now.name) }
+    ensures { result ≡ (is_function_import import.now.entity && is_ctors_name import.now.name) }
 {
-    is_function(import.entity) && is_ctors_name(import.name)
+    is_function_import(import.entity) && is_ctors_name(import.name)
 }
 
 /// Whether one of these is such an import.
 fn imports_ctors(imports: &[Import<'_>]) -> bool
-    ensures { result ≡ list_any (λ i. is_function i.entity && is_ctors_name i.name) imports.now }
+    ensures { result ≡ list_any (λ i. is_function_import i.entity && is_ctors_name i.name) imports.now }
 {
     imports.iter().any(|import| is_ctors_import(import))
 }
@@ -219,7 +219,7 @@ pub(crate) fn wrap_exports<'a>(
 ) -> Result<(ItemList<OutputExport<'a>>, ItemList<Wrapper<'a>>), AllocError>
     requires hosts { hosts ≡ length (host_function_part input.now) }
     requires functions { functions ≡ length (function_space input.now) }
-    requires room { length (function_space input.now) + length (wrapped input.now) ≤ max_entries }
+    requires room { length (function_space input.now) + length (wrapped input.now) ≤ MAX_ENTRIES }
     requires plain { ArePlainExports input.now exports }
     ensures exports { IfOk result (λ r. AreOutputExports input.now r.0) }
     ensures wrappers { IfOk result (λ r. AreWrappers input.now r.1) }

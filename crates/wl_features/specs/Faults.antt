@@ -1,5 +1,5 @@
 -- Why features don't fit together.
-use Rattle.std.specs.Prelude.{◌≡◌, ℕ, ◌==◌, ◌||◌, ◌<◌, Bool, true, false, List, Some, Contains, codes, slice_get}
+use Rattle.std.specs.Prelude.{◌≡◌, ℕ, ◌==◌, ◌||◌, ◌<◌, Bool, true, false, List, Some, Contains, slice_get}
 use Rattle.std.specs.List.{list_any}
 use Rattle.std.specs.Str.{bytes_eq}
 use Rattle.std.specs.declared.cmp.Ordering.TheVariants.{Less}
@@ -12,6 +12,7 @@ use Rattle.wl_linking.specs.declared.error.SharedMemoryNeed.{SharedMemoryNeed}
 use Rattle.wl_linking.specs.declared.error.SharedMemoryNeed.TheVariants.{Disallowed, Atomics, BulkMemory}
 use Rattle.wl_custom.specs.declared.features.TheConstants.{TARGET_FEATURE_PREFIX_DISALLOWED}
 use Rattle.wl_symbols.specs.Link.{Link}
+use Rattle.wl_features.specs.declared.taken.TheConstants.{TARGET_FEATURE_SHARED_MEM, TARGET_FEATURE_ATOMICS, TARGET_FEATURE_BULK_MEMORY}
 use Rattle.wl_features.specs.Taken.{is_used, names_of, taken_names, by_bytes}
 
 -- ---- prefixes
@@ -50,7 +51,7 @@ DisallowedBy objects name object =
 -- an object disallows it
 abbrev pub IsSharedDisallowed : Link → LinkError → Type 0
 IsSharedDisallowed link e =
-    (object : ℕ) × DisallowedBy link.objects (codes "shared-mem") object
+    (object : ℕ) × DisallowedBy link.objects TARGET_FEATURE_SHARED_MEM.now object
     × (e ≡ SharedMemoryFeature (Disallowed object))
 
 -- it needs a feature that the output hasn't
@@ -62,8 +63,8 @@ IsLacking link name need e =
 abbrev pub shared_steps : Link → LinkError → Type 0
 shared_steps link =
     Step (IsSharedDisallowed link)
-    (Step (IsLacking link (codes "atomics") Atomics)
-    (Step (IsLacking link (codes "bulk-memory") BulkMemory) NoStep))
+    (Step (IsLacking link TARGET_FEATURE_ATOMICS.now Atomics)
+    (Step (IsLacking link TARGET_FEATURE_BULK_MEMORY.now BulkMemory) NoStep))
 
 -- where features are compared, and memory is shared
 abbrev pub IsSharedFault : Link → LinkError → Type 0

@@ -74,13 +74,7 @@ pub(crate) fn named_unit(
 fn gives_way(kind: WasmSymbolKind) -> bool
     ensures { result ≡ gives_way kind }
 {
-    match kind {
-        WasmSymbolKind::Func | WasmSymbolKind::Data => true,
-        WasmSymbolKind::Global
-        | WasmSymbolKind::Section
-        | WasmSymbolKind::Event
-        | WasmSymbolKind::Table => false,
-    }
+    kind.is_function() || kind.is_data()
 }
 
 /// Whether what a symbol stands for is followed beside the symbol.

@@ -2,11 +2,10 @@
 
 ghost use Rattle.std.specs.Prelude.{◌≡◌, OnOk, IfErr};
 ghost use Rattle.wl_linking.specs.Steps.{Clear, Refuses};
-ghost use Rattle.wl_custom.specs.Symbols.{is_function_kind, is_defined_function};
+ghost use Rattle.wl_custom.specs.Symbols.{is_defined_function, is_function};
 ghost use Rattle.wl_live.specs.Entry.{gives_function, IsEntryFault};
 
 use std::alloc::Global;
-use wl_custom::is_defined_function;
 use wl_linking::{LinkError, WasmSymbol, WasmSymbolKind};
 use wl_lists::Text;
 use wl_symbols::{Definition, SymbolTable};
@@ -18,7 +17,7 @@ fn gives_function(symbols: &SymbolTable<'_, '_>, definition: Option<Definition>)
     match definition {
         Some(Definition::Symbol { object, symbol }) => {
             match symbols.symbol(object, symbol) {
-                Some(symbol) => is_defined_function(symbol),
+                Some(symbol) => symbol.is_defined_function(),
                 None => false,
             }
         }

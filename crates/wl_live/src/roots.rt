@@ -2,7 +2,7 @@
 
 ghost use Rattle.std.specs.Prelude.{◌≡◌, ◌<◌, ◌^◌, ◌++◌, length, IfOk, OnOk, if◌then◌else◌, [], None, flat_map};
 ghost use Rattle.std.specs.Option.{option_to_list};
-ghost use Rattle.wl_custom.specs.Symbols.{has_flag, is_weak};
+ghost use Rattle.wl_custom.specs.Symbols.{is_weak};
 ghost use Rattle.wl_module.specs.declared.imports.ExternalKind.TheVariants as ExternalKind;
 ghost use Rattle.wl_symbols.specs.Entries.{symbol_in};
 ghost use Rattle.wl_words.specs.Texts.{texts};
@@ -11,14 +11,12 @@ ghost use Rattle.wl_symbols.specs.Roots.{export_unit, is_kept_symbol, is_itself,
 ghost use Rattle.wl_live.specs.Table.{placed, export_roots, symbol_roots, init_root, init_roots, object_roots, roots_from, forced_roots, entry_unit, roots};
 
 use crate::definitions::{named_unit, other_unit, unit_at};
-use bitflags::Flags;
 use std::alloc::{AllocError, Global};
-use wl_custom::is_exported;
-use wl_linking::{File, SymbolFlags, WasmInitFunc, WasmSymbol, WasmSymbolKind};
+use wl_linking::{File, WasmInitFunc, WasmSymbol, WasmSymbolKind};
 use wl_module::{ExternalKind, OutputExport};
 use wl_symbols::{
-    Definition, LinkUnit, SymbolTable, UnitCounts, UnitNumbers, WasmGcUnit, defined, definition_at,
-    imported, is_candidate,
+    Definition, LinkUnit, SymbolTable, UnitCounts, UnitNumbers, WasmGcUnit, defined_number,
+    definition_at, is_candidate, number_below,
 };
 
 /// Adds a unit, if there is one.
@@ -35,10 +33,10 @@ fn push_unit(list: &mut Vec<LinkUnit>, unit: Option<LinkUnit>) -> Result<(), All
 fn function_under(counts: UnitCounts, index: u32) -> Option<WasmGcUnit>
     ensures { result ≡ export_unit counts ExternalKind.Func index }
 {
-    match imported(counts.function_imports, index) {
+    match number_below(counts.function_imports, index) {
         Some(index) => Some(WasmGcUnit::FunctionImport(index)),
         None => {
-            let index = defined(counts.function_imports, counts.functions, index)?;
+            let index = defined_number(counts.function_imports, counts.functions, index)?;
             Some(WasmGcUnit::DefinedFunction(index))
         }
     }
@@ -48,10 +46,10 @@ fn function_under(counts: UnitCounts, index: u32) -> Option<WasmGcUnit>
 fn global_under(counts: UnitCounts, index: u32) -> Option<WasmGcUnit>
     ensures { result ≡ export_unit counts ExternalKind.Global index }
 {
-    match imported(counts.global_imports, index) {
+    match number_below(counts.global_imports, index) {
         Some(index) => Some(WasmGcUnit::GlobalImport(index)),
         None => {
-            let index = defined(counts.global_imports, counts.globals, index)?;
+            let index = defined_number(counts.global_imports, counts.globals, index)?;
             Some(WasmGcUnit::DefinedGlobal(index))
         }
     }
@@ -98,18 +96,11 @@ fn push_exports(
     Ok(())
 }
 
-/// Whether a symbol is kept by itself.
-fn is_not_stripped(symbol: &WasmSymbol<'_>) -> bool
-    ensures { result ≡ has_flag symbol.now.flags 0x80 }
-{
-    symbol.flags.contains(SymbolFlags::NO_STRIP)
-}
-
 /// Whether a symbol is kept for the host, or by itself.
 fn is_kept_symbol(symbol: &WasmSymbol<'_>) -> bool
     ensures { result ≡ is_kept_symbol symbol.now }
 {
-    is_exported(symbol) || is_not_stripped(symbol)
+    symbol.is_exported() || symbol.is_no_strip()
 }
 
 /// Whether a symbol is kept, as itself or as one of all candidates.

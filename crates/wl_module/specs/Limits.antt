@@ -7,6 +7,7 @@ use Rattle.wl_module.specs.declared.limits.Limits.{Limits}
 use Rattle.wl_module.specs.declared.limits.LimitsFlags.{LimitsFlags}
 use Rattle.wl_module.specs.declared.limits.MemoryType.{MemoryType}
 use Rattle.wl_module.specs.declared.limits.TableType.{TableType}
+use Rattle.wl_module.specs.declared.limits.TheConstants.{MAX_PAGES}
 use Rattle.wl_bytes.specs.declared.read_error.Why.TheVariants.{BadByte, BadLimits}
 use Rattle.wl_bytes.specs.declared.read_error.Form.TheVariants.{Memory64, PageSize, TableForm, TableType as OtherElements}
 use Rattle.wl_bytes.specs.declared.read_error.ReadError.{ReadError}
@@ -109,10 +110,10 @@ are_within n minimum (Some maximum) = nat_le minimum n && nat_le maximum n
 abbrev pub limits_fit : Limits → Bool
 limits_fit l = is_ordered l.minimum l.maximum
 
--- a memory's limits that can be: at most 65536 pages, and with a maximum where it is shared
+-- a memory's limits that can be: not above the greatest size, and with a maximum where it is shared
 abbrev pub memory_limits_fit : Limits → Bool
 memory_limits_fit l =
-    limits_fit l && (are_within 65536 l.minimum l.maximum && (not l.shared || is_some l.maximum))
+    limits_fit l && (are_within MAX_PAGES l.minimum l.maximum && (not l.shared || is_some l.maximum))
 
 -- ---- memories
 

@@ -31,7 +31,7 @@ pub use imports::{
     imports_or_fault, placed_imports_or_fault, read_imports, read_placed_imports,
 };
 pub use laws::{lists_are_few, parts_stand};
-pub use limits::{Limits, MemoryType, TableType};
+pub use limits::{Limits, MAX_PAGES, MemoryType, TableType, WASM_PAGE_SIZE};
 pub use memories::{data_count_or_fault, memories_or_fault, read_data_count, read_memories};
 pub use section_kind::SectionKind;
 pub use sections::{

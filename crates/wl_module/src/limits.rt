@@ -9,14 +9,17 @@ ghost use Rattle.wl_bytes.specs.Outcome.{Yields};
 
 use wl_bytes::{Form, ReadError, Reader, Why};
 
+/// The bytes of a page of memory (core specification, "Memory Instances").
+pub const WASM_PAGE_SIZE: u32 = 65_536;
+
 /// The greatest size of a memory with addresses of 32 bits, in pages.
-const MAX_PAGES: u64 = 65536;
+pub const MAX_PAGES: u64 = 65_536;
 
 /// The byte of a table's elements that are references to functions.
 const FUNCREF: u8 = 0x70;
 
-/// How large something is at first, and how large it may grow: a memory in pages of 65536 bytes,
-/// a table in elements.
+/// How large something is at first, and how large it may grow: a memory in pages of
+/// [`WASM_PAGE_SIZE`] bytes, a table in elements.
 #[derive(Clone, Copy, PartialEq, Eq)]
 pub struct Limits {
     /// The size at first.
@@ -50,7 +53,7 @@ impl Limits {
     }
 }
 
-/// The size of a memory, in pages of 65536 bytes.
+/// The size of a memory, in pages of [`WASM_PAGE_SIZE`] bytes.
 #[derive(Clone, Copy, Debug, PartialEq, Eq)]
 pub struct MemoryType {
     /// The size at first.

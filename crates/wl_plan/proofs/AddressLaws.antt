@@ -10,7 +10,7 @@ use Rattle.wl_module.specs.Segments.{Segment}
 use Rattle.wl_linking.specs.Fitting.{IsFitting}
 use Rattle.wl_linking.specs.Object.{Object}
 use Rattle.wl_linking.specs.Spaces.{spaces_of, symbol_exists, thing_exists}
-use Rattle.wl_custom.specs.Symbols.{Symbol as LinkedSymbol, is_data, is_undefined, is_absolute}
+use Rattle.wl_custom.specs.Symbols.{Symbol as LinkedSymbol, is_data, is_defined_data, is_undefined, is_absolute}
 use Rattle.wl_custom.specs.declared.symbols.WasmSymbolKind.{WasmSymbolKind}
 use Rattle.wl_custom.specs.declared.symbols.WasmSymbolKind.TheVariants.{Func, Data, Global, Section, Event, Table}
 use Rattle.wl_symbols.specs.Entries.{symbol_in}
@@ -427,31 +427,36 @@ data_kind Section is = absurd cc
 data_kind Event is = absurd cc
 data_kind Table is = absurd cc
 
+-- both parts of that
+defined_parts : (kind undefined : Bool) → (kind && not undefined) ≡ true
+    → (kind ≡ true) × (undefined ≡ false)
+defined_parts true false is = (refl, refl)
+defined_parts true true is = absurd cc
+defined_parts false undefined is = absurd cc
+
 -- the segment of data that is defined and not absolute exists
 pub segment_within : (o : Object) (number : ℕ) (s : LinkedSymbol) → IsFitting o
-    → slice_get o.symbols number ≡ Some s → is_data s.kind ≡ true → is_undefined s ≡ false
-    → is_absolute s ≡ false → s.index < length o.segments
-segment_within o number s fit at is defined relative =
+    → slice_get o.symbols number ≡ Some s → is_defined_data s ≡ true → is_absolute s ≡ false
+    → s.index < length o.segments
+segment_within o number s fit at is relative =
+    let parts = defined_parts (is_data s.kind) (is_undefined s) is in
     let there : symbol_exists (spaces_of o) s ≡ true =
     test_at (symbol_exists (spaces_of o)) o.symbols number s fit.names.symbols at in
     let e : symbol_exists (spaces_of o) s ≡ nat_lt s.index (length o.segments) =
     ap (λ (b : Bool). b || thing_exists (spaces_of o) s.kind (is_undefined s) s.index) relative
     ∙ (ap (λ (k : WasmSymbolKind). thing_exists (spaces_of o) k (is_undefined s) s.index)
-    (data_kind s.kind is)
-    ∙ ap (λ (b : Bool). b || nat_lt s.index (length o.segments)) defined) in
+    (data_kind s.kind parts.0)
+    ∙ ap (λ (b : Bool). b || nat_lt s.index (length o.segments)) parts.1) in
     let lt : nat_lt s.index (length o.segments) ≡ true = sym e ∙ there in
     grind (arith, lt)
 
 -- the address of such data
 pub data_found : (g : Placing) (object : ℕ) (s : LinkedSymbol) (start : WasmDataAddress)
-    (index offset : ℕ) → is_data s.kind ≡ true → is_undefined s ≡ false → is_absolute s ≡ false
-    → index ≡ s.index → offset ≡ s.offset → start ≡ segment_start (layouts_of g object) index
+    (index offset : ℕ) → is_defined_data s ≡ true → is_absolute s ≡ false → index ≡ s.index → offset ≡ s.offset → start ≡ segment_start (layouts_of g object) index
     → behind start offset ≡ data_by g object s
-data_found g object s start index offset is defined relative number place begins =
-    let both : (is_data s.kind && not (is_undefined s)) ≡ true =
-    ap (λ (b : Bool). b && not (is_undefined s)) is ∙ ap not defined in
+data_found g object s start index offset is relative number place begins =
     let one : data_by g object s ≡ defined_data g object s =
-    ap (λ (b : Bool). if b then defined_data g object s else Missing) both in
+    ap (λ (b : Bool). if b then defined_data g object s else Missing) is in
     let at : WasmDataAddress = behind (segment_start (layouts_of g object) s.index) s.offset in
     let two : defined_data g object s ≡ at =
     ap (λ (b : Bool). if b then Placed s.offset else at) relative in

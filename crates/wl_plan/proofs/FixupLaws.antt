@@ -10,7 +10,7 @@ use Rattle.std.proofs.lemmas.Option.{slice_get-map, slice_get_past, slice_get_wi
 use Rattle.wl_linking.specs.Object.{Object}
 use Rattle.wl_custom.specs.RelocationTypes.{names_a_type}
 use Rattle.wl_linking.specs.Steps.{Clear}
-use Rattle.wl_custom.specs.Symbols.{Symbol as LinkedSymbol, is_data}
+use Rattle.wl_custom.specs.Symbols.{Symbol as LinkedSymbol, is_data, is_function, is_table}
 use Rattle.wl_custom.specs.declared.relocation_type.RelocationType.{RelocationType}
 use Rattle.wl_custom.specs.declared.relocation_type.RelocationType.TheVariants as type
 use Rattle.wl_custom.specs.declared.relocations.WasmRelocation.{WasmRelocation}
@@ -18,8 +18,7 @@ use Rattle.wl_custom.specs.declared.symbols.WasmSymbolKind.{WasmSymbolKind}
 use Rattle.wl_custom.specs.declared.symbols.WasmSymbolKind.TheVariants as kind
 use Rattle.wl_index.specs.declared.data_address.WasmDataAddress.{WasmDataAddress}
 use Rattle.wl_index.specs.declared.data_address.WasmDataAddress.TheVariants as address
-use Rattle.wl_types.specs.Types.{max_entries}
-use Rattle.wl_index.specs.declared.index.TheConstants.{WASM_DEAD_INDEX}
+use Rattle.wl_index.specs.declared.index.TheConstants.{WASM_DEAD_INDEX, MAX_ENTRIES}
 use Rattle.wl_reloc.specs.Addresses.{address_value, as_word, is_s32, s32_or_range}
 use Rattle.wl_reloc.specs.Resolving.{Resolver, kept_index, redirect, got_global, slot_in, function_index, slot_of as resolved_slot, behind_first, global_index, table_number, address_in, address_of, taken_of, taken_at, taken, resolved}
 use Rattle.wl_reloc.specs.Takings.{taking_of}
@@ -32,13 +31,12 @@ use Rattle.wl_reloc.specs.declared.takings.AddressBase.TheVariants.{Memory, Memo
 use Rattle.wl_reloc.specs.declared.takings.Taking.{Taking}
 use Rattle.wl_reloc.specs.declared.takings.Taking.TheVariants.{FunctionIndex, Slot, SlotBehindBase, GlobalIndex, TableNumber, Address}
 use Rattle.wl_symbols.specs.Entries.{symbol_in}
-use Rattle.wl_custom.specs.Symbols.{is_function_kind}
 use Rattle.wl_bind.specs.FunctionSpace.{FunctionEntry, FunctionOf, function_space}
 use Rattle.wl_bind.specs.FunctionSymbols.{fun}
 use Rattle.wl_bind.specs.GlobalSpace.{GlobalEntry, global_space, local_globals}
 use Rattle.wl_bind.specs.IndexMaps.{is_kept_target, entry_of, symbol_function, symbol_functions, got_mem_global, got_mem_globals, got_func_global, got_func_globals}
 use Rattle.wl_symbols.specs.Input.{Input}
-use Rattle.wl_bind.specs.Kinds.{takes_kind, is_table_kind}
+use Rattle.wl_bind.specs.Kinds.{takes_kind}
 use Rattle.wl_bind.specs.OutputTypes.{output_types, local_types}
 use Rattle.wl_bind.specs.Parts.{IsIndexOf, AreIndicesOf, IsPlaceOf, ArePlacesOf}
 use Rattle.wl_bind.specs.References.{there, live_type, symbol_global, HasSlot, IsInOutput, IsSettled, NamesType, NamesSymbol, NamesFunction, NamesGlobal}
@@ -94,7 +92,7 @@ place_at space (o ∷ entries) (p ∷ places) (suc k) x h e = place_at space ent
 not_dead : (i : ℕ) → i < WASM_DEAD_INDEX → eqb i WASM_DEAD_INDEX ≡ false
 not_dead i lt = ne_eqb i WASM_DEAD_INDEX (λ e. absurd (omega (arith, lt, e)))
 
-index_kept : {X : Type 0} (space : List X) (i : ℕ) (x : X) → length space ≤ max_entries
+index_kept : {X : Type 0} (space : List X) (i : ℕ) (x : X) → length space ≤ MAX_ENTRIES
     → slice_get space i ≡ Some x → kept_index (Some i) ≡ Ok i
 index_kept space i x few at =
     rw (not_dead i (omega (arith, few, slice_get_within space i x at))) refl
@@ -315,7 +313,7 @@ module _ (input : Input) (g : Placing) (r : Relocated) (o : Object) (m : WasmObj
 
   -- ---- functions
 
-  function_kind : (k : WasmSymbolKind) → is_function_kind k ≡ true → k ≡ kind.Func
+  function_kind : (k : WasmSymbolKind) → is_function k ≡ true → k ≡ kind.Func
   function_kind kind.Func e = refl
   function_kind kind.Data e = absurd cc
   function_kind kind.Global e = absurd cc
@@ -339,14 +337,14 @@ module _ (input : Input) (g : Placing) (r : Relocated) (o : Object) (m : WasmObj
     names : names_function input r ≡ true
 
   leads_to : (n : Names) → names_a_type r.relocation.ty ≡ false
-      → is_function_kind n.symbol.kind ≡ true → Leads
+      → is_function n.symbol.kind ≡ true → Leads
   leads_to n none is =
       let at = n.at in
       let symbol : symbol_of input r ≡ Some n.symbol =
       ap (option_and_then (λ (p : Object). slice_get p.symbols r.relocation.index)) known.here ∙ at in
       let names : names_function input r ≡ true =
       ap (λ (s : Option LinkedSymbol). option_map_or
-      (λ (t : LinkedSymbol). is_function_kind t.kind) s false) symbol ∙ is in
+      (λ (t : LinkedSymbol). is_function t.kind) s false) symbol ∙ is in
       let h = known.laws.functions input r known.settled known.kept none names in
       let entry : symbol_function input r.object r.relocation.index ≡ Some (FunctionOf h.target) =
       ap (option_and_then (entry_of input)) h.leads
@@ -369,7 +367,7 @@ module _ (input : Input) (g : Placing) (r : Relocated) (o : Object) (m : WasmObj
         names = names;
       }
 
-  index_of : (n : Names) → is_function_kind n.symbol.kind ≡ true → (l : Leads)
+  index_of : (n : Names) → is_function n.symbol.kind ≡ true → (l : Leads)
       → function_index (resolver_of input g o m) n.symbol.kind r.relocation.index ≡ Ok l.place
   index_of n is l =
       ap (λ (k : WasmSymbolKind). function_index (resolver_of input g o m) k r.relocation.index)
@@ -377,7 +375,7 @@ module _ (input : Input) (g : Placing) (r : Relocated) (o : Object) (m : WasmObj
       ∙ l.index
 
   function_answers : (left : ℤ) → left ≡ pos 0 → names_a_type r.relocation.ty ≡ false
-      → (n : Names) → is_function_kind n.symbol.kind ≡ true
+      → (n : Names) → is_function n.symbol.kind ≡ true
       → Answers input g r (Some FunctionIndex) (with_left left
       (taken (resolver_of input g o m) r.relocation (Some FunctionIndex)))
   function_answers left no_rest none n is =
@@ -393,12 +391,12 @@ module _ (input : Input) (g : Placing) (r : Relocated) (o : Object) (m : WasmObj
     slot : ℕ
     named_slot : slot_named input r ≡ Some slot
     resolves : (s : LinkedSymbol) → slice_get o.symbols r.relocation.index ≡ Some s
-        → is_function_kind s.kind ≡ true
+        → is_function s.kind ≡ true
         → resolved_slot (resolver_of input g o m)
         (function_index (resolver_of input g o m) s.kind r.relocation.index) ≡ Ok slot
 
   slotted : (n : Names) → names_a_type r.relocation.ty ≡ false
-      → is_function_kind n.symbol.kind ≡ true
+      → is_function n.symbol.kind ≡ true
       → (is_table_index r.relocation.ty || is_global_index r.relocation.ty) ≡ true → Slotted
   slotted n none is asks =
       let l = leads_to n none is in
@@ -422,7 +420,7 @@ module _ (input : Input) (g : Placing) (r : Relocated) (o : Object) (m : WasmObj
       }
 
   slot_answers : (left : ℤ) → left ≡ pos 0 → names_a_type r.relocation.ty ≡ false
-      → (n : Names) → is_function_kind n.symbol.kind ≡ true
+      → (n : Names) → is_function n.symbol.kind ≡ true
       → (is_table_index r.relocation.ty || is_global_index r.relocation.ty) ≡ true
       → Answers input g r (Some Slot) (with_left left
       (taken (resolver_of input g o m) r.relocation (Some Slot)))
@@ -434,7 +432,7 @@ module _ (input : Input) (g : Placing) (r : Relocated) (o : Object) (m : WasmObj
       (no_rest, s.named_slot)
 
   relative_answers : (left : ℤ) → left ≡ pos 0 → names_a_type r.relocation.ty ≡ false
-      → (n : Names) → is_function_kind n.symbol.kind ≡ true
+      → (n : Names) → is_function n.symbol.kind ≡ true
       → (is_table_index r.relocation.ty || is_global_index r.relocation.ty) ≡ true
       → Answers input g r (Some SlotBehindBase) (with_left left
       (taken (resolver_of input g o m) r.relocation (Some SlotBehindBase)))
@@ -510,7 +508,7 @@ module _ (input : Input) (g : Placing) (r : Relocated) (o : Object) (m : WasmObj
 
   -- ---- tables
 
-  table_kind : (k : WasmSymbolKind) → is_table_kind k ≡ true → table_number k ≡ Ok 0
+  table_kind : (k : WasmSymbolKind) → is_table k ≡ true → table_number k ≡ Ok 0
   table_kind kind.Table e = refl
   table_kind kind.Func e = absurd cc
   table_kind kind.Data e = absurd cc
@@ -518,7 +516,7 @@ module _ (input : Input) (g : Placing) (r : Relocated) (o : Object) (m : WasmObj
   table_kind kind.Section e = absurd cc
   table_kind kind.Event e = absurd cc
 
-  table_answers : (left : ℤ) → left ≡ pos 0 → (n : Names) → is_table_kind n.symbol.kind ≡ true
+  table_answers : (left : ℤ) → left ≡ pos 0 → (n : Names) → is_table n.symbol.kind ≡ true
       → Answers input g r (Some TableNumber) (with_left left
       (taken (resolver_of input g o m) r.relocation (Some TableNumber)))
   table_answers left no_rest n is =

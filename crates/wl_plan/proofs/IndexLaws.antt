@@ -13,8 +13,7 @@ use Rattle.wl_linking.specs.declared.error.LinkError.{LinkError}
 use Rattle.wl_data.specs.Segments.{SegmentLayout}
 use Rattle.wl_index.specs.declared.data_address.WasmDataAddress.{WasmDataAddress}
 use Rattle.wl_index.specs.declared.index_map.WasmObjectIndexMap.{WasmObjectIndexMap}
-use Rattle.wl_types.specs.Types.{max_entries}
-use Rattle.wl_index.specs.declared.index.TheConstants.{WASM_DEAD_INDEX}
+use Rattle.wl_index.specs.declared.index.TheConstants.{WASM_DEAD_INDEX, MAX_ENTRIES}
 use Rattle.wl_symbols.specs.declared.units.WasmGcUnit.TheVariants.{DataSegment}
 use Rattle.wl_bind.specs.IndexMaps.{IsIndexMap, AreIndexMaps}
 use Rattle.wl_symbols.specs.Input.{Input, keeps}
@@ -320,8 +319,8 @@ numbers_long layouts first count numbers are =
 -- there is room for the numbers of an object
 pub first_room : (g : Placing) (object first : ℕ) (layouts : List SegmentLayout)
     → slice_get g.places.layouts object ≡ Some layouts
-    → first ≡ segments_before g.places.layouts object → length (segment_space g) ≤ max_entries
-    → first + length layouts ≤ max_entries
+    → first ≡ segments_before g.places.layouts object → length (segment_space g) ≤ MAX_ENTRIES
+    → first + length layouts ≤ MAX_ENTRIES
 first_room g object first layouts here is room =
     let all = before_room g.places.layouts 0 object layouts here in omega (arith, all, is, room)
 

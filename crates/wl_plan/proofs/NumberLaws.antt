@@ -4,8 +4,7 @@ use Rattle.std.specs.List.{range_with_len}
 use Rattle.std.proofs.lemmas.Bool.{cases_Bool}
 use Rattle.std.proofs.lemmas.List.{map_more, length-map}
 use Rattle.std.proofs.lemmas.Option.{slice_get_within}
-use Rattle.wl_types.specs.Types.{max_entries}
-use Rattle.wl_index.specs.declared.index.TheConstants.{WASM_DEAD_INDEX}
+use Rattle.wl_index.specs.declared.index.TheConstants.{WASM_DEAD_INDEX, MAX_ENTRIES}
 use Rattle.wl_linking.specs.Object.{Object}
 use Rattle.wl_symbols.specs.Live.{IsLiveOf}
 use Rattle.wl_symbols.specs.Units.{counts_of, units_of, units_at, exists, unit_number}
@@ -85,7 +84,7 @@ new_none : (indices : List ℕ) (number : ℕ) → slice_get indices number ≡ 
     → new_index (map kept_number indices) number ≡ None
 new_none indices number here = ap flattened (map_none kept_number indices number here)
 
-kept_is : (index : ℕ) → index < max_entries → kept_number index ≡ Some index
+kept_is : (index : ℕ) → index < MAX_ENTRIES → kept_number index ≡ Some index
 kept_is index lt = elim (cases_Bool (index == WASM_DEAD_INDEX)) [
   | inl dead ↦
       let e : index ≡ WASM_DEAD_INDEX = eqb-true index WASM_DEAD_INDEX dead in
@@ -118,7 +117,7 @@ new_is : (input : Input) (g : Placing) (object number index : ℕ)
 new_is input g object number index kept place = rw kept place
 
 has_number : SegmentsHaveLayouts → (input : Input) (g : Placing) (object : ℕ) (o : Object)
-    (indices : List ℕ) (number : ℕ) → IsPlacing input g → length (segment_space g) ≤ max_entries
+    (indices : List ℕ) (number : ℕ) → IsPlacing input g → length (segment_space g) ≤ MAX_ENTRIES
     → IsLiveOf input.link input.live → slice_get input.link.objects object ≡ Some o
     → AreSegmentIndices input g object o indices
     → keeps input object (DataSegment number) ≡ true → HasNumber input g object indices number
@@ -159,7 +158,7 @@ left_number input g object o indices number are left = by_index (slice_get indic
 
 -- the list has the numbers that segments of the object have
 new_numbers : SegmentsHaveLayouts → (input : Input) (g : Placing) (object : ℕ) (o : Object)
-    (indices : List ℕ) → IsPlacing input g → length (segment_space g) ≤ max_entries
+    (indices : List ℕ) → IsPlacing input g → length (segment_space g) ≤ MAX_ENTRIES
     → IsLiveOf input.link input.live → slice_get input.link.objects object ≡ Some o
     → AreSegmentIndices input g object o indices
     → AreNewNumbers input g object (map kept_number indices)
@@ -185,7 +184,7 @@ numbers_of m = map kept_number m.segment_indices
 -- so it is with each object
 pub all_numbered : SegmentsHaveLayouts → (input : Input) (g : Placing)
     (maps : List WasmObjectIndexMap) → IsPlacing input g
-    → length (segment_space g) ≤ max_entries → IsLiveOf input.link input.live
+    → length (segment_space g) ≤ MAX_ENTRIES → IsLiveOf input.link input.live
     → AreWholeMaps input g maps → AreAllNumbers input g (map numbers_of maps)
 all_numbered law input g maps placed room live are = record {
   len = length-map maps numbers_of ∙ rows_length (IsWholeMap input g) 0 input.link.objects maps are;

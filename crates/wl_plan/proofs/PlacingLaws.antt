@@ -12,11 +12,12 @@ use Rattle.wl_linking.specs.Steps.{Clear, NoStep, Refuses, Step, behind, here}
 use Rattle.wl_linking.specs.declared.error.LinkError.{LinkError}
 use Rattle.wl_linking.specs.declared.error.LinkError.TheVariants.{TooLarge}
 use Rattle.wl_linking.specs.declared.error.Quantity.TheVariants.{Space}
-use Rattle.wl_types.specs.Types.{max_entries}
+use Rattle.wl_index.specs.declared.index.TheConstants.{MAX_ENTRIES}
 use Rattle.wl_data.specs.DataPlaces.{DataInput, HasLayout, HaveLayouts, IsDataPlaces, IsPastMemory, data_of, in_output_order, is_thread_local}
 use Rattle.wl_data.specs.MemorySize.{memory_fault, needs_of}
 use Rattle.wl_data.specs.Segments.{KeptData, SegmentLayout}
-use Rattle.wl_data.specs.Stack.{IsBadStackSize, IsStackTooHigh, stack_start}
+use Rattle.wl_index.specs.Memory.{stack_start}
+use Rattle.wl_data.specs.Stack.{IsBadStackSize, IsStackTooHigh}
 use Rattle.wl_data.specs.declared.options.DataOptions.{DataOptions}
 use Rattle.wl_data.specs.declared.places.DataPlaces.{DataPlaces}
 use Rattle.wl_words.specs.declared.args.WasmArgs.{WasmArgs}
@@ -127,9 +128,9 @@ layouts_total o (ss ∷ rows) [] h = absurd h
 layouts_total o (ss ∷ rows) (ls ∷ laid) h = omega (arith, layouts_length o ss ls h.0, layouts_total o rows laid h.1)
 
 -- no more than a space may have, where those that are kept aren't too many
-pub numbers_few : (input : Input) (o : DataOptions) (laid : List (List SegmentLayout)) → Clear (AreTooManySegments input) → AllZip (HaveLayouts o) (all_segments input) laid → length (numbers_from 0 laid) ≤ max_entries
+pub numbers_few : (input : Input) (o : DataOptions) (laid : List (List SegmentLayout)) → Clear (AreTooManySegments input) → AllZip (HaveLayouts o) (all_segments input) laid → length (numbers_from 0 laid) ≤ MAX_ENTRIES
 numbers_few input o laid clear h =
-    elim (cases_lt max_entries (sum_by length (all_segments input))) [
+    elim (cases_lt MAX_ENTRIES (sum_by length (all_segments input))) [
       | inl many ↦ absurd (clear.none (TooLarge Space) (refl, many))
       | inr few ↦ omega (arith, few, total_from 0 (all_segments input), numbers_total 0 laid, layouts_total o (all_segments input) laid h)
     ]
@@ -216,7 +217,7 @@ on_ok (Ok x) step h = step h
 on_ok (Err e) step h = h
 
 -- how many segments an answer has
-pub few_if : {E : Type 0} (r : Result Placing E) (input : Input) (places : DataPlaces) → IfOk r (λ (g : Placing). g ≡ placing_of input places) → length (numbers_from 0 places.layouts) ≤ max_entries
-    → IfOk r (λ (g : Placing). length (segment_space g) ≤ max_entries)
-few_if (Ok g) input places is few = subst (λ (x : Placing). length (segment_space x) ≤ max_entries) (sym is) few
+pub few_if : {E : Type 0} (r : Result Placing E) (input : Input) (places : DataPlaces) → IfOk r (λ (g : Placing). g ≡ placing_of input places) → length (numbers_from 0 places.layouts) ≤ MAX_ENTRIES
+    → IfOk r (λ (g : Placing). length (segment_space g) ≤ MAX_ENTRIES)
+few_if (Ok g) input places is few = subst (λ (x : Placing). length (segment_space x) ≤ MAX_ENTRIES) (sym is) few
 few_if (Err e) input places is few = is

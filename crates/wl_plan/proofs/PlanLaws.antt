@@ -11,7 +11,7 @@ use Rattle.wl_linking.specs.declared.error.Quantity.TheVariants.{Space}
 use Rattle.wl_symbols.specs.ImportSlots.{ImportSlot}
 use Rattle.wl_symbols.specs.Left.{first_imports, first_slot}
 use Rattle.wl_symbols.specs.declared.linker_symbol.WasmLinkerSymbol.TheVariants.{CallCtors, InitTls}
-use Rattle.wl_types.specs.Types.{max_entries}
+use Rattle.wl_index.specs.declared.index.TheConstants.{MAX_ENTRIES}
 use Rattle.wl_data.specs.Segments.{SegmentLayout}
 use Rattle.wl_data.specs.Sizes.{all_encoded_bytes, body_bytes, segment_count}
 use Rattle.wl_data.specs.DataPlaces.{IsPastMemory}
@@ -88,8 +88,8 @@ space_clear input clear =
     (rest_clear (IsUndefinedData input) _ (rest_clear (IsMismatch input) _
     (rest_clear (IsWrongKind input) _ clear))))))
 
-pub at_most : (n : ℕ) → (max_entries < n → ⊥) → n ≤ max_entries
-at_most n none = elim (cases_lt max_entries n) [ inl over ↦ absurd (none over) | inr le ↦ le ]
+pub at_most : (n : ℕ) → (MAX_ENTRIES < n → ⊥) → n ≤ MAX_ENTRIES
+at_most n none = elim (cases_lt MAX_ENTRIES n) [ inl over ↦ absurd (none over) | inr le ↦ le ]
 
 pub few_by : (input : Input) → Clear (index_fault input) → AreFew input
 few_by input clear =
@@ -142,7 +142,7 @@ hosts_within input =
     ∷ stub_part input ∷ []) (object_functions input)
 
 pub bodies_few : (input : Input) (g : Placing) (bodies : List Body) → HasWrapperRoom input
-    → AreBodies input g bodies → length bodies ≤ max_entries
+    → AreBodies input g bodies → length bodies ≤ MAX_ENTRIES
 bodies_few input g bodies few h =
     let own = zip_length (IsBodyOf input g) (own_functions input) h.own h.are_own in
     let wrappers = zip_length (IsWrapperBody input) (wrapped input) h.wrappers h.are_wrappers in
@@ -185,8 +185,8 @@ numbers_length n (row ∷ rows) =
     sum_by-cons length row rows in
     omega (arith, here, len, rest, sum)
 
-pub segments_few : (g : Placing) → length (segment_space g) ≤ max_entries
-    → segment_count g.places.layouts ≤ max_entries
+pub segments_few : (g : Placing) → length (segment_space g) ≤ MAX_ENTRIES
+    → segment_count g.places.layouts ≤ MAX_ENTRIES
 segments_few g few =
     let len = numbers_length 0 g.places.layouts in omega (arith, few, len)
 

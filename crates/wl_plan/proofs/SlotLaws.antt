@@ -4,8 +4,7 @@ use Rattle.std.specs.List.{AllZip, position_or_len, prefix_len}
 use Rattle.std.specs.Option.{option_map}
 use Rattle.std.proofs.lemmas.Bool.{cases_Bool, eqb-true, eqb-false, eq-eqb, lt-ltb}
 use Rattle.std.proofs.lemmas.Option.{slice_get_within}
-use Rattle.wl_types.specs.Types.{max_entries}
-use Rattle.wl_index.specs.declared.index.TheConstants.{WASM_DEAD_INDEX}
+use Rattle.wl_index.specs.declared.index.TheConstants.{WASM_DEAD_INDEX, MAX_ENTRIES}
 use Rattle.wl_bind.specs.FunctionSpace.{FunctionEntry, FunctionOf, function_space}
 use Rattle.wl_symbols.specs.Input.{Input}
 use Rattle.wl_bind.specs.References.{HasSlot}
@@ -153,14 +152,14 @@ pub record SlotIs (input : Input) (target : FunctionTarget) : Type 0 where
   pub low : slot < WASM_DEAD_INDEX
 
 behind_first : (input : Input) (target : FunctionTarget) → same_target target target ≡ true
-    → length (table_functions input) ≤ max_entries → Contains (table_functions input) target
+    → length (table_functions input) ≤ MAX_ENTRIES → Contains (table_functions input) target
     → (slot : ℕ) × (slot_behind_first input target ≡ Some slot) × (slot < WASM_DEAD_INDEX)
 behind_first input target itself few h =
     let at = place_of (same_target target) (table_functions input) target h itself in
     (at.0 + 1, ap (option_map (λ (place : ℕ). place + 1)) at.1, omega (arith, at.2, few))
 
 pub slot_is : TableLaws → (input : Input) (target : FunctionTarget)
-    → length (table_functions input) ≤ max_entries → HasSlot input target → SlotIs input target
+    → length (table_functions input) ≤ MAX_ENTRIES → HasSlot input target → SlotIs input target
 slot_is laws input (Stub object slot) few h = record { slot = 0; is = refl; low = omega arith }
 slot_is laws input (Defined object function) few h =
     let s = behind_first input (Defined object function) (laws.itself (Defined object function)) few h in

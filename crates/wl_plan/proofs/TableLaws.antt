@@ -22,7 +22,7 @@ use Rattle.wl_symbols.specs.declared.targets.SlotTarget.{SlotTarget}
 use Rattle.wl_symbols.specs.declared.targets.SlotTarget.TheVariants as slot
 use Rattle.wl_symbols.specs.declared.linker_symbol.WasmLinkerSymbol.{WasmLinkerSymbol}
 use Rattle.wl_symbols.specs.declared.linker_symbol.WasmLinkerSymbol.TheVariants as made
-use Rattle.wl_types.specs.Types.{max_entries}
+use Rattle.wl_index.specs.declared.index.TheConstants.{MAX_ENTRIES}
 use Rattle.wl_bind.specs.FunctionBinding.{left_functions, link_stubs, host_functions, named_function, by_stub, by_host, binds_function}
 use Rattle.wl_bind.specs.FunctionSpace.{FunctionEntry, FunctionOf, host_function_part, function_space, function_slot_entry, own_function_entry, local_functions}
 use Rattle.wl_symbols.specs.Input.{Input}
@@ -507,8 +507,8 @@ table_is_few input is =
 
 -- the slot of one of them is a number of 32 bits
 pub slot_fits : (input : Input) (target : FunctionTarget) (place : ℕ) → TableIs input
-    → length (function_space input) ≤ max_entries → position (same_target target) (table_functions input) ≡ Some place
-    → place + 1 ≤ max_entries
+    → length (function_space input) ≤ MAX_ENTRIES → position (same_target target) (table_functions input) ≡ Some place
+    → place + 1 ≤ MAX_ENTRIES
 slot_fits input target place is room at =
     let found = position-Some (same_target target) (table_functions input) place target at in
     let lt = found.0 in

@@ -10,8 +10,7 @@ use Rattle.std.proofs.lemmas.Option.{slice_get-get_or, slice_get_within}
 use Rattle.wl_symbols.specs.ImportSlots.{ImportSlot}
 use Rattle.wl_symbols.specs.Left.{first_imports}
 use Rattle.wl_symbols.specs.declared.linker_symbol.WasmLinkerSymbol.TheVariants.{CallCtors, InitTls}
-use Rattle.wl_types.specs.Types.{max_entries}
-use Rattle.wl_index.specs.declared.index.TheConstants.{WASM_DEAD_INDEX}
+use Rattle.wl_index.specs.declared.index.TheConstants.{WASM_DEAD_INDEX, MAX_ENTRIES}
 use Rattle.wl_bind.specs.FunctionBinding.{link_stubs, host_functions}
 use Rattle.wl_bind.specs.FunctionSpace.{FunctionEntry, FunctionOf, InitMemory, host_function_part, made_function_part, init_memory_part, stub_part, kept_functions, functions_of, object_functions, function_parts, function_space}
 use Rattle.wl_symbols.specs.Input.{Input}
@@ -422,8 +421,8 @@ elements_length input elements zip = zip_length (IsElement input) (table_functio
 
 -- the slot of an element is a number of 32 bits
 pub element_fits : (input : Input) (elements : List ℕ) (k : ℕ) → TableIs input
-    → AllZip (IsElement input) (table_functions input) elements → length (function_space input) ≤ max_entries
-    → k < length elements → k + 1 ≤ max_entries
+    → AllZip (IsElement input) (table_functions input) elements → length (function_space input) ≤ MAX_ENTRIES
+    → k < length elements → k + 1 ≤ MAX_ENTRIES
 element_fits input elements k is zip room lt =
     let a = table_is_few input is in
     let b = elements_length input elements zip in

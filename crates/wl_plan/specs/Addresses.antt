@@ -3,7 +3,7 @@ use Rattle.std.specs.Prelude.{◌≡◌, ◌⊎◌, ◌≤◌, ℕ, ◌+◌, ◌
 use Rattle.std.specs.List.{range_with_len, slice_index_or}
 use Rattle.std.specs.Option.{option_map_or}
 use Rattle.wl_linking.specs.Object.{Object}
-use Rattle.wl_custom.specs.Symbols.{Symbol as LinkedSymbol, is_data, is_undefined, is_absolute}
+use Rattle.wl_custom.specs.Symbols.{Symbol as LinkedSymbol, is_data, is_defined_data, is_absolute}
 use Rattle.wl_linking.specs.declared.error.LinkError.{LinkError}
 use Rattle.wl_linking.specs.declared.error.LinkError.TheVariants.{TooLarge}
 use Rattle.wl_linking.specs.declared.error.Quantity.TheVariants.{Address}
@@ -96,7 +96,7 @@ defined_data g object s =
 -- the address of what a symbol of an object defines, if that is data
 abbrev pub data_by : Placing → ℕ → LinkedSymbol → WasmDataAddress
 data_by g object s =
-    if is_data s.kind && not (is_undefined s) then defined_data g object s else Missing
+    if is_defined_data s then defined_data g object s else Missing
 
 -- the address of data that the linker makes; other things have none
 abbrev pub linker_address : Input → Placing → WasmLinkerSymbol → Option ℕ

@@ -1,6 +1,6 @@
 -- What the references of a link are bound to.
 use Rattle.std.specs.Prelude.{◌≡◌, ◌≤◌, length}
-use Rattle.wl_types.specs.Types.{max_entries}
+use Rattle.wl_index.specs.declared.index.TheConstants.{MAX_ENTRIES}
 use Rattle.wl_bind.specs.FunctionSpace.{function_space}
 use Rattle.wl_bind.specs.FunctionTypes.{stub_types}
 use Rattle.wl_symbols.specs.Input.{Input}
@@ -21,4 +21,4 @@ pub record AreBindings (input : Input) (b : Bindings) : Type 0 where
   pub indices : AreMadeIndices input b.indices
   pub types : b.types ≡ output_types input
   pub calls : AreInitCalls input b.calls
-  pub room : length (function_space input) ≤ max_entries
+  pub room : length (function_space input) ≤ MAX_ENTRIES

@@ -8,7 +8,7 @@ use Rattle.wl_custom.specs.declared.relocation_type.RelocationType.TheVariants.{
 use Rattle.wl_custom.specs.declared.relocations.WasmRelocation.{WasmRelocation}
 use Rattle.wl_index.specs.declared.data_address.WasmDataAddress.{WasmDataAddress}
 use Rattle.wl_index.specs.declared.data_address.WasmDataAddress.TheVariants.{Missing, Placed, Passive, TlsOffset}
-use Rattle.wl_types.specs.Types.{max_entries}
+use Rattle.wl_index.specs.declared.index.TheConstants.{MAX_ENTRIES}
 use Rattle.wl_reloc.specs.Takings.{taking_of}
 use Rattle.wl_reloc.specs.declared.addresses.AddressBases.{AddressBases}
 use Rattle.wl_reloc.specs.declared.error.RelocError.{RelocError}
@@ -31,9 +31,9 @@ use Rattle.wl_plan.specs.declared.placing.Placing.{Placing}
 
 -- there is room in the spaces of the output, and for the slots of the functions of the table
 pub record HasRoom (input : Input) : Type 0 where
-  pub types : length (output_types input) ≤ max_entries
-  pub globals : length (global_space input) ≤ max_entries
-  pub table : length (table_functions input) ≤ max_entries
+  pub types : length (output_types input) ≤ MAX_ENTRIES
+  pub globals : length (global_space input) ≤ MAX_ENTRIES
+  pub table : length (table_functions input) ≤ MAX_ENTRIES
 
 -- they are those of one link
 pub record AreFixupSources (s : FixupSources) : Type 0 where

@@ -2,6 +2,7 @@
 use Rattle.std.specs.Prelude.{◌≡◌, ◌⊎◌, ℕ, ℤ, pos, ◌+ℤ◌, ◌-ℤ◌, ◌-◌, List, option_map, Option, Some, None, Result, Ok, Err, Contains, slice_get}
 use Rattle.std.specs.List.{AllZip}
 use Rattle.std.specs.Option.{option_and_then}
+use Rattle.wl_index.specs.declared.index.TheConstants.{LINKER_TABLE_BASE}
 use Rattle.wl_module.specs.Types.{FunctionType}
 use Rattle.wl_bytes.specs.declared.read_error.Form.TheVariants.{PassiveAddress, TlsAddress}
 use Rattle.wl_linking.specs.Object.{Object}
@@ -94,7 +95,7 @@ IsTaken input g r (Some FunctionIndex) (Value value left) =
 IsTaken input g r (Some Slot) (Value value left) =
     (left ≡ pos 0) × (slot_named input r ≡ Some value)
 IsTaken input g r (Some SlotBehindBase) (Value value left) =
-    (left ≡ pos 0) × (option_map (λ (slot : ℕ). slot - 1) (slot_named input r) ≡ Some value)
+    (left ≡ pos 0) × (option_map (λ (slot : ℕ). slot - LINKER_TABLE_BASE) (slot_named input r) ≡ Some value)
 IsTaken input g r (Some GlobalIndex) (Value value left) =
     (left ≡ pos 0) × StandsAt (global_space input) (global_named input r) value
 IsTaken input g r (Some TableNumber) (Value value left) = (left ≡ pos 0) × (value ≡ 0)

@@ -4,12 +4,13 @@ use Rattle.std.specs.Int.{w32, cast_signed}
 use Rattle.std.specs.List.{AllZip}
 use Rattle.std.specs.Option.{option_map_or, option_and_then}
 use Rattle.wl_bytes.specs.Leb.{AppendsSleb}
+use Rattle.wl_index.specs.declared.index.TheConstants.{LINKER_TABLE_BASE}
 use Rattle.wl_module.specs.Globals.{DefinedGlobal}
 use Rattle.wl_bytes.specs.declared.read_error.Form.TheVariants.{PassiveAddress, TlsAddress}
 use Rattle.wl_module.specs.declared.globals.GlobalType.{GlobalType}
 use Rattle.wl_module.specs.declared.types.ValType.TheVariants.{I32}
 use Rattle.wl_linking.specs.Object.{Object}
-use Rattle.wl_custom.specs.Symbols.{Symbol as LinkedSymbol, has_flag}
+use Rattle.wl_custom.specs.Symbols.{Symbol as LinkedSymbol, is_thread_local}
 use Rattle.wl_linking.specs.declared.error.LinkError.{LinkError}
 use Rattle.wl_linking.specs.declared.error.LinkError.TheVariants.{Unsupported, ConstantRange}
 use Rattle.wl_symbols.specs.Entries.{symbol_in}
@@ -88,10 +89,10 @@ own_address g object (Placed place) = own_place object g.places.tls_base place
 own_address g object Passive = Err (Unsupported object PassiveAddress)
 own_address g object (TlsOffset place) = own_place object 0 place
 
--- the symbol says that each thread has its own of the data: TLS, 0x100
+-- the symbol says that each thread has its own of the data
 abbrev pub is_own : Input → DataSymbol → Bool
 is_own input d =
-    option_map_or (λ (s : LinkedSymbol). has_flag s.flags 0x100)
+    option_map_or (λ (s : LinkedSymbol). is_thread_local s)
     (symbol_in input.link.objects d.object d.symbol) false
 
 -- the address of exported data
@@ -123,7 +124,7 @@ got_func_start input (Some p) = constant_or_range (unwrap_or (slot_of input p.1)
 -- what the linker makes under a name
 abbrev pub made_start : Input → Placing → WasmLinkerSymbol → Result ℕ LinkError
 made_start input g linker.MemoryBase = Ok (memory_base_value input)
-made_start input g linker.TableBase = Ok 1
+made_start input g linker.TableBase = Ok LINKER_TABLE_BASE
 made_start input g linker.StackPointer = Ok g.stack_pointer
 made_start input g linker.TlsBase = Ok (if has_shared_tls input then 0 else g.places.tls_base)
 made_start input g linker.TlsSize = constant_or_range g.places.tls_size

@@ -8,7 +8,7 @@ use Rattle.wl_data.specs.Segments.{KeptData}
 use Rattle.wl_symbols.specs.declared.units.WasmGcUnit.TheVariants.{DataSegment}
 use Rattle.wl_symbols.specs.Input.{Input, keeps}
 use Rattle.wl_bind.specs.Made.{is_active}
-use Rattle.wl_bind.specs.ThreadData.{is_thread_data}
+use Rattle.wl_bind.specs.ThreadData.{is_thread_segment}
 
 -- ---- one segment
 
@@ -29,7 +29,7 @@ kept_data o number s = record {
   payload = s.payload;
   payload_start = payload_start s;
   active = is_active s.kind;
-  tls = is_thread_data o number;
+  tls = is_thread_segment o number;
   alignment = alignment_of o number;
 }
 

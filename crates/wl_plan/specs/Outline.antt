@@ -3,7 +3,7 @@ use Rattle.std.specs.Prelude.{◌≤◌, ◌+◌, List, length, Result, OnOk, If
 use Rattle.wl_module.specs.Types.{FunctionType}
 use Rattle.wl_linking.specs.Steps.{Clear, Refuses}
 use Rattle.wl_linking.specs.declared.error.LinkError.{LinkError}
-use Rattle.wl_types.specs.Types.{max_entries}
+use Rattle.wl_index.specs.declared.index.TheConstants.{MAX_ENTRIES}
 use Rattle.wl_features.specs.Taken.{AreTaken}
 use Rattle.wl_bind.specs.FunctionSpace.{function_space}
 use Rattle.wl_bind.specs.GlobalSpace.{global_space}
@@ -18,13 +18,13 @@ use Rattle.wl_plan.specs.declared.outline.Outline.{Outline}
 
 -- there is room for the types, the functions and the globals of the output
 pub record AreFew (input : Input) : Type 0 where
-  pub types : length (output_types input) ≤ max_entries
-  pub functions : length (function_space input) ≤ max_entries
-  pub globals : length (global_space input) ≤ max_entries
+  pub types : length (output_types input) ≤ MAX_ENTRIES
+  pub functions : length (function_space input) ≤ MAX_ENTRIES
+  pub globals : length (global_space input) ≤ MAX_ENTRIES
 
 -- there is room for the wrappers behind the functions
 abbrev pub HasWrapperRoom : Input → Type 0
-HasWrapperRoom input = length (function_space input) + length (wrapped input) ≤ max_entries
+HasWrapperRoom input = length (function_space input) + length (wrapped input) ≤ MAX_ENTRIES
 
 -- it is that of the link
 pub record HasOutline (input : Input) (o : Outline) : Type 0 where

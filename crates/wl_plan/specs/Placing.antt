@@ -1,6 +1,8 @@
 -- Where data, stack and heap lie, and the memory that holds them.
 use Rattle.std.specs.Prelude.{◌≡◌, ◌≤◌, ◌<◌, ℕ, ◌*◌, ◌^◌, ◌==◌, ◌||◌, Bool, not, List, ◌++◌, map, length, max, sum_by, if◌then◌else◌, Option, Some, None}
 use Rattle.std.specs.List.{list_any, flat_map, filter_map}
+use Rattle.wl_index.specs.declared.memory.TheConstants.{LINKER_MEMORY_BASE}
+use Rattle.wl_module.specs.declared.limits.TheConstants.{WASM_PAGE_SIZE}
 use Rattle.wl_module.specs.Imports.{Imported}
 use Rattle.wl_module.specs.declared.imports.ImportEntity.{ImportEntity}
 use Rattle.wl_module.specs.declared.imports.ImportEntity.TheVariants as entity
@@ -10,10 +12,11 @@ use Rattle.wl_linking.specs.Steps.{Step, NoStep}
 use Rattle.wl_linking.specs.declared.error.LinkError.{LinkError}
 use Rattle.wl_linking.specs.declared.error.LinkError.TheVariants.{TooLarge}
 use Rattle.wl_linking.specs.declared.error.Quantity.TheVariants.{Space, HeapEnd}
-use Rattle.wl_types.specs.Types.{max_entries}
+use Rattle.wl_index.specs.declared.index.TheConstants.{MAX_ENTRIES}
 use Rattle.wl_data.specs.DataPlaces.{DataInput, data_of, IsDataPlaces, IsPastMemory}
 use Rattle.wl_data.specs.MemorySize.{MemoryNeeds, needs_of, needed_bytes, raised_pages, new_maximum, memory_fault}
-use Rattle.wl_data.specs.Stack.{stack_start, IsBadStackSize, IsStackTooHigh}
+use Rattle.wl_index.specs.Memory.{stack_start}
+use Rattle.wl_data.specs.Stack.{IsBadStackSize, IsStackTooHigh}
 use Rattle.wl_data.specs.declared.options.DataOptions.{DataOptions}
 use Rattle.wl_data.specs.declared.places.DataPlaces.{DataPlaces}
 use Rattle.wl_symbols.specs.Input.{Input}
@@ -54,12 +57,12 @@ first_pages objects =
 
 -- ---- what places rest on
 
--- the address from which that of data counts: behind the first KiB where there is a memory or
+-- the address from which that of data counts: behind what stays free, where there is a memory or
 -- something counts from there
 abbrev pub memory_base : Input → ℕ
 memory_base input =
     if list_any has_memory input.link.objects || (linker_needs input).needs_memory_base
-    then 1024 else 0
+    then LINKER_MEMORY_BASE else 0
 
 -- what decides where data lies
 abbrev pub data_options : Input → DataOptions
@@ -105,9 +108,9 @@ abbrev pub stack_pointer : Input → DataPlaces → ℕ
 stack_pointer input places =
     stack_start places.data_end input.link.args.z_stack_size input.link.args.stack_first
 
--- where the heap ends: a page has 64 KiB
+-- where the heap ends
 abbrev pub heap_end : Input → DataPlaces → ℕ
-heap_end input places = memory_pages input places * 65536
+heap_end input places = memory_pages input places * WASM_PAGE_SIZE
 
 -- all of it, where the data lies there
 abbrev pub placing_of : Input → DataPlaces → Placing
@@ -129,7 +132,7 @@ pub record IsPlacing (input : Input) (g : Placing) : Type 0 where
 -- more segments than a space may have entries
 abbrev pub AreTooManySegments : Input → LinkError → Type 0
 AreTooManySegments input e =
-    (e ≡ TooLarge Space) × (max_entries < sum_by length (all_segments input))
+    (e ≡ TooLarge Space) × (MAX_ENTRIES < sum_by length (all_segments input))
 
 -- the heap ends past the last address
 abbrev pub IsHeapTooHigh : Input → DataPlaces → LinkError → Type 0

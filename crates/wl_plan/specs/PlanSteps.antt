@@ -1,6 +1,6 @@
 -- The parts that a plan is made from.
 use Rattle.std.specs.Prelude.{◌≡◌, ◌≤◌, MatchOption, false, length, Some, slice_get}
-use Rattle.wl_types.specs.Types.{max_entries}
+use Rattle.wl_index.specs.declared.index.TheConstants.{MAX_ENTRIES}
 use Rattle.wl_bind.specs.FunctionSpace.{InitMemory, function_space}
 use Rattle.wl_bind.specs.Made.{has_init_memory, has_shared_tls}
 use Rattle.wl_symbols.specs.Input.{Input}
@@ -39,7 +39,7 @@ pub record ArePlacedThings (t : PlacedThings) : Type 0 where
   pub wrappers : AreWrappers t.input.now t.wrappers.now
   pub few : AreFew t.input.now
   pub wrapper_room : HasWrapperRoom t.input.now
-  pub room : length (segment_space t.placing.now) ≤ max_entries
+  pub room : length (segment_space t.placing.now) ≤ MAX_ENTRIES
 
 -- the book is of the same link
 pub record IsBookOf (t : PlacedThings) (book : AddressBook) : Type 0 where

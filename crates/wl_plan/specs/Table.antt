@@ -3,7 +3,7 @@ use Rattle.std.specs.Prelude.{◌≡◌, ℕ, ◌+◌, List, ◌++◌, map, if�
 use Rattle.std.specs.List.{AllZip}
 use Rattle.std.specs.Option.{option_map}
 use Rattle.wl_module.specs.declared.limits.TableType.{TableType}
-use Rattle.wl_index.specs.declared.index.TheConstants.{WASM_DEAD_INDEX}
+use Rattle.wl_index.specs.declared.index.TheConstants.{WASM_DEAD_INDEX, LINKER_TABLE_BASE}
 use Rattle.wl_symbols.specs.Input.{Input}
 use Rattle.wl_bind.specs.FunctionSpace.{FunctionEntry, FunctionOf, InitMemory, function_space}
 use Rattle.wl_bind.specs.Made.{has_table, table_size}
@@ -19,7 +19,7 @@ use Rattle.wl_exports.specs.Wrappers.{wrapped}
 -- the slot of one of the functions of the table, behind the first one, which holds no function
 abbrev pub slot_behind_first : Input → FunctionTarget → Option ℕ
 slot_behind_first input target =
-    option_map (λ (place : ℕ). place + 1) (position (same_target target) (table_functions input))
+    option_map (λ (place : ℕ). place + LINKER_TABLE_BASE) (position (same_target target) (table_functions input))
 
 -- the slot of a function, if it has one: that of a stub is the first, which holds none
 abbrev pub slot_of : Input → FunctionTarget → Option ℕ

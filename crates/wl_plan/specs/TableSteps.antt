@@ -5,7 +5,7 @@ use Rattle.std.specs.List.{list_any}
 use Rattle.std.specs.Option.{option_and_then, option_map}
 use Rattle.wl_module.specs.Imports.{Imported}
 use Rattle.wl_linking.specs.Object.{Object}
-use Rattle.wl_index.specs.declared.index.TheConstants.{WASM_DEAD_INDEX}
+use Rattle.wl_index.specs.declared.index.TheConstants.{WASM_DEAD_INDEX, LINKER_TABLE_BASE}
 use Rattle.wl_index.specs.declared.index_map.WasmObjectIndexMap.{WasmObjectIndexMap}
 use Rattle.wl_symbols.specs.ImportSlots.{ImportSlot}
 use Rattle.wl_bind.specs.FunctionSpace.{FunctionEntry, FunctionOf, InitMemory}
@@ -39,7 +39,7 @@ stub_slot stubs e = if list_any (is_stub_of e) stubs then 0 else WASM_DEAD_INDEX
 -- the slot of a function where these have theirs
 abbrev pub place_slot : List FunctionTarget → FunctionTarget → ℕ
 place_slot table target =
-    unwrap_or (option_map (λ (place : ℕ). place + 1) (position (same_target target) table))
+    unwrap_or (option_map (λ (place : ℕ). place + LINKER_TABLE_BASE) (position (same_target target) table))
     WASM_DEAD_INDEX
 
 -- the slot of an entry where stubs and these functions of the table have theirs

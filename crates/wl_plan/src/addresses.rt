@@ -12,7 +12,7 @@ ghost use Rattle.wl_plan.specs.Placing.{IsPlacing};
 
 use crate::placing::Placing;
 use std::alloc::{AllocError, Global};
-use wl_bind::{ExportedData, is_data};
+use wl_bind::ExportedData;
 use wl_data::{WasmDataSegmentLayout, past_last_address, segments_have_layouts};
 use wl_index::WasmDataAddress;
 use wl_linking::{File, LinkError, WasmSymbol, whole_objects};
@@ -175,7 +175,7 @@ impl<'b, 'i, 'a> AddressBook<'b, 'i, 'a> {
     {
         file.stands_for_an_object();
         whole_objects();
-        if !is_data(symbol.kind) || symbol.is_undefined() {
+        if !symbol.is_defined_data() {
             return Ok(WasmDataAddress::Missing);
         }
         if symbol.is_absolute() {
@@ -230,7 +230,7 @@ impl<'b, 'i, 'a> AddressBook<'b, 'i, 'a> {
         ensures err { IfErr result (IsHighAt
             (symbol_address self.now.input.now self.now.placing.now object number)) }
     {
-        if !is_data(symbol.kind) {
+        if !symbol.kind.is_data() {
             return Ok(WasmDataAddress::Missing);
         }
         self.of_definition(self.input.symbols().definition(object, number))

@@ -4,7 +4,7 @@ ghost use Rattle.std.specs.Prelude.{◌≡◌, ◌≤◌, ◌<◌, ◌^◌, ◌+
 ghost use Rattle.std.specs.Cow.{cow_slice_items};
 ghost use Rattle.wl_module.specs.Slices.{is_owned};
 ghost use Rattle.wl_linking.specs.declared.error.LinkError.TheVariants.{OutOfMemory};
-ghost use Rattle.wl_types.specs.Types.{max_entries};
+ghost use Rattle.wl_index.specs.declared.index.TheConstants.{MAX_ENTRIES};
 ghost use Rattle.wl_symbols.specs.declared.linker_symbol.WasmLinkerSymbol.TheVariants.{CallCtors};
 ghost use Rattle.wl_bind.specs.FunctionSpace.{made_function_part, stub_part, functions_of};
 ghost use Rattle.wl_synth.specs.Bodies.{call_sequence_ops};
@@ -69,7 +69,7 @@ pub(crate) fn all_numbers(
 ) -> Result<ItemList<ItemList<Option<u32>>>, AllocError>
     requires maps { AreWholeMaps input.now placing.now maps.now }
     requires placed { IsPlacing input.now placing.now }
-    requires room { length (segment_space placing.now) ≤ max_entries }
+    requires room { length (segment_space placing.now) ≤ MAX_ENTRIES }
     ensures { IfOk result (AreAllNumbers input.now placing.now) }
 {
     segments_have_layouts();

@@ -15,11 +15,10 @@ ghost use Rattle.wl_plan.specs.declared.placing.Placing.{Placing as SpecPlacing}
 use crate::addresses::{AddressBook, linker_address};
 use crate::bindings::Bindings;
 use crate::table::slot_of;
-use bitflags::Flags;
 use wl_bind::{DataSymbol, FunctionTarget, got_mem_of};
 use wl_bytes::Form;
-use wl_index::{WasmDataAddress, WasmObjectIndexMap};
-use wl_linking::{LinkError, SymbolFlags};
+use wl_index::{LINKER_MEMORY_BASE, LINKER_TABLE_BASE, WasmDataAddress, WasmObjectIndexMap};
+use wl_linking::LinkError;
 use wl_symbols::{Definition, LinkInput, Relocated, WasmLinkerSymbol, kept_relocations};
 
 // ---- numbers
@@ -261,8 +260,12 @@ impl<'g, 'b, 'i, 'a> GlobalSources<'g, 'b, 'i, 'a> {
         let needs = self.bindings.indices.needs();
         let placing = self.book.placing;
         match made {
-            WasmLinkerSymbol::MemoryBase => Ok(if needs.needs_memory_base { 1024 } else { 0 }),
-            WasmLinkerSymbol::TableBase => Ok(1),
+            WasmLinkerSymbol::MemoryBase => Ok(if needs.needs_memory_base {
+                LINKER_MEMORY_BASE
+            } else {
+                0
+            }),
+            WasmLinkerSymbol::TableBase => Ok(LINKER_TABLE_BASE),
             WasmLinkerSymbol::StackPointer => Ok(placing.stack_pointer),
             WasmLinkerSymbol::TlsBase => Ok(if needs.needs_tls_size {
                 0
@@ -381,7 +384,7 @@ fn is_own(input: &LinkInput<'_, '_>, datum: DataSymbol) -> bool
         return false;
     };
     match file.symbols().get(datum.symbol as usize) {
-        Some(symbol) => symbol.flags.contains(SymbolFlags::TLS),
+        Some(symbol) => symbol.is_thread_local(),
         None => false,
     }
 }

@@ -2,7 +2,7 @@
 
 ghost use Rattle.std.specs.Prelude.{◌≡◌, ◌≤◌, ◌<◌, ◌+◌, length, Some, IfOk, OnOk, IfErr, slice_get};
 ghost use Rattle.wl_linking.specs.Steps.{Refuses};
-ghost use Rattle.wl_types.specs.Types.{max_entries};
+ghost use Rattle.wl_index.specs.declared.index.TheConstants.{MAX_ENTRIES};
 ghost use Rattle.wl_bind.specs.IndexMaps.{AreIndexMaps};
 ghost use Rattle.wl_plan.specs.AddressSteps.{AreOnce, IsBook};
 ghost use Rattle.wl_plan.specs.Addresses.{segment_space, HasHighSymbol};
@@ -26,7 +26,7 @@ fn object_numbers(
     first: u32,
 ) -> Result<ItemList<u32>, AllocError>
     requires once { AreOnce count layouts.now }
-    requires room { first + length layouts.now ≤ max_entries }
+    requires room { first + length layouts.now ≤ MAX_ENTRIES }
     ensures { IfOk result (λ numbers. numbers ≡ numbers_among layouts.now first count) }
 {
     let mut numbers = vec![in alloc; WASM_DEAD_INDEX; count]?;
@@ -57,7 +57,7 @@ fn whole_map(
     requires book { IsBook book.now }
     requires here { IsMapOf book.now.input.now object map }
     requires first { first ≡ segments_before book.now.placing.now.places.layouts object }
-    requires room { length (segment_space book.now.placing.now) ≤ max_entries }
+    requires room { length (segment_space book.now.placing.now) ≤ MAX_ENTRIES }
     ensures ok { IfOk result (IsWholeMapOf book.now object) }
     ensures low { OnOk result (AreLowOf book.now object) }
     ensures err { IfErr result (Refuses (IsHighSymbol book.now)) }
@@ -90,7 +90,7 @@ pub(crate) fn whole_maps(
 ) -> Result<ItemList<WasmObjectIndexMap>, LinkError>
     requires book { IsBook book.now }
     requires maps { AreIndexMaps book.now.input.now maps }
-    requires room { length (segment_space book.now.placing.now) ≤ max_entries }
+    requires room { length (segment_space book.now.placing.now) ≤ MAX_ENTRIES }
     ensures ok { IfOk result (AreWholeMaps book.now.input.now book.now.placing.now) }
     ensures low { OnOk result (HasHighSymbol book.now.input.now book.now.placing.now → ⊥) }
     ensures err { IfErr result (Refuses (IsHighSymbol book.now)) }

@@ -4,7 +4,7 @@ ghost use Rattle.std.specs.Prelude.{◌≡◌, [], ◌∷◌, ◌++◌, if◌the
 ghost use Rattle.wl_linking.specs.Fitting.{IsWhole};
 ghost use Rattle.wl_symbols.specs.declared.units.WasmGcUnit.TheVariants.{DataSegment};
 ghost use Rattle.wl_symbols.specs.Input.{keeps};
-ghost use Rattle.wl_bind.specs.ThreadData.{is_thread_data};
+ghost use Rattle.wl_bind.specs.ThreadData.{is_thread_segment};
 ghost use Rattle.wl_plan.specs.KeptData.{alignment_of, payload_start, kept_data, kept_segments, all_segments};
 
 use std::alloc::{AllocError, Global};
@@ -43,7 +43,7 @@ fn kept_data<'a>(
 ) -> KeptSegment<'a>
     requires whole { IsWhole file.now }
     requires here { slice_get file.now.segments number ≡ Some segment.now }
-    requires tls { tls ≡ is_thread_data file.now number }
+    requires tls { tls ≡ is_thread_segment file.now number }
     ensures { result ≡ kept_data file.now number segment.now }
 {
     KeptSegment {
@@ -68,7 +68,7 @@ fn push_kept<'a>(
 ) -> Result<(), AllocError>
     requires whole { IsWhole file.now }
     requires here { slice_get file.now.segments number ≡ Some segment.now }
-    requires tls { tls ≡ is_thread_data file.now number }
+    requires tls { tls ≡ is_thread_segment file.now number }
     ensures { OnOk result (kept.new.items ≡ kept.old.items
         ++ (if keeps input.now object (DataSegment number)
         then kept_data file.now number segment.now ∷ [] else [])) }

@@ -2,7 +2,7 @@
 
 ghost use Rattle.std.specs.Prelude.{◌≡◌, ◌≤◌, false, length, IfOk, IfErr, OnOk};
 ghost use Rattle.wl_linking.specs.Steps.{Clear, Refuses};
-ghost use Rattle.wl_types.specs.Types.{max_entries};
+ghost use Rattle.wl_index.specs.declared.index.TheConstants.{MAX_ENTRIES};
 ghost use Rattle.wl_bind.specs.BoundIndices.{IsBoundIndices};
 ghost use Rattle.wl_bind.specs.FunctionSpace.{function_space};
 ghost use Rattle.wl_bind.specs.IndexMaps.{AreIndexMaps};
@@ -55,7 +55,7 @@ fn bindings_of<'a>(
     requires settled { IsSettled input.now }
     requires signatures { Clear (IsMismatch input.now) }
     requires bound { IsBoundIndices input.now bound }
-    requires room { length (function_space input.now) ≤ max_entries }
+    requires room { length (function_space input.now) ≤ MAX_ENTRIES }
     ensures bindings { IfOk result (λ r. AreBindings input.now r.0) }
     ensures maps { IfOk result (λ r. AreIndexMaps input.now r.1) }
 {

@@ -2,12 +2,13 @@
 
 ghost use Rattle.std.specs.Prelude.{◌≡◌, ◌≤◌, length, IfOk, OnOk, IfErr};
 ghost use Rattle.std.specs.List.{AllByRecursion, flat_map, list_any};
+ghost use Rattle.wl_module.specs.declared.limits.TheConstants.{MAX_PAGES};
 ghost use Rattle.wl_linking.specs.Fitting.{IsWhole};
 ghost use Rattle.wl_linking.specs.Steps.{Clear, Refuses};
 ghost use Rattle.wl_data.specs.DataPlaces.{IsDataPlaces};
 ghost use Rattle.wl_data.specs.Stack.{IsBadStackSize};
 ghost use Rattle.wl_bind.specs.Made.{linker_needs, greatest};
-ghost use Rattle.wl_types.specs.Types.{max_entries};
+ghost use Rattle.wl_index.specs.declared.index.TheConstants.{MAX_ENTRIES};
 ghost use Rattle.wl_symbols.specs.Input.{Input};
 ghost use Rattle.wl_plan.specs.Addresses.{segment_space};
 ghost use Rattle.wl_plan.specs.KeptData.{all_segments};
@@ -23,7 +24,7 @@ use wl_data::{
     heap_end_from_initial_pages, place_all, places_are_one, segments_have_layouts,
     stack_pointer_init,
 };
-use wl_index::MAX_ENTRIES;
+use wl_index::{LINKER_MEMORY_BASE, MAX_ENTRIES};
 use wl_linking::{File, LinkError, Quantity};
 use wl_lists::ItemList;
 use wl_module::{Import, ImportEntity, MemoryType};
@@ -148,7 +149,7 @@ fn all_pages(files: &[File<'_>]) -> u64
 fn first_pages(files: &[File<'_>]) -> u64
     requires { AllByRecursion IsWhole files.now }
     ensures pages { result ≡ first_pages files.now }
-    ensures few { result ≤ 65536 }
+    ensures few { result ≤ MAX_PAGES }
 {
     let pages = all_pages(files);
     if any_defines_memory(files) {
@@ -160,9 +161,6 @@ fn first_pages(files: &[File<'_>]) -> u64
 
 // ---- what places rest on
 
-/// The address from which that of data counts where the stack doesn't stand first.
-const DATA_BASE: u32 = 1024;
-
 /// The address from which that of data counts.
 fn memory_base(input: &LinkInput<'_, '_>, needs: LinkerImportAbsorption) -> u32
     requires { needs ≡ linker_needs input.now }
@@ -170,7 +168,7 @@ fn memory_base(input: &LinkInput<'_, '_>, needs: LinkerImportAbsorption) -> u32
 {
     let has_memory = any_has_memory(input.files().as_slice());
     if has_memory || needs.needs_memory_base {
-        DATA_BASE
+        LINKER_MEMORY_BASE
     } else {
         0
     }
@@ -273,7 +271,7 @@ pub(crate) fn place_data<'a>(
 ) -> Result<Placing<'a>, LinkError>
     requires { needs ≡ linker_needs input.now }
     ensures ok { IfOk result (IsPlacing input.now) }
-    ensures few { IfOk result (λ g. length (segment_space g) ≤ max_entries) }
+    ensures few { IfOk result (λ g. length (segment_space g) ≤ MAX_ENTRIES) }
     ensures clear { OnOk result (Clear (place_fault input.now)) }
     ensures err { IfErr result (Refuses (place_fault input.now)) }
 {

@@ -3,7 +3,7 @@
 ghost use Rattle.std.specs.Prelude.{◌≡◌, ◌≤◌, false, length, OnOk, IfOk, IfErr};
 ghost use Rattle.wl_linking.specs.Steps.{Clear, Refuses};
 ghost use Rattle.wl_linking.specs.declared.error.LinkError.TheVariants.{OutOfMemory};
-ghost use Rattle.wl_types.specs.Types.{max_entries};
+ghost use Rattle.wl_index.specs.declared.index.TheConstants.{MAX_ENTRIES};
 ghost use Rattle.wl_features.specs.Taken.{AreTaken};
 ghost use Rattle.wl_bind.specs.FunctionSpace.{function_space};
 ghost use Rattle.wl_bind.specs.IndexMaps.{AreIndexMaps};
@@ -380,7 +380,7 @@ fn placed_parts<'a>(
     requires checked { AreChecked input.now checked }
     requires few { AreFew input.now }
     requires wrapper_room { HasWrapperRoom input.now }
-    requires segments { length (segment_space placing.now) ≤ max_entries }
+    requires segments { length (segment_space placing.now) ≤ MAX_ENTRIES }
     requires args { args.now ≡ input.now.link.args }
     requires alone { input.now.link.args.shared_memory ≡ false }
     ensures maps { IfOk result (λ r. AreWholeMaps input.now placing.now r.0) }

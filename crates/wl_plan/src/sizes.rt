@@ -2,7 +2,7 @@
 
 ghost use Rattle.std.specs.Prelude.{◌≤◌, length, OnOk, IfErr, IfOk};
 ghost use Rattle.wl_linking.specs.Steps.{Clear};
-ghost use Rattle.wl_types.specs.Types.{max_entries};
+ghost use Rattle.wl_index.specs.declared.index.TheConstants.{MAX_ENTRIES};
 ghost use Rattle.wl_data.specs.Sizes.{segment_count};
 ghost use Rattle.wl_plan.specs.SizeSteps.{IsTooBig, HasSizes};
 
@@ -30,8 +30,8 @@ pub(crate) fn section_sizes(
     bodies: &[WasmFunctionBody<'_>],
     layouts: &[SegmentLayouts<'_>],
 ) -> Result<SectionSizes, LinkError>
-    requires bodies { length bodies.now ≤ max_entries }
-    requires layouts { segment_count layouts.now ≤ max_entries }
+    requires bodies { length bodies.now ≤ MAX_ENTRIES }
+    requires layouts { segment_count layouts.now ≤ MAX_ENTRIES }
     ensures ok { IfOk result (HasSizes bodies.now layouts.now) }
     ensures clear { OnOk result (Clear (IsTooBig bodies.now layouts.now)) }
     ensures err { IfErr result (IsTooBig bodies.now layouts.now) }

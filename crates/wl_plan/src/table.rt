@@ -22,7 +22,7 @@ use wl_bind::{
     FunctionTarget, RelocScan, entries_have_types, entries_stand_once, same_targets_are_one,
     stubs_have_no_slot, table_functions_are_kept, table_functions_stand_once,
 };
-use wl_index::{WASM_DEAD_INDEX, WasmObjectIndexMap};
+use wl_index::{LINKER_TABLE_BASE, WASM_DEAD_INDEX, WasmObjectIndexMap};
 use wl_linking::{File, whole_objects};
 use wl_lists::ItemList;
 use wl_module::{ImportEntity, TableType};
@@ -49,7 +49,7 @@ fn slot_behind_first(
     same_targets_are_one();
     stubs_have_no_slot();
     let place = table_place(&bindings.scan, target)?;
-    Some(place as u32 + 1)
+    Some(place as u32 + LINKER_TABLE_BASE)
 }
 
 /// The slot of a function, if it has one: that of a stub is the first, which holds none.
@@ -243,7 +243,7 @@ pub(crate) fn space_slots(
     entries_stand_once();
     let mut slots = stub_slots(alloc, input, bindings, count)?;
     for (place, element) in elements.iter().enumerate() {
-        set_slot(&mut slots, *element, place as u32 + 1);
+        set_slot(&mut slots, *element, place as u32 + LINKER_TABLE_BASE);
     }
     Ok(ItemList::new(slots))
 }
@@ -286,7 +286,7 @@ fn table_size(input: &LinkInput<'_, '_>, scan: &RelocScan<'_>) -> u64
     requires { scan.now ≡ scan_of input.now }
     ensures { result ≡ table_size input.now }
 {
-    let mut size = scan.table_functions.as_slice().len() as u64 + 1;
+    let mut size = scan.table_functions.as_slice().len() as u64 + u64::from(LINKER_TABLE_BASE);
     for file in input.files().as_slice() {
         size = object_minimum(file).max(size);
     }

@@ -15,7 +15,7 @@ use Rattle.wl_symbols.specs.Entries.{symbol_in}
 use Rattle.wl_symbols.specs.Names.{named}
 use Rattle.wl_symbols.specs.declared.entry.Definition.{Definition}
 use Rattle.wl_symbols.specs.declared.entry.Definition.TheVariants.{Symbol, Made}
-use Rattle.wl_symbols.specs.Units.{counts_of, units_of, units_at, no_units, defined, imported, unit_by, unit_in, has_unit, exists}
+use Rattle.wl_symbols.specs.Units.{counts_of, units_of, units_at, no_units, defined_number, number_below, unit_by, unit_in, has_unit, exists}
 use Rattle.wl_symbols.specs.DefinedUnits.{unit_at, defined_unit, definition_unit, definition_at, other_unit, named_unit, is_replaceable, replacing_unit}
 use Rattle.wl_symbols.specs.Roots.{export_unit, IsRoot}
 use Rattle.wl_symbols.specs.declared.units.LinkUnit.{LinkUnit}
@@ -54,10 +54,10 @@ some_if false o x e = absurd (cc)
 
 -- ---- what stands under an index
 
-pub imported_within : (count index k : ℕ) → imported count index ≡ Some k → nat_lt k count ≡ true
+pub imported_within : (count index k : ℕ) → number_below count index ≡ Some k → nat_lt k count ≡ true
 imported_within count index k e = let p = cond_some (nat_lt index count) index k e in rw (← p.1) p.0
 
-pub defined_within : (imports count index k : ℕ) → defined imports count index ≡ Some k → nat_lt k count ≡ true
+pub defined_within : (imports count index k : ℕ) → defined_number imports count index ≡ Some k → nat_lt k count ≡ true
 defined_within imports count index k e =
     let p = none_if (nat_lt index imports || nat_le count (index - imports)) (Some (index - imports)) k e in
     let q = or_parts (nat_lt index imports) (nat_le count (index - imports)) p.0 in
@@ -65,29 +65,29 @@ defined_within imports count index k e =
 
 -- ---- symbols
 
-pub function_import_has : (n : UnitCounts) (index : ℕ) (u : WasmGcUnit) → option_map FunctionImport (imported n.function_imports index) ≡ Some u → has_unit n u ≡ true
+pub function_import_has : (n : UnitCounts) (index : ℕ) (u : WasmGcUnit) → option_map FunctionImport (number_below n.function_imports index) ≡ Some u → has_unit n u ≡ true
 function_import_has n index u e =
-    let p = option_map_parts FunctionImport (imported n.function_imports index) u e in
+    let p = option_map_parts FunctionImport (number_below n.function_imports index) u e in
     subst (λ (w : WasmGcUnit). has_unit n w ≡ true) p.2 (imported_within n.function_imports index p.0 p.1)
 
-pub function_has : (n : UnitCounts) (index : ℕ) (u : WasmGcUnit) → option_map DefinedFunction (defined n.function_imports n.functions index) ≡ Some u → has_unit n u ≡ true
+pub function_has : (n : UnitCounts) (index : ℕ) (u : WasmGcUnit) → option_map DefinedFunction (defined_number n.function_imports n.functions index) ≡ Some u → has_unit n u ≡ true
 function_has n index u e =
-    let p = option_map_parts DefinedFunction (defined n.function_imports n.functions index) u e in
+    let p = option_map_parts DefinedFunction (defined_number n.function_imports n.functions index) u e in
     subst (λ (w : WasmGcUnit). has_unit n w ≡ true) p.2 (defined_within n.function_imports n.functions index p.0 p.1)
 
-pub global_import_has : (n : UnitCounts) (index : ℕ) (u : WasmGcUnit) → option_map GlobalImport (imported n.global_imports index) ≡ Some u → has_unit n u ≡ true
+pub global_import_has : (n : UnitCounts) (index : ℕ) (u : WasmGcUnit) → option_map GlobalImport (number_below n.global_imports index) ≡ Some u → has_unit n u ≡ true
 global_import_has n index u e =
-    let p = option_map_parts GlobalImport (imported n.global_imports index) u e in
+    let p = option_map_parts GlobalImport (number_below n.global_imports index) u e in
     subst (λ (w : WasmGcUnit). has_unit n w ≡ true) p.2 (imported_within n.global_imports index p.0 p.1)
 
-pub global_has : (n : UnitCounts) (index : ℕ) (u : WasmGcUnit) → option_map DefinedGlobal (defined n.global_imports n.globals index) ≡ Some u → has_unit n u ≡ true
+pub global_has : (n : UnitCounts) (index : ℕ) (u : WasmGcUnit) → option_map DefinedGlobal (defined_number n.global_imports n.globals index) ≡ Some u → has_unit n u ≡ true
 global_has n index u e =
-    let p = option_map_parts DefinedGlobal (defined n.global_imports n.globals index) u e in
+    let p = option_map_parts DefinedGlobal (defined_number n.global_imports n.globals index) u e in
     subst (λ (w : WasmGcUnit). has_unit n w ≡ true) p.2 (defined_within n.global_imports n.globals index p.0 p.1)
 
-pub segment_has : (n : UnitCounts) (index : ℕ) (u : WasmGcUnit) → option_map DataSegment (imported n.segments index) ≡ Some u → has_unit n u ≡ true
+pub segment_has : (n : UnitCounts) (index : ℕ) (u : WasmGcUnit) → option_map DataSegment (number_below n.segments index) ≡ Some u → has_unit n u ≡ true
 segment_has n index u e =
-    let p = option_map_parts DataSegment (imported n.segments index) u e in
+    let p = option_map_parts DataSegment (number_below n.segments index) u e in
     subst (λ (w : WasmGcUnit). has_unit n w ≡ true) p.2 (imported_within n.segments index p.0 p.1)
 
 pub unit_by_has : (n : UnitCounts) (kind : WasmSymbolKind) (undefined : Bool) (index : ℕ) (u : WasmGcUnit) → unit_by n kind undefined index ≡ Some u → has_unit n u ≡ true
@@ -138,12 +138,12 @@ replacing_unit_exists link ns k number s v e = let p = some_if (is_replaceable s
 
 pub export_unit_has : (n : UnitCounts) (kind : ExternalKind) (index : ℕ) (u : WasmGcUnit) → export_unit n kind index ≡ Some u → has_unit n u ≡ true
 export_unit_has n external.Func index u e =
-    elim (option_or_parts (option_map FunctionImport (imported n.function_imports index)) (option_map DefinedFunction (defined n.function_imports n.functions index)) u e) [
+    elim (option_or_parts (option_map FunctionImport (number_below n.function_imports index)) (option_map DefinedFunction (defined_number n.function_imports n.functions index)) u e) [
       | inl from ↦ function_import_has n index u from
       | inr own ↦ function_has n index u own
     ]
 export_unit_has n external.Global index u e =
-    elim (option_or_parts (option_map GlobalImport (imported n.global_imports index)) (option_map DefinedGlobal (defined n.global_imports n.globals index)) u e) [
+    elim (option_or_parts (option_map GlobalImport (number_below n.global_imports index)) (option_map DefinedGlobal (defined_number n.global_imports n.globals index)) u e) [
       | inl from ↦ global_import_has n index u from
       | inr own ↦ global_has n index u own
     ]

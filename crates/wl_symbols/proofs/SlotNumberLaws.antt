@@ -11,7 +11,8 @@ use Rattle.wl_linking.specs.declared.spaces.Counts.{Counts}
 use Rattle.wl_custom.specs.declared.symbols.WasmSymbolKind.{WasmSymbolKind}
 use Rattle.wl_custom.specs.declared.symbols.WasmSymbolKind.TheVariants.{Func, Data, Global, Section, Event, Table}
 use Rattle.wl_symbols.specs.LinkerNames.{is_imported_as}
-use Rattle.wl_symbols.specs.SlotTargets.{defined_under, own_number, is_definition_of}
+use Rattle.wl_symbols.specs.Units.{defined_number}
+use Rattle.wl_symbols.specs.SlotTargets.{own_number, is_definition_of}
 use Rattle.wl_symbols.specs.ImportSlots.{ImportSlot, numbered_slots}
 
 -- one for each import
@@ -43,7 +44,7 @@ all_at test (y ∷ xs) zero x all here =
 all_at test (y ∷ xs) (suc k) x all here = let parts = and_parts (test y) (list_all test xs) all in all_at test xs k x parts.1 here
 
 -- an index of a definition has a number
-under : (imports count index : ℕ) → number_exists false imports count index ≡ true → (n : ℕ) × (defined_under imports count index ≡ Some n)
+under : (imports count index : ℕ) → number_exists false imports count index ≡ true → (n : ℕ) × (defined_number imports count index ≡ Some n)
 under imports count index h =
     let parts = and_parts (nat_le imports index) (nat_lt (index - imports) count) h in
     let behind = leb-true imports index parts.0 in

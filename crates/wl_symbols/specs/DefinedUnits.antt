@@ -1,9 +1,8 @@
 -- The units of what symbols and names stand for.
-use Rattle.std.specs.Prelude.{ℕ, ◌&&◌, ◌||◌, Bool, true, false, if◌then◌else◌, List, Option, None, option_map}
+use Rattle.std.specs.Prelude.{ℕ, ◌&&◌, ◌||◌, Bool, if◌then◌else◌, List, Option, None, option_map}
 use Rattle.std.specs.Option.{option_and_then}
-use Rattle.wl_custom.specs.Symbols.{Symbol as LinkedSymbol, is_undefined, is_weak}
+use Rattle.wl_custom.specs.Symbols.{Symbol as LinkedSymbol, is_function, is_data, is_undefined, is_weak}
 use Rattle.wl_custom.specs.declared.symbols.WasmSymbolKind.{WasmSymbolKind}
-use Rattle.wl_custom.specs.declared.symbols.WasmSymbolKind.TheVariants.{Func, Data, Global, Section, Event, Table}
 use Rattle.wl_symbols.specs.Link.{Link}
 use Rattle.wl_symbols.specs.Entries.{symbol_in}
 use Rattle.wl_symbols.specs.Names.{named, def_for}
@@ -44,12 +43,7 @@ named_unit link ns name = option_and_then (λ d. definition_unit link ns d) (nam
 
 -- weak functions and weak data give way to other definitions
 abbrev pub gives_way : WasmSymbolKind → Bool
-gives_way Func = true
-gives_way Data = true
-gives_way Global = false
-gives_way Section = false
-gives_way Event = false
-gives_way Table = false
+gives_way kind = is_function kind || is_data kind
 
 -- what a symbol stands for is followed beside the symbol: it is undefined, or weak and a function
 -- or data

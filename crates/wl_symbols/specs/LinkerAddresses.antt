@@ -1,15 +1,9 @@
 -- The addresses of the data names that the linker makes.
-use Rattle.std.specs.Prelude.{ℕ, ◌+◌, ◌^◌, ◌≤◌, Bool, if◌then◌else◌, Option, Some, None}
-use Rattle.std.specs.Int.{next_multiple_of}
-use Rattle.wl_symbols.specs.declared.linker_symbol.TheConstants.{WASM_PAGE_SIZE, STACK_ALIGNMENT}
+use Rattle.std.specs.Prelude.{ℕ, ◌^◌, ◌≤◌, Bool, Option, Some, None}
+use Rattle.wl_index.specs.Memory.{heap_start}
+use Rattle.wl_module.specs.declared.limits.TheConstants.{WASM_PAGE_SIZE}
 use Rattle.wl_symbols.specs.declared.linker_symbol.WasmLinkerSymbol.{WasmLinkerSymbol}
 use Rattle.wl_symbols.specs.declared.linker_symbol.WasmLinkerSymbol.TheVariants.{DataEnd, GlobalBase, HeapBase, HeapEnd, WasmFirstPageEnd, DsoHandle}
-
--- where the heap begins: at the end of the data, rounded up to the alignment of the stack, and
--- behind the stack where that doesn't stand first
-abbrev pub heap_base : ℕ → ℕ → Bool → ℕ
-heap_base data_end stack_size stack_first =
-    next_multiple_of data_end STACK_ALIGNMENT + (if stack_first then 0 else stack_size)
 
 -- where the data begins and ends, the bytes of the stack, the heap's end if it is known, and
 -- whether the stack stands in front of the data
@@ -34,7 +28,7 @@ data_places data_start data_end stack_size heap_end stack_first = record {
 abbrev pub address_of : WasmLinkerSymbol → DataPlaces → Option ℕ
 address_of DataEnd at = Some at.data_end
 address_of GlobalBase at = Some at.data_start
-address_of HeapBase at = Some (heap_base at.data_end at.stack_size at.stack_first)
+address_of HeapBase at = Some (heap_start at.data_end at.stack_size at.stack_first)
 address_of HeapEnd at = at.heap_end
 address_of WasmFirstPageEnd at = Some WASM_PAGE_SIZE
 address_of DsoHandle at = Some at.data_start

@@ -5,14 +5,13 @@ use Rattle.wl_module.specs.Exports.{Exported}
 use Rattle.wl_module.specs.declared.imports.ExternalKind.{ExternalKind}
 use Rattle.wl_module.specs.declared.imports.ExternalKind.TheVariants as external
 use Rattle.wl_linking.specs.Object.{Object}
-use Rattle.wl_custom.specs.Symbols.{Symbol as LinkedSymbol, is_undefined, is_weak, is_local, has_flag}
+use Rattle.wl_custom.specs.Symbols.{Symbol as LinkedSymbol, is_function, is_data, is_global, is_defined, is_weak, is_local, is_hidden, is_exported, is_no_strip}
 use Rattle.wl_custom.specs.declared.infos.WasmInitFunc.{WasmInitFunc}
 use Rattle.wl_custom.specs.declared.symbols.WasmSymbolKind.{WasmSymbolKind}
-use Rattle.wl_custom.specs.declared.symbols.WasmSymbolKind.TheVariants as symbol
 use Rattle.wl_symbols.specs.Link.{Link}
 use Rattle.wl_symbols.specs.declared.entry.Definition.{Definition}
 use Rattle.wl_symbols.specs.declared.entry.Definition.TheVariants.{Symbol, Made}
-use Rattle.wl_symbols.specs.Units.{counts_of, units_of, unit_of, defined, imported}
+use Rattle.wl_symbols.specs.Units.{counts_of, units_of, unit_of, defined_number, number_below}
 use Rattle.wl_symbols.specs.DefinedUnits.{unit_at, definition_at, other_unit, named_unit}
 use Rattle.wl_symbols.specs.declared.units.LinkUnit.{LinkUnit}
 use Rattle.wl_symbols.specs.declared.units.UnitCounts.{UnitCounts}
@@ -25,11 +24,11 @@ use Rattle.wl_symbols.specs.declared.units.WasmGcUnit.TheVariants.{DefinedFuncti
 -- (core specification, "Indices")
 abbrev pub export_unit : UnitCounts → ExternalKind → ℕ → Option WasmGcUnit
 export_unit n external.Func index =
-    option_or (option_map FunctionImport (imported n.function_imports index))
-    (option_map DefinedFunction (defined n.function_imports n.functions index))
+    option_or (option_map FunctionImport (number_below n.function_imports index))
+    (option_map DefinedFunction (defined_number n.function_imports n.functions index))
 export_unit n external.Global index =
-    option_or (option_map GlobalImport (imported n.global_imports index))
-    (option_map DefinedGlobal (defined n.global_imports n.globals index))
+    option_or (option_map GlobalImport (number_below n.global_imports index))
+    (option_map DefinedGlobal (defined_number n.global_imports n.globals index))
 export_unit n external.Table index = None
 export_unit n external.Memory index = None
 
@@ -43,10 +42,9 @@ pub record RootByExport (link : Link) (u : LinkUnit) : Type 0 where
 
 -- ---- symbols
 
--- it is kept for the host, or by itself: EXPORTED, 0x20, or NO_STRIP, 0x80
--- (object file linking, version 2, "Symbol Table Subsection")
+-- it is kept for the host, or though nothing refers to it
 abbrev pub is_kept_symbol : LinkedSymbol → Bool
-is_kept_symbol s = has_flag s.flags 0x20 || has_flag s.flags 0x80
+is_kept_symbol s = is_exported s || is_no_strip s
 
 -- the symbol of the place stands for itself
 abbrev pub is_itself : Option Definition → ℕ → ℕ → Bool
@@ -56,19 +54,14 @@ is_itself (Some (Symbol o k)) object symbol = (o == object) && (k == symbol)
 
 -- functions, globals and data can be exported
 abbrev pub is_exportable : WasmSymbolKind → Bool
-is_exportable symbol.Func = true
-is_exportable symbol.Data = true
-is_exportable symbol.Global = true
-is_exportable symbol.Section = false
-is_exportable symbol.Event = false
-is_exportable symbol.Table = false
+is_exportable kind = is_function kind || is_data kind || is_global kind
 
--- a defined function, global or data symbol that isn't local, HIDDEN, 4, or EXPORTED, 0x20, and
--- that stands for itself: `--export-dynamic` exports it
+-- a defined function, global or data symbol that isn't local, hidden or exported, and that stands
+-- for itself: `--export-dynamic` exports it
 abbrev pub is_candidate : Link → ℕ → ℕ → LinkedSymbol → Bool
 is_candidate link object number s =
-    is_exportable s.kind && not (is_undefined s) && not (is_local s)
-    && not (has_flag s.flags 4) && not (has_flag s.flags 0x20)
+    is_exportable s.kind && is_defined s && not (is_local s) && not (is_hidden s)
+    && not (is_exported s)
     && is_itself (definition_at link object number) object number
 
 -- it is kept, or all candidates are

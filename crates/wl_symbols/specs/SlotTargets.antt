@@ -4,7 +4,7 @@ use Rattle.std.specs.Option.{option_or, option_and_then}
 use Rattle.wl_module.specs.declared.imports.ExternalKind.TheVariants as external
 use Rattle.wl_linking.specs.Object.{Object}
 use Rattle.wl_linking.specs.Spaces.{count_imports}
-use Rattle.wl_custom.specs.Symbols.{Symbol as LinkedSymbol, is_undefined}
+use Rattle.wl_custom.specs.Symbols.{Symbol as LinkedSymbol, is_defined}
 use Rattle.wl_custom.specs.declared.symbols.WasmSymbolKind.{WasmSymbolKind}
 use Rattle.wl_custom.specs.declared.symbols.WasmSymbolKind.TheVariants.{Func, Data, Global, Section, Event, Table}
 use Rattle.wl_symbols.specs.Link.{Link}
@@ -13,6 +13,7 @@ use Rattle.wl_symbols.specs.Names.{named, def}
 use Rattle.wl_symbols.specs.declared.entry.Definition.{Definition}
 use Rattle.wl_symbols.specs.declared.entry.Definition.TheVariants.{Symbol, Made as MadeName}
 use Rattle.wl_symbols.specs.ImportSlots.{ImportSlot, import_slots}
+use Rattle.wl_symbols.specs.Units.{defined_number}
 use Rattle.wl_symbols.specs.declared.targets.SlotTarget.{SlotTarget}
 use Rattle.wl_symbols.specs.declared.targets.SlotTarget.TheVariants.{Defined, Made}
 
@@ -23,26 +24,20 @@ first_some f (x ∷ xs) = option_or (f x) (first_some f xs)
 
 -- ---- what definitions give
 
--- the number among what is defined, by an index that counts imported things first (core
--- specification, "Indices")
-abbrev pub defined_under : ℕ → ℕ → ℕ → Option ℕ
-defined_under imports count index =
-    if nat_lt index imports || nat_le count (index - imports) then None else Some (index - imports)
-
 -- the number of a function or global among those that an object defines, by its index
 abbrev pub own_number : WasmSymbolKind → Object → ℕ → Option ℕ
 own_number Func o index =
-    defined_under (count_imports external.Func o.imports) (length o.functions) index
+    defined_number (count_imports external.Func o.imports) (length o.functions) index
 own_number Data o index = None
 own_number Global o index =
-    defined_under (count_imports external.Global o.imports) (length o.globals) index
+    defined_number (count_imports external.Global o.imports) (length o.globals) index
 own_number Section o index = None
 own_number Event o index = None
 own_number Table o index = None
 
 -- the symbol is a definition of that kind
 abbrev pub is_definition_of : WasmSymbolKind → LinkedSymbol → Bool
-is_definition_of kind s = not (is_undefined s) && is_imported_as kind s.kind
+is_definition_of kind s = is_defined s && is_imported_as kind s.kind
 
 -- what a symbol of the object of that number defines of that kind
 abbrev pub symbol_target : WasmSymbolKind → ℕ → Object → LinkedSymbol → Option SlotTarget

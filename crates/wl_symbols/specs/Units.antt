@@ -64,27 +64,27 @@ sibling_of (GlobalImport k) j = GlobalImport j
 
 -- ---- the unit of a symbol
 
--- what is defined under an index, which counts imported things first (core specification,
--- "Indices")
-abbrev pub defined : ℕ → ℕ → ℕ → Option ℕ
-defined imports count index =
+-- the number among what is defined, by an index that counts imported things first (core
+-- specification, "Indices")
+abbrev pub defined_number : ℕ → ℕ → ℕ → Option ℕ
+defined_number imports count index =
     if nat_lt index imports || nat_le count (index - imports) then None else Some (index - imports)
 
--- what is imported under an index
-abbrev pub imported : ℕ → ℕ → Option ℕ
-imported count index = if nat_lt index count then Some index else None
+-- the number, where there are more things than that
+abbrev pub number_below : ℕ → ℕ → Option ℕ
+number_below count number = if nat_lt number count then Some number else None
 
 -- by the kind of a symbol, by whether its object leaves it undefined, and by its index: functions
 -- and globals, and the segments of defined data
 abbrev pub unit_by : UnitCounts → WasmSymbolKind → Bool → ℕ → Option WasmGcUnit
-unit_by n Func true index = option_map FunctionImport (imported n.function_imports index)
+unit_by n Func true index = option_map FunctionImport (number_below n.function_imports index)
 unit_by n Func false index =
-    option_map DefinedFunction (defined n.function_imports n.functions index)
-unit_by n Global true index = option_map GlobalImport (imported n.global_imports index)
+    option_map DefinedFunction (defined_number n.function_imports n.functions index)
+unit_by n Global true index = option_map GlobalImport (number_below n.global_imports index)
 unit_by n Global false index =
-    option_map DefinedGlobal (defined n.global_imports n.globals index)
+    option_map DefinedGlobal (defined_number n.global_imports n.globals index)
 unit_by n Data true index = None
-unit_by n Data false index = option_map DataSegment (imported n.segments index)
+unit_by n Data false index = option_map DataSegment (number_below n.segments index)
 unit_by n Section undefined index = None
 unit_by n Event undefined index = None
 unit_by n Table undefined index = None

@@ -6,7 +6,6 @@ ghost use Rattle.wl_symbols.specs.Roots.{is_itself, is_exportable, is_candidate}
 
 use crate::entry::Definition;
 use crate::table::SymbolTable;
-use wl_custom::is_exported;
 use wl_linking::{WasmSymbol, WasmSymbolKind};
 
 /// What the symbol of that place stands for, if there is one.
@@ -35,10 +34,10 @@ pub fn is_candidate(
     ensures { result ≡ is_candidate symbols.now object number symbol.now }
 {
     is_exportable(symbol.kind)
-        && !symbol.is_undefined()
+        && symbol.is_defined()
         && !symbol.is_local()
         && !symbol.is_hidden()
-        && !is_exported(symbol)
+        && !symbol.is_exported()
         && is_itself(definition_at(symbols, object, number), object, number)
 }
 
@@ -61,8 +60,5 @@ fn is_itself(definition: Option<Definition>, object: usize, symbol: u32) -> bool
 fn is_exportable(kind: WasmSymbolKind) -> bool
     ensures { result ≡ is_exportable kind }
 {
-    match kind {
-        WasmSymbolKind::Func | WasmSymbolKind::Data | WasmSymbolKind::Global => true,
-        WasmSymbolKind::Section | WasmSymbolKind::Event | WasmSymbolKind::Table => false,
-    }
+    kind.is_function() || kind.is_data() || kind.is_global()
 }

@@ -49,9 +49,7 @@ pub use kept_laws::{
     undecoded_bodies_refer_to_none, units_are_numbered,
 };
 pub use left::{DividedSlots, HostImport, HostImports, Stubs, divide_slots, host_imports};
-pub use linker_symbol::{
-    LINKER_MEMORY_BASE, LINKER_TABLE_BASE, STACK_ALIGNMENT, WASM_PAGE_SIZE, WasmLinkerSymbol,
-};
+pub use linker_symbol::WasmLinkerSymbol;
 pub use live_set::LiveSet;
 pub use name_laws::{made_names_differ, name_by_cases, names_or_repeat};
 pub use relocated::{FixupPlace, KeptRelocations, Relocated, kept_of_object, kept_relocations};
@@ -66,7 +64,7 @@ pub use targets::{
 };
 pub use unit_numbers::UnitNumbers;
 pub use units::{
-    LinkUnit, UnitCounts, WasmGcUnit, counts_of, defined, imported, sibling_of, unit_in,
+    LinkUnit, UnitCounts, WasmGcUnit, counts_of, defined_number, number_below, sibling_of, unit_in,
     unit_index, wasm_gc_unit_for_symbol,
 };
 pub use wl_words::{ArgError, DEFAULT_STACK_SIZE, MemoryName, Texts, WasmArgs, args_or_fault};

@@ -1,27 +1,15 @@
 //! The names that the linker makes.
 
 ghost use Rattle.std.specs.Prelude.{◌≡◌, ◌≤◌, ◌^◌, IfOk, IfErr, OnErr, IfSome, IfNone};
-ghost use Rattle.wl_symbols.specs.LinkerNames.{row_of, name_of, symbol_named, exists_under, made_of, materializes_on_export, is_exported_as_data, matches_kind};
-ghost use Rattle.wl_symbols.specs.LinkerAddresses.{heap_base, data_places, address_of, IsTooHigh};
+ghost use Rattle.wl_symbols.specs.LinkerNames.{row_of, name_of, symbol_named, exists_under, made_of, materializes_on_export, is_exported_as_data, is_imported_as, matches_kind};
+ghost use Rattle.wl_symbols.specs.LinkerAddresses.{data_places, address_of, IsTooHigh};
 ghost use Rattle.wl_linking.specs.declared.error.Quantity.TheVariants.{Address};
 
 use std::marker::Model;
+use wl_index::heap_start;
 use wl_linking::{LinkError, Quantity, WasmSymbolKind};
+use wl_module::WASM_PAGE_SIZE;
 use wl_words::WasmArgs;
-
-/// The bytes of a page of memory (core specification, "Memory Instances").
-pub const WASM_PAGE_SIZE: u32 = 65_536;
-
-/// The stack begins and ends at multiples of this many bytes.
-pub const STACK_ALIGNMENT: u32 = 16;
-
-/// The value of `__memory_base`: so many bytes at the front of memory stay free, so that no data
-/// stands where a null pointer leads.
-pub const LINKER_MEMORY_BASE: u32 = 1024;
-
-/// The value of `__table_base`: the first place of the table stays free, so that no function stands
-/// where a null pointer leads.
-pub const LINKER_TABLE_BASE: u32 = 1;
 
 /// The options under which a name exists.
 #[derive(Clone, Copy, PartialEq, Eq)]
@@ -88,16 +76,12 @@ pub enum WasmLinkerSymbol {
     InitTls,
 }
 
-/// Where the heap begins, if that is an address.
-fn heap_base(data_end: u32, stack_size: u32, stack_first: bool) -> Option<u32>
-    ensures value { IfSome result (λ base. base ≡ heap_base data_end stack_size stack_first) }
-    ensures none { IfNone result (2 ^ 32 ≤ heap_base data_end stack_size stack_first) }
+/// Whether a symbol of the second kind stands for an import of the first: functions and globals
+/// are imported.
+pub(crate) fn is_imported_as(kind: WasmSymbolKind, other: WasmSymbolKind) -> bool
+    ensures { result ≡ is_imported_as kind other }
 {
-    let behind_data = data_end.checked_next_multiple_of(STACK_ALIGNMENT)?;
-    if stack_first {
-        return Some(behind_data);
-    }
-    behind_data.checked_add(stack_size)
+    (kind.is_function() || kind.is_global()) && kind == other
 }
 
 impl WasmLinkerSymbol {
@@ -187,20 +171,14 @@ impl WasmLinkerSymbol {
     pub fn exported_as_data_global(self, has_memory: bool) -> bool
         ensures { result ≡ is_exported_as_data has_memory self }
     {
-        self.row().kind == WasmSymbolKind::Data && (has_memory || self != Self::HeapEnd)
+        self.row().kind.is_data() && (has_memory || self != Self::HeapEnd)
     }
 
     /// Whether an import of that kind can be bound to it.
     pub fn matches_import_kind(self, kind: WasmSymbolKind) -> bool
         ensures { result ≡ matches_kind kind self }
     {
-        match kind {
-            WasmSymbolKind::Func | WasmSymbolKind::Global => self.row().kind == kind,
-            WasmSymbolKind::Data
-            | WasmSymbolKind::Section
-            | WasmSymbolKind::Event
-            | WasmSymbolKind::Table => false,
-        }
+        is_imported_as(kind, self.row().kind)
     }
 
     /// The address of a data name, by where the data begins and ends, the bytes of the stack, the
@@ -226,7 +204,7 @@ impl WasmLinkerSymbol {
         match self {
             Self::DataEnd => Ok(Some(data_end)),
             Self::GlobalBase | Self::DsoHandle => Ok(Some(data_start)),
-            Self::HeapBase => match heap_base(data_end, stack_size, stack_first) {
+            Self::HeapBase => match heap_start(data_end, stack_size, stack_first) {
                 Some(base) => Ok(Some(base)),
                 None => Err(LinkError::TooLarge {
                     what: Quantity::Address,

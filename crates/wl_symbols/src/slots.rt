@@ -8,6 +8,7 @@ ghost use Rattle.wl_symbols.specs.LinkerNames.{is_imported_as};
 ghost use Rattle.wl_symbols.specs.ImportSlots.{is_slot_of, slot_imports, numbered_slots, object_slots, import_slots, has_symbols, are_symbols_weak};
 ghost use Rattle.wl_symbols.specs.SlotSteps.{with_symbol, with_symbol_at};
 
+use crate::linker_symbol::is_imported_as;
 use crate::table::SymbolTable;
 use std::alloc::{AllocError, Global};
 use std::marker::Model;
@@ -137,20 +138,6 @@ pub fn is_slot_of(kind: WasmSymbolKind, entity: ImportEntity) -> bool
     match kind {
         WasmSymbolKind::Func => matches!(entity, ImportEntity::Func(_)),
         WasmSymbolKind::Global => matches!(entity, ImportEntity::Global(_)),
-        WasmSymbolKind::Data
-        | WasmSymbolKind::Section
-        | WasmSymbolKind::Event
-        | WasmSymbolKind::Table => false,
-    }
-}
-
-/// Whether a symbol of the second kind stands for an import of the first.
-pub(crate) fn is_imported_as(kind: WasmSymbolKind, other: WasmSymbolKind) -> bool
-    ensures { result ≡ is_imported_as kind other }
-{
-    match kind {
-        WasmSymbolKind::Func => matches!(other, WasmSymbolKind::Func),
-        WasmSymbolKind::Global => matches!(other, WasmSymbolKind::Global),
         WasmSymbolKind::Data
         | WasmSymbolKind::Section
         | WasmSymbolKind::Event

@@ -2,12 +2,13 @@
 
 ghost use Rattle.std.specs.Prelude.{◌≡◌, IfOk};
 ghost use Rattle.wl_symbols.specs.Names.{def};
-ghost use Rattle.wl_symbols.specs.SlotTargets.{defined_under, own_number, is_definition_of, symbol_target, object_target, made_target, by_definition, by_symbol_name, by_field_name, slot_target, slot_targets};
+ghost use Rattle.wl_symbols.specs.SlotTargets.{own_number, is_definition_of, symbol_target, object_target, made_target, by_definition, by_symbol_name, by_field_name, slot_target, slot_targets};
 
 use crate::entry::Definition;
-use crate::linker_symbol::WasmLinkerSymbol;
-use crate::slots::{ImportSlot, import_slots, is_imported_as};
+use crate::linker_symbol::{WasmLinkerSymbol, is_imported_as};
+use crate::slots::{ImportSlot, import_slots};
 use crate::table::SymbolTable;
+use crate::units::defined_number;
 use std::alloc::{AllocError, Global};
 use wl_linking::{File, WasmSymbol, WasmSymbolKind};
 use wl_lists::ItemList;
@@ -21,29 +22,18 @@ pub enum SlotTarget {
     Made(WasmLinkerSymbol),
 }
 
-/// The number among what is defined, by an index that counts imported things first.
-fn defined_under(imported: usize, count: usize, index: u32) -> Option<u32>
-    ensures { result ≡ defined_under imported count index }
-{
-    let place = index as usize;
-    if place < imported || place - imported >= count {
-        return None;
-    }
-    Some(index - imported as u32)
-}
-
 /// The number of a function or global among those that the object defines, by its index: nothing
 /// where it is imported, or where there is none.
 pub fn own_number(kind: WasmSymbolKind, file: &File<'_>, index: u32) -> Option<u32>
     ensures { result ≡ own_number kind file.now index }
 {
     match kind {
-        WasmSymbolKind::Func => defined_under(
+        WasmSymbolKind::Func => defined_number(
             file.num_function_imports(),
             file.num_defined_functions(),
             index,
         ),
-        WasmSymbolKind::Global => defined_under(
+        WasmSymbolKind::Global => defined_number(
             file.num_global_imports(),
             file.num_defined_globals(),
             index,
@@ -59,7 +49,7 @@ pub fn own_number(kind: WasmSymbolKind, file: &File<'_>, index: u32) -> Option<u
 fn is_definition_of(kind: WasmSymbolKind, symbol: &WasmSymbol<'_>) -> bool
     ensures { result ≡ is_definition_of kind symbol.now }
 {
-    !symbol.is_undefined() && is_imported_as(kind, symbol.kind)
+    symbol.is_defined() && is_imported_as(kind, symbol.kind)
 }
 
 /// What a symbol of the object of that number defines of that kind.

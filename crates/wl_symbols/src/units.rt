@@ -2,7 +2,7 @@
 
 ghost use Rattle.std.specs.Prelude.{◌≡◌, ◌≤◌, ◌^◌, ◌<◌};
 ghost use Rattle.wl_custom.specs.declared.symbols.WasmSymbolKind.TheVariants as WasmSymbolKind;
-ghost use Rattle.wl_symbols.specs.Units.{defined, imported, counts_of, unit_index, count_of_kind, has_unit, number_in_object, unit_count, unit_in, unit_by, unit_of, sibling_of, IsSmall};
+ghost use Rattle.wl_symbols.specs.Units.{defined_number, number_below, counts_of, unit_index, count_of_kind, has_unit, number_in_object, unit_count, unit_in, unit_by, unit_of, sibling_of, IsSmall};
 
 use wl_linking::{File, WasmSymbol, WasmSymbolKind};
 
@@ -117,23 +117,24 @@ pub(crate) fn number_in_object(counts: UnitCounts, unit: WasmGcUnit) -> usize
     before + unit_index(unit) as usize
 }
 
-/// The thing that is defined under an index, which counts imported ones first.
-pub fn defined(imported: usize, count: usize, index: u32) -> Option<u32>
-    ensures { result ≡ defined imported count index }
+/// The number of a thing among the defined ones, by an index that counts imported ones first:
+/// nothing where that is an imported one's, or there is none.
+pub fn defined_number(imports: usize, count: usize, index: u32) -> Option<u32>
+    ensures { result ≡ defined_number imports count index }
 {
     let place = index as usize;
-    if place < imported || place - imported >= count {
+    if place < imports || place - imports >= count {
         return None;
     }
-    Some(index - imported as u32)
+    Some(index - imports as u32)
 }
 
-/// The thing that is imported under an index.
-pub fn imported(count: usize, index: u32) -> Option<u32>
-    ensures { result ≡ imported count index }
+/// The number, where there are more things than that.
+pub fn number_below(count: usize, number: u32) -> Option<u32>
+    ensures { result ≡ number_below count number }
 {
-    if (index as usize) < count {
-        Some(index)
+    if (number as usize) < count {
+        Some(number)
     } else {
         None
     }
@@ -144,10 +145,10 @@ fn function_by(counts: UnitCounts, undefined: bool, index: u32) -> Option<WasmGc
     ensures { result ≡ unit_by counts WasmSymbolKind.Func undefined index }
 {
     if undefined {
-        let index = imported(counts.function_imports, index)?;
+        let index = number_below(counts.function_imports, index)?;
         return Some(WasmGcUnit::FunctionImport(index));
     }
-    let index = defined(counts.function_imports, counts.functions, index)?;
+    let index = defined_number(counts.function_imports, counts.functions, index)?;
     Some(WasmGcUnit::DefinedFunction(index))
 }
 
@@ -156,10 +157,10 @@ fn global_by(counts: UnitCounts, undefined: bool, index: u32) -> Option<WasmGcUn
     ensures { result ≡ unit_by counts WasmSymbolKind.Global undefined index }
 {
     if undefined {
-        let index = imported(counts.global_imports, index)?;
+        let index = number_below(counts.global_imports, index)?;
         return Some(WasmGcUnit::GlobalImport(index));
     }
-    let index = defined(counts.global_imports, counts.globals, index)?;
+    let index = defined_number(counts.global_imports, counts.globals, index)?;
     Some(WasmGcUnit::DefinedGlobal(index))
 }
 
@@ -170,7 +171,7 @@ fn segment_by(counts: UnitCounts, undefined: bool, index: u32) -> Option<WasmGcU
     if undefined {
         return None;
     }
-    let index = imported(counts.segments, index)?;
+    let index = number_below(counts.segments, index)?;
     Some(WasmGcUnit::DataSegment(index))
 }
 

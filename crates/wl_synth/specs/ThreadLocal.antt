@@ -1,6 +1,7 @@
 -- What a run of the body does that makes a thread's block.
 use Rattle.std.specs.Prelude.{◌≡◌, ◌≢◌, ◌+◌, ◌*◌, ◌^◌, ◌<◌, ◌≤◌, ℕ, ℤ, pos, ◌+ℤ◌, true, List, [], ◌∷◌, length, replicate, slice_get, Option, Some}
 use Rattle.std.specs.List.{AllByRecursion}
+use Rattle.wl_module.specs.declared.limits.TheConstants.{WASM_PAGE_SIZE, MAX_PAGES}
 use Rattle.wl_ops.specs.Standing.{window}
 use Rattle.wl_synth.specs.declared.parts.TlsPointerFixup.{TlsPointerFixup}
 use Rattle.wl_synth.specs.declared.parts.TlsGotFixup.{TlsGotFixup}
@@ -30,13 +31,13 @@ IsWordGlobal w globals k = (n : ℕ) × (slice_get globals k ≡ Some (I32 n)) �
 
 -- ---- the run
 
--- The base, a number of 32 bits, is the parameter. The block at it lies in memory, which has at
--- most 65536 pages, and the copies and the pointers lie in the block. Each copy is as long as its
--- segment, and no two pointers share a byte. The globals can hold addresses, and none is named
+-- The base, a number of 32 bits, is the parameter. The block at it lies in memory, which isn't
+-- above the greatest size, and the copies and the pointers lie in the block. Each copy is as long as
+-- its segment, and no two pointers share a byte. The globals can hold addresses, and none is named
 -- twice.
 pub record CanInitTls (w : World) (s : State) (base : ℕ) (b : ThreadBlock) : Type 0 where
   pub is_word : base < 2 ^ 32
-  pub pages : length s.memory ≤ 65536 * 65536
+  pub pages : length s.memory ≤ MAX_PAGES * WASM_PAGE_SIZE
   pub given : slice_get s.locals 0 ≡ Some (I32 base)
   pub room : base + b.size ≤ length s.memory
   pub templates : AllByRecursion (FitsSegment s.segments b.size) b.templates

@@ -3,7 +3,8 @@
 ghost use Rattle.std.specs.Prelude.{◌≡◌, ◌<◌, ◌≤◌, [], length, position, IfOk, IfSome, OnOk, OnErr, IfErr, Some, is_some, slice_get};
 ghost use Rattle.std.specs.List.{list_any};
 ghost use Rattle.wl_module.specs.Types.{same_type};
-ghost use Rattle.wl_types.specs.Types.{max_entries, add_type, IsFull};
+ghost use Rattle.wl_index.specs.declared.index.TheConstants.{MAX_ENTRIES};
+ghost use Rattle.wl_types.specs.Types.{add_type, IsFull};
 
 use indexmap::IndexSet;
 use std::alloc::{AllocError, Global};
@@ -40,7 +41,7 @@ impl Model for TypeMerger {
 
     ghost view = { λ m. m.types.keys };
 
-    ghost invariant = { λ m. length m.types.keys ≤ 4294967294 };
+    ghost invariant = { λ m. length m.types.keys ≤ MAX_ENTRIES };
 }
 
 impl TypeMerger {
@@ -71,7 +72,7 @@ impl TypeMerger {
     pub fn add(&mut self, ty: &FuncType) -> Result<u32, LinkError>
         ensures types { OnOk result (self.new ≡ add_type self.old ty.now) }
         ensures place { IfOk result (λ place. slice_get self.new place ≡ Some ty.now) }
-        ensures room { OnOk result (length self.new ≤ max_entries) }
+        ensures room { OnOk result (length self.new ≤ MAX_ENTRIES) }
         ensures err { IfErr result (IsFull (add_type self.old ty.now)) }
         ensures same { OnErr result (self.new ≡ self.old) }
     {
@@ -91,7 +92,7 @@ impl TypeMerger {
     /// The types, in order.
     pub fn types(&self) -> &[FuncType]
         ensures types { result.now ≡ self.now }
-        ensures room { length result.now ≤ max_entries }
+        ensures room { length result.now ≤ MAX_ENTRIES }
     {
         self.types.as_slice()
     }
@@ -102,7 +103,7 @@ impl TypeMerger {
     /// `AllocError` where memory runs out.
     pub fn into_types(self) -> Result<ItemList<FuncType>, AllocError>
         ensures types { IfOk result (λ types. types ≡ self) }
-        ensures room { IfOk result (λ types. length types ≤ max_entries) }
+        ensures room { IfOk result (λ types. length types ≤ MAX_ENTRIES) }
     {
         let mut list = Vec::new(self.alloc);
         for ty in self.types {

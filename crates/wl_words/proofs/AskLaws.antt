@@ -6,6 +6,7 @@ use Rattle.std.proofs.lemmas.List.Elements.{filter_map-append}
 use Rattle.wl_words.specs.Items.{ArgItem}
 use Rattle.wl_words.specs.Args.{AsksFor, all_of, said_of, last_of, input_of, export_symbol_of, required_export_symbol_of, export_dynamic_of, allow_undefined_of, stack_first_of, gc_sections_of, check_features_of, entry_of, z_stack_size_of, initial_memory_of, max_memory_of, import_memory_of, export_memory_of, extra_features_of, strip_all_of, strip_debug_of, keep_section_of, output_of}
 use Rattle.wl_words.specs.Taking.{put_behind, AddsItem}
+use Rattle.wl_words.specs.declared.args.TheConstants.{DEFAULT_STACK_SIZE}
 use Rattle.wl_words.specs.declared.args.WasmArgs.{WasmArgs}
 
 last_more : {X : Type 0} (o : Option X) (xs : List X) (x : X) → last_or o (xs ++ x ∷ []) ≡ Some x
@@ -48,7 +49,7 @@ asks_more items item old new h adds = record {
   gc_sections = last_field gc_sections_of true items item old.gc_sections new.gc_sections h.gc_sections adds.gc_sections;
   check_features = last_field check_features_of true items item old.check_features new.check_features h.check_features adds.check_features;
   entry = last_field entry_of (Some (codes "_start")) items item old.entry new.entry h.entry adds.entry;
-  z_stack_size = last_field z_stack_size_of 65536 items item old.z_stack_size new.z_stack_size h.z_stack_size adds.z_stack_size;
+  z_stack_size = last_field z_stack_size_of DEFAULT_STACK_SIZE items item old.z_stack_size new.z_stack_size h.z_stack_size adds.z_stack_size;
   initial_memory = said_field initial_memory_of items item old.initial_memory new.initial_memory h.initial_memory adds.initial_memory;
   max_memory = said_field max_memory_of items item old.max_memory new.max_memory h.max_memory adds.max_memory;
   import_memory = said_field import_memory_of items item old.import_memory new.import_memory h.import_memory adds.import_memory;
@@ -73,7 +74,7 @@ args_of items = record {
   gc_sections = last_of gc_sections_of true items;
   check_features = last_of check_features_of true items;
   entry = last_of entry_of (Some (codes "_start")) items;
-  z_stack_size = last_of z_stack_size_of 65536 items;
+  z_stack_size = last_of z_stack_size_of DEFAULT_STACK_SIZE items;
   initial_memory = said_of initial_memory_of items;
   max_memory = said_of max_memory_of items;
   import_memory = said_of import_memory_of items;

@@ -8,6 +8,7 @@ use Rattle.wl_words.specs.Faults.{WordsFault}
 use Rattle.wl_words.specs.declared.options.Flag.TheVariants as flag
 use Rattle.wl_words.specs.declared.options.Setting.TheVariants as setting
 use Rattle.wl_words.specs.declared.options.MemoryOption.TheVariants as memory
+use Rattle.wl_words.specs.declared.args.TheConstants.{DEFAULT_STACK_SIZE}
 use Rattle.wl_words.specs.declared.args.WasmArgs.{WasmArgs}
 use Rattle.wl_words.specs.declared.error.ArgError.{ArgError}
 use Rattle.wl_words.specs.declared.error.ArgError.TheVariants.{OutOfMemory, UnknownOption, MissingValue, BadNumber, NoInputs}
@@ -138,7 +139,7 @@ pub record AsksFor (items : List ArgItem) (args : WasmArgs) : Type 0 where
   pub gc_sections : args.gc_sections ≡ last_of gc_sections_of true items
   pub check_features : args.check_features ≡ last_of check_features_of true items
   pub entry : args.entry ≡ last_of entry_of (Some (codes "_start")) items
-  pub z_stack_size : args.z_stack_size ≡ last_of z_stack_size_of 65536 items
+  pub z_stack_size : args.z_stack_size ≡ last_of z_stack_size_of DEFAULT_STACK_SIZE items
   pub initial_memory : args.initial_memory ≡ said_of initial_memory_of items
   pub max_memory : args.max_memory ≡ said_of max_memory_of items
   pub import_memory : args.import_memory ≡ said_of import_memory_of items

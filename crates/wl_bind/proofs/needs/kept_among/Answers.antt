@@ -5,7 +5,7 @@ use Rattle.wl_module.specs.Segments.{Segment}
 use Rattle.wl_symbols.specs.declared.units.WasmGcUnit.TheVariants.{DataSegment}
 use Rattle.wl_symbols.specs.Input.{keeps}
 use Rattle.wl_bind.specs.Made.{is_filled, is_kept_thread_data, is_kept_common_data, keeps_thread_data, keeps_common_data}
-use Rattle.wl_bind.specs.ThreadData.{is_thread_data}
+use Rattle.wl_bind.specs.ThreadData.{is_thread_segment}
 use Rattle.wl_bind.proofs.NeedLaws.{number_more, number_end, here_at}
 use Rattle.wl_bind.proofs.needs.kept_among.Goals as goal
 
@@ -13,7 +13,7 @@ pub bounds-marks-k : goal.bounds-marks-k
 bounds-marks-k c =
     let file = c.args.file.now in
     let long : length c.args.marks.now ≡ length file.segments =
-    ap length c.requires ∙ length-map-range_with_len (is_thread_data file) 0 (length file.segments)
+    ap length c.requires ∙ length-map-range_with_len (is_thread_segment file) 0 (length file.segments)
     in
     let within : c.loop-k.k < length file.segments = search rules in
     omega (arith, long, within)
@@ -29,9 +29,9 @@ loop-k-preserved c =
     let within : k < n = search rules in
     let same : 0 + k ≡ k = omega arith in
     let kept = keeps input object (DataSegment k) in
-    let mark : get_or c.args.marks.now k false ≡ is_thread_data file k =
+    let mark : get_or c.args.marks.now k false ≡ is_thread_segment file k =
     ap (λ (bs : List Bool). get_or bs k false) c.requires
-    ∙ get_or-map-range_with_len (is_thread_data file) 0 n k k false within same in
+    ∙ get_or-map-range_with_len (is_thread_segment file) 0 n k k false within same in
     let at : item ≡ get_or file.segments k item = search rules in
     let here : slice_get file.segments k ≡ Some item = here_at file.segments k item within at in
     record {
@@ -45,7 +45,7 @@ loop-k-preserved c =
           (keeps_common_data input object file) within
           (c.kept_by_segment.ensures.common
           ∙ (ap (λ (b : Bool). kept && not b && is_filled item) mark
-          ∙ ap (λ (o : Option Segment). kept && not (is_thread_data file k) && option_map_or is_filled
+          ∙ ap (λ (o : Option Segment). kept && not (is_thread_segment file k) && option_map_or is_filled
           o false) (sym here)))
           c.joined-kept.ensures.common c.loop-k.invariant.common;
     }

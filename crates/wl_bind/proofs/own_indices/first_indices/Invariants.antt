@@ -1,5 +1,5 @@
 use Rattle.std.proofs.Common.{◌≡◌, ◌≤◌, ◌+◌, ◌++◌, drop}
-use Rattle.wl_types.specs.Types.{max_entries}
+use Rattle.wl_index.specs.declared.index.TheConstants.{MAX_ENTRIES}
 use Rattle.wl_bind.specs.OwnIndices.{firsts_from, kept_count}
 use Rattle.wl_bind.proofs.own_indices.first_indices.Given as goal
 
@@ -9,4 +9,4 @@ invariant-loop-object l =
     ≡ firsts_from l.input l.own l.start 0 l.input.link.objects)
     × (l.next + kept_count l.input l.own l.object (drop l.object l.input.link.objects)
     ≡ l.start + kept_count l.input l.own 0 l.input.link.objects)
-    × (l.next ≤ max_entries)
+    × (l.next ≤ MAX_ENTRIES)

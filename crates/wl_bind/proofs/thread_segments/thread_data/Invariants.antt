@@ -1,11 +1,11 @@
 use Rattle.std.proofs.Common.{◌≡◌, map, length, take, slice_get}
 use Rattle.std.specs.List.{range_with_len}
-use Rattle.wl_bind.specs.ThreadData.{is_thread_data_by}
+use Rattle.wl_bind.specs.ThreadData.{is_thread_segment_by}
 use Rattle.wl_bind.proofs.thread_segments.thread_data.Given as goal
 
 abbrev pub invariant-loop-segment : goal.invariant-loop-segment
 invariant-loop-segment l =
     l.marks.items
-    ≡ map (λ k. is_thread_data_by l.file.symbols k
+    ≡ map (λ k. is_thread_segment_by l.file.symbols k
     (slice_get (take l.segment l.file.segment_infos) k))
     (range_with_len 0 (length l.file.segments))

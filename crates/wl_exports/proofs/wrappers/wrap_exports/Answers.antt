@@ -1,7 +1,7 @@
 use Rattle.std.proofs.Common.{◌≡◌, ◌∙◌, ◌≤◌, ◌&&◌, Bool, List, length, sym, ap, subst, arith}
 use Rattle.wl_module.specs.Exports.{Exported}
 use Rattle.std.specs.List.{AllZip}
-use Rattle.wl_types.specs.Types.{max_entries}
+use Rattle.wl_index.specs.declared.index.TheConstants.{MAX_ENTRIES}
 use Rattle.wl_exports.specs.Exports.{exports}
 use Rattle.wl_exports.specs.Sources.{IsPlainExport}
 use Rattle.wl_exports.specs.Wrapped.{is_wrapped}
@@ -15,7 +15,7 @@ push_wrapped-requires c =
     let input = c.args.input.now in
     let room = c.requires.room in
     let functions = c.requires.functions in
-    let all = wrapped_room input c.loop-export.export-index c.args.functions max_entries c.loop-export.wrapped
+    let all = wrapped_room input c.loop-export.export-index c.args.functions MAX_ENTRIES c.loop-export.wrapped
     c.loop-export.wrappers c.loop-export.invariant (omega (arith, room, functions)) in
     omega (arith, all)
 

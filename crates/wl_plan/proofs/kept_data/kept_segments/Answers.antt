@@ -1,6 +1,6 @@
 use Rattle.std.proofs.Common.{◌≡◌, ◌∙◌, ◌+◌, ◌<◌, Bool, List, length, rules, ap, arith, get_or}
 use Rattle.std.proofs.lemmas.List.FromFn.{get_or-map-range_with_len, length-map-range_with_len}
-use Rattle.wl_bind.specs.ThreadData.{is_thread_data}
+use Rattle.wl_bind.specs.ThreadData.{is_thread_segment}
 use Rattle.wl_plan.proofs.ListLaws.{item_at}
 use Rattle.wl_plan.proofs.kept_data.kept_segments.Goals as goal
 
@@ -8,7 +8,7 @@ pub index-tls-requires : goal.index-tls-requires
 index-tls-requires c =
     let file = c.args.file.now in
     let long : length c.in_ok-thread.thread.items ≡ length file.segments =
-    ap length c.in_ok-thread.ensures ∙ length-map-range_with_len (is_thread_data file) 0 (length file.segments) in
+    ap length c.in_ok-thread.ensures ∙ length-map-range_with_len (is_thread_segment file) 0 (length file.segments) in
     let within : c.loop-number.number < length file.segments = search rules in
     omega (arith, long, within)
 
@@ -26,4 +26,4 @@ push_kept-requires-clause-tls c =
     let same : 0 + k ≡ k = omega arith in
     let found : c.index-tls.result.now ≡ get_or c.in_ok-thread.thread.items k c.index-tls.result.now = search rules in
     found ∙ (ap (λ (bs : List Bool). get_or bs k c.index-tls.result.now) c.in_ok-thread.ensures
-    ∙ get_or-map-range_with_len (is_thread_data file) 0 (length file.segments) k k c.index-tls.result.now within same)
+    ∙ get_or-map-range_with_len (is_thread_segment file) 0 (length file.segments) k k c.index-tls.result.now within same)

@@ -2,7 +2,7 @@ use Rattle.std.proofs.Common.{◌≡◌, ◌≤◌, length, List, rules, subst, 
 use Rattle.std.proofs.lemmas.Result.{err_from_is_err_and}
 use Rattle.wl_module.specs.Bodies.{Body}
 use Rattle.wl_linking.specs.Steps.{Clear, NoStep, Step}
-use Rattle.wl_types.specs.Types.{max_entries}
+use Rattle.wl_index.specs.declared.index.TheConstants.{MAX_ENTRIES}
 use Rattle.wl_data.specs.Segments.{SegmentLayout}
 use Rattle.wl_data.specs.Sizes.{segment_count}
 use Rattle.wl_exports.specs.Faults.{IsExportFault}
@@ -20,13 +20,13 @@ section_sizes-requires-clause-bodies c =
     let few = bodies_few input c.args.things.now.placing.now c.in_ok-bodies.bodies
     c.requires.things.wrapper_room c.in_ok-bodies.ensures.ok in
     let same : c.as_slice.result.now ≡ c.in_ok-bodies.bodies = search rules in
-    subst (λ (bodies : List Body). length bodies ≤ max_entries) (sym same) few
+    subst (λ (bodies : List Body). length bodies ≤ MAX_ENTRIES) (sym same) few
 
 pub section_sizes-requires-clause-layouts : goal.section_sizes-requires-clause-layouts
 section_sizes-requires-clause-layouts c =
     let g = c.args.things.now.placing.now in
     let same : c.as_slice-layouts.result.now ≡ g.places.layouts = search rules in
-    subst (λ (rows : List (List SegmentLayout)). segment_count rows ≤ max_entries) (sym same)
+    subst (λ (rows : List (List SegmentLayout)). segment_count rows ≤ MAX_ENTRIES) (sym same)
     (segments_few g c.requires.things.room)
 
 pub returns-in_err-sizes-clause-err : goal.returns-in_err-sizes-clause-err

@@ -2,8 +2,7 @@ use Rattle.std.proofs.Common.{◌≡◌, ◌∙◌, ◌≤◌, ℕ, List, ◌++�
 use Rattle.wl_linking.specs.Steps.{Clear}
 use Rattle.wl_bind.specs.FunctionSpace.{function_space}
 use Rattle.wl_bind.specs.Scan.{table_functions}
-use Rattle.wl_types.specs.Types.{max_entries}
-use Rattle.wl_index.specs.declared.index.TheConstants.{WASM_DEAD_INDEX}
+use Rattle.wl_index.specs.declared.index.TheConstants.{WASM_DEAD_INDEX, MAX_ENTRIES}
 use Rattle.wl_exports.specs.Wrapped.{WrapperEntry}
 use Rattle.wl_plan.specs.Fixups.{IsFixupFault}
 use Rattle.wl_plan.specs.Globals.{ArePlannedGlobals, IsGlobalFault}
@@ -23,7 +22,7 @@ all_fixups-requires-clause-sources c =
     } in
     let within : length (table_functions input) ≤ length (function_space input) =
     few_in_table laws input c.in_ok-elements.elements c.in_ok-elements.ensures in
-    let room : length (function_space input) ≤ max_entries = things.few.functions in
+    let room : length (function_space input) ≤ MAX_ENTRIES = things.few.functions in
     let slots : c.as_slice-2.result.now ≡ space_slots input = search rules in
     record {
       settled = things.bindings.settled;
