@@ -7,11 +7,13 @@ use Rattle.wl_index.specs.declared.index.TheConstants.{LINKER_TABLE_BASE}
 use Rattle.wl_index.specs.declared.memory.TheConstants.{LINKER_MEMORY_BASE}
 use Rattle.wl_module.specs.Imports.{Imported}
 use Rattle.wl_module.specs.Segments.{Segment}
+use Rattle.wl_module.specs.declared.imports.ExternalKind.TheVariants as external
 use Rattle.wl_module.specs.declared.imports.ImportEntity.{ImportEntity}
 use Rattle.wl_module.specs.declared.imports.ImportEntity.TheVariants as entity
 use Rattle.wl_module.specs.declared.segments.DataKind.{DataKind}
 use Rattle.wl_module.specs.declared.segments.DataKind.TheVariants.{Passive, Active}
 use Rattle.wl_linking.specs.Object.{Object}
+use Rattle.wl_linking.specs.Spaces.{is_of_kind}
 use Rattle.wl_custom.specs.declared.symbols.WasmSymbolKind.TheVariants.{Func, Global}
 use Rattle.wl_symbols.specs.declared.units.WasmGcUnit.TheVariants.{DataSegment}
 use Rattle.wl_symbols.specs.LinkerNames.{name_of}
@@ -148,16 +150,9 @@ memory_base_value input = if (linker_needs input).needs_memory_base then LINKER_
 
 -- ---- the table
 
--- what is imported is a table
-abbrev pub is_table_import : ImportEntity → Bool
-is_table_import (entity.Table t) = true
-is_table_import (entity.Func number) = false
-is_table_import (entity.Memory m) = false
-is_table_import (entity.Global g) = false
-
 -- the object imports one
 abbrev pub imports_table : Object → Bool
-imports_table o = list_any (λ (i : Imported). is_table_import i.entity) o.imports
+imports_table o = list_any (λ (i : Imported). is_of_kind external.Table i.entity) o.imports
 
 -- there is a table: a kept relocation asks for it, or an object imports one
 abbrev pub has_table : Input → Bool

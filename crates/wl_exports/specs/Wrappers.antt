@@ -4,9 +4,9 @@ use Rattle.std.specs.List.{filter, list_any}
 use Rattle.std.specs.Str.{bytes_eq}
 use Rattle.wl_module.specs.Exports.{Exported}
 use Rattle.wl_module.specs.Imports.{Imported}
-use Rattle.wl_module.specs.declared.imports.ImportEntity.{ImportEntity}
-use Rattle.wl_module.specs.declared.imports.ImportEntity.TheVariants as entity
+use Rattle.wl_module.specs.declared.imports.ExternalKind.TheVariants as external
 use Rattle.wl_linking.specs.Object.{Object}
+use Rattle.wl_linking.specs.Spaces.{is_of_kind}
 use Rattle.wl_symbols.specs.LinkerNames.{name_of}
 use Rattle.wl_symbols.specs.declared.linker_symbol.WasmLinkerSymbol.TheVariants.{CallCtors, InitTls}
 use Rattle.wl_bind.specs.FunctionSpace.{FunctionEntry, FunctionOf, InitMemory}
@@ -19,18 +19,11 @@ use Rattle.wl_exports.specs.Exports.{ExportEntry, Entity, OfFunction, OfGlobal, 
 abbrev pub is_ctors_name : List ℕ → Bool
 is_ctors_name = bytes_eq (name_of CallCtors)
 
--- what is imported is a function
-abbrev pub is_function_import : ImportEntity → Bool
-is_function_import (entity.Func number) = true
-is_function_import (entity.Table t) = false
-is_function_import (entity.Memory m) = false
-is_function_import (entity.Global g) = false
-
 -- the object calls the constructors itself: it imports a function of that name, or exports
 -- something
 abbrev pub calls_ctors : Object → Bool
 calls_ctors o =
-    list_any (λ (i : Imported). is_function_import i.entity && is_ctors_name i.name) o.imports
+    list_any (λ (i : Imported). is_of_kind external.Func i.entity && is_ctors_name i.name) o.imports
     || list_any (λ (e : Exported). is_ctors_name e.name) o.exports
 
 -- functions that run at the start are called around each export: there are some, no object calls

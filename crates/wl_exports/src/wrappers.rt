@@ -3,13 +3,15 @@
 ghost use Rattle.std.specs.Prelude.{◌≡◌, ◌≤◌, ◌<◌, ◌+◌, ◌^◌, ◌&&◌, [], ◌∷◌, ◌++◌, length, IfOk, OnOk};
 ghost use Rattle.std.specs.List.{list_any};
 ghost use Rattle.wl_index.specs.declared.index.TheConstants.{MAX_ENTRIES};
+ghost use Rattle.wl_module.specs.declared.imports.ExternalKind.TheVariants as external;
+ghost use Rattle.wl_linking.specs.Spaces.{is_of_kind};
 ghost use Rattle.wl_bind.specs.FunctionSpace.{host_function_part, function_space};
 ghost use Rattle.wl_symbols.specs.Input.{Input as Linked};
 ghost use Rattle.wl_exports.specs.Exports.{ExportEntry};
 ghost use Rattle.wl_exports.specs.Sources.{IsPlainExport, ArePlainExports};
 ghost use Rattle.wl_exports.specs.WrapSteps.{with_export, with_wrapper};
 ghost use Rattle.wl_exports.specs.Wrapped.{AreOutputExports, AreWrappers};
-ghost use Rattle.wl_exports.specs.Wrappers.{is_ctors_name, calls_ctors, wraps, can_wrap, is_own_function, wrapped, is_function_import};
+ghost use Rattle.wl_exports.specs.Wrappers.{is_ctors_name, calls_ctors, wraps, can_wrap, is_own_function, wrapped};
 
 use crate::made::INIT_TLS;
 use std::alloc::{AllocError, Global};
@@ -49,26 +51,17 @@ fn is_ctors_name(name: &str) -> bool
     name == CALL_CTORS
 }
 
-/// Whether what is imported is a function.
-fn is_function_import(entity: ImportEntity) -> bool
-    ensures { result ≡ is_function_import entity }
-{
-    match entity {
-        ImportEntity::Func(_) => true,
-        ImportEntity::Table(_) | ImportEntity::Memory(_) | ImportEntity::Global(_) => false,
-    }
-}
-
 /// Whether it is the import of a function that calls the constructors.
 fn is_ctors_import(import: &Import<'_>) -> bool
-    ensures { result ≡ (is_function_import import.now.entity && is_ctors_name import.now.name) }
+    ensures { result ≡ (is_of_kind external.Func import.now.entity && is_ctors_name import.now.name) }
 {
-    is_function_import(import.entity) && is_ctors_name(import.name)
+    matches!(import.entity, ImportEntity::Func(_)) && is_ctors_name(import.name)
 }
 
 /// Whether one of these is such an import.
 fn imports_ctors(imports: &[Import<'_>]) -> bool
-    ensures { result ≡ list_any (λ i. is_function_import i.entity && is_ctors_name i.name) imports.now }
+    ensures { result
+        ≡ list_any (λ i. is_of_kind external.Func i.entity && is_ctors_name i.name) imports.now }
 {
     imports.iter().any(|import| is_ctors_import(import))
 }
