@@ -5,6 +5,6 @@ pub mod Features
 pub mod Symbols
 pub mod SymbolsReading
 pub mod Linking
-pub mod RelocationRows
+pub mod Takings
 pub mod RelocationTypes
 pub mod Relocations

@@ -15,6 +15,7 @@ mod symbols;
 // Relocation sections.
 mod relocation_type;
 mod relocations;
+mod takings;
 
 // The other custom sections that are kept.
 mod debug;
@@ -33,3 +34,4 @@ pub use relocations::{
     RelocHeld, RelocationList, Target, WasmRelocSection, WasmRelocation, read_held_entries,
 };
 pub use symbols::{WasmSymbol, WasmSymbolKind, range_of};
+pub use takings::{AddressBase, Taking};

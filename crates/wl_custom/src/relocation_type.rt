@@ -1,9 +1,11 @@
-//! The types of relocations (object file linking, version 2, "Relocation Sections"), as one table.
+//! The types of relocations (object file linking, version 2, "Relocation Sections"), as one table:
+//! each column is a `match`.
 
 ghost use Rattle.std.specs.Prelude.{◌≡◌};
-ghost use Rattle.wl_custom.specs.RelocationTypes.{field_form, has_addend, names_a_type, may_stand_in_data, relocation_type_of, numbered_in, type_name};
+ghost use Rattle.wl_custom.specs.RelocationTypes.{field_form, taking_of, may_stand_in_data, relocation_type_of, names_a_type, has_addend, takes_kind, is_global_index, is_table_index, is_table_relative, is_table_number, is_memory_relative, is_absolute, type_name};
 
-use std::marker::Model;
+use crate::symbols::WasmSymbolKind;
+use crate::takings::{AddressBase, Taking};
 
 /// What a relocation puts into its field (object file linking, version 2, "Relocation Sections").
 #[derive(Clone, Copy, Debug, PartialEq, Eq)]
@@ -49,94 +51,6 @@ pub enum FieldForm {
     Word,
 }
 
-/// What the index of a relocation is the number of.
-#[derive(Clone, Copy, PartialEq, Eq)]
-pub(crate) enum Indexed {
-    /// A symbol.
-    Symbol,
-    /// A type.
-    Type,
-}
-
-/// In which sections a type of relocation may stand.
-#[derive(Clone, Copy, PartialEq, Eq)]
-pub(crate) enum Allowed {
-    /// In code and in data.
-    Anywhere,
-    /// In code alone: data has no base to count a slot from.
-    InCode,
-}
-
-/// A row of the table of types. Clauses see it as a `Row`, with the name as a list.
-struct RelocationRow {
-    ty: RelocationType,
-    number: u8,
-    name: &'static str,
-    form: FieldForm,
-    has_addend: bool,
-    index: Indexed,
-    allowed: Allowed,
-}
-
-impl Model for RelocationRow {
-    ghost use Rattle.wl_custom.specs.RelocationRows.{RelocationRow as Row};
-
-    ghost Value = { Row };
-
-    ghost view = { λ r. record {
-      ty = r.ty;
-      number = r.number;
-      name = r.name.now;
-      form = r.form;
-      has_addend = r.has_addend;
-      index = r.index;
-      allowed = r.allowed;
-    } };
-}
-
-/// A row: the type, its number and name, how its field holds the value, whether there is an addend,
-/// what its index is of, and where it may stand: of a symbol and anywhere, where it isn't told.
-macro_rules! row {
-    ($ty:ident, $number:literal, $name:literal, $form:ident, $addend:literal) => {
-        row! { $ty, $number, $name, $form, $addend, Symbol, Anywhere }
-    };
-    (
-        $ty:ident, $number:literal, $name:literal, $form:ident, $addend:literal,
-        $index:ident, $allowed:ident
-    ) => {
-        RelocationRow {
-            ty: RelocationType::$ty,
-            number: $number,
-            name: $name,
-            form: FieldForm::$form,
-            has_addend: $addend,
-            index: Indexed::$index,
-            allowed: Allowed::$allowed,
-        }
-    };
-}
-
-/// The table of types, in the order of the enum. The numbers between them are those of offsets in
-/// functions and sections, of tags, of forms of 64 bits, and of addresses relative to their field.
-const ROWS: [RelocationRow; 14] = [
-    row! { FunctionIndexLeb, 0, "R_WASM_FUNCTION_INDEX_LEB", PaddedUnsigned, false },
-    row! { TableIndexSleb, 1, "R_WASM_TABLE_INDEX_SLEB", PaddedSigned, false },
-    row! { TableIndexI32, 2, "R_WASM_TABLE_INDEX_I32", Word, false },
-    row! { MemoryAddrLeb, 3, "R_WASM_MEMORY_ADDR_LEB", PaddedUnsigned, true },
-    row! { MemoryAddrSleb, 4, "R_WASM_MEMORY_ADDR_SLEB", PaddedSigned, true },
-    row! { MemoryAddrI32, 5, "R_WASM_MEMORY_ADDR_I32", Word, true },
-    row! { TypeIndexLeb, 6, "R_WASM_TYPE_INDEX_LEB", PaddedUnsigned, false, Type, Anywhere },
-    row! { GlobalIndexLeb, 7, "R_WASM_GLOBAL_INDEX_LEB", PaddedUnsigned, false },
-    row! { MemoryAddrRelSleb, 11, "R_WASM_MEMORY_ADDR_REL_SLEB", PaddedSigned, true },
-    row! {
-        TableIndexRelSleb, 12, "R_WASM_TABLE_INDEX_REL_SLEB", PaddedSigned, false, Symbol, InCode
-    },
-    row! { GlobalIndexI32, 13, "R_WASM_GLOBAL_INDEX_I32", Word, false },
-    row! { TableNumberLeb, 20, "R_WASM_TABLE_NUMBER_LEB", PaddedUnsigned, false },
-    row! { MemoryAddrTlsSleb, 21, "R_WASM_MEMORY_ADDR_TLS_SLEB", PaddedSigned, true },
-    row! { FunctionIndexI32, 26, "R_WASM_FUNCTION_INDEX_I32", Word, false },
-];
-
 /// The greatest number of a type of relocation.
 pub(crate) const LAST_TYPE: u8 = 26;
 
@@ -163,52 +77,150 @@ impl RelocationType {
         }
     }
 
-    /// Whether an entry of that type has an addend: those of addresses do.
-    pub fn has_addend(self) -> bool
-        ensures { result ≡ has_addend self }
+    /// What it takes of what it names.
+    pub fn takes(self) -> Taking
+        ensures { result ≡ taking_of self }
     {
-        matches!(
-            self,
-            Self::MemoryAddrLeb
-                | Self::MemoryAddrSleb
-                | Self::MemoryAddrI32
-                | Self::MemoryAddrRelSleb
-                | Self::MemoryAddrTlsSleb
-        )
+        match self {
+            Self::FunctionIndexLeb | Self::FunctionIndexI32 => Taking::FunctionIndex,
+            Self::TableIndexSleb | Self::TableIndexI32 => Taking::Slot,
+            Self::TableIndexRelSleb => Taking::SlotBehindBase,
+            Self::TypeIndexLeb => Taking::TypeIndex,
+            Self::GlobalIndexLeb | Self::GlobalIndexI32 => Taking::GlobalIndex,
+            Self::TableNumberLeb => Taking::TableNumber,
+            Self::MemoryAddrLeb | Self::MemoryAddrSleb | Self::MemoryAddrI32 => {
+                Taking::Address(AddressBase::Memory)
+            }
+            Self::MemoryAddrRelSleb => Taking::Address(AddressBase::MemoryBase),
+            Self::MemoryAddrTlsSleb => Taking::Address(AddressBase::ThreadData),
+        }
+    }
+
+    /// Whether it may stand in the data section too: data has no base to count a slot from.
+    pub(crate) fn may_stand_in_data(self) -> bool
+        ensures { result ≡ may_stand_in_data self }
+    {
+        match self {
+            Self::TableIndexRelSleb => false,
+            Self::FunctionIndexLeb
+            | Self::TableIndexSleb
+            | Self::TableIndexI32
+            | Self::MemoryAddrLeb
+            | Self::MemoryAddrSleb
+            | Self::MemoryAddrI32
+            | Self::TypeIndexLeb
+            | Self::GlobalIndexLeb
+            | Self::MemoryAddrRelSleb
+            | Self::GlobalIndexI32
+            | Self::TableNumberLeb
+            | Self::MemoryAddrTlsSleb
+            | Self::FunctionIndexI32 => true,
+        }
+    }
+
+    /// The type of that number, where there is a rule for it. The other numbers are those of
+    /// offsets in functions and sections, of tags, of forms of 64 bits, and of addresses relative
+    /// to their field.
+    pub(crate) fn from_number(number: u8) -> Option<Self>
+        ensures { result ≡ relocation_type_of number }
+    {
+        match number {
+            0 => Some(Self::FunctionIndexLeb),
+            1 => Some(Self::TableIndexSleb),
+            2 => Some(Self::TableIndexI32),
+            3 => Some(Self::MemoryAddrLeb),
+            4 => Some(Self::MemoryAddrSleb),
+            5 => Some(Self::MemoryAddrI32),
+            6 => Some(Self::TypeIndexLeb),
+            7 => Some(Self::GlobalIndexLeb),
+            11 => Some(Self::MemoryAddrRelSleb),
+            12 => Some(Self::TableIndexRelSleb),
+            13 => Some(Self::GlobalIndexI32),
+            20 => Some(Self::TableNumberLeb),
+            21 => Some(Self::MemoryAddrTlsSleb),
+            26 => Some(Self::FunctionIndexI32),
+            _ => None,
+        }
     }
 
     /// Whether its index is that of a type: all others are those of symbols.
     pub fn names_a_type(self) -> bool
         ensures { result ≡ names_a_type self }
     {
-        matches!(self, Self::TypeIndexLeb)
+        self.takes() == Taking::TypeIndex
     }
 
-    /// Whether it may stand in the data section too.
-    pub(crate) fn may_stand_in_data(self) -> bool
-        ensures { result ≡ may_stand_in_data self }
+    /// Whether an entry of that type has an addend: those of addresses do.
+    pub fn has_addend(self) -> bool
+        ensures { result ≡ has_addend self }
     {
-        !matches!(self, Self::TableIndexRelSleb)
-    }
-
-    /// The type of that number, where there is a rule for it.
-    pub(crate) fn from_number(number: u8) -> Option<Self>
-        ensures { result ≡ relocation_type_of number }
-    {
-        numbered_in(&ROWS, number)
-    }
-}
-
-/// The type of that number among these rows.
-fn numbered_in(rows: &[RelocationRow], number: u8) -> Option<RelocationType>
-    ensures { result ≡ numbered_in rows.now number }
-{
-    for row in rows {
-        if row.number == number {
-            return Some(row.ty);
+        match self.takes() {
+            Taking::Address(_) => true,
+            Taking::FunctionIndex
+            | Taking::Slot
+            | Taking::SlotBehindBase
+            | Taking::TypeIndex
+            | Taking::GlobalIndex
+            | Taking::TableNumber => false,
         }
     }
-    None
+
+    /// Whether it takes symbols of that kind. Data and functions have entries of GOT lists, and so
+    /// the number of a global.
+    pub fn takes_kind(self, kind: WasmSymbolKind) -> bool
+        ensures { result ≡ takes_kind self kind }
+    {
+        match self.takes() {
+            Taking::FunctionIndex | Taking::Slot | Taking::SlotBehindBase => kind.is_function(),
+            Taking::TypeIndex => false,
+            Taking::GlobalIndex => kind.is_global() || kind.is_data() || kind.is_function(),
+            Taking::TableNumber => kind.is_table(),
+            Taking::Address(_) => kind.is_data(),
+        }
+    }
+
+    /// Whether it takes the number of a global.
+    pub fn is_global_index(self) -> bool
+        ensures { result ≡ is_global_index self }
+    {
+        self.takes() == Taking::GlobalIndex
+    }
+
+    /// Whether it takes the slot of a function in the table, or behind the table's base.
+    pub fn is_table_index(self) -> bool
+        ensures { result ≡ is_table_index self }
+    {
+        let takes = self.takes();
+        takes == Taking::Slot || takes == Taking::SlotBehindBase
+    }
+
+    /// Whether it takes a slot behind the base of the table.
+    pub fn is_table_relative(self) -> bool
+        ensures { result ≡ is_table_relative self }
+    {
+        self.takes() == Taking::SlotBehindBase
+    }
+
+    /// Whether it takes the number of a table.
+    pub fn is_table_number(self) -> bool
+        ensures { result ≡ is_table_number self }
+    {
+        self.takes() == Taking::TableNumber
+    }
+
+    /// Whether it takes an address behind the base of the memory.
+    pub fn is_memory_relative(self) -> bool
+        ensures { result ≡ is_memory_relative self }
+    {
+        self.takes() == Taking::Address(AddressBase::MemoryBase)
+    }
+
+    /// Whether it takes an address that counts from the start of the memory.
+    pub fn is_absolute(self) -> bool
+        ensures { result ≡ is_absolute self }
+    {
+        self.takes() == Taking::Address(AddressBase::Memory)
+    }
 }
 
 /// The name of a type of relocation (object file linking, version 2, "Relocation Sections"), as

@@ -1,16 +1,17 @@
 -- What addresses of data become in fields.
-use Rattle.std.specs.Prelude.{◌≡◌, ℕ, ℤ, pos, negsuc, ◌+◌, ◌+ℤ◌, ◌-ℤ◌, ◌-◌, ◌^◌, ◌&&◌, Bool, true, false, nat_lt, int_le, if◌then◌else◌, List, Option, Some, None, Result, Ok, Err, slice_get}
-use Rattle.wl_custom.specs.RelocationTypes.{has_addend}
+use Rattle.std.specs.Prelude.{ℕ, ℤ, pos, negsuc, ◌+◌, ◌+ℤ◌, ◌-ℤ◌, ◌-◌, ◌^◌, ◌&&◌, Bool, nat_lt, int_le, if◌then◌else◌, List, Option, Some, None, Result, Ok, Err, slice_get}
+use Rattle.wl_custom.specs.RelocationTypes.{field_form, has_addend}
+use Rattle.wl_custom.specs.declared.relocation_type.FieldForm.{FieldForm}
+use Rattle.wl_custom.specs.declared.relocation_type.FieldForm.TheVariants.{PaddedUnsigned, PaddedSigned, Word}
 use Rattle.wl_custom.specs.declared.relocation_type.RelocationType.{RelocationType}
-use Rattle.wl_custom.specs.declared.relocation_type.RelocationType.TheVariants.{MemoryAddrI32}
 use Rattle.wl_custom.specs.declared.relocations.WasmRelocation.{WasmRelocation}
+use Rattle.wl_custom.specs.declared.takings.AddressBase.{AddressBase}
+use Rattle.wl_custom.specs.declared.takings.AddressBase.TheVariants.{Memory, MemoryBase, ThreadData}
 use Rattle.wl_index.specs.declared.data_address.WasmDataAddress.{WasmDataAddress}
 use Rattle.wl_index.specs.declared.data_address.WasmDataAddress.TheVariants.{Missing, Placed, Passive, TlsOffset}
 use Rattle.wl_reloc.specs.declared.error.RelocError.{RelocError}
 use Rattle.wl_reloc.specs.declared.error.RelocError.TheVariants.{Unsupported, Range}
 use Rattle.wl_reloc.specs.declared.addresses.AddressBases.{AddressBases}
-use Rattle.wl_reloc.specs.declared.takings.AddressBase.{AddressBase}
-use Rattle.wl_reloc.specs.declared.takings.AddressBase.TheVariants.{Memory, MemoryBase, ThreadData}
 
 -- ---- numbers of 32 bits
 
@@ -65,9 +66,14 @@ as_some (Err e) = Err e
 as_some (Ok z) = Ok (Some z)
 
 -- what stands in four bytes is stored by the thread; other fields can't be
+abbrev pub stored_by_thread : FieldForm → ℤ → Result (Option ℤ) RelocError
+stored_by_thread Word z = as_some (s32_or_range z)
+stored_by_thread PaddedUnsigned z = Err Unsupported
+stored_by_thread PaddedSigned z = Err Unsupported
+
+-- what a field takes of that place: addresses alone name data
 abbrev pub deferred_value : RelocationType → ℤ → Result (Option ℤ) RelocError
-deferred_value MemoryAddrI32 z = as_some (s32_or_range z)
-deferred_value ty z = if has_addend ty then Err Unsupported else Ok None
+deferred_value ty z = if has_addend ty then stored_by_thread (field_form ty) z else Ok None
 
 -- of the data that lies in the block of each thread
 abbrev pub deferred_at : RelocationType → ℤ → Option WasmDataAddress → Result (Option ℤ) RelocError

@@ -1,3 +1,2 @@
-pub mod Takings
 pub mod Addresses
 pub mod Resolving

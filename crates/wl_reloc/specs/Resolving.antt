@@ -1,20 +1,20 @@
 -- What the field of a relocation takes, by where the things of its object stand in the output.
-use Rattle.std.specs.Prelude.{◌≡◌, ℕ, ℤ, ◌-◌, ◌==◌, Bool, if◌then◌else◌, List, Option, Some, None, Result, Ok, Err, slice_get}
+use Rattle.std.specs.Prelude.{ℕ, ℤ, ◌-◌, ◌==◌, if◌then◌else◌, List, Option, Some, None, Result, Ok, Err, slice_get}
+use Rattle.wl_custom.specs.RelocationTypes.{taking_of}
 use Rattle.wl_custom.specs.Symbols.{Symbol}
 use Rattle.wl_custom.specs.declared.relocations.WasmRelocation.{WasmRelocation}
 use Rattle.wl_custom.specs.declared.symbols.WasmSymbolKind.{WasmSymbolKind}
 use Rattle.wl_custom.specs.declared.symbols.WasmSymbolKind.TheVariants.{Func, Data, Global, Section, Event, Table}
+use Rattle.wl_custom.specs.declared.takings.AddressBase.{AddressBase}
+use Rattle.wl_custom.specs.declared.takings.Taking.{Taking}
+use Rattle.wl_custom.specs.declared.takings.Taking.TheVariants.{FunctionIndex, Slot, SlotBehindBase, TypeIndex, GlobalIndex, TableNumber, Address}
 use Rattle.wl_index.specs.declared.data_address.WasmDataAddress.{WasmDataAddress}
 use Rattle.wl_index.specs.declared.index.TheConstants.{WASM_DEAD_INDEX}
 use Rattle.wl_reloc.specs.Addresses.{address_value, as_word}
-use Rattle.wl_reloc.specs.Takings.{taking_of}
 use Rattle.wl_reloc.specs.declared.addresses.AddressBases.{AddressBases}
 use Rattle.wl_reloc.specs.declared.error.RelocError.{RelocError}
 use Rattle.wl_reloc.specs.declared.error.RelocError.TheVariants.{OutOfRange, Removed, WrongKind, NoSlot, NoGot}
 use Rattle.wl_index.specs.declared.index_map.WasmObjectIndexMap.{WasmObjectIndexMap}
-use Rattle.wl_reloc.specs.declared.takings.AddressBase.{AddressBase}
-use Rattle.wl_reloc.specs.declared.takings.Taking.{Taking}
-use Rattle.wl_reloc.specs.declared.takings.Taking.TheVariants.{FunctionIndex, Slot, SlotBehindBase, GlobalIndex, TableNumber, Address}
 
 -- ---- lists
 
@@ -105,24 +105,29 @@ address_of by base addend Table number = Err WrongKind
 
 -- ---- relocations
 
--- what a relocation takes of the symbol that it names
-abbrev pub taken_of : Resolver → WasmRelocation → Taking → Symbol → Result ℕ RelocError
-taken_of by r FunctionIndex s = function_index by s.kind r.index
-taken_of by r Slot s = slot_of by (function_index by s.kind r.index)
-taken_of by r SlotBehindBase s = behind_first (slot_of by (function_index by s.kind r.index))
-taken_of by r GlobalIndex s = global_index by s.kind r.index s.index
-taken_of by r TableNumber s = table_number s.kind
-taken_of by r (Address base) s = address_of by base r.addend s.kind r.index
+-- the symbol that it names, if there is one of its number
+abbrev pub symbol_named : Resolver → WasmRelocation → Option Symbol
+symbol_named by r = slice_get by.symbols r.index
 
--- what it takes of the symbol of that place, if there is one
-abbrev pub taken_at : Resolver → WasmRelocation → Taking → Option Symbol → Result ℕ RelocError
-taken_at by r taking None = Err OutOfRange
-taken_at by r taking (Some s) = taken_of by r taking s
+-- what is taken of a symbol, if there is one
+abbrev pub taken_of : (Symbol → Result ℕ RelocError) → Option Symbol → Result ℕ RelocError
+taken_of take None = Err OutOfRange
+taken_of take (Some s) = take s
 
--- what it takes, of that symbol, or of the type of its number
-abbrev pub taken : Resolver → WasmRelocation → Option Taking → Result ℕ RelocError
-taken by r None = kept_index (slice_get by.map.type_indices r.index)
-taken by r (Some taking) = taken_at by r taking (slice_get by.symbols r.index)
+-- what a relocation takes of the symbol that it names, or of the type
+abbrev pub taken : Resolver → WasmRelocation → Taking → Result ℕ RelocError
+taken by r FunctionIndex =
+    taken_of (λ s. function_index by s.kind r.index) (symbol_named by r)
+taken by r Slot =
+    taken_of (λ s. slot_of by (function_index by s.kind r.index)) (symbol_named by r)
+taken by r SlotBehindBase =
+    taken_of (λ s. behind_first (slot_of by (function_index by s.kind r.index))) (symbol_named by r)
+taken by r TypeIndex = kept_index (slice_get by.map.type_indices r.index)
+taken by r GlobalIndex =
+    taken_of (λ s. global_index by s.kind r.index s.index) (symbol_named by r)
+taken by r TableNumber = taken_of (λ s. table_number s.kind) (symbol_named by r)
+taken by r (Address base) =
+    taken_of (λ s. address_of by base r.addend s.kind r.index) (symbol_named by r)
 
 -- what the field of a relocation takes, or why it has no value
 abbrev pub resolved : Resolver → WasmRelocation → Result ℕ RelocError

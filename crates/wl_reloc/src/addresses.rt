@@ -1,10 +1,10 @@
 //! What addresses of data become in fields.
 
 ghost use Rattle.std.specs.Prelude.{◌≡◌, pos, ◌-ℤ◌, ◌+ℤ◌};
-ghost use Rattle.wl_reloc.specs.Addresses.{s32_or_range, behind_thread_data, address_value, word_of, as_word, deferred_value, deferred_at, deferred_pointer};
+ghost use Rattle.wl_reloc.specs.Addresses.{s32_or_range, behind_thread_data, address_value, word_of, as_word, stored_by_thread, deferred_value, deferred_at, deferred_pointer};
 
 use crate::error::RelocError;
-use crate::takings::AddressBase;
+use wl_custom::{AddressBase, FieldForm};
 use wl_index::{WasmDataAddress, WasmObjectIndexMap};
 use wl_linking::{RelocationType, WasmRelocation};
 
@@ -103,14 +103,22 @@ pub(crate) fn address_value(
     }
 }
 
+/// The place in the data of a thread that the thread stores in a field of that form.
+fn stored_by_thread(form: FieldForm, place: i128) -> Result<Option<i32>, RelocError>
+    ensures { result ≡ stored_by_thread form place }
+{
+    match form {
+        FieldForm::Word => Ok(Some(s32_or_range(place)?)),
+        FieldForm::PaddedUnsigned | FieldForm::PaddedSigned => Err(RelocError::Unsupported),
+    }
+}
+
 /// The place in the data of a thread that a field takes which names data there.
 fn deferred_value(ty: RelocationType, place: i128) -> Result<Option<i32>, RelocError>
     ensures { result ≡ deferred_value ty place }
 {
-    if matches!(ty, RelocationType::MemoryAddrI32) {
-        Ok(Some(s32_or_range(place)?))
-    } else if ty.has_addend() {
-        Err(RelocError::Unsupported)
+    if ty.has_addend() {
+        stored_by_thread(ty.field_form(), place)
     } else {
         Ok(None)
     }

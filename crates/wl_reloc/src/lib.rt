@@ -8,10 +8,9 @@
 mod addresses;
 mod error;
 mod resolving;
-mod takings;
 
 pub use addresses::{AddressBases, deferred_tls_template_pointer};
 pub use error::RelocError;
 pub use resolving::resolve_reloc;
-pub use takings::{AddressBase, Taking};
+pub use wl_custom::{AddressBase, Taking};
 pub use wl_index::WasmObjectIndexMap;

@@ -1,12 +1,13 @@
 //! What the field of a relocation takes.
 
-ghost use Rattle.std.specs.Prelude.{◌≡◌};
-ghost use Rattle.wl_reloc.specs.Resolving.{kept_index, redirect, got_global, slot_in, function_index, slot_of, behind_first, global_index, table_number, address_in, address_of, taken_of, Resolver as ResolverRecord, resolved};
+ghost use Rattle.std.specs.Prelude.{◌≡◌, Some, None, IfOk, IfErr};
+ghost use Rattle.wl_reloc.specs.Resolving.{kept_index, redirect, got_global, slot_in, function_index, slot_of, behind_first, global_index, table_number, address_in, address_of, symbol_named, Resolver as ResolverRecord, resolved};
+ghost use Rattle.wl_reloc.specs.declared.error.RelocError.TheVariants.{OutOfRange};
 
 use crate::addresses::{AddressBases, address_value};
 use crate::error::RelocError;
-use crate::takings::{AddressBase, Taking, taking_of};
 use std::marker::Model;
+use wl_custom::{AddressBase, Taking};
 use wl_index::{WASM_DEAD_INDEX, WasmDataAddress, WasmObjectIndexMap};
 use wl_linking::{WasmRelocation, WasmSymbol, WasmSymbolKind};
 
@@ -171,22 +172,15 @@ impl<'r, 'a> Resolver<'r, 'a> {
         }
     }
 
-    /// What a relocation takes of the symbol that it names.
-    fn taken(
-        &self,
-        taking: Taking,
-        symbol: &WasmSymbol<'_>,
-        reloc: &WasmRelocation,
-    ) -> Result<u32, RelocError>
-        ensures { result ≡ taken_of self.now reloc.now taking symbol.now }
+    /// The symbol that a relocation names.
+    fn symbol(&self, reloc: &WasmRelocation) -> Result<&'r WasmSymbol<'a>, RelocError>
+        ensures ok { IfOk result (λ s. symbol_named self.now reloc.now ≡ Some s.now) }
+        ensures err { IfErr result (λ e. (e ≡ OutOfRange)
+            × (symbol_named self.now reloc.now ≡ None)) }
     {
-        match taking {
-            Taking::FunctionIndex => self.function_index(symbol, reloc.index),
-            Taking::Slot => self.slot(symbol, reloc.index),
-            Taking::SlotBehindBase => self.slot_behind_base(symbol, reloc.index),
-            Taking::GlobalIndex => self.global_index(symbol, reloc.index),
-            Taking::TableNumber => table_number(symbol.kind),
-            Taking::Address(base) => self.address(base, symbol, reloc),
+        match self.symbols.get(reloc.index as usize) {
+            None => Err(RelocError::OutOfRange),
+            Some(symbol) => Ok(symbol),
         }
     }
 
@@ -194,13 +188,18 @@ impl<'r, 'a> Resolver<'r, 'a> {
     fn resolve(&self, reloc: &WasmRelocation) -> Result<u32, RelocError>
         ensures { result ≡ resolved self.now reloc.now }
     {
-        let number = reloc.index as usize;
-        let Some(taking) = taking_of(reloc.ty) else {
-            return kept_index(self.map.type_indices.as_slice().get(number).copied());
-        };
-        match self.symbols.get(number) {
-            None => Err(RelocError::OutOfRange),
-            Some(symbol) => self.taken(taking, symbol, reloc),
+        let number = reloc.index;
+        match reloc.ty.takes() {
+            Taking::TypeIndex => {
+                let indices = self.map.type_indices.as_slice();
+                kept_index(indices.get(number as usize).copied())
+            }
+            Taking::FunctionIndex => self.function_index(self.symbol(reloc)?, number),
+            Taking::Slot => self.slot(self.symbol(reloc)?, number),
+            Taking::SlotBehindBase => self.slot_behind_base(self.symbol(reloc)?, number),
+            Taking::GlobalIndex => self.global_index(self.symbol(reloc)?, number),
+            Taking::TableNumber => table_number(self.symbol(reloc)?.kind),
+            Taking::Address(base) => self.address(base, self.symbol(reloc)?, reloc),
         }
     }
 }
