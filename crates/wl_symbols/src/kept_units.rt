@@ -41,6 +41,7 @@ impl<'k> SectionUnits<'k> {
     }
 
     /// Whether the unit of that number is kept.
+    #[inline(always)]
     pub(crate) fn keeps(&mut self, unit: u32) -> bool
         ensures kept { result ≡ keeps_unit self.old.live.now self.old.place self.old.object unit }
         ensures live { self.new.live.now ≡ self.old.live.now }
@@ -52,6 +53,17 @@ impl<'k> SectionUnits<'k> {
                 return known.kept;
             }
         }
+        self.ask(unit)
+    }
+
+    /// Asks whether the unit of that number is kept, and keeps the answer.
+    #[inline(never)]
+    fn ask(&mut self, unit: u32) -> bool
+        ensures kept { result ≡ keeps_unit self.old.live.now self.old.place self.old.object unit }
+        ensures live { self.new.live.now ≡ self.old.live.now }
+        ensures place { self.new.place ≡ self.old.place }
+        ensures object { self.new.object ≡ self.old.object }
+    {
         let kept = self.live.is_live(self.object, unit_in(self.place, unit));
         self.known = Some(KeptUnit { unit, kept });
         kept

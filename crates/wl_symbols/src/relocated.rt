@@ -68,6 +68,7 @@ impl<'k> SectionRest<'k> {
     }
 
     /// Takes relocations off up to the first that is kept, and gives that.
+    #[inline(always)]
     fn next_in(&mut self) -> Option<Relocated>
         ensures { YieldsFirst section_left self.old result self.new }
     {
@@ -121,6 +122,7 @@ impl<'k> ObjectRest<'k> {
     }
 
     /// Takes relocations off up to the first that is kept, and gives that.
+    #[inline(always)]
     fn next_kept(&mut self) -> Option<Relocated>
         ensures { YieldsFirst object_left self.old result self.new }
     {
@@ -151,6 +153,7 @@ impl<'k, 'a> Iterator for KeptRelocations<'k, 'a> {
 
     ghost remaining = { item_count relocations_left };
 
+    #[inline(always)]
     fn next(&mut self) -> Option<Relocated> {
         'objects: loop {
             if let Some(relocated) = self.current.next_kept() {

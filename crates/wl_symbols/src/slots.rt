@@ -10,10 +10,10 @@ ghost use Rattle.wl_symbols.specs.SlotSteps.{with_symbol, with_symbol_at};
 
 use crate::linker_symbol::is_imported_as;
 use crate::table::SymbolTable;
+use smallvec::SmallVec;
 use std::alloc::{AllocError, Global};
 use std::marker::Model;
 use wl_linking::{File, WasmSymbol, WasmSymbolKind};
-use wl_lists::ItemList;
 use wl_module::{Import, ImportEntity};
 
 /// An import slot: a function or global that an object imports, with the undefined symbols that
@@ -24,7 +24,8 @@ pub struct ImportSlot<'f, 'a> {
     kind: WasmSymbolKind,
     number: u32,
     import: &'f Import<'a>,
-    symbols: ItemList<u32>,
+    // nearly always one
+    symbols: SmallVec<u32, 2>,
 }
 
 impl<'f, 'a> Model for ImportSlot<'f, 'a> {
@@ -37,7 +38,7 @@ impl<'f, 'a> Model for ImportSlot<'f, 'a> {
       kind = t.kind;
       number = t.number;
       item = t.import.now;
-      symbols = t.symbols;
+      symbols = t.symbols.items;
     } };
 }
 
@@ -117,7 +118,8 @@ impl<'f, 'a> ImportSlot<'f, 'a> {
     fn push_symbol(&mut self, number: u32) -> Result<(), AllocError>
         ensures { OnOk result (self.new ≡ with_symbol number self.old) }
     {
-        self.symbols.push(number)
+        self.symbols.push(number)?;
+        Ok(())
     }
 }
 
@@ -165,7 +167,7 @@ fn bare_slots<'f, 'a>(
                 kind,
                 number,
                 import,
-                symbols: ItemList::empty(alloc),
+                symbols: SmallVec::new(alloc),
             })?;
             number += 1;
         }
