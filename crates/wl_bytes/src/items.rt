@@ -1,7 +1,6 @@
 //! Items of sections, and lists of them.
 
-ghost use Rattle.std.specs.Prelude.{◌≡◌, ◌≤◌, Result, IfOk, length};
-ghost use Rattle.wl_bytes.specs.declared.reader.TheConstants.{MAX_LEN};
+ghost use Rattle.std.specs.Prelude.{◌≡◌, Result, IfOk};
 ghost use Rattle.wl_bytes.specs.Cursor.{Cursor};
 ghost use Rattle.wl_bytes.specs.declared.read_error.ReadError.{ReadError};
 ghost use Rattle.wl_bytes.specs.Chains.{times_after_at, list_after_at};
@@ -101,7 +100,6 @@ pub fn read_payload<'a, T: Item<'a>>(
     under: T::Under,
     payload: &'a [u8],
 ) -> Result<Vec<T>, ReadError>
-    requires { length payload.now ≤ MAX_LEN }
     ensures { Gives (λ v. v.items) result
         (whole_of (list_after_at T.item_at T.after under) payload.now) }
 {

@@ -2,6 +2,7 @@
 
 ghost use Rattle.std.specs.Prelude.{◌≡◌, ◌+◌, ◌<◌, ◌≤◌, ◌^◌, OnOk, [], length, MatchResult};
 ghost use Rattle.wl_bytes.specs.declared.reader.TheConstants.{MAX_LEN};
+ghost use Rattle.wl_bytes.specs.Cursor.{end_of};
 ghost use Rattle.wl_bytes.specs.Outcome.{Yields, Gives, HasCause};
 ghost use Rattle.wl_custom.specs.Linking.{subsection_kind, subsection_verdict, held_of, subsection_at, version_at, nothing_seen, seen_after, linking_of, with_subsection, HaveSubsections, SubsectionsFault, IsLinking, LinkingFault};
 
@@ -155,8 +156,10 @@ fn read_subsection<'a>(
     seen: SeenSubsections,
     reader: &mut Reader<'a>,
 ) -> Result<Subsection<'a>, ReadError>
-    requires { base ≤ MAX_LEN }
-    ensures { Yields (λ s. s) result reader.new (subsection_at base seen reader.old) }
+    requires base { base ≤ MAX_LEN }
+    requires end { end_of reader.old ≤ MAX_LEN }
+    ensures value { Yields (λ s. s) result reader.new (subsection_at base seen reader.old) }
+    ensures end { end_of reader.new ≡ end_of reader.old }
 {
     let kind = subsection_kind(reader.read_u8()?);
     check_kind(seen, kind)?;
@@ -193,7 +196,8 @@ fn read_subsections<'a>(
     base: u32,
     reader: &mut Reader<'a>,
 ) -> Result<Linking<'a>, ReadError>
-    requires { base ≤ MAX_LEN }
+    requires base { base ≤ MAX_LEN }
+    requires end { end_of reader.old ≤ MAX_LEN }
     ensures { MatchResult result (HaveSubsections base reader.old)
         (HasCause (λ e. SubsectionsFault base e reader.old)) }
 {
@@ -210,7 +214,8 @@ fn read_subsections<'a>(
 /// The version in front is the one that is read.
 #[tactic(auto, unfolding(crate::specs::Linking::version_at))]
 fn read_version(reader: &mut Reader<'_>) -> Result<(), ReadError>
-    ensures { Yields (λ _. (2, tt)) result reader.new (version_at reader.old) }
+    ensures value { Yields (λ _. (2, tt)) result reader.new (version_at reader.old) }
+    ensures end { end_of reader.new ≡ end_of reader.old }
 {
     if reader.read_u32()? == VERSION {
         Ok(())

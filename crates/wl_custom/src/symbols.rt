@@ -12,7 +12,7 @@ use crate::flags::SymbolFlags;
 use bitflags::Flags;
 use std::alloc::Global;
 use std::marker::Model;
-use wl_bytes::{Form, Item, ReadError, Reader, Why, read_payload};
+use wl_bytes::{Form, Item, ReadError, Reader, Why, place_of, read_payload};
 use wl_lists::ItemList;
 
 /// What a symbol stands for (object file linking, version 2, "Symbol Table Subsection").
@@ -292,7 +292,8 @@ fn read_based_name<'a>(
         (based_name_at base.before reader.old) }
 {
     let name = reader.read_name()?;
-    let range = range_of(base.before, reader.position(), name.len());
+    let end = place_of(reader)?;
+    let range = range_of(base.before, end as usize, name.len());
     Ok((name, range))
 }
 

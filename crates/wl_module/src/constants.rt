@@ -11,23 +11,37 @@ const END: u8 = 0x0b;
 /// The number of `v128.const` among the operators whose first byte is 0xfd.
 const V128_CONST: u32 = 0x0c;
 
-/// The operators that a constant expression may have, by their first bytes.
+/// The operators that a constant expression may have, by their first bytes (core specification,
+/// "Constant Expressions").
 #[derive(Clone, Copy, Debug, PartialEq, Eq)]
-pub(crate) enum ConstOperator {
+pub enum ConstOperator {
+    /// `i32.const`: 0x41.
     I32Const,
+    /// `i64.const`: 0x42.
     I64Const,
+    /// `f32.const`: 0x43.
     F32Const,
+    /// `f64.const`: 0x44.
     F64Const,
+    /// `global.get`: 0x23.
     GlobalGet,
+    /// `ref.null`: 0xd0.
     RefNull,
+    /// `ref.func`: 0xd2.
     RefFunc,
+    /// `i32.add`: 0x6a.
     I32Add,
+    /// `i32.sub`: 0x6b.
     I32Sub,
+    /// `i32.mul`: 0x6c.
     I32Mul,
+    /// `i64.add`: 0x7c.
     I64Add,
+    /// `i64.sub`: 0x7d.
     I64Sub,
+    /// `i64.mul`: 0x7e.
     I64Mul,
-    /// The first byte of all vector operators, of which `v128.const` is one.
+    /// `v128.const`: 0xfd, the first byte of all vector operators, and its number.
     Vector,
 }
 

@@ -23,6 +23,7 @@ mod slices;
 mod types;
 
 pub use code::{WasmFunctionBody, bodies_or_fault, read_bodies};
+pub use constants::ConstOperator;
 pub use exports::{OutputExport, exports_or_fault, read_exports};
 pub use functions::{functions_or_fault, read_functions};
 pub use globals::{GlobalType, OutputGlobal, globals_or_fault, read_globals};

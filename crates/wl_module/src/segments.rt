@@ -8,7 +8,7 @@ ghost use Rattle.wl_module.specs.Segments.{segment_flag_at, segment_kind, target
 use crate::constants::read_expression;
 use std::alloc::{AllocError, Global};
 use std::marker::Model;
-use wl_bytes::{Item, ReadError, Reader, Why, read_payload};
+use wl_bytes::{Item, ReadError, Reader, Why, place_of, read_payload};
 
 /// When the bytes of a segment are written.
 #[derive(Clone, Copy, Debug, PartialEq, Eq)]
@@ -144,16 +144,17 @@ fn read_target(flag: SegmentFlag, reader: &mut Reader<'_>) -> Result<Option<u32>
 fn read_segment<'a>(reader: &mut Reader<'a>) -> Result<TargetedSegment<'a>, ReadError>
     ensures { Yields (λ s. s) result reader.new (segment_at reader.old) }
 {
-    let start = reader.position();
+    let section_offset = place_of(reader)?;
     let flag = read_flag(reader)?;
     let memory_index = read_target(flag, reader)?;
     let len = reader.read_u32()?;
     let payload = reader.take(len as usize)?;
+    let end = place_of(reader)?;
     let segment = WasmDataSegment {
         kind: flag.kind(),
         payload,
-        section_offset: start as u32,
-        encoded_size: (reader.position() - start) as u32,
+        section_offset,
+        encoded_size: end - section_offset,
     };
     Ok(TargetedSegment {
         segment,

@@ -1,7 +1,6 @@
 //! Decoding the bodies of functions.
 
 ghost use Rattle.std.specs.Prelude.{◌≡◌, ◌≤◌, IfOk, length};
-ghost use Rattle.wl_bytes.specs.declared.reader.TheConstants.{MAX_LEN};
 ghost use Rattle.wl_bytes.specs.Cursor.{end_of};
 ghost use Rattle.wl_bytes.specs.Grammar.{times_at};
 ghost use Rattle.wl_bytes.specs.Outcome.{Yields, Gives, ReadsWhole};
@@ -72,7 +71,6 @@ fn read_ops(alloc: Global, reader: &mut Reader<'_>) -> Result<Vec<Op>, ReadError
 /// The operators of a body, with each fault as it is.
 #[tactic(auto, unfolding(crate::specs::Decoding::body_of))]
 fn read_body(alloc: Global, body: &[u8]) -> Result<Vec<Op>, ReadError>
-    requires { length body.now ≤ MAX_LEN }
     ensures { Gives (λ v. v.items) result (body_of body.now) }
 {
     let mut reader = Reader::new(body);
@@ -92,7 +90,6 @@ pub(crate) fn in_body(error: ReadError) -> ReadError
 
 /// The operators of a body, as they are told.
 fn decode(alloc: Global, body: &[u8]) -> Result<Vec<Op>, ReadError>
-    requires { length body.now ≤ MAX_LEN }
     ensures { Gives (λ v. v.items) result (decoded body.now) }
 {
     match read_body(alloc, body) {
@@ -114,7 +111,6 @@ fn decode(alloc: Global, body: &[u8]) -> Result<Vec<Op>, ReadError>
 /// isn't taken; `Malformed(Body)` for everything else, as bytes that end too early. `OutOfMemory`
 /// comes where memory runs out.
 pub fn decode_body(alloc: Global, body: &[u8]) -> Result<Vec<Op>, ReadError>
-    requires { length body.now ≤ MAX_LEN }
     ensures reads { ReadsWhole (λ v. v.items) AreTaken DecodeFault body.now result }
     ensures few { IfOk result (λ v. list_items v.items ≤ length body.now) }
 {

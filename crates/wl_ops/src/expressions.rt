@@ -1,7 +1,6 @@
 //! Expressions that take the index of a global or of a function.
 
-ghost use Rattle.std.specs.Prelude.{◌≡◌, ◌≤◌, ◌↔◌, IfOk, IsTrue, length};
-ghost use Rattle.wl_bytes.specs.declared.reader.TheConstants.{MAX_LEN};
+ghost use Rattle.std.specs.Prelude.{◌≡◌, ◌↔◌, IfOk, IsTrue};
 ghost use Rattle.wl_bytes.specs.Grammar.{map_at};
 ghost use Rattle.wl_bytes.specs.Lists.{start};
 ghost use Rattle.wl_bytes.specs.Outcome.{Yields};
@@ -40,7 +39,6 @@ fn next_is_reference(alloc: Global, reader: &mut Reader<'_>) -> Result<bool, Rea
 /// # Errors
 /// `AllocError` where memory runs out.
 pub fn has_reference(alloc: Global, expression: &[u8]) -> Result<bool, AllocError>
-    requires { length expression.now ≤ MAX_LEN }
     ensures { IfOk result (λ has. IsTrue has ↔ HasReference (start expression.now)) }
 {
     let mut reader = Reader::new(expression);

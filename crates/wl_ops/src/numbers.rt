@@ -1,8 +1,7 @@
 //! The numbers of data segments in the bodies of functions.
 
-ghost use Rattle.std.specs.Prelude.{◌≡◌, ◌≤◌, ◌++◌, [], Ok, false, IfOk, length};
+ghost use Rattle.std.specs.Prelude.{◌≡◌, ◌++◌, [], Ok, false, IfOk};
 ghost use Rattle.std.specs.Option.{option_to_list};
-ghost use Rattle.wl_bytes.specs.declared.reader.TheConstants.{MAX_LEN};
 ghost use Rattle.wl_bytes.specs.Cursor.{end_of};
 ghost use Rattle.wl_bytes.specs.Outcome.{Yields, Gives, ReadsWhole};
 ghost use Rattle.wl_ops.specs.Numbers.{is_segment, placed_number_at, segment_number_at, segment_args, marked_at, NumbersIn, NumbersOf, AreTold, NumbersFault, holds_prefix};
@@ -129,7 +128,6 @@ fn numbers_in(alloc: Global, reader: &mut Reader<'_>) -> Result<Vec<DataIndexImm
 
 /// The numbers of a body, with each fault as it is.
 fn numbers_of(alloc: Global, body: &[u8]) -> Result<Vec<DataIndexImm>, ReadError>
-    requires { length body.now ≤ MAX_LEN }
     ensures { NumbersOf (λ v. v.items) body.now result }
 {
     let mut reader = Reader::new(body);
@@ -153,7 +151,6 @@ fn holds_prefix(body: &[u8]) -> bool
 /// # Errors
 /// Those of [`decode_body`](crate::decode_body), on a body with a byte 0xfc.
 pub fn data_index_immediates(alloc: Global, body: &[u8]) -> Result<Vec<DataIndexImm>, ReadError>
-    requires { length body.now ≤ MAX_LEN }
     ensures reads { ReadsWhole (λ v. v.items) AreTold NumbersFault body.now result }
     ensures undecoded { holds_prefix body.now ≡ false → Gives (λ v. v.items) result (Ok []) }
 {

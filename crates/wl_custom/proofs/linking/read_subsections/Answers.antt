@@ -7,11 +7,11 @@ pub returns-in_err-subsection : goal.returns-in_err-subsection
 returns-in_err-subsection c =
     let p = err_from_is_err_and c.from_residual.result c.from_residual.ensures.1 in
     let some : eqb (length c.loop-alloc.reader.rest) 0 ≡ false = rw (← c.rest.ensures.value) (sym c.is_empty.ensures ∙ c.loop-alloc-test.true) in
-    rw (p.1, p.2) (reads_fault c.args.base c.args.reader.now c.loop-alloc.reader c.loop-alloc.seen c.loop-alloc.linking c.in_err-subsection.field-0.0 c.loop-alloc.invariant some c.in_err-subsection.ensures)
+    rw (p.1, p.2) (reads_fault c.args.base c.args.reader.now c.loop-alloc.reader c.loop-alloc.seen c.loop-alloc.linking c.in_err-subsection.field-0.0 c.loop-alloc.invariant.0 some c.in_err-subsection.ensures.value)
 
 pub loop-alloc-smaller : goal.loop-alloc-smaller
-loop-alloc-smaller c = smaller c.args.base c.loop-alloc.seen c.loop-alloc.reader c.read_subsection.new.reader c.in_ok-subsection.subsection c.in_ok-subsection.ensures
+loop-alloc-smaller c = smaller c.args.base c.loop-alloc.seen c.loop-alloc.reader c.read_subsection.new.reader c.in_ok-subsection.subsection c.in_ok-subsection.ensures.value
 
 pub loop-alloc-preserved : goal.loop-alloc-preserved
 loop-alloc-preserved c =
-    rw (c.in_ok-add.ensures, c.seen_after-seen.ensures) (reads_more c.args.base c.args.reader.now c.loop-alloc.reader c.read_subsection.new.reader c.loop-alloc.seen c.loop-alloc.linking c.in_ok-subsection.subsection c.loop-alloc.invariant c.in_ok-subsection.ensures)
+    rw (c.in_ok-add.ensures, c.seen_after-seen.ensures) (reads_more c.args.base c.args.reader.now c.loop-alloc.reader c.read_subsection.new.reader c.loop-alloc.seen c.loop-alloc.linking c.in_ok-subsection.subsection c.loop-alloc.invariant.0 c.in_ok-subsection.ensures.value, c.in_ok-subsection.ensures.end ∙ c.loop-alloc.invariant.1)

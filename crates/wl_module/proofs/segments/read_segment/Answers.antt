@@ -9,11 +9,11 @@ overflow_sub-segment c =
     let n : number_at c.read_target.new.reader ≡ Ok (c.in_ok-len.len, c.read_u32.new.self) = rw c.in_ok-len.ensures.exact refl in
     let b : stretch_at c.in_ok-len.len c.read_u32.new.self ≡ Ok (c.in_ok-payload.payload.now, c.take.new.self) = rw c.in_ok-payload.ensures.exact refl in
     let r = segment_read c.args.reader.now c.read_flag.new.reader c.read_target.new.reader c.read_u32.new.self c.take.new.self c.in_ok-flag.flag c.in_ok-memory_index.memory_index c.in_ok-len.len c.in_ok-payload.payload.now c.in_ok-flag.ensures c.in_ok-memory_index.ensures n b in
-    rw (c.position-start.ensures.value, c.position.ensures.value) r.0
+    rw (c.in_ok-section_offset.ensures.value, c.in_ok-end.ensures.value) r.0
 
 pub returns : goal.returns
 returns c =
     let n : number_at c.read_target.new.reader ≡ Ok (c.in_ok-len.len, c.read_u32.new.self) = rw c.in_ok-len.ensures.exact refl in
     let b : stretch_at c.in_ok-len.len c.read_u32.new.self ≡ Ok (c.in_ok-payload.payload.now, c.take.new.self) = rw c.in_ok-payload.ensures.exact refl in
     let r = segment_read c.args.reader.now c.read_flag.new.reader c.read_target.new.reader c.read_u32.new.self c.take.new.self c.in_ok-flag.flag c.in_ok-memory_index.memory_index c.in_ok-len.len c.in_ok-payload.payload.now c.in_ok-flag.ensures c.in_ok-memory_index.ensures n b in
-    rw (c.position-start.ensures.value, c.position.ensures.value, c.kind.ensures) r.1
+    rw (c.in_ok-section_offset.ensures.value, c.in_ok-end.ensures.value, c.kind.ensures) r.1
