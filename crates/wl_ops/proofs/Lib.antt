@@ -7,6 +7,7 @@ pub mod DecodeLaws
 pub mod CountLaws
 pub mod NumberLaws
 pub mod ReferenceLaws
+pub mod ConstantLaws
 pub mod PrefixLaws
 pub mod ToldLaws
 pub mod PlaceLaws

@@ -1,8 +1,10 @@
 -- Expressions that take the index of a global or of a function (core specification, "Constant
 -- Expressions").
-use Rattle.std.specs.Prelude.{◌≡◌, ◌==◌, ◌||◌, Bool, true}
+use Rattle.std.specs.Prelude.{◌≡◌, ◌==◌, ◌||◌, Bool, true, false}
 use Rattle.wl_bytes.specs.Cursor.{Cursor}
 use Rattle.wl_bytes.specs.Parse.{Takes}
+use Rattle.wl_module.specs.declared.constants.ConstOperator.{ConstOperator}
+use Rattle.wl_module.specs.declared.constants.ConstOperator.TheVariants.{GlobalGet, RefFunc}
 use Rattle.wl_ops.specs.declared.op.Op.{Op}
 use Rattle.wl_ops.specs.Operators.{IsTaken}
 
@@ -16,3 +18,9 @@ pub data HasReference : Cursor → Type 0 where
       → HasReference from
   behind : (op : Op) (from to : Cursor) → Takes IsTaken op from to → HasReference to
       → HasReference from
+
+-- the operators of a constant expression that take such an index
+abbrev pub takes_index : ConstOperator → Bool
+takes_index GlobalGet = true
+takes_index RefFunc = true
+takes_index _ = false

@@ -1,13 +1,19 @@
 //! What callers may count on: functions with an empty body, each of which states a law of what
 //! bodies spell.
 
-ghost use Rattle.std.specs.Prelude.{◌≡◌, ◌≤◌, ℕ, List, [], length, Option, Ok};
-ghost use Rattle.wl_bytes.specs.Lists.{AreFew};
+ghost use Rattle.std.specs.Prelude.{◌≡◌, ◌≤◌, ◌↔◌, ℕ, List, [], length, Option, Ok, IsTrue};
+ghost use Rattle.std.specs.List.{list_any};
+ghost use Rattle.wl_bytes.specs.Grammar.{Items};
+ghost use Rattle.wl_bytes.specs.Lists.{AreFew, start};
 ghost use Rattle.wl_bytes.specs.declared.read_error.ReadError.{ReadError as Fault};
 ghost use Rattle.wl_bytes.specs.Outcome.{AreAlternatives};
+ghost use Rattle.wl_module.specs.declared.constants.ConstOperator.{ConstOperator};
+ghost use Rattle.wl_module.specs.Constants.{operator_code, IsOperator};
 ghost use Rattle.wl_ops.specs.declared.op.Op.{Op as OpRecord};
 ghost use Rattle.wl_ops.specs.Decoding.{AreOps, AreTaken, DecodeFault, list_items, body_of};
 ghost use Rattle.wl_ops.specs.declared.op.DataIndexImm.{DataIndexImm as Number};
+ghost use Rattle.wl_ops.specs.Expressions.{takes_index, HasReference};
+ghost use Rattle.wl_ops.specs.Operators.{IsTaken};
 ghost use Rattle.wl_ops.specs.Numbers.{HasNumbers, AreTold, NumbersFault};
 ghost use Rattle.wl_ops.specs.Rewriting.{LieWithin, Rewrites};
 ghost use Rattle.wl_ops.specs.Standing.{Keeps};
@@ -58,4 +64,16 @@ pub fn rewriting_keeps_operators()
     ensures { (new : ℕ → Option ℕ) (numbers : List Number) (body other : List ℕ)
         → HasNumbers numbers body → Rewrites new 0 numbers body other
         → Keeps new numbers body other }
+{}
+
+/// A constant expression, as the readers of globals and of segments take it, is one of operators of
+/// the table, wherever it is read. One of them takes the index of a global or of a function exactly
+/// where `global.get` or `ref.func` is among those that its reader found.
+pub fn constant_operators_are_operators()
+    ensures operators { (place other : ℕ) (o : ConstOperator) (text : List ℕ)
+        → IsOperator place o text
+        → (op : OpRecord) × IsTaken other op text × (op.code ≡ operator_code o) }
+    ensures references { (place : ℕ) (os : List ConstOperator) (body : List ℕ)
+        → Items IsOperator place os body
+        → (HasReference (start body) ↔ IsTrue (list_any takes_index os)) }
 {}

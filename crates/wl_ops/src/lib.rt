@@ -19,8 +19,9 @@ mod table;
 pub use decoding::decode_body;
 pub use expressions::has_reference;
 pub use laws::{
-    computed_operators_are_spelled, numbers_are_one, numbers_or_fault, operators_are_few,
-    operators_are_one, operators_or_fault, rewriting_keeps_operators,
+    computed_operators_are_spelled, constant_operators_are_operators, numbers_are_one,
+    numbers_or_fault, operators_are_few, operators_are_one, operators_or_fault,
+    rewriting_keeps_operators,
 };
 pub use numbers::data_index_immediates;
 pub use op::{DataIndexImm, Op, OpArgs};
