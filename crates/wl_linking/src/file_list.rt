@@ -1,12 +1,14 @@
 //! The objects of a link.
 
-ghost use Rattle.std.specs.Prelude.{◌≡◌, ◌==◌, option_map, [], ◌∷◌, ◌++◌, length, slice_get, OnOk, OnErr, IfErr, IfSome};
+ghost use Rattle.std.specs.Prelude.{◌≡◌, ◌==◌, ◌↔◌, ◌<◌, Some, option_map, [], ◌∷◌, ◌++◌, length, slice_get, slice_set, OnOk, OnErr, IfErr, IfSome, IsSome};
+ghost use Rattle.std.specs.Option.{option_to_list};
 ghost use Rattle.std.specs.List.{AllByRecursion};
 ghost use Rattle.wl_linking.specs.Fitting.{IsWhole};
 
 use crate::file::File;
 use std::alloc::Global;
 use std::marker::Model;
+use std::mem;
 
 /// The objects of a link, in order. Clauses see it as the list of these.
 #[derive(Drop)]
@@ -52,6 +54,25 @@ impl<'a> FileList<'a> {
             Ok(()) => Ok(()),
             Err(failed) => Err(failed.value),
         }
+    }
+
+    /// Puts an object in the place of the one of that number, and hands that one back. It takes no
+    /// memory.
+    pub fn replace(&mut self, object: usize, file: File<'a>) -> File<'a>
+        requires { object < length self.old }
+        ensures replaced { self.new ≡ slice_set self.old object file.entry }
+        ensures handed_back { slice_get self.old object ≡ Some result }
+    {
+        file.stands_for_an_object();
+        mem::replace(&mut self.files[object], file)
+    }
+
+    /// Takes the last object away and hands it back, if there is one. It takes no memory.
+    pub fn pop(&mut self) -> Option<File<'a>>
+        ensures popped { self.old ≡ self.new ++ option_to_list result }
+        ensures some { IsSome result ↔ (0 < length self.old) }
+    {
+        self.files.pop()
     }
 
     /// How many objects there are.

@@ -20,3 +20,19 @@ fn pieces_stand_behind_each_other(rt: HostRuntime) -> Result<(), Fail> {
     assert_eq!(rt; page.into_text()?.as_slice(), want.as_bytes());
     Ok(())
 }
+
+#[test]
+fn names_stand_in_quotes(rt: HostRuntime) -> Result<(), Fail> {
+    let names: [(&[u8], &[u8]); 4] = [
+        (b"", b"\"\""),
+        (b"main", b"\"main\""),
+        (b"\x1f \"\\~\x7f", b"\"\\1f \\22\\5c~\\7f\""),
+        (b"\x80\xff", b"\"\x80\xff\""),
+    ];
+    for (name, want) in names {
+        let mut page = Page::new(rt.alloc());
+        page.push_quoted_bytes(name)?;
+        assert_eq!(rt; page.into_text()?.as_slice(), want);
+    }
+    Ok(())
+}
