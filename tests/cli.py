@@ -564,6 +564,47 @@ def symbol_kinds(texts):
     note(f"written out in {found}", not found, "kinds of symbols")
 
 
+def next_of(code, place, *marks):
+    """The place of the first of these marks from there on that stands in no brackets, or of what closes those
+    around it."""
+    depth = 0
+    for found in re.compile("|".join([r"[([{]", r"[)\]}]", *marks])).finditer(code, place):
+        is_closing = found[0] in (")", "]", "}")
+        if depth == 0 and (is_closing or found[0] in marks):
+            return found.start()
+        depth += (found[0] in ("(", "[", "{")) - is_closing
+    return len(code)
+
+
+def patterns_in(code):
+    """The patterns of each `match`, `matches!` and `let` of a text of code without comments and quotes."""
+    for test in re.finditer(r"\bmatches!\s*\(", code):
+        comma = next_of(code, test.end(), ",")
+        yield code[comma : next_of(code, comma)]
+    for arms in re.finditer(r"\bmatch\b[^{};]*\{", code):
+        place = arms.end()
+        while code[place : place + 1] not in (")", "]", "}", ""):
+            arrow = next_of(code, place, "=>")
+            yield re.split(r"\sif\s", code[place:arrow])[0]
+            body = re.compile(r"(=>)?\s*").match(code, arrow).end()
+            is_block = code[body : body + 1] == "{"
+            end = next_of(code, body + 1) + 1 if is_block else next_of(code, body, ",")
+            place = re.compile(r"[\s,]*").match(code, end).end()
+    for binding in re.finditer(r"\blet\s([^=;]*)=", code):
+        yield binding[1]
+
+
+def relocation_types():
+    """What a type of relocation means is asked of wl_custom: no other crate goes by cases on it."""
+    for source in sorted((ROOT / "crates").glob("*/src")):
+        if source.parent.name == "wl_custom":
+            continue
+        for path in sorted(source.rglob("*.rt")):
+            code = re.sub(r"""//[^\n]*|'(\\.|[^'\\])'|"(\\.|[^"\\])*\"""", "", path.read_text())
+            told = re.findall(r"\bRelocationType::(\w+)", " ".join(patterns_in(code)))
+            note(f"{path.relative_to(ROOT)} goes by cases on {', '.join(told)}", not told, "relocation types")
+
+
 def launched(folder):
     """The launcher runs the proved program, and where there is none the sources, and says so."""
     ended = subprocess.run([ROOT / "wildplan"], stdin=subprocess.DEVNULL, capture_output=True, timeout=600)
@@ -586,6 +627,7 @@ def main():
     texts = sources()
     constants(texts)
     symbol_kinds(texts)
+    relocation_types()
     documented_names()
     documented_options()
     documented_words()

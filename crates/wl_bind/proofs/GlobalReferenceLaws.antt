@@ -7,11 +7,12 @@ use Rattle.std.proofs.lemmas.List.{length-map}
 use Rattle.std.proofs.lemmas.Option.{slice_get-map}
 use Rattle.wl_module.specs.declared.imports.ExternalKind.TheVariants as external
 use Rattle.wl_linking.specs.Object.{Object}
-use Rattle.wl_custom.specs.RelocationTypes.{names_a_type}
+use Rattle.wl_custom.specs.Takings.{is_global, is_taken_of, has_global as may_be_global}
+use Rattle.wl_custom.specs.RelocationTypes.{taking_of, names_a_type, is_global_index, is_table_index}
 use Rattle.wl_linking.specs.Spaces.{count_imports, spaces_of, symbol_exists}
 use Rattle.wl_custom.specs.Symbols.{Symbol as LinkedSymbol, is_data, is_undefined, is_function}
-use Rattle.wl_custom.specs.declared.relocation_type.RelocationType.{RelocationType}
-use Rattle.wl_custom.specs.declared.relocation_type.RelocationType.TheVariants as type
+use Rattle.wl_custom.specs.declared.takings.Taking.{Taking}
+use Rattle.wl_custom.specs.declared.takings.Taking.TheVariants.{FunctionIndex, Slot, SlotBehindBase, TypeIndex, GlobalIndex, TableNumber, Address}
 use Rattle.wl_linking.specs.declared.spaces.Counts.{Counts}
 use Rattle.wl_custom.specs.declared.symbols.WasmSymbolKind.{WasmSymbolKind}
 use Rattle.wl_custom.specs.declared.symbols.WasmSymbolKind.TheVariants.{Func, Data, Global, Section, Event, Table}
@@ -25,12 +26,11 @@ use Rattle.wl_bind.specs.GlobalSpace.{GlobalEntry, GlobalOf, global_slot_entry, 
 use Rattle.wl_bind.specs.IndexMaps.{is_global_of, has_global, is_data_symbol, mem_place, got_mem_global, func_place, got_func_global}
 use Rattle.wl_symbols.specs.Input.{Input, keeps}
 use Rattle.wl_symbols.specs.KeptSlots.{is_kept_slot}
-use Rattle.wl_bind.specs.Kinds.{takes_kind, has_global as may_be_global}
 use Rattle.wl_bind.specs.References.{local_global, symbol_global, IsSettled, NamesGlobal}
 use Rattle.wl_symbols.specs.Relocations.{object_relocations}
 use Rattle.wl_bind.specs.Sameness.{same_definition, same_pair, same_target}
 use Rattle.wl_symbols.specs.Relocations.{relocations}
-use Rattle.wl_bind.specs.Scan.{names_data, names_function, definition_of, function_of as function_named, is_global_index, is_table_index, got_mem_of, got_mem, got_func_of, got_func}
+use Rattle.wl_bind.specs.Scan.{names_data, names_function, definition_of, function_of as function_named, got_mem_of, got_mem, got_func_of, got_func}
 use Rattle.wl_bind.specs.declared.binding.FunctionTarget.{FunctionTarget}
 use Rattle.wl_bind.specs.declared.binding.GlobalTarget.TheVariants as global
 use Rattle.wl_symbols.specs.declared.relocated.Relocated.{Relocated}
@@ -173,22 +173,15 @@ function_global laws input r settled listed so n kind =
     }
 
 -- what names the number of a global takes one, or data, or a function
-takes_global : (ty : RelocationType) (kind : WasmSymbolKind) → is_global_index ty ≡ true → takes_kind ty kind ≡ true
+takes_global : (taking : Taking) (kind : WasmSymbolKind) → is_global taking ≡ true → is_taken_of taking kind ≡ true
     → may_be_global kind ≡ true
-takes_global type.FunctionIndexLeb kind so taken = absurd cc
-takes_global type.TableIndexSleb kind so taken = absurd cc
-takes_global type.TableIndexI32 kind so taken = absurd cc
-takes_global type.MemoryAddrLeb kind so taken = absurd cc
-takes_global type.MemoryAddrSleb kind so taken = absurd cc
-takes_global type.MemoryAddrI32 kind so taken = absurd cc
-takes_global type.TypeIndexLeb kind so taken = absurd cc
-takes_global type.GlobalIndexLeb kind so taken = taken
-takes_global type.MemoryAddrRelSleb kind so taken = absurd cc
-takes_global type.TableIndexRelSleb kind so taken = absurd cc
-takes_global type.GlobalIndexI32 kind so taken = taken
-takes_global type.TableNumberLeb kind so taken = absurd cc
-takes_global type.MemoryAddrTlsSleb kind so taken = absurd cc
-takes_global type.FunctionIndexI32 kind so taken = absurd cc
+takes_global FunctionIndex kind so taken = absurd cc
+takes_global Slot kind so taken = absurd cc
+takes_global SlotBehindBase kind so taken = absurd cc
+takes_global TypeIndex kind so taken = absurd cc
+takes_global GlobalIndex kind so taken = taken
+takes_global TableNumber kind so taken = absurd cc
+takes_global (Address base) kind so taken = absurd cc
 
 own_global : Laws → (input : Input) (r : Relocated) → IsSettled input → (n : Names input r) → n.symbol.kind ≡ Global
     → HasGlobal (local_global input r.object n.from.object n.symbol.index)
@@ -212,8 +205,8 @@ pub global_is_named : Laws → (input : Input) (r : Relocated) → IsSettled inp
     → is_global_index r.relocation.ty ≡ true → NamesGlobal input r
 global_is_named laws input r settled listed so =
     let other : names_a_type r.relocation.ty ≡ false =
-    no_type r.relocation.ty (or_right (is_table_index r.relocation.ty) (is_global_index r.relocation.ty) so) in
+    no_type (taking_of r.relocation.ty) (or_right (is_table_index r.relocation.ty) (is_global_index r.relocation.ty) so) in
     let n : Names input r = names_one laws input r settled listed other in
     let g = stands_for_global laws input r settled listed so n n.symbol.kind refl
-    (takes_global r.relocation.ty n.symbol.kind so n.taken) in
+    (takes_global (taking_of r.relocation.ty) n.symbol.kind so n.taken) in
     record { named = as_named input r n; global = g.entry; stands = g.is }

@@ -10,6 +10,7 @@ use Rattle.std.proofs.lemmas.Option.{get_or_from_slice_get}
 use Rattle.indexmap.proofs.SetLemmas.{AllZip-push}
 use Rattle.wl_bytes.specs.declared.reader.TheConstants.{MAX_LEN}
 use Rattle.wl_linking.specs.Object.{Object}
+use Rattle.wl_custom.specs.RelocationTypes.{is_global_index}
 use Rattle.wl_symbols.specs.Entries.{symbol_in}
 use Rattle.wl_symbols.specs.Names.{def}
 use Rattle.wl_symbols.specs.declared.entry.Definition.{Definition}
@@ -21,7 +22,7 @@ use Rattle.wl_symbols.specs.Input.{Input}
 use Rattle.wl_bind.specs.Numbering.{IsNumbering}
 use Rattle.wl_bind.specs.Parts.{IsPlaceOf, ArePlacesOf, HasEntry}
 use Rattle.wl_bind.specs.Sameness.{same_definition, same_pair}
-use Rattle.wl_bind.specs.Scan.{Scanned, is_global_index, got_mem, got_func, got_mem_entry, got_func_entry, GotMemEntry, GotFuncEntry}
+use Rattle.wl_bind.specs.Scan.{Scanned, got_mem, got_func, got_mem_entry, got_func_entry, GotMemEntry, GotFuncEntry}
 use Rattle.wl_bind.specs.declared.binding.FunctionTarget.{FunctionTarget}
 use Rattle.wl_bind.specs.declared.binding.GlobalTarget.TheVariants.{GotMem, GotFunc}
 use Rattle.wl_bind.specs.declared.numbering.Numbering.{Numbering}

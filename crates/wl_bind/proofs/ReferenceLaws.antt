@@ -7,12 +7,13 @@ use Rattle.wl_module.specs.Types.{FunctionType}
 use Rattle.wl_module.specs.declared.imports.ExternalKind.TheVariants as external
 use Rattle.wl_linking.specs.Fitting.{IsWhole, IsFitting}
 use Rattle.wl_linking.specs.Object.{Object}
-use Rattle.wl_custom.specs.RelocationTypes.{names_a_type}
+use Rattle.wl_custom.specs.RelocationTypes.{taking_of, names_a_type, takes_kind, is_global_index, is_table_index}
 use Rattle.wl_linking.specs.Spaces.{count_imports, spaces_of, symbol_exists, relocation_exists}
 use Rattle.wl_custom.specs.Symbols.{Symbol as LinkedSymbol, is_data, is_undefined, is_weak, is_function}
 use Rattle.wl_linking.specs.declared.error.LinkError.TheVariants.{WrongKind}
-use Rattle.wl_custom.specs.declared.relocation_type.RelocationType.{RelocationType}
-use Rattle.wl_custom.specs.declared.relocation_type.RelocationType.TheVariants as type
+use Rattle.wl_custom.specs.Takings.{is_type, is_slot, is_global}
+use Rattle.wl_custom.specs.declared.takings.Taking.{Taking}
+use Rattle.wl_custom.specs.declared.takings.Taking.TheVariants.{FunctionIndex, Slot, SlotBehindBase, TypeIndex, GlobalIndex, TableNumber, Address}
 use Rattle.wl_custom.specs.declared.relocations.WasmRelocation.{WasmRelocation}
 use Rattle.wl_linking.specs.declared.sites.Site.{Site}
 use Rattle.wl_linking.specs.declared.spaces.Counts.{Counts}
@@ -40,14 +41,14 @@ use Rattle.wl_bind.specs.FunctionBinding.{named_function, binds_function}
 use Rattle.wl_bind.specs.FunctionSymbols.{kept_binding, binding_at, defined_function, own_function, function_of, fun}
 use Rattle.wl_symbols.specs.Input.{Input, keeps}
 use Rattle.wl_symbols.specs.KeptSlots.{slots_from, is_kept_slot}
-use Rattle.wl_bind.specs.Kinds.{takes_kind, is_no_data}
+use Rattle.wl_bind.specs.Kinds.{is_no_data}
 use Rattle.wl_bind.specs.OutputTypes.{is_type_of_function, is_type_of_host, names_type, is_live_type, types_if, local_types}
 use Rattle.wl_bind.specs.Parts.{by_object}
 use Rattle.wl_bind.specs.References.{HasSlot, IsInOutput, IsSettled, NamesType, NamesSymbol, NamesFunction}
 use Rattle.wl_symbols.specs.Relocations.{unit_in, keeps_unit, relocated_at, relocated_if, relocated_in, object_relocations, relocations_from}
 use Rattle.wl_bind.specs.Sameness.{same_target}
 use Rattle.wl_symbols.specs.Relocations.{relocations}
-use Rattle.wl_bind.specs.Scan.{symbol_of, names_function, definition_of, function_of as function_named, is_global_index, is_table_index, unless_stub, table_function_of, table_functions}
+use Rattle.wl_bind.specs.Scan.{symbol_of, names_function, definition_of, function_of as function_named, unless_stub, table_function_of, table_functions}
 use Rattle.wl_bind.specs.declared.binding.FunctionTarget.{FunctionTarget}
 use Rattle.wl_bind.specs.declared.binding.FunctionTarget.TheVariants as function
 use Rattle.wl_symbols.specs.declared.relocated.FixupPlace.{FixupPlace}
@@ -539,21 +540,14 @@ function_is_named laws input r settled listed other so =
 -- ---- slots of the table
 
 -- what names the slot of a function or the number of a global names no type
-pub no_type : (ty : RelocationType) → (is_table_index ty || is_global_index ty) ≡ true → names_a_type ty ≡ false
-no_type type.FunctionIndexLeb so = refl
-no_type type.TableIndexSleb so = refl
-no_type type.TableIndexI32 so = refl
-no_type type.MemoryAddrLeb so = refl
-no_type type.MemoryAddrSleb so = refl
-no_type type.MemoryAddrI32 so = refl
-no_type type.TypeIndexLeb so = absurd cc
-no_type type.GlobalIndexLeb so = refl
-no_type type.MemoryAddrRelSleb so = refl
-no_type type.TableIndexRelSleb so = refl
-no_type type.GlobalIndexI32 so = refl
-no_type type.TableNumberLeb so = refl
-no_type type.MemoryAddrTlsSleb so = refl
-no_type type.FunctionIndexI32 so = refl
+pub no_type : (taking : Taking) → (is_slot taking || is_global taking) ≡ true → is_type taking ≡ false
+no_type FunctionIndex so = refl
+no_type Slot so = refl
+no_type SlotBehindBase so = refl
+no_type TypeIndex so = absurd cc
+no_type GlobalIndex so = refl
+no_type TableNumber so = refl
+no_type (Address base) so = refl
 
 in_table : (input : Input) (r : Relocated) (target : FunctionTarget) → Contains (relocations input) r
     → (is_table_index r.relocation.ty || is_global_index r.relocation.ty) ≡ true → names_function input r ≡ true
@@ -607,5 +601,5 @@ table_is_kept laws input target settled listed =
     let a = asked (is_table_index r.relocation.ty || is_global_index r.relocation.ty) (names_function input r)
     (function_named input r) target made.is in
     let f : NamesFunction input r =
-    function_is_named laws input r settled (as_listed (relocations input) r made.there) (no_type r.relocation.ty a.0) a.1 in
+    function_is_named laws input r settled (as_listed (relocations input) r made.there) (no_type (taking_of r.relocation.ty) a.0) a.1 in
     same_out input (fun input r.object r.relocation.index) f.target target f.leads a.2 f.there_is

@@ -1,10 +1,10 @@
 -- While the globals of the symbols of an object are found.
 use Rattle.std.specs.Prelude.{◌&&◌, ℕ, Bool, true, List, if◌then◌else◌, Option, None, slice_set}
 use Rattle.std.specs.Option.{option_map}
+use Rattle.wl_custom.specs.RelocationTypes.{is_global_index}
 use Rattle.wl_symbols.specs.Input.{Input}
 use Rattle.wl_bind.specs.GlobalSpace.{GlobalEntry, GlobalOf}
 use Rattle.wl_bind.specs.IndexMaps.{is_data_symbol, mem_place, func_place}
-use Rattle.wl_bind.specs.Scan.{is_global_index}
 use Rattle.wl_bind.specs.declared.binding.GlobalTarget.TheVariants.{GotMem, GotFunc}
 use Rattle.wl_symbols.specs.declared.relocated.Relocated.{Relocated}
 

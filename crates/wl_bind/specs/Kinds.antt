@@ -3,14 +3,11 @@ use Rattle.std.specs.Prelude.{◌≡◌, ◌⊎◌, ℕ, ◌&&◌, ◌||◌, Boo
 use Rattle.std.specs.Option.{option_map_or}
 use Rattle.wl_module.specs.Types.{FunctionType}
 use Rattle.wl_linking.specs.Object.{Object}
-use Rattle.wl_custom.specs.RelocationTypes.{names_a_type}
-use Rattle.wl_custom.specs.Symbols.{Symbol as LinkedSymbol, is_function, is_data, is_global, is_table, is_defined, is_defined_function}
+use Rattle.wl_custom.specs.RelocationTypes.{names_a_type, takes_kind}
+use Rattle.wl_custom.specs.Symbols.{Symbol as LinkedSymbol, is_data, is_defined, is_defined_function}
 use Rattle.wl_linking.specs.declared.error.LinkError.{LinkError}
 use Rattle.wl_linking.specs.declared.error.LinkError.TheVariants.{WrongKind}
 use Rattle.wl_custom.specs.declared.infos.WasmInitFunc.{WasmInitFunc}
-use Rattle.wl_custom.specs.declared.relocation_type.RelocationType.{RelocationType}
-use Rattle.wl_custom.specs.declared.relocation_type.RelocationType.TheVariants.{FunctionIndexLeb, TableIndexSleb, TableIndexI32, MemoryAddrLeb, MemoryAddrSleb, MemoryAddrI32, TypeIndexLeb, GlobalIndexLeb, MemoryAddrRelSleb, TableIndexRelSleb, GlobalIndexI32, TableNumberLeb, MemoryAddrTlsSleb, FunctionIndexI32}
-use Rattle.wl_custom.specs.declared.symbols.WasmSymbolKind.{WasmSymbolKind}
 use Rattle.wl_symbols.specs.Entries.{symbol_in}
 use Rattle.wl_symbols.specs.LinkerNames.{row_of}
 use Rattle.wl_symbols.specs.declared.entry.Definition.{Definition}
@@ -23,28 +20,6 @@ use Rattle.wl_bind.specs.Scan.{symbol_of, definition_of}
 use Rattle.wl_symbols.specs.declared.relocated.Relocated.{Relocated}
 
 -- ---- relocations
-
--- the number of a global may be that of an entry of a GOT list, which data and functions have
-abbrev pub has_global : WasmSymbolKind → Bool
-has_global k = is_global k || is_data k || is_function k
-
--- the kinds of symbols that each type takes (object file linking, version 2, "Relocation
--- Sections")
-abbrev pub takes_kind : RelocationType → WasmSymbolKind → Bool
-takes_kind FunctionIndexLeb = is_function
-takes_kind TableIndexSleb = is_function
-takes_kind TableIndexI32 = is_function
-takes_kind MemoryAddrLeb = is_data
-takes_kind MemoryAddrSleb = is_data
-takes_kind MemoryAddrI32 = is_data
-takes_kind TypeIndexLeb = λ k. false
-takes_kind GlobalIndexLeb = has_global
-takes_kind MemoryAddrRelSleb = is_data
-takes_kind TableIndexRelSleb = is_function
-takes_kind GlobalIndexI32 = has_global
-takes_kind TableNumberLeb = is_table
-takes_kind MemoryAddrTlsSleb = is_data
-takes_kind FunctionIndexI32 = is_function
 
 -- an object defines it as something else than data, or it is something else that the linker makes
 abbrev pub is_no_data : Input → Definition → Bool

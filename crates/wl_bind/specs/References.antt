@@ -6,6 +6,7 @@ use Rattle.wl_module.specs.Types.{FunctionType}
 use Rattle.wl_linking.specs.Fitting.{IsWhole}
 use Rattle.wl_linking.specs.Object.{Object}
 use Rattle.wl_linking.specs.Steps.{Clear}
+use Rattle.wl_custom.specs.RelocationTypes.{takes_kind}
 use Rattle.wl_custom.specs.Symbols.{Symbol as LinkedSymbol}
 use Rattle.wl_custom.specs.declared.symbols.WasmSymbolKind.{WasmSymbolKind}
 use Rattle.wl_custom.specs.declared.symbols.WasmSymbolKind.TheVariants.{Func, Data, Global, Section, Event, Table}
@@ -20,7 +21,7 @@ use Rattle.wl_bind.specs.FunctionBinding.{binds_function}
 use Rattle.wl_bind.specs.FunctionSymbols.{fun}
 use Rattle.wl_bind.specs.GlobalSpace.{GlobalEntry, local_globals}
 use Rattle.wl_bind.specs.IndexMaps.{got_mem_global, got_func_global}
-use Rattle.wl_bind.specs.Kinds.{IsWrongKind, takes_kind}
+use Rattle.wl_bind.specs.Kinds.{IsWrongKind}
 use Rattle.wl_bind.specs.Made.{is_made}
 use Rattle.wl_bind.specs.OutputTypes.{local_types}
 use Rattle.wl_bind.specs.Scan.{table_functions}

@@ -1,12 +1,12 @@
 -- What kept relocations ask for: entries of the two GOT lists, functions of the table, and things
 -- that the linker makes.
-use Rattle.std.specs.Prelude.{ℕ, ◌&&◌, ◌||◌, Bool, true, false, List, [], map, if◌then◌else◌, Option, Some, None}
+use Rattle.std.specs.Prelude.{ℕ, ◌&&◌, ◌||◌, Bool, false, List, [], map, if◌then◌else◌, Option, Some, None}
 use Rattle.std.specs.List.{filter_map, list_any}
 use Rattle.std.specs.Option.{option_map, option_map_or, option_and_then}
 use Rattle.indexmap.specs.IndexSet.{insert_all}
+use Rattle.wl_custom.specs.RelocationTypes.{is_global_index, is_table_index, is_table_relative, is_table_number, is_memory_relative}
 use Rattle.wl_custom.specs.Symbols.{Symbol as LinkedSymbol, is_data, is_function}
 use Rattle.wl_custom.specs.declared.relocation_type.RelocationType.{RelocationType}
-use Rattle.wl_custom.specs.declared.relocation_type.RelocationType.TheVariants.{TableIndexSleb, TableIndexI32, GlobalIndexLeb, MemoryAddrRelSleb, TableIndexRelSleb, GlobalIndexI32, TableNumberLeb}
 use Rattle.wl_symbols.specs.Entries.{symbol_in}
 use Rattle.wl_symbols.specs.Names.{def}
 use Rattle.wl_symbols.specs.LinkerNames.{name_of}
@@ -20,36 +20,6 @@ use Rattle.wl_bind.specs.declared.binding.FunctionTarget.{FunctionTarget}
 use Rattle.wl_bind.specs.declared.binding.FunctionTarget.TheVariants.{Defined, Made, Host, Stub}
 use Rattle.wl_symbols.specs.declared.relocated.Relocated.{Relocated}
 use Rattle.wl_bind.specs.declared.scan.RelocNeeds.{RelocNeeds}
-
--- ---- types of relocations
-
--- the number of a global: in code, or in four bytes
-abbrev pub is_global_index : RelocationType → Bool
-is_global_index GlobalIndexLeb = true
-is_global_index GlobalIndexI32 = true
-is_global_index _ = false
-
--- the slot of a function in the table: in code, in four bytes, or behind the table's base
-abbrev pub is_table_index : RelocationType → Bool
-is_table_index TableIndexSleb = true
-is_table_index TableIndexI32 = true
-is_table_index TableIndexRelSleb = true
-is_table_index _ = false
-
--- the number of a table
-abbrev pub is_table_number : RelocationType → Bool
-is_table_number TableNumberLeb = true
-is_table_number _ = false
-
--- an address behind the base of the memory
-abbrev pub is_memory_relative : RelocationType → Bool
-is_memory_relative MemoryAddrRelSleb = true
-is_memory_relative _ = false
-
--- a slot behind the base of the table
-abbrev pub is_table_relative : RelocationType → Bool
-is_table_relative TableIndexRelSleb = true
-is_table_relative _ = false
 
 -- ---- what a kept relocation names
 

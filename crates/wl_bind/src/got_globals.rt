@@ -11,7 +11,6 @@ ghost use Rattle.wl_bind.specs.Numbering.{IsNumbering};
 ghost use Rattle.wl_bind.specs.Parts.{IsPlaceOf, ArePlacesOf};
 
 use crate::numbering::Numbering;
-use crate::scan::is_global_index;
 use crate::targets::FunctionBindings;
 use std::alloc::{AllocError, Global};
 use wl_linking::File;
@@ -26,7 +25,7 @@ fn mark_symbol(marks: &mut Vec<bool>, relocated: &Relocated)
     ensures { marks.new.items ≡ marked marks.old.items relocated.now }
 {
     let number = relocated.relocation.index as usize;
-    if is_global_index(relocated.relocation.ty) && number < marks.len() {
+    if relocated.relocation.ty.is_global_index() && number < marks.len() {
         marks[number] = true;
     }
 }

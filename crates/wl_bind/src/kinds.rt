@@ -6,7 +6,7 @@ ghost use Rattle.wl_custom.specs.Symbols.{is_data};
 ghost use Rattle.wl_symbols.specs.LinkerNames.{row_of};
 ghost use Rattle.wl_bind.specs.FunctionSymbols.{function_bindings};
 ghost use Rattle.wl_bind.specs.FunctionTypes.{target_type};
-ghost use Rattle.wl_bind.specs.Kinds.{has_global, takes_kind, is_no_data, is_wrong_use, takes_parameters, leads_to_parameters, IsWrongUse, IsWrongInit, IsWrongKind};
+ghost use Rattle.wl_bind.specs.Kinds.{is_no_data, is_wrong_use, takes_parameters, leads_to_parameters, IsWrongUse, IsWrongInit, IsWrongKind};
 ghost use Rattle.wl_bind.specs.KindSteps.{is_wrong_relocation, is_wrong_at, wrong_init_from};
 ghost use Rattle.wl_bind.specs.Scan.{symbol_of};
 ghost use Rattle.wl_symbols.specs.Relocations.{relocations};
@@ -14,39 +14,10 @@ ghost use Rattle.wl_symbols.specs.Relocations.{relocations};
 use crate::binding::FunctionTarget;
 use crate::targets::FunctionBindings;
 use crate::types::type_of_defined;
-use wl_linking::{LinkError, RelocationType, WasmInitFunc, WasmSymbol, WasmSymbolKind};
+use wl_linking::{LinkError, WasmInitFunc, WasmSymbol};
 use wl_symbols::{Definition, LinkInput, Relocated, WasmLinkerSymbol, kept_relocations};
 
 // ---- relocations
-
-/// Whether the number of a symbol of that kind may be that of a global: data and functions have
-/// entries of GOT lists.
-fn has_global(kind: WasmSymbolKind) -> bool
-    ensures { result ≡ has_global kind }
-{
-    kind.is_global() || kind.is_data() || kind.is_function()
-}
-
-/// Whether a relocation of that type takes symbols of that kind.
-fn takes_kind(ty: RelocationType, kind: WasmSymbolKind) -> bool
-    ensures { result ≡ takes_kind ty kind }
-{
-    match ty {
-        RelocationType::FunctionIndexLeb
-        | RelocationType::FunctionIndexI32
-        | RelocationType::TableIndexSleb
-        | RelocationType::TableIndexI32
-        | RelocationType::TableIndexRelSleb => kind.is_function(),
-        RelocationType::MemoryAddrLeb
-        | RelocationType::MemoryAddrSleb
-        | RelocationType::MemoryAddrI32
-        | RelocationType::MemoryAddrRelSleb
-        | RelocationType::MemoryAddrTlsSleb => kind.is_data(),
-        RelocationType::GlobalIndexLeb | RelocationType::GlobalIndexI32 => has_global(kind),
-        RelocationType::TableNumberLeb => kind.is_table(),
-        RelocationType::TypeIndexLeb => false,
-    }
-}
 
 /// Whether what the linker makes is data. With a memory, all of that is exported as globals with
 /// addresses.
@@ -77,7 +48,7 @@ fn is_wrong_use(input: &LinkInput<'_, '_>, relocated: &Relocated, symbol: &WasmS
     ensures { result ≡ is_wrong_use input.now relocated.now symbol.now }
 {
     let number = relocated.relocation.index;
-    if !takes_kind(relocated.relocation.ty, symbol.kind) {
+    if !relocated.relocation.ty.takes_kind(symbol.kind) {
         return true;
     }
     symbol.kind.is_data() && is_no_data(input, input.symbols().definition(relocated.object, number))

@@ -2,14 +2,14 @@
 //! relocations name.
 
 ghost use Rattle.std.specs.Prelude.{◌≡◌, ◌||◌, ℕ, true, false, Some, Contains};
-ghost use Rattle.wl_custom.specs.RelocationTypes.{names_a_type};
+ghost use Rattle.wl_custom.specs.RelocationTypes.{names_a_type, is_table_index, is_global_index};
 ghost use Rattle.wl_symbols.specs.Input.{Input};
 ghost use Rattle.wl_bind.specs.FunctionSymbols.{fun};
 ghost use Rattle.wl_bind.specs.EntryTypes.{HasOutputType};
 ghost use Rattle.wl_bind.specs.FunctionSpace.{FunctionEntry, function_space};
 ghost use Rattle.wl_bind.specs.References.{IsSettled, HasSlot, IsInOutput, NamesType, NamesSymbol, NamesFunction, NamesGlobal};
 ghost use Rattle.wl_symbols.specs.Relocations.{relocations};
-ghost use Rattle.wl_bind.specs.Scan.{table_functions, names_function, is_table_index, is_global_index};
+ghost use Rattle.wl_bind.specs.Scan.{table_functions, names_function};
 ghost use Rattle.wl_bind.specs.declared.binding.FunctionTarget.{FunctionTarget as Target};
 ghost use Rattle.wl_symbols.specs.declared.relocated.Relocated.{Relocated as KeptRelocation};
 

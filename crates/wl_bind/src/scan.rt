@@ -4,14 +4,13 @@ ghost use Rattle.std.specs.Prelude.{◌≡◌, map, OnOk, IfOk};
 ghost use Rattle.wl_bind.specs.FunctionSymbols.{function_bindings};
 ghost use Rattle.wl_bind.specs.GotSteps.{mem_entry, func_entry, insert_some, with_mem, with_func, ArePlaces};
 ghost use Rattle.wl_bind.specs.Sameness.{same_target};
-ghost use Rattle.wl_bind.specs.Scan.{is_global_index, is_table_index, is_table_number, is_memory_relative, is_table_relative, names_data, names_function, got_mem_of, got_func_of, unless_stub, table_function_of, asks_for_table, definition_name, got_mem_entry, got_func_entry, got_mem, got_func, table_functions, needs_of, scan_of};
+ghost use Rattle.wl_bind.specs.Scan.{names_data, names_function, got_mem_of, got_func_of, unless_stub, table_function_of, asks_for_table, definition_name, got_mem_entry, got_func_entry, got_mem, got_func, table_functions, needs_of, scan_of};
 
 use crate::binding::FunctionTarget;
 use crate::got::{GotFunc, GotMem, NamedKeys, TableFunctions};
 use crate::targets::FunctionBindings;
 use std::alloc::{AllocError, Global};
 use std::marker::Model;
-use wl_linking::RelocationType;
 use wl_symbols::{Definition, LinkInput, Relocated, kept_relocations};
 
 /// What kept relocations ask the linker for.
@@ -49,50 +48,6 @@ impl<'a> Model for RelocScan<'a> {
       table_functions = s.table_functions;
       needs = s.needs;
     } };
-}
-
-/// Whether that is the number of a global: in code, or in four bytes.
-pub(crate) fn is_global_index(ty: RelocationType) -> bool
-    ensures { result ≡ is_global_index ty }
-{
-    matches!(
-        ty,
-        RelocationType::GlobalIndexLeb | RelocationType::GlobalIndexI32
-    )
-}
-
-/// Whether that is the slot of a function in the table: in code, in four bytes, or behind the
-/// table's base.
-pub(crate) fn is_table_index(ty: RelocationType) -> bool
-    ensures { result ≡ is_table_index ty }
-{
-    matches!(
-        ty,
-        RelocationType::TableIndexSleb
-            | RelocationType::TableIndexI32
-            | RelocationType::TableIndexRelSleb
-    )
-}
-
-/// Whether that is the number of a table.
-pub(crate) fn is_table_number(ty: RelocationType) -> bool
-    ensures { result ≡ is_table_number ty }
-{
-    matches!(ty, RelocationType::TableNumberLeb)
-}
-
-/// Whether that is an address behind the base of the memory.
-pub(crate) fn is_memory_relative(ty: RelocationType) -> bool
-    ensures { result ≡ is_memory_relative ty }
-{
-    matches!(ty, RelocationType::MemoryAddrRelSleb)
-}
-
-/// Whether that is a slot behind the base of the table.
-pub(crate) fn is_table_relative(ty: RelocationType) -> bool
-    ensures { result ≡ is_table_relative ty }
-{
-    matches!(ty, RelocationType::TableIndexRelSleb)
 }
 
 /// Whether a relocation names a data symbol.
@@ -141,7 +96,7 @@ pub(crate) fn definition_name<'a>(input: &LinkInput<'_, 'a>, definition: Definit
 pub fn got_mem_of(input: &LinkInput<'_, '_>, relocated: &Relocated) -> Option<Definition>
     ensures { result ≡ got_mem_of input.now relocated.now }
 {
-    if is_global_index(relocated.relocation.ty) && names_data(input, relocated) {
+    if relocated.relocation.ty.is_global_index() && names_data(input, relocated) {
         let symbols = input.symbols();
         Some(symbols.definition(relocated.object, relocated.relocation.index))
     } else {
@@ -159,7 +114,7 @@ fn got_func_of(
     requires { bindings.now ≡ function_bindings input.now }
     ensures { result ≡ got_func_of input.now relocated.now }
 {
-    if is_global_index(relocated.relocation.ty) && names_function(input, relocated) {
+    if relocated.relocation.ty.is_global_index() && names_function(input, relocated) {
         let (object, symbol) = (relocated.object, relocated.relocation.index);
         let target = bindings.function(input, object, symbol)?;
         Some((input.symbols().definition(object, symbol), target))
@@ -191,7 +146,7 @@ fn table_function_of(
     ensures { result ≡ table_function_of input.now relocated.now }
 {
     let ty = relocated.relocation.ty;
-    if (is_table_index(ty) || is_global_index(ty)) && names_function(input, relocated) {
+    if (ty.is_table_index() || ty.is_global_index()) && names_function(input, relocated) {
         let target = bindings.function(input, relocated.object, relocated.relocation.index)?;
         unless_stub(target)
     } else {
@@ -306,9 +261,9 @@ fn asks_for_table(input: &LinkInput<'_, '_>, relocated: &Relocated) -> bool
     ensures { result ≡ asks_for_table input.now relocated.now }
 {
     let ty = relocated.relocation.ty;
-    is_table_index(ty)
-        || is_table_number(ty)
-        || (is_global_index(ty) && names_function(input, relocated))
+    ty.is_table_index()
+        || ty.is_table_number()
+        || (ty.is_global_index() && names_function(input, relocated))
 }
 
 /// What kept relocations ask the linker for.
@@ -321,8 +276,8 @@ pub(crate) fn needs(input: &LinkInput<'_, '_>) -> RelocNeeds
         table: false,
     };
     for relocated in kept_relocations(input) {
-        needs.memory_base |= is_memory_relative(relocated.relocation.ty);
-        needs.table_base |= is_table_relative(relocated.relocation.ty);
+        needs.memory_base |= relocated.relocation.ty.is_memory_relative();
+        needs.table_base |= relocated.relocation.ty.is_table_relative();
         needs.table |= asks_for_table(input, &relocated);
     }
     needs

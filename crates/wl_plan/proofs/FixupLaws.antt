@@ -8,11 +8,10 @@ use Rattle.std.proofs.lemmas.Int.{ints}
 use Rattle.std.proofs.lemmas.List.FromFn.{length-map-range_with_len}
 use Rattle.std.proofs.lemmas.Option.{slice_get-map, slice_get_past, slice_get_within, same_Some}
 use Rattle.wl_linking.specs.Object.{Object}
-use Rattle.wl_custom.specs.RelocationTypes.{names_a_type}
+use Rattle.wl_custom.specs.Takings.{is_type, is_slot, is_global, is_in_memory, is_taken_of}
+use Rattle.wl_custom.specs.RelocationTypes.{taking_of, is_absolute, names_a_type, takes_kind, is_table_index, is_global_index}
 use Rattle.wl_linking.specs.Steps.{Clear}
 use Rattle.wl_custom.specs.Symbols.{Symbol as LinkedSymbol, is_data, is_function, is_table}
-use Rattle.wl_custom.specs.declared.relocation_type.RelocationType.{RelocationType}
-use Rattle.wl_custom.specs.declared.relocation_type.RelocationType.TheVariants as type
 use Rattle.wl_custom.specs.declared.relocations.WasmRelocation.{WasmRelocation}
 use Rattle.wl_custom.specs.declared.symbols.WasmSymbolKind.{WasmSymbolKind}
 use Rattle.wl_custom.specs.declared.symbols.WasmSymbolKind.TheVariants as kind
@@ -20,33 +19,31 @@ use Rattle.wl_index.specs.declared.data_address.WasmDataAddress.{WasmDataAddress
 use Rattle.wl_index.specs.declared.data_address.WasmDataAddress.TheVariants as address
 use Rattle.wl_index.specs.declared.index.TheConstants.{WASM_DEAD_INDEX, MAX_ENTRIES}
 use Rattle.wl_reloc.specs.Addresses.{address_value, as_word, is_s32, s32_or_range}
-use Rattle.wl_reloc.specs.Resolving.{Resolver, kept_index, redirect, got_global, slot_in, function_index, slot_of as resolved_slot, behind_first, global_index, table_number, address_in, address_of, taken_of, taken_at, taken, resolved}
-use Rattle.wl_reloc.specs.Takings.{taking_of}
+use Rattle.wl_reloc.specs.Resolving.{Resolver, kept_index, redirect, got_global, slot_in, function_index, slot_of as resolved_slot, behind_first, global_index, table_number, address_in, address_of, taken_of, taken, resolved}
 use Rattle.wl_reloc.specs.declared.addresses.AddressBases.{AddressBases}
 use Rattle.wl_reloc.specs.declared.error.RelocError.{RelocError}
 use Rattle.wl_reloc.specs.declared.error.RelocError.TheVariants as reloc
 use Rattle.wl_index.specs.declared.index_map.WasmObjectIndexMap.{WasmObjectIndexMap}
-use Rattle.wl_reloc.specs.declared.takings.AddressBase.{AddressBase}
-use Rattle.wl_reloc.specs.declared.takings.AddressBase.TheVariants.{Memory, MemoryBase, ThreadData}
-use Rattle.wl_reloc.specs.declared.takings.Taking.{Taking}
-use Rattle.wl_reloc.specs.declared.takings.Taking.TheVariants.{FunctionIndex, Slot, SlotBehindBase, GlobalIndex, TableNumber, Address}
+use Rattle.wl_custom.specs.declared.takings.AddressBase.{AddressBase}
+use Rattle.wl_custom.specs.declared.takings.AddressBase.TheVariants.{Memory, MemoryBase, ThreadData}
+use Rattle.wl_custom.specs.declared.takings.Taking.{Taking}
+use Rattle.wl_custom.specs.declared.takings.Taking.TheVariants.{FunctionIndex, Slot, SlotBehindBase, TypeIndex, GlobalIndex, TableNumber, Address}
 use Rattle.wl_symbols.specs.Entries.{symbol_in}
 use Rattle.wl_bind.specs.FunctionSpace.{FunctionEntry, FunctionOf, function_space}
 use Rattle.wl_bind.specs.FunctionSymbols.{fun}
 use Rattle.wl_bind.specs.GlobalSpace.{GlobalEntry, global_space, local_globals}
 use Rattle.wl_bind.specs.IndexMaps.{is_kept_target, entry_of, symbol_function, symbol_functions, got_mem_global, got_mem_globals, got_func_global, got_func_globals}
 use Rattle.wl_symbols.specs.Input.{Input}
-use Rattle.wl_bind.specs.Kinds.{takes_kind}
 use Rattle.wl_bind.specs.OutputTypes.{output_types, local_types}
 use Rattle.wl_bind.specs.Parts.{IsIndexOf, AreIndicesOf, IsPlaceOf, ArePlacesOf}
 use Rattle.wl_bind.specs.References.{there, live_type, symbol_global, HasSlot, IsInOutput, IsSettled, NamesType, NamesSymbol, NamesFunction, NamesGlobal}
 use Rattle.wl_symbols.specs.Relocations.{relocations}
-use Rattle.wl_bind.specs.Scan.{symbol_of, names_function, is_table_index, is_global_index}
+use Rattle.wl_bind.specs.Scan.{symbol_of, names_function}
 use Rattle.wl_bind.specs.declared.binding.FunctionTarget.{FunctionTarget}
 use Rattle.wl_bind.specs.declared.binding.FunctionTarget.TheVariants as function
 use Rattle.wl_symbols.specs.declared.relocated.Relocated.{Relocated}
 use Rattle.wl_plan.specs.Addresses.{symbol_address}
-use Rattle.wl_plan.specs.FixupSteps.{AreFixupSources, Answers, AnswersFrom, HasRoom, is_absolute, left_of, with_left, counted_base, number_by, IsRefusedAt}
+use Rattle.wl_plan.specs.FixupSteps.{AreFixupSources, Answers, AnswersFrom, HasRoom, left_of, with_left, counted_base, number_by, IsRefusedAt}
 use Rattle.wl_plan.specs.Fixups.{type_named, global_named, slot_named, address_named, bases_of, address_taken, addend_left, number_taken, IsTaken, IsAddressReason}
 use Rattle.wl_plan.specs.IndexedMaps.{IsWholeMap, AreWholeMaps}
 use Rattle.wl_plan.specs.Table.{slot_of, slot_of_entry, space_slots}
@@ -137,7 +134,7 @@ resolver_of input g o m = record {
   bases = bases_of g;
 }
 
-pub answers_as : (input : Input) (g : Placing) (r : Relocated) (taking : Option Taking) (left : ℤ)
+pub answers_as : (input : Input) (g : Placing) (r : Relocated) (taking : Taking) (left : ℤ)
     (result other : Result ℕ RelocError) → result ≡ other → Answers input g r taking (with_left left other)
     → Answers input g r taking (with_left left result)
 answers_as input g r taking left result other is h =
@@ -164,56 +161,27 @@ left_addend (address.TlsOffset place) r e = refl
 minus_zero : (n : ℕ) (z : ℤ) → (pos n -ℤ pos 0) +ℤ z ≡ pos n +ℤ z
 minus_zero n z = omega (arith, ints)
 
-base_address : AddressBase → AddressBases → ℕ
-base_address Memory bases = 0
-base_address MemoryBase bases = bases.memory_base
-base_address ThreadData bases = bases.tls_base
+number_by_base : (base : AddressBase) (bases : AddressBases) (a : WasmDataAddress) (addend : ℤ)
+    → number_by (counted_base (Address base) bases) a addend ≡ number_taken base bases a addend
+number_by_base Memory bases address.Missing addend = minus_zero 0 addend
+number_by_base Memory bases (address.Placed place) addend = minus_zero place addend
+number_by_base Memory bases address.Passive addend = refl
+number_by_base Memory bases (address.TlsOffset place) addend = minus_zero place addend
+number_by_base MemoryBase bases address.Missing addend = refl
+number_by_base MemoryBase bases (address.Placed place) addend = refl
+number_by_base MemoryBase bases address.Passive addend = refl
+number_by_base MemoryBase bases (address.TlsOffset place) addend = minus_zero place addend
+number_by_base ThreadData bases address.Missing addend = refl
+number_by_base ThreadData bases (address.Placed place) addend = refl
+number_by_base ThreadData bases address.Passive addend = refl
+number_by_base ThreadData bases (address.TlsOffset place) addend = minus_zero place addend
 
-number_of_base : (b : AddressBase) (bases : AddressBases) (a : WasmDataAddress) (addend : ℤ)
-    → number_by (base_address b bases) a addend ≡ number_taken b bases a addend
-unfolding base_address
-number_of_base Memory bases address.Missing addend = minus_zero 0 addend
-number_of_base Memory bases (address.Placed place) addend = minus_zero place addend
-number_of_base Memory bases address.Passive addend = refl
-number_of_base Memory bases (address.TlsOffset place) addend = minus_zero place addend
-number_of_base MemoryBase bases address.Missing addend = refl
-number_of_base MemoryBase bases (address.Placed place) addend = refl
-number_of_base MemoryBase bases address.Passive addend = refl
-number_of_base MemoryBase bases (address.TlsOffset place) addend = minus_zero place addend
-number_of_base ThreadData bases address.Missing addend = refl
-number_of_base ThreadData bases (address.Placed place) addend = refl
-number_of_base ThreadData bases address.Passive addend = refl
-number_of_base ThreadData bases (address.TlsOffset place) addend = minus_zero place addend
-
-same_base : (b base : AddressBase) → ◌≡◌ {A = Option Taking} (Some (Address b)) (Some (Address base))
-    → b ≡ base
-same_base b base e = cc
-
-number_as : (b base : AddressBase) (bases : AddressBases) (a : WasmDataAddress) (addend : ℤ)
-    → ◌≡◌ {A = Option Taking} (Some (Address b)) (Some (Address base))
-    → number_by (base_address b bases) a addend ≡ number_taken base bases a addend
-number_as b base bases a addend e =
-    subst (λ (x : AddressBase). number_by (base_address b bases) a addend
-    ≡ number_taken x bases a addend) (same_base b base e) (number_of_base b bases a addend)
-
-pub number_is : (ty : RelocationType) (base : AddressBase) (bases : AddressBases)
-    (a : WasmDataAddress) (addend : ℤ) → taking_of ty ≡ Some (Address base)
-    → number_by (counted_base ty bases) a addend ≡ number_taken base bases a addend
-unfolding base_address
-number_is type.FunctionIndexLeb base bases a addend e = absurd cc
-number_is type.FunctionIndexI32 base bases a addend e = absurd cc
-number_is type.TableIndexSleb base bases a addend e = absurd cc
-number_is type.TableIndexI32 base bases a addend e = absurd cc
-number_is type.TableIndexRelSleb base bases a addend e = absurd cc
-number_is type.TypeIndexLeb base bases a addend e = absurd cc
-number_is type.GlobalIndexLeb base bases a addend e = absurd cc
-number_is type.GlobalIndexI32 base bases a addend e = absurd cc
-number_is type.TableNumberLeb base bases a addend e = absurd cc
-number_is type.MemoryAddrLeb base bases a addend e = number_as Memory base bases a addend e
-number_is type.MemoryAddrSleb base bases a addend e = number_as Memory base bases a addend e
-number_is type.MemoryAddrI32 base bases a addend e = number_as Memory base bases a addend e
-number_is type.MemoryAddrRelSleb base bases a addend e = number_as MemoryBase base bases a addend e
-number_is type.MemoryAddrTlsSleb base bases a addend e = number_as ThreadData base bases a addend e
+pub number_is : (taking : Taking) (base : AddressBase) (bases : AddressBases)
+    (a : WasmDataAddress) (addend : ℤ) → taking ≡ Address base
+    → number_by (counted_base taking bases) a addend ≡ number_taken base bases a addend
+number_is taking base bases a addend is =
+    ap (λ (t : Taking). number_by (counted_base t bases) a addend) is
+    ∙ number_by_base base bases a addend
 
 -- ---- rows of objects
 
@@ -266,7 +234,7 @@ module _ (input : Input) (g : Placing) (r : Relocated) (o : Object) (m : WasmObj
   same_object p here = same_Some p o (sym here ∙ known.here)
 
   type_answers : (left : ℤ) → left ≡ pos 0 → names_a_type r.relocation.ty ≡ true
-      → Answers input g r None (with_left left (taken (resolver_of input g o m) r.relocation None))
+      → Answers input g r TypeIndex (with_left left (taken (resolver_of input g o m) r.relocation TypeIndex))
   type_answers left no_rest names =
       let h = known.laws.types input r known.settled known.kept names in
       let live : live_type input r.object o r.relocation.index ≡ Some h.ty =
@@ -277,7 +245,7 @@ module _ (input : Input) (g : Placing) (r : Relocated) (o : Object) (m : WasmObj
       let named : type_named input r ≡ Some h.ty =
       ap (option_and_then (λ (p : Object). live_type input r.object p r.relocation.index)) known.here
       ∙ live in
-      answers_as input g r None left (kept_index (slice_get m.type_indices r.relocation.index))
+      answers_as input g r TypeIndex left (kept_index (slice_get m.type_indices r.relocation.index))
       (Ok at.0) (ap kept_index at.1
       ∙ index_kept (output_types input) at.0 h.ty known.room.types at.2)
       (no_rest, (h.ty, named, at.2))
@@ -303,13 +271,11 @@ module _ (input : Input) (g : Placing) (r : Relocated) (o : Object) (m : WasmObj
         within = slice_get_within o.symbols r.relocation.index h.symbol at;
       }
 
-  -- of a symbol of that kind
-  of_symbol : (taking : Taking) (s : LinkedSymbol)
+  -- of the symbol that it names
+  of_symbol : (take : LinkedSymbol → Result ℕ RelocError) (s : LinkedSymbol)
       → slice_get o.symbols r.relocation.index ≡ Some s
-      → taken (resolver_of input g o m) r.relocation (Some taking)
-      ≡ taken_of (resolver_of input g o m) r.relocation taking s
-  of_symbol taking s at =
-      ap (taken_at (resolver_of input g o m) r.relocation taking) at
+      → taken_of take (slice_get o.symbols r.relocation.index) ≡ take s
+  of_symbol take s at = ap (taken_of take) at
 
   -- ---- functions
 
@@ -376,13 +342,15 @@ module _ (input : Input) (g : Placing) (r : Relocated) (o : Object) (m : WasmObj
 
   function_answers : (left : ℤ) → left ≡ pos 0 → names_a_type r.relocation.ty ≡ false
       → (n : Names) → is_function n.symbol.kind ≡ true
-      → Answers input g r (Some FunctionIndex) (with_left left
-      (taken (resolver_of input g o m) r.relocation (Some FunctionIndex)))
+      → Answers input g r FunctionIndex (with_left left
+      (taken (resolver_of input g o m) r.relocation FunctionIndex))
   function_answers left no_rest none n is =
       let l = leads_to n none is in
-      answers_as input g r (Some FunctionIndex) left
-      (taken (resolver_of input g o m) r.relocation (Some FunctionIndex)) (Ok l.place)
-      (of_symbol FunctionIndex n.symbol n.at ∙ index_of n is l)
+      answers_as input g r FunctionIndex left
+      (taken (resolver_of input g o m) r.relocation FunctionIndex) (Ok l.place)
+      (of_symbol
+      (λ s. function_index (resolver_of input g o m) s.kind r.relocation.index) n.symbol n.at
+      ∙ index_of n is l)
       (no_rest, (FunctionOf l.target, l.entry, l.stands))
 
   -- ---- slots
@@ -422,25 +390,31 @@ module _ (input : Input) (g : Placing) (r : Relocated) (o : Object) (m : WasmObj
   slot_answers : (left : ℤ) → left ≡ pos 0 → names_a_type r.relocation.ty ≡ false
       → (n : Names) → is_function n.symbol.kind ≡ true
       → (is_table_index r.relocation.ty || is_global_index r.relocation.ty) ≡ true
-      → Answers input g r (Some Slot) (with_left left
-      (taken (resolver_of input g o m) r.relocation (Some Slot)))
+      → Answers input g r Slot (with_left left
+      (taken (resolver_of input g o m) r.relocation Slot))
   slot_answers left no_rest none n is asks =
       let s = slotted n none is asks in
-      answers_as input g r (Some Slot) left
-      (taken (resolver_of input g o m) r.relocation (Some Slot)) (Ok s.slot)
-      (of_symbol Slot n.symbol n.at ∙ s.resolves n.symbol n.at is)
+      answers_as input g r Slot left
+      (taken (resolver_of input g o m) r.relocation Slot) (Ok s.slot)
+      (of_symbol
+      (λ t. resolved_slot (resolver_of input g o m)
+      (function_index (resolver_of input g o m) t.kind r.relocation.index)) n.symbol n.at
+      ∙ s.resolves n.symbol n.at is)
       (no_rest, s.named_slot)
 
   relative_answers : (left : ℤ) → left ≡ pos 0 → names_a_type r.relocation.ty ≡ false
       → (n : Names) → is_function n.symbol.kind ≡ true
       → (is_table_index r.relocation.ty || is_global_index r.relocation.ty) ≡ true
-      → Answers input g r (Some SlotBehindBase) (with_left left
-      (taken (resolver_of input g o m) r.relocation (Some SlotBehindBase)))
+      → Answers input g r SlotBehindBase (with_left left
+      (taken (resolver_of input g o m) r.relocation SlotBehindBase))
   relative_answers left no_rest none n is asks =
       let s = slotted n none is asks in
-      answers_as input g r (Some SlotBehindBase) left
-      (taken (resolver_of input g o m) r.relocation (Some SlotBehindBase)) (Ok (s.slot - 1))
-      (of_symbol SlotBehindBase n.symbol n.at ∙ ap behind_first (s.resolves n.symbol n.at is))
+      answers_as input g r SlotBehindBase left
+      (taken (resolver_of input g o m) r.relocation SlotBehindBase) (Ok (s.slot - 1))
+      (of_symbol
+      (λ t. behind_first (resolved_slot (resolver_of input g o m)
+      (function_index (resolver_of input g o m) t.kind r.relocation.index))) n.symbol n.at
+      ∙ ap behind_first (s.resolves n.symbol n.at is))
       (no_rest, ap (option_map (λ (slot : ℕ). slot - 1)) s.named_slot)
 
   -- ---- globals
@@ -481,8 +455,8 @@ module _ (input : Input) (g : Placing) (r : Relocated) (o : Object) (m : WasmObj
   global_resolves kind.Table index x within e = absurd cc
 
   global_answers : (left : ℤ) → left ≡ pos 0 → is_global_index r.relocation.ty ≡ true
-      → Answers input g r (Some GlobalIndex) (with_left left
-      (taken (resolver_of input g o m) r.relocation (Some GlobalIndex)))
+      → Answers input g r GlobalIndex (with_left left
+      (taken (resolver_of input g o m) r.relocation GlobalIndex))
   global_answers left no_rest is =
       let h = known.laws.globals input r known.settled known.kept is in
       let same = same_object h.named.object h.named.here in
@@ -501,9 +475,11 @@ module _ (input : Input) (g : Placing) (r : Relocated) (o : Object) (m : WasmObj
       ∙ (ap (option_and_then
       (λ (t : LinkedSymbol). symbol_global input r o t.kind t.index)) at
       ∙ stands) in
-      answers_as input g r (Some GlobalIndex) left
-      (taken (resolver_of input g o m) r.relocation (Some GlobalIndex)) (Ok found.place)
-      (of_symbol GlobalIndex s at ∙ found.is)
+      answers_as input g r GlobalIndex left
+      (taken (resolver_of input g o m) r.relocation GlobalIndex) (Ok found.place)
+      (of_symbol
+      (λ t. global_index (resolver_of input g o m) t.kind r.relocation.index t.index) s at
+      ∙ found.is)
       (no_rest, (h.global, named_one, found.stands))
 
   -- ---- tables
@@ -517,12 +493,12 @@ module _ (input : Input) (g : Placing) (r : Relocated) (o : Object) (m : WasmObj
   table_kind kind.Event e = absurd cc
 
   table_answers : (left : ℤ) → left ≡ pos 0 → (n : Names) → is_table n.symbol.kind ≡ true
-      → Answers input g r (Some TableNumber) (with_left left
-      (taken (resolver_of input g o m) r.relocation (Some TableNumber)))
+      → Answers input g r TableNumber (with_left left
+      (taken (resolver_of input g o m) r.relocation TableNumber))
   table_answers left no_rest n is =
-      answers_as input g r (Some TableNumber) left
-      (taken (resolver_of input g o m) r.relocation (Some TableNumber)) (Ok 0)
-      (of_symbol TableNumber n.symbol n.at ∙ table_kind n.symbol.kind is)
+      answers_as input g r TableNumber left
+      (taken (resolver_of input g o m) r.relocation TableNumber) (Ok 0)
+      (of_symbol (λ s. table_number s.kind) n.symbol n.at ∙ table_kind n.symbol.kind is)
       (no_rest, refl)
 
   -- ---- addresses
@@ -538,23 +514,23 @@ module _ (input : Input) (g : Placing) (r : Relocated) (o : Object) (m : WasmObj
   value_answers : (base : AddressBase) (left : ℤ) (value : Result ℤ RelocError)
       → left ≡ addend_left base (address_named input g r) r.relocation.addend
       → address_taken input g r base ≡ value
-      → Answers input g r (Some (Address base)) (with_left left (as_word value))
+      → Answers input g r (Address base) (with_left left (as_word value))
   value_answers base left (Ok z) is at = (is, (z, at, refl))
   value_answers base left (Err why) is at = (base, refl, at)
 
   address_answers : (base : AddressBase) (left : ℤ)
       → left ≡ addend_left base (address_named input g r) r.relocation.addend
       → (n : Names) → is_data n.symbol.kind ≡ true
-      → Answers input g r (Some (Address base)) (with_left left
-      (taken (resolver_of input g o m) r.relocation (Some (Address base))))
+      → Answers input g r (Address base) (with_left left
+      (taken (resolver_of input g o m) r.relocation (Address base)))
   address_answers base left is n data_is =
       let by = resolver_of input g o m in
       let listed : slice_get m.data_addresses r.relocation.index ≡ Some (address_named input g r) =
       ap (λ (xs : List WasmDataAddress). slice_get xs r.relocation.index) known.map.addresses
       ∙ of_range (symbol_address input g r.object) (length o.symbols) r.relocation.index n.within in
-      answers_as input g r (Some (Address base)) left
-      (taken by r.relocation (Some (Address base))) (as_word (address_taken input g r base))
-      (of_symbol (Address base) n.symbol n.at
+      answers_as input g r (Address base) left
+      (taken by r.relocation (Address base)) (as_word (address_taken input g r base))
+      (of_symbol (λ s. address_of by base r.relocation.addend s.kind r.relocation.index) n.symbol n.at
       ∙ (ap (λ (k : WasmSymbolKind). address_of by base r.relocation.addend k r.relocation.index)
       (data_kind n.symbol.kind data_is)
       ∙ ap (address_in by base r.relocation.addend) listed))
@@ -565,88 +541,71 @@ module _ (input : Input) (g : Placing) (r : Relocated) (o : Object) (m : WasmObj
   abbrev left_here : ℤ
   left_here = left_of (address_named input g r) r.relocation
 
-  by_type : (ty : RelocationType) → r.relocation.ty ≡ ty
-      → Answers input g r (taking_of ty) (with_left left_here
-      (taken (resolver_of input g o m) r.relocation (taking_of ty)))
-  by_type ty is = by ty is (left_zero (address_named input g r) r.relocation)
+  by_taking : (taking : Taking) → taking_of r.relocation.ty ≡ taking
+      → Answers input g r taking (with_left left_here
+      (taken (resolver_of input g o m) r.relocation taking))
+  by_taking taking is = by taking is (left_zero (address_named input g r) r.relocation)
     where
-      takes_at : (ty : RelocationType) → r.relocation.ty ≡ ty → (n : Names)
-          → takes_kind ty n.symbol.kind ≡ true
-      takes_at ty is n = ap (λ (t : RelocationType). takes_kind t n.symbol.kind) (sym is) ∙ n.takes
+      takes_at : (taking : Taking) → taking_of r.relocation.ty ≡ taking → (n : Names)
+          → is_taken_of taking n.symbol.kind ≡ true
+      takes_at taking is n =
+          ap (λ (t : Taking). is_taken_of t n.symbol.kind) (sym is) ∙ n.takes
 
-      symbols : (ty : RelocationType) → r.relocation.ty ≡ ty → names_a_type ty ≡ false
+      symbols : (taking : Taking) → taking_of r.relocation.ty ≡ taking → is_type taking ≡ false
           → names_a_type r.relocation.ty ≡ false
-      symbols ty is e = ap names_a_type is ∙ e
+      symbols taking is e = ap is_type is ∙ e
 
-      asks : (ty : RelocationType) → r.relocation.ty ≡ ty
-          → (is_table_index ty || is_global_index ty) ≡ true
+      asks : (taking : Taking) → taking_of r.relocation.ty ≡ taking
+          → (is_slot taking || is_global taking) ≡ true
           → (is_table_index r.relocation.ty || is_global_index r.relocation.ty) ≡ true
-      asks ty is e = ap (λ (t : RelocationType). is_table_index t || is_global_index t) is ∙ e
+      asks taking is e = ap (λ (t : Taking). is_slot t || is_global t) is ∙ e
 
-      by : (ty : RelocationType) → r.relocation.ty ≡ ty
+      by_address : (base : AddressBase) → taking_of r.relocation.ty ≡ Address base
+          → left_here ≡ addend_left base (address_named input g r) r.relocation.addend
+          → Answers input g r (Address base) (with_left left_here
+          (taken (resolver_of input g o m) r.relocation (Address base)))
+      by_address base is left =
+          let n = named (symbols (Address base) is refl) in
+          address_answers base left_here left n (takes_at (Address base) is n)
+
+      by : (taking : Taking) → taking_of r.relocation.ty ≡ taking
           → (is_absolute r.relocation.ty ≡ false → left_here ≡ pos 0)
-          → Answers input g r (taking_of ty) (with_left left_here
-          (taken (resolver_of input g o m) r.relocation (taking_of ty)))
-      by type.FunctionIndexLeb is no_rest =
-          let none = symbols type.FunctionIndexLeb is refl in
-          function_answers left_here (no_rest (ap is_absolute is)) none (named none)
-          (takes_at type.FunctionIndexLeb is (named none))
-      by type.FunctionIndexI32 is no_rest =
-          let none = symbols type.FunctionIndexI32 is refl in
-          function_answers left_here (no_rest (ap is_absolute is)) none (named none)
-          (takes_at type.FunctionIndexI32 is (named none))
-      by type.TableIndexSleb is no_rest =
-          let none = symbols type.TableIndexSleb is refl in
-          slot_answers left_here (no_rest (ap is_absolute is)) none (named none)
-          (takes_at type.TableIndexSleb is (named none)) (asks type.TableIndexSleb is refl)
-      by type.TableIndexI32 is no_rest =
-          let none = symbols type.TableIndexI32 is refl in
-          slot_answers left_here (no_rest (ap is_absolute is)) none (named none)
-          (takes_at type.TableIndexI32 is (named none)) (asks type.TableIndexI32 is refl)
-      by type.TableIndexRelSleb is no_rest =
-          let none = symbols type.TableIndexRelSleb is refl in
-          relative_answers left_here (no_rest (ap is_absolute is)) none (named none)
-          (takes_at type.TableIndexRelSleb is (named none)) (asks type.TableIndexRelSleb is refl)
-      by type.TypeIndexLeb is no_rest =
-          type_answers left_here (no_rest (ap is_absolute is)) (ap names_a_type is)
-      by type.GlobalIndexLeb is no_rest =
-          global_answers left_here (no_rest (ap is_absolute is)) (ap is_global_index is)
-      by type.GlobalIndexI32 is no_rest =
-          global_answers left_here (no_rest (ap is_absolute is)) (ap is_global_index is)
-      by type.TableNumberLeb is no_rest =
-          let none = symbols type.TableNumberLeb is refl in
-          table_answers left_here (no_rest (ap is_absolute is)) (named none)
-          (takes_at type.TableNumberLeb is (named none))
-      by type.MemoryAddrLeb is no_rest =
-          let none = symbols type.MemoryAddrLeb is refl in
-          address_answers Memory left_here
-          (left_addend (address_named input g r) r.relocation (ap is_absolute is)) (named none)
-          (takes_at type.MemoryAddrLeb is (named none))
-      by type.MemoryAddrSleb is no_rest =
-          let none = symbols type.MemoryAddrSleb is refl in
-          address_answers Memory left_here
-          (left_addend (address_named input g r) r.relocation (ap is_absolute is)) (named none)
-          (takes_at type.MemoryAddrSleb is (named none))
-      by type.MemoryAddrI32 is no_rest =
-          let none = symbols type.MemoryAddrI32 is refl in
-          address_answers Memory left_here
-          (left_addend (address_named input g r) r.relocation (ap is_absolute is)) (named none)
-          (takes_at type.MemoryAddrI32 is (named none))
-      by type.MemoryAddrRelSleb is no_rest =
-          let none = symbols type.MemoryAddrRelSleb is refl in
-          address_answers MemoryBase left_here (no_rest (ap is_absolute is)) (named none)
-          (takes_at type.MemoryAddrRelSleb is (named none))
-      by type.MemoryAddrTlsSleb is no_rest =
-          let none = symbols type.MemoryAddrTlsSleb is refl in
-          address_answers ThreadData left_here (no_rest (ap is_absolute is)) (named none)
-          (takes_at type.MemoryAddrTlsSleb is (named none))
+          → Answers input g r taking (with_left left_here
+          (taken (resolver_of input g o m) r.relocation taking))
+      by FunctionIndex is no_rest =
+          let none = symbols FunctionIndex is refl in
+          function_answers left_here (no_rest (ap is_in_memory is)) none (named none)
+          (takes_at FunctionIndex is (named none))
+      by Slot is no_rest =
+          let none = symbols Slot is refl in
+          slot_answers left_here (no_rest (ap is_in_memory is)) none (named none)
+          (takes_at Slot is (named none)) (asks Slot is refl)
+      by SlotBehindBase is no_rest =
+          let none = symbols SlotBehindBase is refl in
+          relative_answers left_here (no_rest (ap is_in_memory is)) none (named none)
+          (takes_at SlotBehindBase is (named none)) (asks SlotBehindBase is refl)
+      by TypeIndex is no_rest =
+          type_answers left_here (no_rest (ap is_in_memory is)) (ap is_type is)
+      by GlobalIndex is no_rest =
+          global_answers left_here (no_rest (ap is_in_memory is)) (ap is_global is)
+      by TableNumber is no_rest =
+          let none = symbols TableNumber is refl in
+          table_answers left_here (no_rest (ap is_in_memory is)) (named none)
+          (takes_at TableNumber is (named none))
+      by (Address Memory) is no_rest =
+          by_address Memory is
+          (left_addend (address_named input g r) r.relocation (ap is_in_memory is))
+      by (Address MemoryBase) is no_rest =
+          by_address MemoryBase is (no_rest (ap is_in_memory is))
+      by (Address ThreadData) is no_rest =
+          by_address ThreadData is (no_rest (ap is_in_memory is))
 
 -- what a kept relocation takes, or why it can't take its address
 pub resolves_as : (input : Input) (g : Placing) (r : Relocated) (o : Object)
     (m : WasmObjectIndexMap) → IsKnown input g r o m
     → Answers input g r (taking_of r.relocation.ty) (with_left (left_of (address_named input g r) r.relocation)
     (resolved (resolver_of input g o m) r.relocation))
-resolves_as input g r o m known = by_type input g r o m known r.relocation.ty refl
+resolves_as input g r o m known = by_taking input g r o m known (taking_of r.relocation.ty) refl
 
 -- ---- why an address isn't taken
 
@@ -692,10 +651,10 @@ reason_of input g r base why e =
 -- what takes an address isn't refused one
 pub not_refused : (input : Input) (g : Placing) (r : Relocated) (value : ℕ) (left : ℤ)
     (base : AddressBase) (why : RelocError) → IsTaken input g r (taking_of r.relocation.ty) (Value value left)
-    → taking_of r.relocation.ty ≡ Some (Address base) → address_taken input g r base ≡ Err why → ⊥
+    → taking_of r.relocation.ty ≡ Address base → address_taken input g r base ≡ Err why → ⊥
 not_refused input g r value left base why h takes fault =
-    let t : IsTaken input g r (Some (Address base)) (Value value left) =
-    subst (λ (x : Option Taking). IsTaken input g r x (Value value left)) takes h in
+    let t : IsTaken input g r (Address base) (Value value left) =
+    subst (λ (x : Taking). IsTaken input g r x (Value value left)) takes h in
     let is : address_taken input g r base ≡ Ok t.1.0 = t.1.1 in
     absurd (let e : ◌≡◌ {A = Result ℤ RelocError} (Ok t.1.0) (Err why) = sym is ∙ fault in cc)
 

@@ -14,6 +14,7 @@ use Rattle.wl_linking.specs.Steps.{Clear}
 use Rattle.wl_linking.specs.declared.error.LinkError.{LinkError}
 use Rattle.wl_linking.specs.declared.error.LinkError.TheVariants.{TooLarge}
 use Rattle.wl_linking.specs.declared.error.Quantity.TheVariants.{Address}
+use Rattle.wl_custom.specs.RelocationTypes.{is_global_index}
 use Rattle.wl_symbols.specs.Entries.{symbol_in}
 use Rattle.wl_symbols.specs.declared.entry.Definition.{Definition}
 use Rattle.wl_index.specs.declared.data_address.WasmDataAddress.{WasmDataAddress}
@@ -22,7 +23,7 @@ use Rattle.wl_index.specs.declared.index_map.WasmObjectIndexMap.{WasmObjectIndex
 use Rattle.wl_symbols.specs.Input.{Input}
 use Rattle.wl_bind.specs.Parts.{AreRows}
 use Rattle.wl_bind.specs.Sameness.{same_definition}
-use Rattle.wl_bind.specs.Scan.{is_global_index, names_data, definition_of, got_mem_of, got_mem, got_func, scan_of, GotMemEntry, GotFuncEntry, got_mem_entry, got_func_entry, Scanned}
+use Rattle.wl_bind.specs.Scan.{names_data, definition_of, got_mem_of, got_mem, got_func, scan_of, GotMemEntry, GotFuncEntry, got_mem_entry, got_func_entry, Scanned}
 use Rattle.wl_symbols.specs.Relocations.{relocations}
 use Rattle.wl_bind.specs.declared.binding.FunctionTarget.{FunctionTarget}
 use Rattle.wl_symbols.specs.declared.relocated.Relocated.{Relocated}

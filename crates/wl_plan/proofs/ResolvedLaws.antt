@@ -2,7 +2,7 @@
 use Rattle.std.proofs.Common.{◌≡◌, ℕ, List, subst, arith}
 use Rattle.std.specs.Prelude.{Result, Err}
 use Rattle.wl_linking.specs.Object.{Object}
-use Rattle.wl_reloc.specs.Takings.{taking_of}
+use Rattle.wl_custom.specs.RelocationTypes.{taking_of}
 use Rattle.wl_reloc.specs.declared.error.RelocError.{RelocError}
 use Rattle.wl_index.specs.declared.index_map.WasmObjectIndexMap.{WasmObjectIndexMap}
 use Rattle.wl_symbols.specs.Input.{Input}

@@ -1,18 +1,18 @@
 -- Bodies, where fields stand in them, what fields take, and how many bytes sections take, are fixed
 -- by the link and by where things lie.
-use Rattle.std.proofs.Common.{◌≡◌, ◌∙◌, ℕ, ℤ, zero, suc, ◌+◌, map, Bool, not, ◌||◌, ◌==◌, List, [], ◌∷◌, ◌++◌, length, refl, sym, ap, subst, arith, Option, Some, None, Result, Ok, slice_get}
+use Rattle.std.proofs.Common.{◌≡◌, ◌∙◌, ℕ, ℤ, zero, suc, ◌+◌, map, Bool, not, ◌||◌, ◌==◌, List, [], ◌∷◌, ◌++◌, length, refl, sym, ap, subst, arith, Option, Some, Result, Ok, slice_get}
 use Rattle.wl_bytes.specs.Leb.{IsShortest, IsShortestSleb}
 use Rattle.wl_module.specs.Bodies.{Body}
 use Rattle.wl_module.specs.Types.{FunctionType}
+use Rattle.wl_custom.specs.RelocationTypes.{taking_of}
 use Rattle.wl_custom.specs.declared.relocation_type.RelocationType.{RelocationType}
 use Rattle.wl_ops.specs.Numbers.{HasNumbers}
 use Rattle.wl_ops.specs.Rewriting.{IsShort, Rewrites, before, NewBytes, Moves}
 use Rattle.wl_ops.specs.declared.op.DataIndexImm.{DataIndexImm}
 use Rattle.wl_data.specs.Sizes.{HasSectionSize, AreBodiesText}
 use Rattle.wl_reloc.specs.Addresses.{word_of}
-use Rattle.wl_reloc.specs.Takings.{taking_of}
-use Rattle.wl_reloc.specs.declared.takings.Taking.{Taking}
-use Rattle.wl_reloc.specs.declared.takings.Taking.TheVariants.{FunctionIndex, Slot, SlotBehindBase, GlobalIndex, TableNumber, Address}
+use Rattle.wl_custom.specs.declared.takings.Taking.{Taking}
+use Rattle.wl_custom.specs.declared.takings.Taking.TheVariants.{FunctionIndex, Slot, SlotBehindBase, TypeIndex, GlobalIndex, TableNumber, Address}
 use Rattle.wl_ctors.specs.InitCalls.{AreInitCalls}
 use Rattle.wl_ctors.specs.declared.calls.InitCall.{InitCall}
 use Rattle.wl_ops.specs.declared.op.Op.{Op}
@@ -258,22 +258,22 @@ ok_one r x y p q = cc
 value_is : (v w : ℕ) (x y : ℤ) → v ≡ w → x ≡ y → Value v x ≡ Value w y
 value_is v w x y e f = ap (λ (n : ℕ). Value n x) e ∙ ap (λ (z : ℤ). Value w z) f
 
-taken_one : (input : Input) (g : Placing) (r : Relocated) → AreOnce input g → (taking : Option Taking)
+taken_one : (input : Input) (g : Placing) (r : Relocated) → AreOnce input g → (taking : Taking)
     (v w : ℕ) (x y : ℤ) → IsTaken input g r taking (Value v x) → IsTaken input g r taking (Value w y)
     → (v ≡ w) × (x ≡ y)
-taken_one input g r once None v w x y p q =
+taken_one input g r once TypeIndex v w x y p q =
     (stands_one (output_types input) (type_named input r) v w once.types p.1 q.1, p.0 ∙ sym q.0)
-taken_one input g r once (Some FunctionIndex) v w x y p q = (
+taken_one input g r once FunctionIndex v w x y p q = (
   stands_one (function_space input) (symbol_function input r.object r.relocation.index) v w
       once.functions p.1 q.1,
   p.0 ∙ sym q.0,
 )
-taken_one input g r once (Some Slot) v w x y p q = (some_one _ v w p.1 q.1, p.0 ∙ sym q.0)
-taken_one input g r once (Some SlotBehindBase) v w x y p q = (some_one _ v w p.1 q.1, p.0 ∙ sym q.0)
-taken_one input g r once (Some GlobalIndex) v w x y p q =
+taken_one input g r once Slot v w x y p q = (some_one _ v w p.1 q.1, p.0 ∙ sym q.0)
+taken_one input g r once SlotBehindBase v w x y p q = (some_one _ v w p.1 q.1, p.0 ∙ sym q.0)
+taken_one input g r once GlobalIndex v w x y p q =
     (stands_one (global_space input) (global_named input r) v w once.globals p.1 q.1, p.0 ∙ sym q.0)
-taken_one input g r once (Some TableNumber) v w x y p q = (p.1 ∙ sym q.1, p.0 ∙ sym q.0)
-taken_one input g r once (Some (Address base)) v w x y p q =
+taken_one input g r once TableNumber v w x y p q = (p.1 ∙ sym q.1, p.0 ∙ sym q.0)
+taken_one input g r once (Address base) v w x y p q =
     let same = ok_one (address_taken input g r base) p.1.0 q.1.0 p.1.1 q.1.1 in
     (p.1.2 ∙ ap word_of same ∙ sym q.1.2, p.0 ∙ sym q.0)
 

@@ -1,20 +1,19 @@
 -- What fixups are made from.
-use Rattle.std.specs.Prelude.{◌≡◌, ◌≤◌, length, ℕ, ℤ, pos, ◌+ℤ◌, ◌-ℤ◌, Bool, true, false, if◌then◌else◌, List, Option, Some, Result, Ok, Err}
+use Rattle.std.specs.Prelude.{◌≡◌, ◌≤◌, length, ℕ, ℤ, pos, ◌+ℤ◌, ◌-ℤ◌, Bool, if◌then◌else◌, List, Result, Ok, Err}
 use Rattle.std.specs.List.{AllByRecursion}
 use Rattle.wl_linking.specs.Steps.{Clear}
 use Rattle.wl_linking.specs.declared.error.LinkError.{LinkError}
-use Rattle.wl_custom.specs.declared.relocation_type.RelocationType.{RelocationType}
-use Rattle.wl_custom.specs.declared.relocation_type.RelocationType.TheVariants.{MemoryAddrLeb, MemoryAddrSleb, MemoryAddrI32, MemoryAddrRelSleb, MemoryAddrTlsSleb}
+use Rattle.wl_custom.specs.RelocationTypes.{taking_of, is_absolute}
 use Rattle.wl_custom.specs.declared.relocations.WasmRelocation.{WasmRelocation}
 use Rattle.wl_index.specs.declared.data_address.WasmDataAddress.{WasmDataAddress}
 use Rattle.wl_index.specs.declared.data_address.WasmDataAddress.TheVariants.{Missing, Placed, Passive, TlsOffset}
 use Rattle.wl_index.specs.declared.index.TheConstants.{MAX_ENTRIES}
-use Rattle.wl_reloc.specs.Takings.{taking_of}
 use Rattle.wl_reloc.specs.declared.addresses.AddressBases.{AddressBases}
 use Rattle.wl_reloc.specs.declared.error.RelocError.{RelocError}
-use Rattle.wl_reloc.specs.declared.takings.AddressBase.{AddressBase}
-use Rattle.wl_reloc.specs.declared.takings.Taking.{Taking}
-use Rattle.wl_reloc.specs.declared.takings.Taking.TheVariants.{Address}
+use Rattle.wl_custom.specs.declared.takings.AddressBase.{AddressBase}
+use Rattle.wl_custom.specs.declared.takings.AddressBase.TheVariants.{Memory, MemoryBase, ThreadData}
+use Rattle.wl_custom.specs.declared.takings.Taking.{Taking}
+use Rattle.wl_custom.specs.declared.takings.Taking.TheVariants.{FunctionIndex, Slot, SlotBehindBase, TypeIndex, GlobalIndex, TableNumber, Address}
 use Rattle.wl_bind.specs.GlobalSpace.{global_space}
 use Rattle.wl_symbols.specs.Input.{Input}
 use Rattle.wl_bind.specs.OutputTypes.{output_types}
@@ -42,13 +41,6 @@ pub record AreFixupSources (s : FixupSources) : Type 0 where
   pub maps : AreWholeMaps s.input.now s.placing.now s.maps.now
   pub slots : s.slots.now ≡ space_slots s.input.now
 
--- an address that counts from the start of the memory
-abbrev pub is_absolute : RelocationType → Bool
-is_absolute MemoryAddrLeb = true
-is_absolute MemoryAddrSleb = true
-is_absolute MemoryAddrI32 = true
-is_absolute _ = false
-
 -- what is left to be added where a field takes that address, which counts from the start of the
 -- memory or not
 abbrev pub left_at : WasmDataAddress → Bool → ℤ → ℤ
@@ -61,11 +53,17 @@ left_at (TlsOffset place) absolute addend = pos 0
 abbrev pub left_of : WasmDataAddress → WasmRelocation → ℤ
 left_of address r = left_at address (is_absolute r.ty) r.addend
 
--- the address from which that in a field of that type is counted
-abbrev pub counted_base : RelocationType → AddressBases → ℕ
-counted_base MemoryAddrRelSleb bases = bases.memory_base
-counted_base MemoryAddrTlsSleb bases = bases.tls_base
-counted_base _ bases = 0
+-- the address from which what is taken is counted; 0 for what is no address
+abbrev pub counted_base : Taking → AddressBases → ℕ
+counted_base FunctionIndex bases = 0
+counted_base Slot bases = 0
+counted_base SlotBehindBase bases = 0
+counted_base TypeIndex bases = 0
+counted_base GlobalIndex bases = 0
+counted_base TableNumber bases = 0
+counted_base (Address Memory) bases = 0
+counted_base (Address MemoryBase) bases = bases.memory_base
+counted_base (Address ThreadData) bases = bases.tls_base
 
 -- the number that would stand in the field that takes the address, counted from that base
 abbrev pub number_by : ℕ → WasmDataAddress → ℤ → ℤ
@@ -80,11 +78,11 @@ with_left left (Ok value) = Ok (Value value left)
 with_left left (Err why) = Err why
 
 -- what the field of a kept relocation takes, or why it can't take the address of what it names
-abbrev pub Answers : Input → Placing → Relocated → Option Taking → Result FixupTo RelocError
+abbrev pub Answers : Input → Placing → Relocated → Taking → Result FixupTo RelocError
     → Type 0
 Answers input g r taking (Ok to) = IsTaken input g r taking to
 Answers input g r taking (Err why) =
-    (base : AddressBase) × (taking ≡ Some (Address base)) × (address_taken input g r base ≡ Err why)
+    (base : AddressBase) × (taking ≡ Address base) × (address_taken input g r base ≡ Err why)
 
 -- the same by what fixups are made from
 abbrev pub AnswersFrom : FixupSources → Relocated → Result ℕ RelocError → Type 0
@@ -95,7 +93,7 @@ AnswersFrom s r answer =
 -- the kept relocation can't take its address
 pub record IsRefusedAt (s : FixupSources) (r : Relocated) (e : LinkError) : Type 0 where
   pub base : AddressBase
-  pub takes : taking_of r.relocation.ty ≡ Some (Address base)
+  pub takes : taking_of r.relocation.ty ≡ Address base
   pub why : RelocError
   pub fault : address_taken s.input.now s.placing.now r base ≡ Err why
   pub told : e

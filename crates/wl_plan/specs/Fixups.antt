@@ -1,25 +1,25 @@
 -- What the kept relocations become (object file linking, version 2, "Relocation Sections").
-use Rattle.std.specs.Prelude.{◌≡◌, ◌⊎◌, ℕ, ℤ, pos, ◌+ℤ◌, ◌-ℤ◌, ◌-◌, List, option_map, Option, Some, None, Result, Ok, Err, Contains, slice_get}
+use Rattle.std.specs.Prelude.{◌≡◌, ◌⊎◌, ℕ, ℤ, pos, ◌+ℤ◌, ◌-ℤ◌, ◌-◌, List, option_map, Option, Some, Result, Ok, Err, Contains, slice_get}
 use Rattle.std.specs.List.{AllZip}
 use Rattle.std.specs.Option.{option_and_then}
 use Rattle.wl_index.specs.declared.index.TheConstants.{LINKER_TABLE_BASE}
 use Rattle.wl_module.specs.Types.{FunctionType}
 use Rattle.wl_bytes.specs.declared.read_error.Form.TheVariants.{PassiveAddress, TlsAddress}
 use Rattle.wl_linking.specs.Object.{Object}
+use Rattle.wl_custom.specs.RelocationTypes.{taking_of}
 use Rattle.wl_custom.specs.Symbols.{Symbol as LinkedSymbol}
 use Rattle.wl_linking.specs.declared.error.LinkError.{LinkError}
 use Rattle.wl_linking.specs.declared.error.LinkError.TheVariants.{Unsupported, RelocationRange}
 use Rattle.wl_index.specs.declared.data_address.WasmDataAddress.{WasmDataAddress}
 use Rattle.wl_index.specs.declared.data_address.WasmDataAddress.TheVariants.{Missing, Placed, Passive, TlsOffset}
 use Rattle.wl_reloc.specs.Addresses.{address_value, word_of}
-use Rattle.wl_reloc.specs.Takings.{taking_of}
 use Rattle.wl_reloc.specs.declared.addresses.AddressBases.{AddressBases}
 use Rattle.wl_reloc.specs.declared.error.RelocError.{RelocError}
 use Rattle.wl_reloc.specs.declared.error.RelocError.TheVariants as reloc
-use Rattle.wl_reloc.specs.declared.takings.AddressBase.{AddressBase}
-use Rattle.wl_reloc.specs.declared.takings.AddressBase.TheVariants.{Memory, MemoryBase, ThreadData}
-use Rattle.wl_reloc.specs.declared.takings.Taking.{Taking}
-use Rattle.wl_reloc.specs.declared.takings.Taking.TheVariants.{FunctionIndex, Slot, SlotBehindBase, GlobalIndex, TableNumber, Address}
+use Rattle.wl_custom.specs.declared.takings.AddressBase.{AddressBase}
+use Rattle.wl_custom.specs.declared.takings.AddressBase.TheVariants.{Memory, MemoryBase, ThreadData}
+use Rattle.wl_custom.specs.declared.takings.Taking.{Taking}
+use Rattle.wl_custom.specs.declared.takings.Taking.TheVariants.{FunctionIndex, Slot, SlotBehindBase, TypeIndex, GlobalIndex, TableNumber, Address}
 use Rattle.wl_bind.specs.FunctionSpace.{function_space}
 use Rattle.wl_bind.specs.FunctionSymbols.{fun}
 use Rattle.wl_bind.specs.GlobalSpace.{GlobalEntry, global_space}
@@ -85,21 +85,22 @@ addend_left base address addend = pos 0
 -- ---- fields
 
 -- what a field takes, and what is left to be added to it
-abbrev pub IsTaken : Input → Placing → Relocated → Option Taking → FixupTo → Type 0
+abbrev pub IsTaken : Input → Placing → Relocated → Taking → FixupTo → Type 0
 IsTaken input g r taking (Deferred offset) = ⊥
-IsTaken input g r None (Value value left) =
-    (left ≡ pos 0) × StandsAt (output_types input) (type_named input r) value
-IsTaken input g r (Some FunctionIndex) (Value value left) =
+IsTaken input g r FunctionIndex (Value value left) =
     (left ≡ pos 0)
     × StandsAt (function_space input) (symbol_function input r.object r.relocation.index) value
-IsTaken input g r (Some Slot) (Value value left) =
+IsTaken input g r Slot (Value value left) =
     (left ≡ pos 0) × (slot_named input r ≡ Some value)
-IsTaken input g r (Some SlotBehindBase) (Value value left) =
-    (left ≡ pos 0) × (option_map (λ (slot : ℕ). slot - LINKER_TABLE_BASE) (slot_named input r) ≡ Some value)
-IsTaken input g r (Some GlobalIndex) (Value value left) =
+IsTaken input g r SlotBehindBase (Value value left) =
+    (left ≡ pos 0)
+    × (option_map (λ (slot : ℕ). slot - LINKER_TABLE_BASE) (slot_named input r) ≡ Some value)
+IsTaken input g r TypeIndex (Value value left) =
+    (left ≡ pos 0) × StandsAt (output_types input) (type_named input r) value
+IsTaken input g r GlobalIndex (Value value left) =
     (left ≡ pos 0) × StandsAt (global_space input) (global_named input r) value
-IsTaken input g r (Some TableNumber) (Value value left) = (left ≡ pos 0) × (value ≡ 0)
-IsTaken input g r (Some (Address base)) (Value value left) =
+IsTaken input g r TableNumber (Value value left) = (left ≡ pos 0) × (value ≡ 0)
+IsTaken input g r (Address base) (Value value left) =
     (left ≡ addend_left base (address_named input g r) r.relocation.addend)
     × ((z : ℤ) × (address_taken input g r base ≡ Ok z) × (value ≡ word_of z))
 
@@ -158,7 +159,7 @@ pub record IsFixupFault (input : Input) (g : Placing) (e : LinkError) : Type 0 w
   pub relocated : Relocated
   pub kept : Contains (relocations input) relocated
   pub base : AddressBase
-  pub takes : taking_of relocated.relocation.ty ≡ Some (Address base)
+  pub takes : taking_of relocated.relocation.ty ≡ Address base
   pub why : RelocError
   pub fault : address_taken input g relocated base ≡ Err why
   pub reason : IsAddressReason why

@@ -4,12 +4,12 @@ use Rattle.std.specs.List.{AllByRecursion}
 use Rattle.wl_linking.specs.Fitting.{IsWhole}
 use Rattle.wl_linking.specs.Object.{Object}
 use Rattle.wl_linking.specs.Steps.{Clear}
+use Rattle.wl_custom.specs.RelocationTypes.{taking_of}
 use Rattle.wl_reloc.specs.Resolving.{resolved}
-use Rattle.wl_reloc.specs.Takings.{taking_of}
 use Rattle.wl_reloc.specs.declared.error.RelocError.{RelocError}
 use Rattle.wl_index.specs.declared.index_map.WasmObjectIndexMap.{WasmObjectIndexMap}
-use Rattle.wl_reloc.specs.declared.takings.AddressBase.{AddressBase}
-use Rattle.wl_reloc.specs.declared.takings.Taking.TheVariants.{Address}
+use Rattle.wl_custom.specs.declared.takings.AddressBase.{AddressBase}
+use Rattle.wl_custom.specs.declared.takings.Taking.TheVariants.{Address}
 use Rattle.wl_symbols.specs.Live.{IsLiveOf}
 use Rattle.wl_symbols.specs.Input.{Input}
 use Rattle.wl_symbols.specs.Relocations.{relocations}
@@ -48,6 +48,6 @@ pub record IsOf (input : Input) (maps : List WasmObjectIndexMap) (r : Relocated)
 pub record HasNoAddress (input : Input) (g : Placing) (r : Relocated) (why : RelocError)
     : Type 0 where
   pub base : AddressBase
-  pub takes : taking_of r.relocation.ty ≡ Some (Address base)
+  pub takes : taking_of r.relocation.ty ≡ Address base
   pub fault : address_taken input g r base ≡ Err why
   pub reason : IsAddressReason why

@@ -3,12 +3,12 @@
 ghost use Rattle.std.specs.Prelude.{◌≡◌, ◌<◌, pos, ◌+ℤ◌, ◌-ℤ◌, length, Some, Contains, IfOk, OnOk, IfErr, slice_get};
 ghost use Rattle.std.specs.List.{AllZip};
 ghost use Rattle.wl_linking.specs.Steps.{Clear, Refuses};
-ghost use Rattle.wl_reloc.specs.Takings.{taking_of};
-ghost use Rattle.wl_reloc.specs.declared.takings.AddressBase.{AddressBase as Base};
-ghost use Rattle.wl_reloc.specs.declared.takings.Taking.TheVariants.{Address};
+ghost use Rattle.wl_custom.specs.RelocationTypes.{taking_of, is_absolute};
+ghost use Rattle.wl_custom.specs.declared.takings.AddressBase.{AddressBase as Base};
+ghost use Rattle.wl_custom.specs.declared.takings.Taking.TheVariants.{Address};
 ghost use Rattle.wl_symbols.specs.Relocations.{relocations};
 ghost use Rattle.wl_plan.specs.Bodies.{IsMovedIn};
-ghost use Rattle.wl_plan.specs.FixupSteps.{AreFixupSources, AnswersFrom, is_absolute, left_at, left_of, counted_base, number_by, IsRefusedAt};
+ghost use Rattle.wl_plan.specs.FixupSteps.{AreFixupSources, AnswersFrom, left_at, left_of, counted_base, number_by, IsRefusedAt};
 ghost use Rattle.wl_plan.specs.Fixups.{no_address, address_named, bases_of, address_refusal, IsFixup, AreFixups, IsFixupFault};
 
 use crate::layout::{Fixup, FixupTo};
@@ -19,7 +19,7 @@ use wl_bytes::Form;
 use wl_index::{WasmDataAddress, WasmObjectIndexMap};
 use wl_linking::{File, LinkError, RelocationType};
 use wl_lists::ItemList;
-use wl_reloc::{RelocError, resolve_reloc};
+use wl_reloc::{AddressBase, RelocError, Taking, resolve_reloc};
 use wl_symbols::{LinkInput, Relocated, kept_relocations};
 
 /// What fixups are made from.
@@ -33,18 +33,6 @@ pub(crate) struct FixupSources<'s, 'i, 'a> {
     pub(crate) maps: &'s [WasmObjectIndexMap],
     /// The slots of functions by their indices.
     pub(crate) slots: &'s [u32],
-}
-
-/// The relocation takes an address that counts from the start of the memory.
-fn is_absolute(ty: RelocationType) -> bool
-    ensures { result ≡ is_absolute ty }
-{
-    matches!(
-        ty,
-        RelocationType::MemoryAddrLeb
-            | RelocationType::MemoryAddrSleb
-            | RelocationType::MemoryAddrI32
-    )
 }
 
 /// The refusal of an address without a place, or in the block of a thread.
@@ -64,7 +52,7 @@ fn left_of(address: WasmDataAddress, ty: RelocationType, addend: i32) -> i32
     ensures { result ≡ left_at address (is_absolute ty) addend }
 {
     match address {
-        WasmDataAddress::Placed(_) => { if is_absolute(ty) { addend } else { 0 } }
+        WasmDataAddress::Placed(_) => { if ty.is_absolute() { addend } else { 0 } }
         WasmDataAddress::Missing | WasmDataAddress::Passive | WasmDataAddress::TlsOffset(_) => 0,
     }
 }
@@ -137,14 +125,20 @@ impl<'s, 'i, 'a> FixupSources<'s, 'i, 'a> {
         left_of(self.address(relocated), relocated.relocation.ty, addend)
     }
 
-    /// The address from which that in a field of that type is counted.
-    fn counted_base(&self, ty: RelocationType) -> u32
-        ensures { result ≡ counted_base ty (bases_of self.now.placing.now) }
+    /// The address from which what is taken is counted; 0 for what is no address.
+    fn counted_base(&self, taking: Taking) -> u32
+        ensures { result ≡ counted_base taking (bases_of self.now.placing.now) }
     {
-        match ty {
-            RelocationType::MemoryAddrRelSleb => self.placing.memory_base,
-            RelocationType::MemoryAddrTlsSleb => self.placing.places.tls_base,
-            _ => 0,
+        match taking {
+            Taking::FunctionIndex
+            | Taking::Slot
+            | Taking::SlotBehindBase
+            | Taking::TypeIndex
+            | Taking::GlobalIndex
+            | Taking::TableNumber
+            | Taking::Address(AddressBase::Memory) => 0,
+            Taking::Address(AddressBase::MemoryBase) => self.placing.memory_base,
+            Taking::Address(AddressBase::ThreadData) => self.placing.places.tls_base,
         }
     }
 
@@ -153,11 +147,11 @@ impl<'s, 'i, 'a> FixupSources<'s, 'i, 'a> {
         requires sources { AreFixupSources self.now }
         requires kept { Contains (relocations self.now.input.now) relocated.now }
         ensures { result ≡ number_by
-            (counted_base relocated.now.relocation.ty (bases_of self.now.placing.now))
+            (counted_base (taking_of relocated.now.relocation.ty) (bases_of self.now.placing.now))
             (address_named self.now.input.now self.now.placing.now relocated.now)
             relocated.now.relocation.addend }
     {
-        let base = self.counted_base(relocated.relocation.ty);
+        let base = self.counted_base(relocated.relocation.ty.takes());
         number_by(base, self.address(relocated), self.addend(relocated))
     }
 
@@ -165,7 +159,7 @@ impl<'s, 'i, 'a> FixupSources<'s, 'i, 'a> {
     fn refusal(&self, relocated: &Relocated, error: RelocError) -> LinkError
         requires sources { AreFixupSources self.now }
         requires kept { Contains (relocations self.now.input.now) relocated.now }
-        ensures { (base : Base) → taking_of relocated.now.relocation.ty ≡ Some (Address base)
+        ensures { (base : Base) → taking_of relocated.now.relocation.ty ≡ Address base
             → result ≡ address_refusal self.now.placing.now relocated.now base
             (address_named self.now.input.now self.now.placing.now relocated.now) error }
     {

@@ -1,7 +1,8 @@
 use Rattle.std.proofs.Common.{◌||◌, ◌&&◌, refl}
+use Rattle.wl_custom.specs.RelocationTypes.{is_table_index, is_global_index}
 use Rattle.wl_bind.specs.Sameness.{same_target}
 use Rattle.wl_symbols.specs.Relocations.{relocations}
-use Rattle.wl_bind.specs.Scan.{table_function_of, function_of, is_table_index, is_global_index, names_function}
+use Rattle.wl_bind.specs.Scan.{table_function_of, function_of, names_function}
 use Rattle.wl_bind.specs.declared.binding.FunctionTarget.TheVariants.{Stub}
 use Rattle.wl_bind.proofs.SameLaws.{IsSlotted, each_first, slotted}
 use Rattle.wl_bind.proofs.laws.stubs_have_no_slot.Goals as goal

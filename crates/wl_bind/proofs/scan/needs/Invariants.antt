@@ -1,7 +1,8 @@
 use Rattle.std.proofs.Common.{◌≡◌, ◌||◌}
 use Rattle.std.specs.List.{list_any}
+use Rattle.wl_custom.specs.RelocationTypes.{is_memory_relative, is_table_relative}
 use Rattle.wl_symbols.specs.KeptRelocations.{relocations_left}
-use Rattle.wl_bind.specs.Scan.{asks_for, asks_for_table, is_memory_relative, is_table_relative}
+use Rattle.wl_bind.specs.Scan.{asks_for, asks_for_table}
 use Rattle.wl_symbols.specs.Relocations.{relocations}
 use Rattle.wl_bind.proofs.scan.needs.Given as goal
 

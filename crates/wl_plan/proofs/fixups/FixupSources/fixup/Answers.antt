@@ -1,7 +1,7 @@
 use Rattle.std.proofs.Common.{◌∙◌, refl, rules, subst, sym, w32}
 use Rattle.std.specs.Prelude.{ℤ, FitsSigned}
 use Rattle.std.proofs.lemmas.Int.{to_z-of_z}
-use Rattle.wl_reloc.specs.Takings.{taking_of}
+use Rattle.wl_custom.specs.RelocationTypes.{taking_of}
 use Rattle.wl_plan.specs.FixupSteps.{left_of}
 use Rattle.wl_plan.specs.Fixups.{address_named, IsTaken}
 use Rattle.wl_plan.specs.declared.layout.FixupTo.TheVariants.{Value}
