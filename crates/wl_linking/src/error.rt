@@ -17,6 +17,8 @@ pub enum Quantity {
     Size,
     /// The end of the heap: at most 4294967295.
     HeapEnd,
+    /// A listing that is checked: at most [`MAX_LEN`](wl_bytes::MAX_LEN) bytes.
+    Listing,
 }
 
 /// What shared memory lacks.
