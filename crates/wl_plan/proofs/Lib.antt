@@ -4,6 +4,7 @@ pub mod StepLaws
 pub mod SectionLaws
 pub mod WholeLaws
 pub mod KeptDataLaws
+pub mod ThreadDataLaws
 pub mod PlacingLaws
 pub mod AddressLaws
 pub mod IndexLaws

@@ -27,7 +27,10 @@ mod sizes;
 mod table;
 mod wrappers;
 
-pub use laws::{link_plan_or_fault, only_addresses_are_refused, plan_or_fault};
+pub use laws::{
+    flag_is_where_memory_is_filled, kept_thread_data_is_laid, link_plan_or_fault,
+    only_addresses_are_refused, plan_or_fault,
+};
 pub use layout::{
     Fixup, FixupTo, FunctionOrigin, GlobalOrigin, LinkPlan, MadeGlobal, OutputFunction,
     OutputImport, OutputImportEntity, PlannedGlobal, WasmLayout, count_output_imports,
