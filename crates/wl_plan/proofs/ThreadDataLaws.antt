@@ -13,7 +13,7 @@ use Rattle.wl_symbols.specs.declared.units.WasmGcUnit.TheVariants.{DataSegment}
 use Rattle.wl_symbols.specs.Input.{Input, keeps}
 use Rattle.wl_bind.specs.Made.{has_init_memory, is_active, is_filled, is_kept_common_data, is_kept_thread_data, keeps_common_data, keeps_thread_data}
 use Rattle.wl_bind.specs.Parts.{any_object}
-use Rattle.wl_bind.specs.ThreadData.{is_thread_data}
+use Rattle.wl_bind.specs.ThreadData.{is_thread_segment}
 use Rattle.wl_plan.specs.KeptData.{kept_data, kept_from, kept_segments, segments_from}
 use Rattle.wl_plan.specs.Placing.{data_input}
 
@@ -44,11 +44,11 @@ any_common input object o k (s ∷ segments) there =
     let here : slice_get o.segments k ≡ Some s = ap (λ (n : ℕ). slice_get o.segments n) (sym same) ∙ sym (there 0) in
     let more = any_common input object o (k + 1) segments (λ j. let next : k + suc j ≡ (k + 1) + j = omega arith in there (suc j) ∙ ap (λ (n : ℕ). slice_get o.segments n) next) in
     let others = list_any (is_kept_common_data input object o) (range_with_len (k + 1) (length segments)) in
-    let test : is_kept_common_data input object o k ≡ ((kept && not (is_thread_data o k)) && is_filled s) =
-    ap (λ (x : Option Segment). (kept && not (is_thread_data o k)) && option_map_or is_filled x false) here in
+    let test : is_kept_common_data input object o k ≡ ((kept && not (is_thread_segment o k)) && is_filled s) =
+    ap (λ (x : Option Segment). (kept && not (is_thread_segment o k)) && option_map_or is_filled x false) here in
     any_if is_common kept (kept_data o k s) rest
     ∙ (ap (λ (b : Bool). (kept && is_common (kept_data o k s)) || b) more
-    ∙ (sym (same_test kept (is_thread_data o k) (is_active s.kind) (length s.payload == 0) others)
+    ∙ (sym (same_test kept (is_thread_segment o k) (is_active s.kind) (length s.payload == 0) others)
     ∙ ap (λ (b : Bool). b || others) (sym test)))
 
 common_objects : (input : Input) (n : ℕ) (objects : List Object) → list_any any_is_common (segments_from input n objects) ≡ any_object (keeps_common_data input) n objects
@@ -85,7 +85,7 @@ some_own input = own_objects input 0 input.link.objects
 one_own : (input : Input) (object : ℕ) (o : Object) (k : ℕ) (s : Segment) (d : KeptData) (b : Bool) → keeps input object (DataSegment k) ≡ b → Contains (if b then kept_data o k s ∷ [] else []) d
     → is_thread_local d ≡ is_kept_thread_data input object o d.original
 one_own input object o k s d true kept (zero, within, same) =
-    let there : is_thread_data o k ≡ (keeps input object (DataSegment k) && is_thread_data o k) = rw kept refl in
+    let there : is_thread_segment o k ≡ (keeps input object (DataSegment k) && is_thread_segment o k) = rw kept refl in
     subst (λ (e : KeptData). is_thread_local e ≡ is_kept_thread_data input object o e.original) same there
 one_own input object o k s d true kept (suc j, within, same) = absurd (omega (arith, within))
 one_own input object o k s d false kept (j, within, same) = absurd (omega (arith, within))

@@ -1,7 +1,7 @@
 -- What the field of a relocation takes, by where the things of its object stand in the output.
 use Rattle.std.specs.Prelude.{ℕ, ℤ, ◌-◌, ◌==◌, if◌then◌else◌, List, Option, Some, None, Result, Ok, Err, slice_get}
 use Rattle.wl_custom.specs.RelocationTypes.{taking_of}
-use Rattle.wl_custom.specs.Symbols.{Symbol}
+use Rattle.wl_custom.specs.Symbols.{Symbol, is_function, is_data, is_table}
 use Rattle.wl_custom.specs.declared.relocations.WasmRelocation.{WasmRelocation}
 use Rattle.wl_custom.specs.declared.symbols.WasmSymbolKind.{WasmSymbolKind}
 use Rattle.wl_custom.specs.declared.symbols.WasmSymbolKind.TheVariants.{Func, Data, Global, Section, Event, Table}
@@ -9,7 +9,7 @@ use Rattle.wl_custom.specs.declared.takings.AddressBase.{AddressBase}
 use Rattle.wl_custom.specs.declared.takings.Taking.{Taking}
 use Rattle.wl_custom.specs.declared.takings.Taking.TheVariants.{FunctionIndex, Slot, SlotBehindBase, TypeIndex, GlobalIndex, TableNumber, Address}
 use Rattle.wl_index.specs.declared.data_address.WasmDataAddress.{WasmDataAddress}
-use Rattle.wl_index.specs.declared.index.TheConstants.{WASM_DEAD_INDEX}
+use Rattle.wl_index.specs.declared.index.TheConstants.{WASM_DEAD_INDEX, LINKER_TABLE_BASE}
 use Rattle.wl_reloc.specs.Addresses.{address_value, as_word}
 use Rattle.wl_reloc.specs.declared.addresses.AddressBases.{AddressBases}
 use Rattle.wl_reloc.specs.declared.error.RelocError.{RelocError}
@@ -52,12 +52,9 @@ pub record Resolver : Type 0 where
 
 -- the index of the function that a symbol of that kind and number leads to
 abbrev pub function_index : Resolver → WasmSymbolKind → ℕ → Result ℕ RelocError
-function_index by Func number = redirect (slice_get by.map.function_symbol_redirects number)
-function_index by Data number = Err WrongKind
-function_index by Global number = Err WrongKind
-function_index by Section number = Err WrongKind
-function_index by Event number = Err WrongKind
-function_index by Table number = Err WrongKind
+function_index by kind number =
+    if is_function kind then redirect (slice_get by.map.function_symbol_redirects number)
+    else Err WrongKind
 
 -- the slot of a function that has an index
 abbrev pub slot_of : Resolver → Result ℕ RelocError → Result ℕ RelocError
@@ -67,7 +64,7 @@ slot_of by (Ok index) = slot_in (slice_get by.slots index)
 -- that slot behind the first one, which holds no function; 0 for what has none
 abbrev pub behind_first : Result ℕ RelocError → Result ℕ RelocError
 behind_first (Err e) = Err e
-behind_first (Ok slot) = Ok (slot - 1)
+behind_first (Ok slot) = Ok (slot - LINKER_TABLE_BASE)
 
 -- the index of a global symbol's global, or of that which holds the address or the slot of another
 -- symbol
@@ -81,12 +78,7 @@ global_index by Table number index = Err WrongKind
 
 -- the number of the table
 abbrev pub table_number : WasmSymbolKind → Result ℕ RelocError
-table_number Table = Ok 0
-table_number Func = Err WrongKind
-table_number Data = Err WrongKind
-table_number Global = Err WrongKind
-table_number Section = Err WrongKind
-table_number Event = Err WrongKind
+table_number kind = if is_table kind then Ok 0 else Err WrongKind
 
 -- the address of data that has one, under that addend
 abbrev pub address_in : Resolver → AddressBase → ℤ → Option WasmDataAddress → Result ℕ RelocError
@@ -95,13 +87,9 @@ address_in by base addend (Some address) = as_word (address_value base by.bases 
 
 -- the address of a symbol of that kind and number
 abbrev pub address_of : Resolver → AddressBase → ℤ → WasmSymbolKind → ℕ → Result ℕ RelocError
-address_of by base addend Data number =
-    address_in by base addend (slice_get by.map.data_addresses number)
-address_of by base addend Func number = Err WrongKind
-address_of by base addend Global number = Err WrongKind
-address_of by base addend Section number = Err WrongKind
-address_of by base addend Event number = Err WrongKind
-address_of by base addend Table number = Err WrongKind
+address_of by base addend kind number =
+    if is_data kind then address_in by base addend (slice_get by.map.data_addresses number)
+    else Err WrongKind
 
 -- ---- relocations
 

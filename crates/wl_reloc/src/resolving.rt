@@ -8,7 +8,7 @@ use crate::addresses::{AddressBases, address_value};
 use crate::error::RelocError;
 use std::marker::Model;
 use wl_custom::{AddressBase, Taking};
-use wl_index::{WASM_DEAD_INDEX, WasmDataAddress, WasmObjectIndexMap};
+use wl_index::{LINKER_TABLE_BASE, WASM_DEAD_INDEX, WasmDataAddress, WasmObjectIndexMap};
 use wl_linking::{WasmRelocation, WasmSymbol, WasmSymbolKind};
 
 /// What is known beside a relocation. Clauses see it as a record of the same name.
@@ -81,17 +81,11 @@ impl<'r, 'a> Resolver<'r, 'a> {
     fn function_index(&self, symbol: &WasmSymbol<'_>, number: u32) -> Result<u32, RelocError>
         ensures { result ≡ function_index self.now symbol.now.kind number }
     {
-        match symbol.kind {
-            WasmSymbolKind::Func => {
-                let redirects = self.map.function_symbol_redirects.as_slice();
-                redirect(redirects.get(number as usize).copied())
-            }
-            WasmSymbolKind::Data
-            | WasmSymbolKind::Global
-            | WasmSymbolKind::Section
-            | WasmSymbolKind::Event
-            | WasmSymbolKind::Table => Err(RelocError::WrongKind),
+        if !symbol.kind.is_function() {
+            return Err(RelocError::WrongKind);
         }
+        let redirects = self.map.function_symbol_redirects.as_slice();
+        redirect(redirects.get(number as usize).copied())
     }
 
     /// The slot of that function in the table.
@@ -108,7 +102,7 @@ impl<'r, 'a> Resolver<'r, 'a> {
             ≡ behind_first (slot_of self.now (function_index self.now symbol.now.kind number)) }
     {
         let slot = self.slot(symbol, number)?;
-        Ok(slot.saturating_sub(1))
+        Ok(slot.saturating_sub(LINKER_TABLE_BASE))
     }
 
     /// The index of a global symbol's global, or of that which holds the address or the slot of
@@ -160,16 +154,10 @@ impl<'r, 'a> Resolver<'r, 'a> {
         ensures { result
             ≡ address_of self.now base reloc.now.addend symbol.now.kind reloc.now.index }
     {
-        match symbol.kind {
-            WasmSymbolKind::Data => {
-                self.address_in(base, reloc.addend, self.map.data_address(reloc.index))
-            }
-            WasmSymbolKind::Func
-            | WasmSymbolKind::Global
-            | WasmSymbolKind::Section
-            | WasmSymbolKind::Event
-            | WasmSymbolKind::Table => Err(RelocError::WrongKind),
+        if !symbol.kind.is_data() {
+            return Err(RelocError::WrongKind);
         }
+        self.address_in(base, reloc.addend, self.map.data_address(reloc.index))
     }
 
     /// The symbol that a relocation names.
@@ -208,13 +196,10 @@ impl<'r, 'a> Resolver<'r, 'a> {
 fn table_number(kind: WasmSymbolKind) -> Result<u32, RelocError>
     ensures { result ≡ table_number kind }
 {
-    match kind {
-        WasmSymbolKind::Table => Ok(0),
-        WasmSymbolKind::Func
-        | WasmSymbolKind::Data
-        | WasmSymbolKind::Global
-        | WasmSymbolKind::Section
-        | WasmSymbolKind::Event => Err(RelocError::WrongKind),
+    if kind.is_table() {
+        Ok(0)
+    } else {
+        Err(RelocError::WrongKind)
     }
 }
 
