@@ -24,6 +24,7 @@ use Rattle.wl_linking.specs.declared.parts.Parts.{Parts}
 use Rattle.wl_custom.specs.declared.relocations.Target.{Target}
 use Rattle.wl_linking.specs.declared.section.SectionItems.{SectionItems}
 use Rattle.wl_linking.specs.declared.section.SectionItems.TheVariants.{Types, Imports, Functions, Memories, Globals, Exports, DataCount, Code, Data, Linking, Reloc, Features, Debug, Nothing}
+use Rattle.wl_lists.proofs.Places.{all_append}
 
 -- ---- one section
 
@@ -74,11 +75,6 @@ spelled kind.DataCount context s items payload h = spelled_as kind.DataCount s D
 spelled kind.Tag context s items payload h = absurd h
 
 -- ---- all sections
-
--- what holds of all of some, and of all of more, holds of all of both
-pub all_append : {X : Type 0} (P : X → Type 0) (xs ys : List X) → AllByRecursion P xs → AllByRecursion P ys → AllByRecursion P (xs ++ ys)
-all_append P [] ys h k = k
-all_append P (x ∷ xs) ys h k = (h.0, all_append P xs ys h.1 k)
 
 -- the items of each section that stands in the bytes have a property
 abbrev pub HaveInEach : {X : Type 0} → (Parts → List X) → (X → Type 0) → List ℕ → Type 0

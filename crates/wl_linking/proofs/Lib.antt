@@ -19,3 +19,5 @@ pub mod StretchLaws
 pub mod RawNameLaws
 pub mod InitLaws
 pub mod TypeLaws
+pub mod BoundLaws
+pub mod StepLaws

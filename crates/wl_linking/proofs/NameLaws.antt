@@ -22,10 +22,11 @@ use Rattle.wl_linking.specs.declared.section.SectionItems.TheVariants.{Linking}
 use Rattle.wl_custom.specs.declared.symbols.WasmSymbolKind.{WasmSymbolKind}
 use Rattle.wl_custom.specs.declared.symbols.WasmSymbolKind.TheVariants.{Func, Data, Global, Section as SectionSymbol, Event, Table}
 use Rattle.wl_module.specs.Places.{StandsAt}
+use Rattle.wl_lists.proofs.Places.{all_append}
 use Rattle.wl_module.proofs.PlaceLaws.{all_stands, before_stands, behind_stands}
 use Rattle.wl_module.proofs.SectionLaws.{module_stands}
 use Rattle.wl_linking.proofs.PlacedLaws.{stretch_is}
-use Rattle.wl_linking.proofs.HeldLaws.{HaveInEach, all_held, all_append}
+use Rattle.wl_linking.proofs.HeldLaws.{HaveInEach, all_held}
 
 -- ---- texts in texts
 

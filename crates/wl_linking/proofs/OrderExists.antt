@@ -1,5 +1,6 @@
 -- Any entries have an order: each goes in front of the first that isn't before it.
-use Rattle.std.proofs.Common.{◌≡◌, ℕ, zero, suc, ◌<◌, ◌≤◌, Bool, true, false, cond, leb, not, ◌&&◌, List, [], ◌∷◌, length, get_or, filter, refl, ap, ◌∙◌, arith, inl, inr}
+use Rattle.std.proofs.Common.{◌≡◌, ℕ, zero, suc, ◌<◌, ◌≤◌, Bool, true, false, cond, leb, not, List, [], ◌∷◌, length, get_or, filter, refl, ap, ◌∙◌, arith, inl, inr}
+use Rattle.std.proofs.Math.Bool.{and-false}
 use Rattle.std.specs.List.{AllByRecursion}
 use Rattle.std.specs.List.Sorted.{IsNonDecreasingBy}
 use Rattle.std.specs.Ordering.{nat_cmp, is_lt}
@@ -20,12 +21,8 @@ ordered (x ∷ xs) = put x (ordered xs)
 
 -- ---- ties keep their order
 
-and_no : (b : Bool) → (b && false) ≡ false
-and_no true = refl
-and_no false = refl
-
 no_tie_back : (x y : WasmRelocation) → y.offset < x.offset → ties_with x y ≡ false
-no_tie_back x y lt = rw (lt-ltb y.offset x.offset lt) (and_no (not (is_lt (nat_cmp x.offset y.offset))))
+no_tie_back x y lt = rw (lt-ltb y.offset x.offset lt) (and-false (not (is_lt (nat_cmp x.offset y.offset))))
 
 -- an entry doesn't tie with two of different offsets
 one_tie : (a x y : WasmRelocation) → y.offset < x.offset → ties_with a x ≡ true → ties_with a y ≡ true → ⊥

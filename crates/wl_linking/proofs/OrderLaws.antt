@@ -19,7 +19,7 @@ use Rattle.wl_linking.proofs.SiteLaws.{site_is_found, some_is}
 abbrev pub ties_with : WasmRelocation → WasmRelocation → Bool
 ties_with x y = ties (λ a b. is_lt (nat_cmp (offset_of a) (offset_of b))) x y
 
-tie : (x y : WasmRelocation) → x.offset ≡ y.offset → ties_with x y ≡ true
+pub tie : (x y : WasmRelocation) → x.offset ≡ y.offset → ties_with x y ≡ true
 tie x y e =
     let same : eqb x.offset y.offset ≡ true = eq-eqb x.offset y.offset e in
     let other : eqb y.offset x.offset ≡ true = eq-eqb y.offset x.offset (sym e) in

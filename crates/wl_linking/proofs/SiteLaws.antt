@@ -1,7 +1,7 @@
 -- Where the fields of relocations lie: each in one piece at most.
 use Rattle.std.proofs.Common.{◌≡◌, ℕ, zero, suc, ◌+◌, ◌-◌, ◌<◌, ◌≤◌, Bool, true, false, leb, List, [], ◌∷◌, ◌++◌, length, take, drop, get_or, Option, Some, None, refl, sym, ap, subst, ◌∙◌, arith, inl, inr, add-one, slice_get, ◌&&◌}
 use Rattle.std.proofs.Math.Seq.{take-suc}
-use Rattle.std.proofs.lemmas.Bool.{leb-true, le-leb, lt-leb, eqb-true}
+use Rattle.std.proofs.lemmas.Bool.{leb-true, le-leb, lt-leb, eqb-true, and_parts}
 use Rattle.std.proofs.lemmas.List.{length-take, length-drop, get_or_default}
 use Rattle.std.specs.List.Sorted.{IsNonDecreasingBy}
 use Rattle.std.proofs.lemmas.Option.{slice_get-get_or}
@@ -66,14 +66,6 @@ some x = Some x
 pub some_is : {X : Type 0} (x y : X) → some x ≡ Some y → x ≡ y
 some_is x y e = cc
 
-and_left : (a b : Bool) → (a && b) ≡ true → a ≡ true
-and_left true b e = refl
-and_left false b e = e
-
-and_right : (a b : Bool) → (a && b) ≡ true → b ≡ true
-and_right true b e = e
-and_right false b e = absurd cc
-
 -- a position that is found holds the field
 position_found : (piece : PieceOf) (form : FieldForm) (offset position : ℕ) → position_of piece form offset ≡ Some position → (piece.place + position ≡ offset) × LiesIn piece form position
 position_found piece form offset position e =
@@ -82,8 +74,8 @@ position_found piece form offset position e =
     elim (chosen (before && holds) (Some (offset - piece.place)) None (Some position) e) [
       | inl h ↦
           let same = some_is (offset - piece.place) position h.1 in
-          let le = leb-true piece.place offset (and_left before holds h.0) in
-          (omega (arith, le, same), subst (λ (n : ℕ). LiesIn piece form n) same (and_right before holds h.0))
+          let le = leb-true piece.place offset (and_parts before holds h.0).0 in
+          (omega (arith, le, same), subst (λ (n : ℕ). LiesIn piece form n) same (and_parts before holds h.0).1)
       | inr h ↦ absurd (let f = h.1 in cc)
     ]
 

@@ -1,30 +1,16 @@
 -- The laws of the names of imports.
-use Rattle.std.proofs.Common.{◌≡◌, ◌≢◌, ℕ, zero, suc, ◌+◌, ◌<◌, ◌≤◌, Bool, true, false, ◌&&◌, List, [], ◌∷◌, ◌++◌, length, get_or, set, Option, Some, None, refl, sym, ap, subst, ◌∙◌, arith, inl, inr, length-set}
-use Rattle.std.specs.List.{list_all, repeat, slice_get}
-use Rattle.std.proofs.lemmas.Option.{slice_get_within, slice_get_read}
+use Rattle.std.proofs.Common.{◌≡◌, ◌≢◌, ℕ, zero, suc, ◌+◌, ◌<◌, ◌≤◌, true, false, List, [], ◌∷◌, ◌++◌, length, set, Option, Some, None, refl, sym, ap, subst, ◌∙◌, arith, inl, inr, length-set}
+use Rattle.std.specs.List.{repeat, slice_get}
+use Rattle.std.proofs.lemmas.Option.{slice_get_within}
 use Rattle.std.proofs.lemmas.Bool.{cases_lt, cases_eq}
 use Rattle.std.proofs.lemmas.Slice.Eq.{bytes_eq-Decides}
 use Rattle.wl_custom.specs.declared.symbols.WasmSymbolKind.{WasmSymbolKind}
 use Rattle.wl_custom.specs.Symbols.{Symbol}
 use Rattle.wl_linking.specs.Slots.{Slot, claims, HasOneName, HasTwoNames}
 use Rattle.wl_linking.specs.SlotsReading.{AreNamedByRange, IsNamedByRange, is_name_of, named_as, Agrees}
+use Rattle.wl_lists.proofs.Places.{there_is}
 
 -- ---- symbols and their imports
-
--- two tests that both pass
-pub both : (b c : Bool) → (b && c) ≡ true → (b ≡ true) × (c ≡ true)
-both true c e = (refl, e)
-both false c e = absurd cc
-
--- what holds of all holds of each
-pub all_at : {X : Type 0} (test : X → Bool) (xs : List X) (i : ℕ) (x : X) → list_all test xs ≡ true → slice_get xs i ≡ Some x → test x ≡ true
-all_at test [] i x all here = absurd cc
-all_at test (y ∷ xs) zero x all here = let same : y ≡ x = cc in let b = both (test y) (list_all test xs) all in subst (λ (z : _). test z ≡ true) same b.0
-all_at test (y ∷ xs) (suc i) x all here = let b = both (test y) (list_all test xs) all in all_at test xs i x b.1 here
-
--- what a loop sees at a place is there
-pub seen_at : {X : Type 0} (xs : List X) (i : ℕ) (x : X) → i < length xs → x ≡ get_or xs i x → slice_get xs i ≡ Some x
-seen_at xs i x lt is = slice_get_read xs (length xs) i x refl lt is
 
 -- what was put at a place is there
 pub get_set_same : {X : Type 0} (xs : List X) (i : ℕ) (x : X) → i < length xs → slice_get (set xs i x) i ≡ Some x
@@ -126,12 +112,6 @@ know_more kind count symbols i names s here none know = record {
   told = λ number slot e. told_on kind symbols i number slot (know.told number slot e);
 }
 
--- what a slot has, where it is among them
-some_at : {X : Type 0} (xs : List X) (i : ℕ) → i < length xs → (x : X) × (slice_get xs i ≡ Some x)
-some_at [] i lt = absurd (omega arith)
-some_at (x ∷ xs) zero lt = (x, refl)
-some_at (x ∷ xs) (suc i) lt = some_at xs i (omega arith)
-
 -- a name that was known before, and that of the symbol, are one
 known_name : (slot : Slot) (known : Option Slot) (s : Symbol) → known ≡ Some slot → true ≡ is_name_of known s → slot.name ≡ s.name
 known_name slot None s is same = absurd cc
@@ -162,7 +142,7 @@ know_agreed kind count symbols i before after s here claim agrees know = split (
     split : (o : Option (Option Slot)) → slice_get before s.index ≡ o → Know kind count symbols (i + 1) after
     split None is =
         let p = agrees.beyond is in
-        let beyond : s.index < count → ⊥ = λ lt. absurd (let found = some_at before s.index (let len = know.len in omega arith) in let e = found.1 in cc) in
+        let beyond : s.index < count → ⊥ = λ lt. absurd (let found = there_is before s.index (let len = know.len in omega arith) in let e = found.1 in cc) in
         subst (Know kind count symbols (i + 1)) (sym p.0) (know_more kind count symbols i before s here (λ c lt. beyond lt) know)
     split (Some known) is =
         let p = agrees.there known is in

@@ -11,7 +11,7 @@ use Rattle.wl_linking.specs.Sites.{PieceOf, AreSites, body_piece, segment_piece}
 use Rattle.wl_linking.specs.Fitting.{IsObject, IsFitting, IsWhole}
 use Rattle.wl_custom.specs.declared.relocations.WasmRelocation.{WasmRelocation}
 use Rattle.wl_linking.specs.declared.sites.Site.{Site}
-use Rattle.wl_linking.proofs.SlotLaws.{all_at}
+use Rattle.wl_lists.proofs.Places.{test_at}
 
 -- an object of bytes that are short enough is whole
 pub whole_from : (bytes : List ℕ) (o : Object) → IsObject o bytes → length bytes ≤ MAX_LEN → IsWhole o
@@ -25,7 +25,7 @@ whole_fits o w = w.object.fitting
 
 -- the type of each function is one of the types
 pub whole_types : (o : Object) (i t : ℕ) → IsWhole o → slice_get o.functions i ≡ Some t → t < length o.types
-whole_types o i t w here = ltb-true t (length o.types) (all_at (type_exists (spaces_of o)) o.functions i t w.object.fitting.names.functions here)
+whole_types o i t w here = ltb-true t (length o.types) (test_at (type_exists (spaces_of o)) o.functions i t w.object.fitting.names.functions here)
 
 -- ---- the sites of relocations
 

@@ -8,6 +8,7 @@ pub mod Sections
 pub mod Sites
 pub mod Placing
 pub mod Fitting
+pub mod Bounds
 pub mod Stretches
 pub mod RawNames
 pub mod Steps

@@ -38,7 +38,10 @@ pub use error::{LinkError, MemoryBound, Quantity, SharedMemoryNeed, UndefinedSym
 pub use file::File;
 pub use file_list::FileList;
 pub use kinds::{LINKING_SECTION_NAME, RELOC_SECTION_PREFIX, TARGET_FEATURES_SECTION_NAME};
-pub use laws::{init_functions_have_symbols, types_are_short};
+pub use laws::{
+    addends_are_words, init_functions_have_symbols, memories_are_small, segments_keep_bounds,
+    types_are_short,
+};
 pub use object::{
     names_stand, object_lists_are_few, object_or_fault, parse_wasm_module, parts_of_objects_stand,
     whole_objects,
