@@ -22,7 +22,7 @@ use Rattle.wl_bytes.specs.Checks.{NoFault}
 use Rattle.wl_bytes.specs.Outcome.{Fails, AreAlternatives, HasCause}
 use Rattle.wl_bytes.specs.declared.read_error.ReadError.{ReadError}
 use Rattle.wl_bytes.proofs.ListLaws.{number_reading, one_byte_reading, IsWholeReading}
-use Rattle.wl_bytes.proofs.ChainLaws.{AreReadings, Stops, chains_agree, chain_stops, chain_goes_on, chain_begins, after-push, item_shortens}
+use Rattle.wl_bytes.proofs.ChainLaws.{AreReadings, Stops, chains_agree, chain_stops, chain_goes_on, after-push, item_shortens}
 use Rattle.wl_custom.specs.Verdict.{Judged, JudgedFault, judged_at, Inside, InsideFault, IsHere, here_at}
 use Rattle.wl_custom.specs.Infos.{AreInfos, InfosFault, infos_of, AreInits, InitsFault, inits_of}
 use Rattle.wl_custom.specs.Symbols.{AreSymbols, SymbolsFault}
@@ -176,9 +176,6 @@ pub record ReadsOn (base : ℕ) (from now : Cursor) (seen : SeenSubsections) (li
   pub stand : Takes (Chain (subsections_in_turn base) nothing_seen) subsections from now
   pub seen_is : after seen_after nothing_seen subsections ≡ seen
   pub holds : linking ≡ linking_of subsections
-
-pub reads_at_start : (base : ℕ) (from : Cursor) → ReadsOn base from from nothing_seen (linking_of [])
-reads_at_start base from = record { subsections = []; stand = chain_begins (subsections_in_turn base) nothing_seen from; seen_is = refl; holds = refl }
 
 pub not_empty : (xs : List ℕ) → eqb (length xs) 0 ≡ false → xs ≢ []
 not_empty [] h e = absurd cc

@@ -61,9 +61,6 @@ marked_reading = map_reading (Then IsHead (λ h. IsMarkedBehind (is_segment h.0 
 
 -- ---- the same operators
 
-abbrev args_of : Option DataIndexImm × List ℤ → List ℤ
-args_of p = p.1
-
 abbrev Behind : Type 0
 Behind = Result (List ℤ × Cursor) ReadError
 

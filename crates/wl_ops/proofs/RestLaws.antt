@@ -1,5 +1,5 @@
 -- Items to the end of the bytes are read as the items are.
-use Rattle.std.proofs.Common.{◌≡◌, ◌≢◌, ℕ, zero, suc, ◌+◌, ◌<◌, true, false, eqb, List, [], ◌∷◌, ◌++◌, length, Result, Ok, Err, refl, sym, ap, subst, ◌∙◌, arith, inl, inr, length-append}
+use Rattle.std.proofs.Common.{◌≡◌, ◌≢◌, ℕ, zero, suc, ◌+◌, ◌<◌, true, false, eqb, List, [], ◌∷◌, ◌++◌, length, Result, Ok, Err, refl, sym, ap, subst, arith, inl, inr, length-append}
 use Rattle.std.proofs.lemmas.Bool.{eqb-true, ne_eqb}
 use Rattle.std.proofs.lemmas.List.{append-nil, nil_from_length}
 use Rattle.wl_bytes.specs.Cursor.{Cursor}
@@ -29,12 +29,6 @@ one_more item [] x a b c t u = cons_text item x [] a c c (subst (λ (d : Cursor)
 one_more item (y ∷ ys) x a b c t u =
     let f = first_of_items item y ys a b t in
     cons_text item y (ys ++ x ∷ []) a f.0 c f.1 (one_more item ys x f.0 b c f.2 u)
-
--- nothing is left behind the items, so they are all of it
-all_of : {X : Type 0} (item : ℕ → X → List ℕ → Type 0) (xs : List X) (a b : Cursor) → Takes (Items item) xs a b → b.rest ≡ [] → Items item a.position xs a.rest
-all_of item xs a b t none =
-    let whole : a.rest ≡ t.text = t.parts ∙ ap (λ (r : List ℕ). t.text ++ r) none ∙ append-nil t.text in
-    subst (λ (r : List ℕ). Items item a.position xs r) (sym whole) t.spelled
 
 abbrev pub taken_whole : {X : Type 0} (item : ℕ → X → List ℕ → Type 0) (xs : List X) (a : Cursor) → Items item a.position xs a.rest → Takes (Items item) xs a (record { position = a.position + length a.rest; rest = [] })
 taken_whole item xs a s = record { text = a.rest; spelled = s; parts = sym (append-nil a.rest); moved = refl }

@@ -29,6 +29,3 @@ picks_none false decimal value limit not = refl
 pub number_read : {E : Type 0} (bits : ℕ) (text : List ℕ) (r : Result ℕ E) → OkIff r ((all_ascii_digits text ≡ true) × (0 < length text) × (digits_value 10 text < 2 ^ bits)) (digits_value 10 text) → result_ok r ≡ number_of bits text
 number_read bits text (Ok n) (is, same) = rw same (sym (picks (nat_lt 0 (length text)) (all_ascii_digits text) (digits_value 10 text) (2 ^ bits) (lt-ltb 0 (length text) is.1) is.0 is.2))
 number_read bits text (Err e) not = sym (picks_none (nat_lt 0 (length text)) (all_ascii_digits text) (digits_value 10 text) (2 ^ bits) (λ some decimal below. not (decimal, ltb-true 0 (length text) some, below)))
-
-some_none : {X : Type 0} (x : X) → Some x ≡ None → ⊥
-some_none x is = absurd cc
