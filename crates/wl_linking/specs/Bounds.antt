@@ -6,6 +6,7 @@ use Rattle.wl_module.specs.Imports.{Imported}
 use Rattle.wl_module.specs.declared.imports.ImportEntity.{ImportEntity}
 use Rattle.wl_module.specs.declared.imports.ImportEntity.TheVariants as entity
 use Rattle.wl_module.specs.declared.limits.MemoryType.{MemoryType}
+use Rattle.wl_module.specs.declared.limits.TheConstants.{MAX_PAGES}
 use Rattle.wl_custom.specs.Infos.{SegmentInfo}
 use Rattle.wl_linking.specs.Object.{Object}
 
@@ -22,7 +23,7 @@ memories_of o = filter_map (λ (i : Imported). memory_in i.entity) o.imports ++ 
 
 -- a memory has at first no more pages than there can be
 abbrev pub IsSmallMemory : MemoryType → Type 0
-IsSmallMemory m = m.initial ≤ 65536
+IsSmallMemory m = m.initial ≤ MAX_PAGES
 
 -- a segment is aligned to a power of two, of which the exponent is 31 at most
 abbrev pub HasAlignment : SegmentInfo → Type 0
