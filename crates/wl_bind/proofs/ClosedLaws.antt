@@ -1,7 +1,7 @@
 -- What a kept slot is bound to is kept.
 use Rattle.std.proofs.Common.{◌≡◌, ◌∙◌, ◌<◌, ℕ, zero, suc, ◌+◌, Bool, true, false, not, ◌&&◌, ◌==◌, ◌≤◌, List, [], ◌∷◌, length, refl, sym, ap, subst, arith, inl, inr, Option, Some, None, slice_get, Contains, nat_lt, if◌then◌else◌, MatchOption, eqb-true}
 use Rattle.std.specs.Option.{option_map, option_map_or, option_and_then}
-use Rattle.std.proofs.lemmas.Bool.{cases_Bool}
+use Rattle.std.proofs.lemmas.Bool.{cases_Bool, and_parts, not-true}
 use Rattle.std.proofs.lemmas.List.Sums.{length-filter}
 use Rattle.wl_module.specs.Imports.{Imported}
 use Rattle.wl_module.specs.declared.imports.ExternalKind.TheVariants as external
@@ -30,9 +30,8 @@ use Rattle.wl_symbols.specs.SlotCases.{IsLeft, IsBoundTo, HasDefinition}
 use Rattle.wl_symbols.specs.SlotTargets.{own_number, is_definition_of, slot_target}
 use Rattle.wl_symbols.specs.declared.targets.SlotTarget.{SlotTarget}
 use Rattle.wl_symbols.specs.declared.targets.SlotTarget.TheVariants as slot
+use Rattle.wl_lists.proofs.In.{Contains-cons_cases}
 use Rattle.wl_bind.proofs.HostLaws.{IsAt}
-use Rattle.wl_bind.proofs.ListLaws.{both, is_not}
-use Rattle.wl_bind.proofs.MemberLaws.{first_or_behind}
 
 -- ---- what is told of slots
 
@@ -67,7 +66,7 @@ passes_where : {X : Type 0} (test : X → Bool) (n : ℕ) (xs : List X) (number 
 passes_where test n [] number h = absurd (omega (arith, h.1))
 passes_where test n (y ∷ xs) number h = elim (cases_Bool (test y)) [
   | inl so ↦ (let there : Contains (n ∷ numbers_where test (n + 1) xs) number = rw so at h in
-      elim (first_or_behind n number (numbers_where test (n + 1) xs) there) [
+      elim (Contains-cons_cases n number (numbers_where test (n + 1) xs) there) [
         | inl same ↦ record { place = 0; number_is = omega (arith, same); x = y; here = refl; pass = so }
         | inr rest ↦ behind test n y xs number (passes_where test (n + 1) xs number rest)
       ])
@@ -161,9 +160,9 @@ function_units = record {
       below s.index (count_imports external.Func o.imports) (omega (arith, lt, long)) in
       rw (is, so, small) refl;
   defined = λ o s j defines number.
-      let parts = both (not (is_undefined s)) (is_imported_as Func s.kind) defines in
+      let parts = and_parts (not (is_undefined s)) (is_imported_as Func s.kind) defines in
       let is : s.kind ≡ Func = is_function s.kind parts.1 in
-      let so : is_undefined s ≡ false = is_not (is_undefined s) parts.0 in
+      let so : is_undefined s ≡ false = not-true (is_undefined s) parts.0 in
       rw (is, so) (ap (λ (n : Option ℕ). option_map DefinedFunction n) number);
 }
 
@@ -178,9 +177,9 @@ global_units = record {
       below s.index (count_imports external.Global o.imports) (omega (arith, lt, long)) in
       rw (is, so, small) refl;
   defined = λ o s j defines number.
-      let parts = both (not (is_undefined s)) (is_imported_as Global s.kind) defines in
+      let parts = and_parts (not (is_undefined s)) (is_imported_as Global s.kind) defines in
       let is : s.kind ≡ Global = is_global s.kind parts.1 in
-      let so : is_undefined s ≡ false = is_not (is_undefined s) parts.0 in
+      let so : is_undefined s ≡ false = not-true (is_undefined s) parts.0 in
       rw (is, so) (ap (λ (n : Option ℕ). option_map DefinedGlobal n) number);
 }
 
@@ -258,7 +257,7 @@ kept_definition laws link live of kind slot_unit own units object k o t i j here
     subst (λ (of : WasmSymbolKind). is_definition_of of d.s ≡ true) is_at.kind_is d.defines in
     let number : own_number kind d.o (d.s).index ≡ Some j =
     subst (λ (of : WasmSymbolKind). own_number of d.o (d.s).index ≡ Some j) is_at.kind_is d.number_is in
-    let so : is_undefined d.s ≡ false = is_not (is_undefined d.s) (both (not (is_undefined d.s)) (is_imported_as kind (d.s).kind) defines).0 in
+    let so : is_undefined d.s ≡ false = not-true (is_undefined d.s) (and_parts (not (is_undefined d.s)) (is_imported_as kind (d.s).kind) defines).0 in
     laws.closed link live (record { object = object; unit = slot_unit k })
     (record { object = i; unit = own j }) of kept
     (record {

@@ -1,5 +1,5 @@
 -- The first slot whose type isn't that of the first of its import.
-use Rattle.std.proofs.Common.{◌≡◌, ℕ, suc, ◌+◌, ◌<◌, Bool, true, false, not, List, [], ◌∷◌, ◌++◌, refl, sym, ap, subst, arith, if◌then◌else◌, ◌≤◌, nat_lt, lt-ltb, le-ltb, cond, length-append, ◌∙◌, inl, inr, Option, Some, None, Contains, find, map, drop, drop-cons, add-one, append-nil, append_assoc, length, get_or, slice_get, position}
+use Rattle.std.proofs.Common.{◌≡◌, ℕ, suc, ◌+◌, ◌<◌, Bool, true, false, not, List, [], ◌∷◌, ◌++◌, refl, sym, ap, subst, arith, if◌then◌else◌, ◌≤◌, lt-ltb, le-ltb, length-append, ◌∙◌, inl, inr, Option, Some, None, Contains, find, map, drop, drop-cons, add-one, append-nil, append_assoc, length, get_or, slice_get, position}
 use Rattle.std.specs.Cmp.{IsEquivalence}
 use Rattle.std.specs.List.{list_any, position_or_len}
 use Rattle.std.specs.Option.{option_and_then, option_or}
@@ -20,9 +20,10 @@ use Rattle.wl_symbols.specs.Left.{HostImport, same_field, same_import, first_imp
 use Rattle.wl_bind.specs.Conflicts.{same_function_type, global_type, same_global_type, same_slot_type, differs, IsConflict}
 use Rattle.wl_bind.specs.ConflictSteps.{SlotPair, slot_at, conflicting, with_first, conflict_from, conflict_of}
 use Rattle.wl_bind.specs.FunctionTypes.{slot_type}
+use Rattle.wl_lists.proofs.Found.{position_map}
+use Rattle.wl_lists.proofs.In.{Contains-none}
 use Rattle.wl_bind.proofs.FindLaws.{find_some, or_none, or_some}
-use Rattle.wl_bind.proofs.ListLaws.{find_in_front, length_mapped, none_found}
-use Rattle.wl_bind.proofs.MemberLaws.{nowhere}
+use Rattle.wl_bind.proofs.ListLaws.{find_in_front, none_found}
 
 -- ---- slots of one import, and types that are the same
 
@@ -79,18 +80,6 @@ at_position test xs more = elim (cases_lt (position_or_len test (xs ++ more)) (l
       let le : length xs ≤ position_or_len test (xs ++ more) = omega (arith, most, len) in
       rw (le-ltb (position_or_len test (xs ++ more)) (length (xs ++ more)) most) (sym (none_behind xs (position_or_len test (xs ++ more)) (find test xs) (at_first test xs more) le))
 ]
-
-or_len_map : {X Y : Type 0} (f : X → Y) (test : Y → Bool) (xs : List X) → position_or_len test (map f xs) ≡ position_or_len (λ x. test (f x)) xs
-or_len_map f test [] = refl
-or_len_map f test (x ∷ xs) = elim (cases_Bool (test (f x))) [
-  | inl t ↦ rw t refl
-  | inr g ↦ rw g (ap (λ n. 1 + n) (or_len_map f test xs))
-]
-
-position_map : {X Y : Type 0} (f : X → Y) (test : Y → Bool) (xs : List X) → position test (map f xs) ≡ position (λ x. test (f x)) xs
-position_map f test xs =
-    ap (λ n. cond (nat_lt n (length (map f xs))) (Some n) None) (or_len_map f test xs)
-    ∙ ap (λ len. cond (nat_lt (position_or_len (λ x. test (f x)) xs) len) (Some (position_or_len (λ x. test (f x)) xs)) None) (length_mapped f xs)
 
 -- ---- first occurrences
 
@@ -232,7 +221,7 @@ pair_found objects same laws firsts (t ∷ slots) p e =
 clear_by : (objects : List Object) (same : ImportSlot → ImportSlot → Bool) → IsEquivalence same → (slots : List ImportSlot) → conflict_from objects same [] slots ≡ None → Clear (IsConflict objects same slots)
 clear_by objects same laws slots none = record {
   none = λ e h.
-      let once = once_all same laws [] slots (λ z m. absurd (nowhere z m)) in
+      let once = once_all same laws [] slots (λ z m. absurd (Contains-none z m)) in
       let nothing = none_differs objects same laws [] slots h.first none (once h.first h.is_first) in
       let second = h.is_second in
       let apart : None ≡ Some h.second = sym nothing ∙ second in

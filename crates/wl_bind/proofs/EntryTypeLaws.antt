@@ -1,8 +1,8 @@
 -- Each function of the output has a type, which is one of the output's.
-use Rattle.std.proofs.Common.{◌≡◌, ◌∙◌, ◌||◌, ◌==◌, ◌<◌, ℕ, zero, suc, ◌+◌, Bool, true, false, List, [], ◌∷◌, ◌++◌, length, filter_map, refl, sym, ap, subst, arith, inl, inr, Option, Some, None, slice_get, slice_index, Contains, nat_lt, if◌then◌else◌}
+use Rattle.std.proofs.Common.{◌≡◌, ◌∙◌, ◌||◌, ◌==◌, ◌<◌, ℕ, zero, suc, ◌+◌, Bool, true, false, List, [], ◌∷◌, ◌++◌, length, filter_map, refl, sym, ap, subst, arith, inl, inr, Option, Some, slice_get, slice_index, Contains, nat_lt, if◌then◌else◌}
 use Rattle.std.specs.List.{list_any, range_with_len}
 use Rattle.std.specs.Option.{option_and_then, option_map_or}
-use Rattle.std.proofs.lemmas.Bool.{ltb-true}
+use Rattle.std.proofs.lemmas.Bool.{ltb-true, and_from, or_left, or_right}
 use Rattle.std.proofs.lemmas.Option.{get_or_from_slice_get}
 use Rattle.wl_module.specs.SameType.{types_equiv}
 use Rattle.wl_module.specs.Types.{FunctionType, same_type}
@@ -28,14 +28,15 @@ use Rattle.wl_bind.specs.References.{IsSettled}
 use Rattle.wl_symbols.specs.Relocations.{object_relocations}
 use Rattle.wl_bind.specs.Undefined.{is_host_function, is_host_slot}
 use Rattle.wl_bind.specs.declared.binding.FunctionTarget.TheVariants.{Defined, Made, Host, Stub}
+use Rattle.wl_lists.proofs.Found.{any_in, and_then_some}
+use Rattle.wl_lists.proofs.In.{in_back, in_front, list_in, in_list, IsIn, in_at, in_split, in_filter, Came, in_map, in_if}
+use Rattle.wl_lists.proofs.Places.{all_at, test_at, there_is}
+use Rattle.wl_lists.proofs.Rows.{Given, given_by}
 use Rattle.wl_bind.proofs.FirstSlotLaws.{LeftSlot, IsFirst, stub_itself, host_itself}
-use Rattle.wl_bind.proofs.ListLaws.{all_at, and_both, in_back, in_front, made_of_one, or_left, or_right}
-use Rattle.wl_bind.proofs.ListedLaws.{as_in, as_listed, any_in, still_in}
-use Rattle.wl_bind.proofs.OnceParts.{IsIn, in_at, in_split, in_filter, Came, in_map, Given, given_by}
-use Rattle.wl_bind.proofs.RedirectLaws.{test_at}
+use Rattle.wl_bind.proofs.ListLaws.{made_of_one}
+use Rattle.wl_bind.proofs.ListedLaws.{still_in}
 use Rattle.wl_bind.proofs.ReferenceLaws.{live_there}
 use Rattle.wl_bind.proofs.SameLaws.{eqb_self}
-use Rattle.wl_bind.proofs.StartLaws.{there_is}
 use Rattle.wl_bind.proofs.StubTypeLaws.{slot_typed}
 
 -- ---- lists
@@ -57,17 +58,6 @@ range_below a zero z h = absurd h
 range_below a (suc n) z (inl e) = omega (arith, e)
 range_below a (suc n) z (inr r) = let lt = range_below (a + 1) n z r in omega (arith, lt)
 
-and_then_some : {X Y : Type 0} (f : X → Option Y) (o : Option X) (y : Y) → option_and_then f o ≡ Some y
-    → (x : X) × (o ≡ Some x) × (f x ≡ Some y)
-and_then_some f None y is = absurd cc
-and_then_some f (Some x) y is = (x, refl, is)
-
--- the one entry of a part
-single_in : {X : Type 0} (b : Bool) (x y : X) → IsIn (if b then x ∷ [] else []) y → (b ≡ true) × (x ≡ y)
-single_in true x y (inl e) = (refl, e)
-single_in true x y (inr none) = absurd none
-single_in false x y none = absurd none
-
 -- ---- types of the output
 
 abbrev pub AreOne : Type 0
@@ -82,7 +72,7 @@ all_types input = by_object (live_types input) 0 input.link.objects ++ made_type
 
 in_output : AreOne → (input : Input) (ty : FunctionType) → IsIn (all_types input) ty → Contains (output_types input) ty
 in_output one input ty h =
-    as_listed (output_types input) ty (still_in same_type one (all_types input) ty (types_equiv.refl ty) h)
+    in_list (output_types input) ty (still_in same_type one (all_types input) ty (types_equiv.refl ty) h)
 
 live_in_output : AreOne → (input : Input) (i : ℕ) (o : Object) (number : ℕ) (ty : FunctionType)
     → slice_get input.link.objects i ≡ Some o → slice_get o.types number ≡ Some ty → is_live_type input i o number ≡ true
@@ -119,12 +109,12 @@ host_typed one fitting input settled t h =
     let at : slice_get o.types n ≡ Some typed.0 =
     sym (ap (λ (x : Option Object). option_and_then (λ (p : Object). slice_get p.types n) x) left.slot.here) ∙ numbered.2 in
     let host : is_host_slot input Func t ≡ true =
-    and_both (is_kept_slot input t) (is_host_function (binds_function input t)) left.kept (ap is_host_function first.bound) in
+    and_from (is_kept_slot input t) (is_host_function (binds_function input t)) left.kept (ap is_host_function first.bound) in
     let number : option_map_or (λ m. m == n) (type_number t.item.entity) false ≡ true =
     ap (λ (x : Option ℕ). option_map_or (λ m. m == n) x false) numbered.1 ∙ eqb_self n in
     let any : list_any (is_type_of_host input n) (object_slots t.object Func o) ≡ true =
     any_in (is_type_of_host input n) (object_slots t.object Func o) t left.slot.among
-    (and_both (is_host_slot input Func t) (option_map_or (λ m. m == n) (type_number t.item.entity) false) host number) in
+    (and_from (is_host_slot input Func t) (option_map_or (λ m. m == n) (type_number t.item.entity) false) host number) in
     let named : Bool = list_any (names_type n) (object_relocations input.live t.object o) in
     let live : is_live_type input t.object o n ≡ true =
     or_left (is_type_of_function input t.object o n || list_any (is_type_of_host input n) (object_slots t.object Func o)) named
@@ -248,13 +238,13 @@ front_typed one fitting input settled entry h =
           in_map (λ (t : ImportSlot). FunctionOf (Host t.object t.number)) (first_imports (host_functions input)) entry host in
           subst P c.to (host_typed one fitting input settled c.from c.there))
       | inr rest ↦ elim (in_split (made_function_part input CallCtors) behind_ctors entry rest) [
-        | inl ctors ↦ (let s = single_in (is_made input CallCtors) (FunctionOf (Made CallCtors)) entry ctors in
+        | inl ctors ↦ (let s = in_if (is_made input CallCtors) (FunctionOf (Made CallCtors)) entry ctors in
             subst P s.1 (ctors_typed one input s.0))
         | inr rest ↦ elim (in_split (made_function_part input InitTls) behind_tls entry rest) [
-          | inl tls ↦ (let s = single_in (is_made input InitTls) (FunctionOf (Made InitTls)) entry tls in
+          | inl tls ↦ (let s = in_if (is_made input InitTls) (FunctionOf (Made InitTls)) entry tls in
               subst P s.1 (tls_typed one input s.0))
           | inr rest ↦ elim (in_split (init_memory_part input) behind_memory entry rest) [
-            | inl memory ↦ (let s = single_in (has_init_memory input) InitMemory entry memory in
+            | inl memory ↦ (let s = in_if (has_init_memory input) InitMemory entry memory in
                 subst P s.1 (memory_typed one input s.0))
             | inr rest ↦ elim (in_split (stub_part input) [] entry rest) [
               | inl stub ↦
@@ -271,7 +261,7 @@ front_typed one fitting input settled entry h =
 pub entry_typed : AreOne → AreFitting → (input : Input) (entry : FunctionEntry) → IsSettled input
     → Contains (function_space input) entry → HasOutputType input entry
 entry_typed one fitting input entry settled listed =
-    elim (in_split (joined (function_parts input)) (object_functions input) entry (as_in (function_space input) entry listed)) [
+    elim (in_split (joined (function_parts input)) (object_functions input) entry (list_in (function_space input) entry listed)) [
       | inl front ↦ front_typed one fitting input settled entry front
       | inr own ↦ own_typed one fitting input settled entry own
     ]

@@ -3,7 +3,7 @@ use Rattle.std.proofs.Common.{◌≡◌, ◌⊎◌, ℕ, ◌+◌, ◌<◌, lengt
 use Rattle.std.specs.Option.{option_or, option_map, option_map_or}
 use Rattle.std.proofs.lemmas.Bool.{cases_Bool}
 use Rattle.std.proofs.lemmas.Option.{same_Some}
-use Rattle.wl_bind.proofs.MemberLaws.{at_front, behind, nowhere, first_or_behind}
+use Rattle.wl_lists.proofs.In.{Contains-here, Contains-there, Contains-none, Contains-cons_cases}
 
 -- ---- searches
 
@@ -13,16 +13,16 @@ find_some test [] x e = absurd (cc)
 find_some test (y ∷ xs) x e = elim (cases_Bool (test y)) [
   | inl t ↦
       let same : y ≡ x = same_Some y x (rw t at e) in
-      (subst (λ z. Contains (y ∷ xs) z) same (at_front y xs), subst (λ z. test z ≡ true) same t)
-  | inr f ↦ let h = find_some test xs x (rw f at e) in (behind y x xs h.0, h.1)
+      (subst (λ z. Contains (y ∷ xs) z) same (Contains-here y xs), subst (λ z. test z ≡ true) same t)
+  | inr f ↦ let h = find_some test xs x (rw f at e) in (Contains-there y x xs h.0, h.1)
 ]
 
 -- where nothing is found, nothing of the list passes
 pub find_none : {X : Type 0} (test : X → Bool) (xs : List X) → find test xs ≡ None → (x : X) → Contains xs x → test x ≡ false
-find_none test [] e x m = absurd (nowhere x m)
+find_none test [] e x m = absurd (Contains-none x m)
 find_none test (y ∷ xs) e x m = elim (cases_Bool (test y)) [
   | inl t ↦ absurd (let h : Some y ≡ None = rw t at e in cc)
-  | inr f ↦ elim (first_or_behind y x xs m) [
+  | inr f ↦ elim (Contains-cons_cases y x xs m) [
     | inl here ↦ subst (λ z. test z ≡ false) here f
     | inr there ↦ find_none test xs (rw f at e) x there
   ]
@@ -48,10 +48,6 @@ or_some (Some y) b x e = inl e
 pub map_none : {X Y : Type 0} (f : X → Y) (a : Option X) → option_map f a ≡ None → a ≡ None
 map_none f None e = refl
 map_none f (Some x) e = absurd (cc)
-
-pub map_some : {X Y : Type 0} (f : X → Y) (a : Option X) (y : Y) → option_map f a ≡ Some y → (x : X) × (a ≡ Some x) × (f x ≡ y)
-map_some f None y e = absurd (cc)
-map_some f (Some x) y e = (x, refl, same_Some (f x) y e)
 
 -- it is there and passes
 pub map_or_true : {X : Type 0} (test : X → Bool) (a : Option X) → option_map_or test a false ≡ true → (x : X) × (a ≡ Some x) × (test x ≡ true)

@@ -1,7 +1,7 @@
 -- What a kept function slot is bound to is in the output.
 use Rattle.std.proofs.Common.{◌≡◌, ◌∙◌, ◌<◌, not, ℕ, zero, suc, ◌+◌, Bool, true, false, List, [], ◌∷◌, ◌++◌, length, find, refl, sym, ap, subst, arith, inl, inr, Option, Some, None, slice_get, slice_index_or, Contains, nat_lt, unwrap_or}
 use Rattle.std.specs.Option.{option_map_or, is_none}
-use Rattle.std.proofs.lemmas.Bool.{ltb-true}
+use Rattle.std.proofs.lemmas.Bool.{ltb-true, not-true, and_parts}
 use Rattle.wl_linking.specs.Object.{Object}
 use Rattle.wl_custom.specs.declared.symbols.WasmSymbolKind.{WasmSymbolKind}
 use Rattle.wl_custom.specs.declared.symbols.WasmSymbolKind.TheVariants.{Func}
@@ -23,17 +23,20 @@ use Rattle.wl_bind.specs.Parts.{by_object}
 use Rattle.wl_bind.specs.References.{IsBoundTo, IsKeptFunction, IsInOutput}
 use Rattle.wl_bind.specs.declared.binding.FunctionTarget.{FunctionTarget}
 use Rattle.wl_bind.specs.declared.binding.FunctionTarget.TheVariants as function
+use Rattle.wl_lists.proofs.Firsts.{in_firsts}
+use Rattle.wl_lists.proofs.Found.{cases_option}
+use Rattle.wl_lists.proofs.In.{IsIn, in_filter, Contains-filter as stays, list_in, place_in}
+use Rattle.wl_lists.proofs.Rows.{Given, given_by}
 use Rattle.wl_bind.proofs.ClosedLaws.{counts_at, is_function, bound_of_kind, kept_function}
 use Rattle.wl_bind.proofs.FindLaws.{find_some}
 use Rattle.wl_bind.proofs.HostLaws.{IsAt, placed, kept_at}
-use Rattle.wl_bind.proofs.LeftLaws.{cases_option, itself, stub_found, no_stub, rules_join, named_binds}
-use Rattle.wl_bind.proofs.ListLaws.{is_not, left_and, none_found}
+use Rattle.wl_bind.proofs.LeftLaws.{itself, stub_found, no_stub, rules_join, named_binds}
+use Rattle.wl_bind.proofs.ListLaws.{none_found}
 use Rattle.wl_bind.proofs.MadeLaws.{BindingLaws, bound_is_made_function}
 use Rattle.wl_bind.proofs.NumberingLaws.{slots_here}
-use Rattle.wl_bind.proofs.OnceParts.{IsIn, in_filter, passes, in_firsts, Given, given_by}
+use Rattle.wl_bind.proofs.OnceParts.{passes}
 use Rattle.wl_bind.proofs.OneRuleLaws.{own_import}
-use Rattle.wl_bind.proofs.RowLaws.{passes as stays}
-use Rattle.wl_bind.proofs.ListedLaws.{as_in, finds_itself, found_at, is_nothing, same_listed}
+use Rattle.wl_bind.proofs.ListedLaws.{finds_itself, is_nothing, same_listed}
 
 -- ---- where a slot stands
 
@@ -57,7 +60,7 @@ slot_in objects kind t h =
     let same : 0 + g.place ≡ g.place = omega arith in
     let o : Object = g.object in
     let there : IsIn (object_slots g.place kind o) t = subst (λ (n : ℕ). IsIn (object_slots n kind o) t) same g.there in
-    let found = found_at (object_slots g.place kind o) t there in
+    let found = place_in (object_slots g.place kind o) t there in
     let at : slice_get (import_slots objects g.place kind) found.0 ≡ Some t =
     subst (λ (ts : List ImportSlot). slice_get ts found.0 ≡ Some t) (sym (slots_here objects g.place kind o g.at)) found.1 in
     let is : IsAt g.place kind found.0 t = placed objects g.place kind found.0 t at in
@@ -138,7 +141,7 @@ host_itself input s h =
     record {
       left = left;
       bound = host_bound input s s left.none
-          (is_not (is_stub input.link.objects (left_functions input) s) (passes host (left_functions input) s one))
+          (not-true (is_stub input.link.objects (left_functions input) s) (passes host (left_functions input) s one))
           (finds_itself same_import own_import (host_functions input) s h);
     }
 
@@ -163,7 +166,7 @@ pub kept_is_there : (input : Input) → IsLiveOf input.link input.live → (i j 
 kept_is_there input live i j kept =
     let u : LinkUnit = record { object = i; unit = DefinedFunction j } in
     let there : exists input.live.units u ≡ true =
-    left_and (exists input.live.units u) (slice_index_or input.live.marks (unit_number input.live.units u) false) kept in
+    (and_parts (exists input.live.units u) (slice_index_or input.live.marks (unit_number input.live.units u) false) kept).0 in
     let lt : nat_lt j (units_at (units_of input.link.objects) i).functions ≡ true =
     subst (λ (ns : List UnitCounts). nat_lt j (units_at ns i).functions ≡ true) live.units there in
     elim (cases_option (slice_get input.link.objects i)) [
@@ -188,7 +191,7 @@ left_is_there input t listed none = elim (cases_option (find (same_field t) (lin
       (let so : is_stub input.link.objects (left_functions input) t ≡ true =
       stub_found input.link.objects (left_functions input) t s.0 listed s.1 in
       let one : IsIn (link_stubs input) s.0 =
-      as_in (link_stubs input) s.0 (find_some (same_field t) (link_stubs input) s.0 s.1).0 in
+      list_in (link_stubs input) s.0 (find_some (same_field t) (link_stubs input) s.0 s.1).0 in
       subst (λ (f : FunctionTarget). IsInOutput input f) (sym (stub_bound input t s.0 none so s.1))
       (as_bound input s.0 (function.Stub (s.0).object (s.0).number) (stub_itself input s.0 one)))
   | inl no_one ↦
@@ -199,12 +202,12 @@ left_is_there input t listed none = elim (cases_option (find (same_field t) (lin
       elim (cases_option (find (same_import t) (first_imports (host_functions input)))) [
         | inr s ↦
             (let one : IsIn (first_imports (host_functions input)) s.0 =
-            as_in (first_imports (host_functions input)) s.0
+            list_in (first_imports (host_functions input)) s.0
             (find_some (same_import t) (first_imports (host_functions input)) s.0 s.1).0 in
             subst (λ (f : FunctionTarget). IsInOutput input f) (sym (host_bound input t s.0 none not_so s.1))
             (as_bound input s.0 (function.Host (s.0).object (s.0).number) (host_itself input s.0 one)))
         | inl nothing ↦ absurd (let both : true ≡ false =
-            sym (same_listed same_import (host_functions input) t (own_import t) (as_in (host_functions input) t among))
+            sym (same_listed same_import (host_functions input) t (own_import t) (list_in (host_functions input) t among))
             ∙ none_found (same_import t) (first_imports (host_functions input)) nothing in cc)
       ])
 ]

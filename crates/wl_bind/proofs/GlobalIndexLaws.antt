@@ -40,15 +40,17 @@ use Rattle.wl_bind.specs.declared.numbering.Numbering.{Numbering}
 use Rattle.wl_bind.specs.declared.own_indices.Own.TheVariants.{Globals}
 use Rattle.wl_bind.specs.declared.resolution.ImportResolution.{ImportResolution}
 use Rattle.wl_bind.specs.declared.resolution.ImportResolution.TheVariants.{Unresolved, ResolvedGlobal, LinkerDefined}
+use Rattle.wl_lists.proofs.Beside.{zip_joined}
+use Rattle.wl_lists.proofs.Found.{cases_option}
+use Rattle.wl_lists.proofs.In.{Contains-filter, at_is_in}
 use Rattle.wl_bind.proofs.ClosedLaws.{bound_of_kind, is_global, kept_global}
 use Rattle.wl_bind.proofs.HostLaws.{IsAt, placed}
-use Rattle.wl_bind.proofs.LeftLaws.{cases_option}
 use Rattle.wl_bind.proofs.GlobalLaws.{binds as binds_by}
 use Rattle.wl_bind.proofs.ListLaws.{place_lt}
 use Rattle.wl_bind.proofs.SlotIndexLaws.{ImportLaws, Leads, has_entry, get_via, in_front, places_in, entry_stands}
 use Rattle.wl_bind.proofs.MadeLaws.{bound_is_made_global}
-use Rattle.wl_bind.proofs.NumberingLaws.{zip_map, zip_joined, slots_here, fits, global_at, has_ordinal, own_globals}
-use Rattle.wl_bind.proofs.RowLaws.{passes, at_is_in, slot_is_one}
+use Rattle.wl_bind.proofs.NumberingLaws.{zip_map, slots_here, fits, global_at, has_ordinal, own_globals}
+use Rattle.wl_bind.proofs.RowLaws.{slot_is_one}
 
 -- ---- what a slot is resolved to leads to its entry
 
@@ -235,7 +237,7 @@ left_leads : ImportLaws → (n : Numbering) → IsNumbering n.input.now n
 left_leads laws n is object k t here kept listed none =
     let input : Input = n.input.now in
     let no_name : is_none (slot_target input.link t) ≡ true = rw none refl in
-    let left : Contains (left_globals input) t = passes (λ (s : ImportSlot). is_none (slot_target input.link s)) (kept_slots input Global) t listed no_name in
+    let left : Contains (left_globals input) t = Contains-filter (λ (s : ImportSlot). is_none (slot_target input.link s)) (kept_slots input Global) t listed no_name in
     let binds : binds_global input t ≡ unwrap_or (by_got input t) (by_host input t) = binds_by input t None none in
     elim (cases_option (by_got input t)) [
       | inr g ↦
@@ -244,7 +246,7 @@ left_leads laws n is object k t here kept listed none =
       | inl no_got ↦
           (let target : binds_global input t ≡ by_host input t = binds ∙ ap (λ (o : Option GlobalTarget). unwrap_or o (by_host input t)) no_got in
           let passed : is_none (by_got input t) ≡ true = rw no_got refl in
-          let among : Contains (host_globals input) t = passes (λ (s : ImportSlot). is_none (by_got input s)) (left_globals input) t left passed in
+          let among : Contains (host_globals input) t = Contains-filter (λ (s : ImportSlot). is_none (by_got input s)) (left_globals input) t left passed in
           let bound_to_host : is_host_global (binds_global input t) ≡ true = ap is_host_global target in
           let host : is_host_slot input Global t ≡ true = rw (kept, bound_to_host) refl in
           subst (λ (x : GlobalTarget). GlobalLeads n t x) (sym target)
@@ -258,7 +260,7 @@ global_leads : ImportLaws → (n : Numbering) → IsNumbering n.input.now n
 global_leads laws n is live object k t here kept =
     let input : Input = n.input.now in
     let listed : Contains (kept_slots input Global) t =
-    passes (is_kept_slot input) (slots_from Global 0 input.link.objects) t
+    Contains-filter (is_kept_slot input) (slots_from Global 0 input.link.objects) t
     (slot_is_one Global input.link.objects object t (at_is_in (import_slots input.link.objects object Global) k t here)) kept in
     let resolved : global_resolution input t ≡ as_global input (binds_global input t) = rw kept refl in
     subst (λ (r : ImportResolution). Leads n Global t r (global_space input) (GlobalOf (binds_global input t))) (sym resolved)

@@ -2,7 +2,7 @@
 use Rattle.std.proofs.Common.{◌≡◌, ◌∙◌, ◌<◌, ◌==◌, not, ℕ, Bool, true, false, List, length, map, filter_map, position, refl, sym, ap, arith, inl, inr, Option, Some, None, slice_get, Contains, nat_lt, if◌then◌else◌}
 use Rattle.std.specs.List.{list_any, range_with_len}
 use Rattle.std.specs.Option.{option_and_then, option_map, option_map_or}
-use Rattle.std.proofs.lemmas.Bool.{cases_Bool, ltb-true}
+use Rattle.std.proofs.lemmas.Bool.{cases_Bool, ltb-true, and_from, or_right}
 use Rattle.std.proofs.lemmas.List.{length-map}
 use Rattle.std.proofs.lemmas.Option.{slice_get-map}
 use Rattle.wl_module.specs.declared.imports.ExternalKind.TheVariants as external
@@ -34,15 +34,16 @@ use Rattle.wl_bind.specs.Scan.{names_data, names_function, definition_of, functi
 use Rattle.wl_bind.specs.declared.binding.FunctionTarget.{FunctionTarget}
 use Rattle.wl_bind.specs.declared.binding.GlobalTarget.TheVariants as global
 use Rattle.wl_symbols.specs.declared.relocated.Relocated.{Relocated}
+use Rattle.wl_lists.proofs.Found.{any_in}
+use Rattle.wl_lists.proofs.In.{list_in}
+use Rattle.wl_lists.proofs.Places.{get_in_front, get_behind, there_is}
 use Rattle.wl_bind.proofs.ClosedLaws.{global_units}
 use Rattle.wl_bind.proofs.HostLaws.{IsAt, placed, kept_at}
-use Rattle.wl_bind.proofs.ListLaws.{and_both, get_in_front, made_of_one, or_right}
+use Rattle.wl_bind.proofs.ListLaws.{made_of_one}
 use Rattle.wl_bind.proofs.NumberingLaws.{slots_here}
-use Rattle.wl_bind.proofs.PlaceLaws.{get_behind}
 use Rattle.wl_bind.proofs.RedirectLaws.{under, range_at}
 use Rattle.wl_bind.proofs.SameLaws.{eqb_self, definition_self, target_self}
-use Rattle.wl_bind.proofs.StartLaws.{there_is}
-use Rattle.wl_bind.proofs.ListedLaws.{any_in, as_in, same_listed, some_place_of}
+use Rattle.wl_bind.proofs.ListedLaws.{same_listed, some_place_of}
 use Rattle.wl_bind.proofs.ReferenceLaws.{Laws, Names, as_named, fun_leads, named_unit_kept, names_one, no_type}
 
 -- ---- globals
@@ -94,7 +95,7 @@ defined_global laws input r settled n kind not_so =
     let s : LinkedSymbol = n.symbol in
     let i : ℕ = r.object in
     let defines : is_definition_of Global s ≡ true =
-    and_both (not (is_undefined s)) (is_imported_as Global s.kind) (ap not not_so) (ap (is_imported_as Global) kind) in
+    and_from (not (is_undefined s)) (is_imported_as Global s.kind) (ap not not_so) (ap (is_imported_as Global) kind) in
     let number = laws.numbers Global o r.relocation.index s n.whole n.at defines in
     let k : ℕ = number.0 in
     let kept : keeps input i (DefinedGlobal k) ≡ true =
@@ -119,7 +120,7 @@ named_so : (input : Input) (r : Relocated) → (n : Names input r) → is_global
     → has_global input r.object n.from.object r.relocation.index ≡ true
 named_so input r n so =
     any_in (is_global_of r.relocation.index) (object_relocations input.live r.object n.from.object) r n.from.among
-    (and_both (is_global_index r.relocation.ty) (r.relocation.index == r.relocation.index) so (eqb_self r.relocation.index))
+    (and_from (is_global_index r.relocation.ty) (r.relocation.index == r.relocation.index) so (eqb_self r.relocation.index))
 
 data_global : (input : Input) (r : Relocated) → Contains (relocations input) r → is_global_index r.relocation.ty ≡ true
     → (n : Names input r) → n.symbol.kind ≡ Data → HasGlobal (got_mem_global input r.object n.from.object r.relocation.index)
@@ -129,15 +130,15 @@ data_global input r listed so n kind =
     let of : names_data input r ≡ true =
     ap (λ (x : Option LinkedSymbol). option_map_or (λ (s : LinkedSymbol). is_data s.kind) x false) n.found ∙ ap is_data kind in
     let given : got_mem_of input r ≡ Some d =
-    ap (λ (b : Bool). if b then Some d else None) (and_both (is_global_index r.relocation.ty) (names_data input r) so of) in
+    ap (λ (b : Bool). if b then Some d else None) (and_from (is_global_index r.relocation.ty) (names_data input r) so of) in
     let any : list_any (same_definition d) (got_mem input) ≡ true =
     same_listed same_definition (filter_map (got_mem_of input) (relocations input)) d (definition_self d)
-    (made_of_one (got_mem_of input) (relocations input) r d (as_in (relocations input) r listed) given) in
+    (made_of_one (got_mem_of input) (relocations input) r d (list_in (relocations input) r listed) given) in
     let place = some_place_of (same_definition d) (got_mem input) any in
     record {
       entry = GlobalOf (global.GotMem place.0);
       is = ap (λ (b : Bool). if b then option_map (λ (p : ℕ). GlobalOf (global.GotMem p)) (mem_place input r.object number) else None)
-          (and_both (is_data_symbol input r.object number) (has_global input r.object n.from.object number) of (named_so input r n so))
+          (and_from (is_data_symbol input r.object number) (has_global input r.object n.from.object number) of (named_so input r n so))
           ∙ ap (λ (p : Option ℕ). option_map (λ (q : ℕ). GlobalOf (global.GotMem q)) p) place.1;
     }
 
@@ -154,13 +155,13 @@ function_global laws input r settled listed so n kind =
     let pair : Definition × FunctionTarget = (d, out.target) in
     let given : got_func_of input r ≡ Some pair =
     ap (λ (b : Bool). if b then option_map (λ (f : FunctionTarget). (d, f)) (function_named input r) else None)
-    (and_both (is_global_index r.relocation.ty) (names_function input r) so of)
+    (and_from (is_global_index r.relocation.ty) (names_function input r) so of)
     ∙ ap (λ (x : Option FunctionTarget). option_map (λ (f : FunctionTarget). (d, f)) x) out.leads in
     let self : same_pair pair pair ≡ true =
-    and_both (same_definition d d) (same_target out.target out.target) (definition_self d) (target_self out.target) in
+    and_from (same_definition d d) (same_target out.target out.target) (definition_self d) (target_self out.target) in
     let any : list_any (same_pair pair) (got_func input) ≡ true =
     same_listed same_pair (filter_map (got_func_of input) (relocations input)) pair self
-    (made_of_one (got_func_of input) (relocations input) r pair (as_in (relocations input) r listed) given) in
+    (made_of_one (got_func_of input) (relocations input) r pair (list_in (relocations input) r listed) given) in
     let place = some_place_of (same_pair pair) (got_func input) any in
     let found : func_place input r.object number ≡ Some place.0 =
     ap (λ (x : Option FunctionTarget). option_and_then (λ (f : FunctionTarget). position (same_pair (d, f)) (got_func input)) x) out.leads

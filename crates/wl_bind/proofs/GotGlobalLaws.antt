@@ -1,5 +1,6 @@
 -- The globals of the symbols of an object.
 use Rattle.std.proofs.Common.{◌≡◌, ◌∙◌, ◌||◌, ◌&&◌, ◌<◌, ◌≤◌, ◌^◌, ℕ, zero, suc, ◌+◌, Bool, true, false, if◌then◌else◌, List, [], ◌∷◌, ◌++◌, length, map, replicate, get_or, take, position, refl, sym, ap, subst, arith, Option, Some, None, slice_get, ◌==◌, Result, Ok, Err, IfOk}
+use Rattle.std.proofs.Math.Bool.{or-false}
 use Rattle.std.specs.List.{list_any, range_with_len}
 use Rattle.std.specs.Option.{IsSome, option_map, option_and_then}
 use Rattle.std.proofs.lemmas.Bool.{eqb-true}
@@ -22,13 +23,13 @@ use Rattle.wl_symbols.specs.Input.{Input}
 use Rattle.wl_bind.specs.Numbering.{IsNumbering}
 use Rattle.wl_bind.specs.Parts.{IsPlaceOf, ArePlacesOf, HasEntry}
 use Rattle.wl_bind.specs.Sameness.{same_definition, same_pair}
-use Rattle.wl_bind.specs.Scan.{Scanned, got_mem, got_func, got_mem_entry, got_func_entry, GotMemEntry, GotFuncEntry}
+use Rattle.wl_bind.specs.Scan.{got_mem, got_func, got_mem_entry, got_func_entry, GotMemEntry, GotFuncEntry}
 use Rattle.wl_bind.specs.declared.binding.FunctionTarget.{FunctionTarget}
 use Rattle.wl_bind.specs.declared.binding.GlobalTarget.TheVariants.{GotMem, GotFunc}
 use Rattle.wl_bind.specs.declared.numbering.Numbering.{Numbering}
 use Rattle.wl_symbols.specs.declared.relocated.Relocated.{Relocated}
 use Rattle.wl_bind.proofs.GotLaws.{position_map}
-use Rattle.wl_bind.proofs.ListLaws.{or_false, place_lt}
+use Rattle.wl_bind.proofs.ListLaws.{place_lt}
 use Rattle.wl_bind.proofs.MarkLaws.{one_more}
 use Rattle.wl_lists.proofs.Splits.{splits}
 use Rattle.wl_bind.proofs.SlotIndexLaws.{has_entry}
@@ -46,7 +47,7 @@ relocation_more n seen r old new is so_far =
     is ∙ (ap (λ (bs : List Bool). marked bs r) so_far
     ∙ one_more f g n r.relocation.index (is_global_index r.relocation.ty)
     (λ k. list_any-append (is_global_of k) seen (r ∷ [])
-    ∙ ap (λ (b : Bool). list_any (is_global_of k) seen || b) (or_false (is_global_of k r))))
+    ∙ ap (λ (b : Bool). list_any (is_global_of k) seen || b) (or-false (is_global_of k r))))
 
 -- ---- places in the GOT lists
 
@@ -66,8 +67,6 @@ func_placed input funcs d f are =
     ap (position (λ (e : GotFuncEntry). same_pair (d, f) (e.definition, e.target))) are
     ∙ position_map (got_func_entry input) (λ e. same_pair (d, f) (e.definition, e.target))
     (got_func input)
-
--- ---- entries of parts
 
 -- ---- entries of the GOT lists
 

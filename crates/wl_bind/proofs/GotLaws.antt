@@ -122,11 +122,6 @@ places_more m n es k name before after wanted =
 
 -- ---- facts on success
 
--- what follows from what holds on success
-pub on_ok : {A E P Q : Type 0} (r : Result A E) → (P → Q) → OnOk r P → OnOk r Q
-on_ok (Ok a) f h = f h
-on_ok (Err e) f h = tt
-
 -- what holds anyway
 pub always_ok : {A E P : Type 0} (r : Result A E) → P → OnOk r P
 always_ok (Ok a) p = p

@@ -3,6 +3,7 @@ use Rattle.std.proofs.Common.{◌≡◌, ◌∙◌, ◌⊎◌, ℕ, zero, suc, �
 use Rattle.std.specs.List.{list_any, range_with_len}
 use Rattle.std.specs.Str.{bytes_eq}
 use Rattle.std.proofs.lemmas.Bool.{cases_Bool}
+use Rattle.std.proofs.lemmas.List.{length-map}
 use Rattle.std.proofs.lemmas.List.Quantifiers.{position-Some}
 use Rattle.std.proofs.lemmas.Option.{slice_get-get_or}
 use Rattle.std.proofs.lemmas.Slice.Eq.{bytes_eq-Decides}
@@ -29,9 +30,11 @@ use Rattle.wl_bind.specs.Sameness.{same_made}
 use Rattle.wl_bind.specs.SpaceFaults.{AreTooMany, IsSpaceOver}
 use Rattle.wl_bind.specs.declared.indices.LinkerDefinedIndices.{LinkerDefinedIndices}
 use Rattle.wl_bind.specs.declared.parts.PartStarts.{PartStarts}
-use Rattle.wl_bind.proofs.ListLaws.{in_back, in_front, length_mapped, made_of_one, mapped_at}
-use Rattle.wl_bind.proofs.ListedLaws.{any_in, some_place_of}
-use Rattle.wl_bind.proofs.OnceParts.{IsIn}
+use Rattle.wl_lists.proofs.Found.{any_in}
+use Rattle.wl_lists.proofs.In.{in_back, in_front, IsIn}
+use Rattle.wl_lists.proofs.Places.{mapped_at}
+use Rattle.wl_bind.proofs.ListLaws.{made_of_one}
+use Rattle.wl_bind.proofs.ListedLaws.{some_place_of}
 use Rattle.wl_bind.proofs.PlaceLaws.{joined_length}
 use Rattle.wl_bind.proofs.SameLaws.{made_one, made_self}
 use Rattle.wl_bind.proofs.StartLaws.{entry_found}
@@ -43,7 +46,7 @@ length_if true x = refl
 length_if false x = refl
 
 pub lengths_mapped : {X Y Z : Type 0} (f : X → Y) (g : X → Z) (xs : List X) → length (map f xs) ≡ length (map g xs)
-lengths_mapped f g xs = length_mapped f xs ∙ sym (length_mapped g xs)
+lengths_mapped f g xs = length-map xs f ∙ sym (length-map xs g)
 
 pub length_numbered : {X : Type 0} (f : ℕ → X) (a n : ℕ) → length (map f (range_with_len a n)) ≡ n
 length_numbered f a zero = refl

@@ -20,7 +20,8 @@ use Rattle.wl_bind.specs.KindSteps.{is_wrong_relocation, is_wrong_at, init_place
 use Rattle.wl_symbols.specs.Relocations.{relocations}
 use Rattle.wl_bind.specs.Scan.{symbol_of}
 use Rattle.wl_symbols.specs.declared.relocated.Relocated.{Relocated}
-use Rattle.wl_bind.proofs.FindLaws.{find_some, find_none, or_none, or_some, map_none, map_some, map_or_true}
+use Rattle.wl_lists.proofs.Found.{map_some}
+use Rattle.wl_bind.proofs.FindLaws.{find_some, find_none, or_none, or_some, map_none, map_or_true}
 
 -- ---- what the linker makes
 

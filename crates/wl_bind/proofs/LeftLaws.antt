@@ -1,8 +1,8 @@
 -- The stubs and the host imports that slots are to which names bind nothing.
-use Rattle.std.proofs.Common.{◌≡◌, ◌∙◌, ◌⊎◌, ℕ, zero, suc, ◌+◌, ◌<◌, Bool, true, false, not, ◌&&◌, ◌||◌, List, [], ◌∷◌, ◌++◌, length, map, filter, find, position, refl, sym, ap, arith, inl, inr, Option, Some, None, option_map, slice_get, slice_index_or, Contains, nat_lt, bytes_eq}
+use Rattle.std.proofs.Common.{◌≡◌, ◌∙◌, ℕ, zero, suc, ◌+◌, ◌<◌, Bool, true, false, not, ◌&&◌, ◌||◌, List, [], ◌∷◌, ◌++◌, length, map, filter, find, position, refl, sym, ap, arith, inl, inr, Some, None, option_map, slice_get, slice_index_or, Contains, nat_lt, bytes_eq}
 use Rattle.std.specs.List.{list_any, list_all, position_or_len, prefix_len}
 use Rattle.std.specs.Option.{option_and_then, option_map_or, unwrap_or, is_none}
-use Rattle.std.proofs.lemmas.Bool.{cases_Bool}
+use Rattle.std.proofs.lemmas.Bool.{cases_Bool, and_parts}
 use Rattle.std.proofs.lemmas.Option.{slice_get_past}
 use Rattle.std.proofs.lemmas.Slice.Eq.{bytes_eq-Decides}
 use Rattle.indexmap.specs.IndexSet.{insert_key, insert_all}
@@ -16,12 +16,9 @@ use Rattle.wl_symbols.specs.Input.{Input}
 use Rattle.wl_symbols.specs.KeptSlots.{slots_from, is_kept_slot, kept_slots}
 use Rattle.wl_bind.specs.FunctionBinding.{left_functions, link_stubs, host_functions, named_function, by_stub, by_host, binds_function}
 use Rattle.wl_bind.specs.BindingSteps.{stub_named, host_target, left_target}
-use Rattle.wl_bind.proofs.ListLaws.{none_found, right_and}
-use Rattle.wl_bind.proofs.RowLaws.{passes}
-
-pub cases_option : {X : Type 0} (o : Option X) → (o ≡ None) ⊎ ((x : X) × (o ≡ Some x))
-cases_option None = inl refl
-cases_option (Some x) = inr (x, refl)
+use Rattle.wl_lists.proofs.Found.{cases_option, any_front, any_last}
+use Rattle.wl_lists.proofs.In.{Contains-filter}
+use Rattle.wl_bind.proofs.ListLaws.{none_found}
 
 -- ---- places
 
@@ -49,18 +46,10 @@ find_mapped f test (x ∷ xs) = elim (cases_Bool (test (f x))) [ inl y ↦ rw y 
 
 -- ---- lists without repeats
 
-any_of_more : {X : Type 0} (test : X → Bool) (xs ys : List X) → list_any test xs ≡ true → list_any test (xs ++ ys) ≡ true
-any_of_more test [] ys any = absurd cc
-any_of_more test (x ∷ xs) ys any = elim (cases_Bool (test x)) [ inl y ↦ rw y refl | inr n ↦ rw n (any_of_more test xs ys (rw n at any)) ]
-
-any_of_last : {X : Type 0} (test : X → Bool) (xs : List X) (x : X) → test x ≡ true → list_any test (xs ++ x ∷ []) ≡ true
-any_of_last test [] x so = rw so refl
-any_of_last test (y ∷ xs) x so = elim (cases_Bool (test y)) [ inl h ↦ rw h refl | inr n ↦ rw n (any_of_last test xs x so) ]
-
 any_of_key : {X : Type 0} (same : X → X → Bool) (test : X → Bool) (keys : List X) (x : X) → list_any test keys ≡ true → list_any test (insert_key same keys x) ≡ true
 any_of_key same test keys x any = elim (cases_Bool (list_any (same x) keys)) [
   | inl y ↦ rw y any
-  | inr n ↦ rw n (any_of_more test keys (x ∷ []) any)
+  | inr n ↦ rw n (any_front test keys (x ∷ []) any)
 ]
 
 any_of_all : {X : Type 0} (same : X → X → Bool) (test : X → Bool) (keys xs : List X) → list_any test keys ≡ true → list_any test (insert_all same keys xs) ≡ true
@@ -70,7 +59,7 @@ any_of_all same test keys (x ∷ xs) any = any_of_all same test (insert_key same
 own_key : {X : Type 0} (same : X → X → Bool) (keys : List X) (x : X) → same x x ≡ true → list_any (same x) (insert_key same keys x) ≡ true
 own_key same keys x itself = elim (cases_Bool (list_any (same x) keys)) [
   | inl y ↦ rw y y
-  | inr n ↦ rw n (any_of_last (same x) keys x itself)
+  | inr n ↦ rw n (any_last (same x) keys x itself)
 ]
 
 pub any_at : {X : Type 0} (same : X → X → Bool) (keys xs : List X) (x : X) (k : ℕ) → k < length xs → slice_index_or xs k x ≡ x → same x x ≡ true
@@ -145,7 +134,7 @@ pub stub_found : (objects : List Object) (slots : List ImportSlot) (t s : Import
 stub_found objects slots t s listed is =
     let f = found (same_field t) (is_stub objects slots) (stubs objects slots) s (all_inserted same_field (is_stub objects slots) [] slots refl) is in
     let same : t.item.name ≡ s.item.name = (bytes_eq-Decides t.item.name s.item.name).0 f.passed in
-    let other : is_stub_name objects slots s.item.name ≡ true = right_and (is_weak_slot objects s) (is_stub_name objects slots s.item.name) f.also in
+    let other : is_stub_name objects slots s.item.name ≡ true = (and_parts (is_weak_slot objects s) (is_stub_name objects slots s.item.name) f.also).1 in
     let name : is_stub_name objects slots t.item.name ≡ true = ap (is_stub_name objects slots) same ∙ other in
     let weak : is_weak_slot objects t ≡ true = weak_of objects slots t listed name in
     rw (weak, name) refl
@@ -153,7 +142,7 @@ stub_found objects slots t s listed is =
 -- a slot of a stub is found among them
 stub_listed : (objects : List Object) (slots : List ImportSlot) (t : ImportSlot) → Contains slots t → is_stub objects slots t ≡ true → list_any (same_field t) (stubs objects slots) ≡ true
 stub_listed objects slots t listed so =
-    let kept = passes (is_stub objects slots) slots t listed so in
+    let kept = Contains-filter (is_stub objects slots) slots t listed so in
     any_at same_field [] (stub_slots objects slots) t kept.0 kept.1 kept.2 (itself t)
 
 pub no_stub : (objects : List Object) (slots : List ImportSlot) (t : ImportSlot) → Contains slots t → find (same_field t) (stubs objects slots) ≡ None → is_stub objects slots t ≡ false
@@ -205,8 +194,8 @@ named_binds input t target is = rules_join input t ∙ rw is refl
 pub left_binds : (input : Input) (t : ImportSlot) → Contains (slots_from Func 0 input.link.objects) t → is_kept_slot input t ≡ true → slot_target input.link t ≡ None
     → binds_function input t ≡ left_target (map first_slot (link_stubs input)) (map first_slot (first_imports (host_functions input))) t
 left_binds input t listed kept none =
-    let among : Contains (kept_slots input Func) t = passes (is_kept_slot input) (slots_from Func 0 input.link.objects) t listed kept in
+    let among : Contains (kept_slots input Func) t = Contains-filter (is_kept_slot input) (slots_from Func 0 input.link.objects) t listed kept in
     let no_name : is_none (slot_target input.link t) ≡ true = rw none refl in
-    let left : Contains (left_functions input) t = passes (λ (s : ImportSlot). is_none (slot_target input.link s)) (kept_slots input Func) t among no_name in
+    let left : Contains (left_functions input) t = Contains-filter (λ (s : ImportSlot). is_none (slot_target input.link s)) (kept_slots input Func) t among no_name in
     let e : binds_function input t ≡ unwrap_or (by_stub input t) (by_host input t) = rules_join input t ∙ rw none refl in
     e ∙ sym (target_left input t left)

@@ -6,8 +6,6 @@ pub mod HostLaws
 pub mod KindLaws
 pub mod LeftLaws
 pub mod ListLaws
-pub mod MapLaws
-pub mod MemberLaws
 pub mod MismatchLaws
 pub mod OneRuleLaws
 pub mod ResolvingLaws

@@ -1,12 +1,13 @@
 -- What stands in lists, and what is found in them.
-use Rattle.std.proofs.Common.{◌≡◌, ◌∙◌, ℕ, zero, suc, Bool, true, false, List, [], ◌∷◌, ◌++◌, filter_map, find, position, refl, sym, ap, subst, arith, inl, inr, Option, Some, None, slice_get, Contains}
+use Rattle.std.proofs.Common.{◌≡◌, ◌∙◌, ℕ, Bool, true, false, List, [], ◌∷◌, ◌++◌, filter_map, find, position, refl, sym, ap, subst, inl, inr, Option, Some, None}
 use Rattle.std.specs.List.{cons_option, list_any}
 use Rattle.std.specs.Option.{is_none}
 use Rattle.std.proofs.lemmas.Bool.{cases_Bool}
 use Rattle.indexmap.specs.IndexSet.{insert_key, insert_all}
-use Rattle.wl_bind.proofs.LeftLaws.{cases_option, no_place, any_at}
-use Rattle.wl_bind.proofs.ListLaws.{find_in_front, none_found, or_left, or_right}
-use Rattle.wl_bind.proofs.OnceParts.{IsIn, in_split}
+use Rattle.wl_lists.proofs.Found.{cases_option}
+use Rattle.wl_lists.proofs.In.{in_list, IsIn, in_split}
+use Rattle.wl_bind.proofs.LeftLaws.{no_place, any_at}
+use Rattle.wl_bind.proofs.ListLaws.{find_in_front, none_found}
 
 -- ---- tests
 
@@ -15,27 +16,6 @@ is_nothing None e = refl
 is_nothing (Some x) e = absurd cc
 
 -- ---- lists
-
-pub as_in : {X : Type 0} (xs : List X) (x : X) → Contains xs x → IsIn xs x
-as_in [] x h = absurd (omega (arith, h.1))
-as_in (y ∷ xs) x (zero, lt, is) = inl is
-as_in (y ∷ xs) x (suc k, lt, is) = inr (as_in xs x (k, omega (arith, lt), is))
-
-pub as_listed : {X : Type 0} (xs : List X) (x : X) → IsIn xs x → Contains xs x
-as_listed [] x h = absurd h
-as_listed (y ∷ xs) x (inl e) = (zero, omega arith, e)
-as_listed (y ∷ xs) x (inr r) = let rest = as_listed xs x r in (suc rest.0, omega (arith, rest.1), rest.2)
-
-pub found_at : {X : Type 0} (xs : List X) (x : X) → IsIn xs x → (k : ℕ) × (slice_get xs k ≡ Some x)
-found_at [] x h = absurd h
-found_at (y ∷ xs) x (inl e) = (zero, ap Some e)
-found_at (y ∷ xs) x (inr r) = let rest = found_at xs x r in (suc rest.0, rest.1)
-
--- one that passes is found
-pub any_in : {X : Type 0} (test : X → Bool) (xs : List X) (x : X) → IsIn xs x → test x ≡ true → list_any test xs ≡ true
-any_in test [] x h so = absurd h
-any_in test (y ∷ xs) x (inl e) so = or_left (test y) (list_any test xs) (ap test e ∙ so)
-any_in test (y ∷ xs) x (inr r) so = or_right (test y) (list_any test xs) (any_in test xs x r so)
 
 pub record Any {X : Type 0} (test : X → Bool) (xs : List X) : Type 0 where
   pub x : X
@@ -72,7 +52,7 @@ made_of_some {X} {Y} f (x ∷ xs) y h = by (f x) refl (λ r. made_of_some f xs y
 pub same_listed : {X : Type 0} (same : X → X → Bool) (xs : List X) (x : X) → same x x ≡ true → IsIn xs x
     → list_any (same x) (insert_all same [] xs) ≡ true
 same_listed same xs x self h =
-    let listed = as_listed xs x h in any_at same [] xs x listed.0 listed.1 listed.2 self
+    let listed = in_list xs x h in any_at same [] xs x listed.0 listed.1 listed.2 self
 
 -- it is that one, where what is the same is one
 pub still_in : {X : Type 0} (same : X → X → Bool) → ((a b : X) → same a b ≡ true → a ≡ b) → (xs : List X) (x : X)

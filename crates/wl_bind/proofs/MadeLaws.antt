@@ -1,10 +1,9 @@
 -- What a kept slot is bound to of the linker's exists.
 use Rattle.std.proofs.Common.{◌≡◌, ◌∙◌, ◌&&◌, ◌||◌, ℕ, ◌+◌, Bool, true, false, List, [], ◌∷◌, refl, sym, ap, subst, inl, inr, Option, Some, None, MatchOption, Contains, codes, if◌then◌else◌}
-use Rattle.std.specs.List.{list_any, position}
+use Rattle.std.specs.List.{position}
 use Rattle.std.specs.Option.{option_map, unwrap_or}
-use Rattle.std.proofs.lemmas.Bool.{cases_Bool}
+use Rattle.std.proofs.lemmas.Bool.{cases_Bool, or_left, or_right}
 use Rattle.std.proofs.lemmas.List.Elements.{Contains-append_cases}
-use Rattle.std.proofs.lemmas.List.Folds.{list_any_at}
 use denote.Enum.Bare.{true_same}
 use Rattle.wl_module.specs.Imports.{Imported}
 use Rattle.wl_linking.specs.Object.{Object}
@@ -37,11 +36,10 @@ use Rattle.wl_bind.specs.Scan.{got_mem, got_func}
 use Rattle.wl_bind.specs.declared.binding.FunctionTarget.{FunctionTarget}
 use Rattle.wl_bind.specs.declared.binding.FunctionTarget.TheVariants as function
 use Rattle.wl_bind.specs.declared.binding.GlobalTarget.TheVariants as global
+use Rattle.wl_lists.proofs.Found.{any_of, cases_option}
+use Rattle.wl_lists.proofs.In.{Contains-none, Contains-cons_cases}
 use Rattle.wl_bind.proofs.ClosedLaws.{SlotLaws}
 use Rattle.wl_bind.proofs.GlobalLaws.{binds}
-use Rattle.wl_bind.proofs.LeftLaws.{cases_option}
-use Rattle.wl_bind.proofs.ListLaws.{or_left, or_right}
-use Rattle.wl_bind.proofs.MemberLaws.{nowhere, first_or_behind}
 use Rattle.wl_bind.proofs.OneRuleLaws.{bound_as, taken_of}
 
 -- ---- what is told of slots and of names
@@ -55,22 +53,14 @@ pub record BindingLaws : Type 0 where
       → symbol_in link.objects object symbol ≡ Some s → is_private s ≡ false
       → StandsFor link s.name (def link object symbol)
 
--- ---- lists
-
--- one that passes is found
-any_of : {X : Type 0} (test : X → Bool) (xs : List X) (x : X) → Contains xs x → test x ≡ true
-    → list_any test xs ≡ true
-any_of test xs x listed passed =
-    list_any_at test xs listed.0 x listed.1 (ap test listed.2 ∙ passed)
-
 -- ---- the kind of a kept slot
 
 numbered_kind : (object : ℕ) (kind : WasmSymbolKind) (symbols : List LinkedSymbol) (n : ℕ)
     (is : List Imported) (t : ImportSlot)
     → Contains (numbered_slots object kind symbols n is) t → t.kind ≡ kind
-numbered_kind object kind symbols n [] t listed = absurd (nowhere t listed)
+numbered_kind object kind symbols n [] t listed = absurd (Contains-none t listed)
 numbered_kind object kind symbols n (i ∷ is) t listed =
-    elim (first_or_behind (slot_at object kind symbols n i) t
+    elim (Contains-cons_cases (slot_at object kind symbols n i) t
     (numbered_slots object kind symbols (n + 1) is) listed) [
       | inl here ↦ ap (λ (s : ImportSlot). s.kind) (sym here)
       | inr there ↦ numbered_kind object kind symbols (n + 1) is t there
@@ -78,7 +68,7 @@ numbered_kind object kind symbols n (i ∷ is) t listed =
 
 slots_kind : (kind : WasmSymbolKind) (n : ℕ) (os : List Object) (t : ImportSlot)
     → Contains (slots_from kind n os) t → t.kind ≡ kind
-slots_kind kind n [] t listed = absurd (nowhere t listed)
+slots_kind kind n [] t listed = absurd (Contains-none t listed)
 slots_kind kind n (o ∷ os) t listed =
     elim (Contains-append_cases (object_slots n kind o) (slots_from kind (n + 1) os) t listed) [
       | inl here ↦ numbered_kind n kind o.symbols 0 (slot_imports kind o.imports) t here

@@ -1,5 +1,6 @@
 -- Marks of segments, one for each number.
 use Rattle.std.proofs.Common.{◌≡◌, ◌∙◌, ◌==◌, ◌&&◌, ◌||◌, ℕ, zero, suc, ◌+◌, ◌<◌, ◌≤◌, Bool, true, false, if◌then◌else◌, List, [], ◌∷◌, length, map, get_or, set, take, replicate, refl, sym, ap, inl, inr, arith, Some, slice_get}
+use Rattle.std.proofs.Math.Bool.{or-false, or-true}
 use Rattle.std.specs.List.{list_any, range_with_len}
 use Rattle.std.proofs.lemmas.Bool.{cases_eq, eq-eqb, ne_eqb}
 use Rattle.std.proofs.lemmas.List.{get_or-set_same, get_or-set_other, length-set, take_all}
@@ -9,7 +10,6 @@ use Rattle.wl_custom.specs.Infos.{SegmentInfo, is_tls}
 use Rattle.wl_custom.specs.Symbols.{Symbol, is_thread_data}
 use Rattle.wl_bind.specs.ThreadData.{is_thread_symbol_on, is_thread_segment_by}
 use Rattle.wl_bind.specs.ThreadSteps.{marked}
-use Rattle.wl_bind.proofs.ListLaws.{or_false, or_true}
 
 -- ---- a mark for each number
 
@@ -45,10 +45,10 @@ pub one_more : (f g : ℕ → Bool) (n i : ℕ) (marks : Bool)
     → (if marks then set (map f (range_with_len 0 n)) i true else map f (range_with_len 0 n))
     ≡ map g (range_with_len 0 n)
 one_more f g n i true more =
-    one_set f g n i true (more i ∙ rw (eq-eqb i i refl) (or_true (f i)))
-    (λ k ne. more k ∙ rw (ne_eqb i k (λ e. ne (sym e))) (or_false (f k)))
+    one_set f g n i true (more i ∙ rw (eq-eqb i i refl) (or-true (f i)))
+    (λ k ne. more k ∙ rw (ne_eqb i k (λ e. ne (sym e))) (or-false (f k)))
 one_more f g n i false more =
-    same_marks f g (λ k. sym (more k ∙ or_false (f k))) (range_with_len 0 n)
+    same_marks f g (λ k. sym (more k ∙ or-false (f k))) (range_with_len 0 n)
 
 -- ---- by symbols
 

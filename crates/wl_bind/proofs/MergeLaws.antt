@@ -1,5 +1,6 @@
 -- Marks on the types of objects, and types that are merged.
 use Rattle.std.proofs.Common.{◌≡◌, ◌∙◌, ◌<◌, ◌≤◌, ◌≢◌, ◌+◌, ◌||◌, ◌&&◌, ℕ, zero, suc, Bool, true, false, ltb, eqb, List, [], ◌∷◌, ◌++◌, map, length, get_or, set, drop, drop-cons, add-one, Option, Some, None, refl, sym, ap, subst, arith, slice_get, append_assoc, append-nil, length-append, inl, inr, if◌then◌else◌, replicate, eq-eqb}
+use Rattle.std.proofs.Math.Bool.{or_assoc, or-false, or-true}
 use Rattle.std.specs.List.{AllByRecursion, list_any, filter, range_with_len}
 use Rattle.std.specs.Option.{MatchOption, option_map_or, is_some}
 use Rattle.std.proofs.lemmas.Bool.{cases_Bool, ltb-true, ltb-false, eqb-true, lt-ltb}
@@ -31,10 +32,8 @@ use Rattle.wl_module.specs.declared.types.ValType.TheVariants.{I32}
 use Rattle.wl_symbols.specs.Left.{first_imports}
 use Rattle.wl_symbols.specs.declared.linker_symbol.WasmLinkerSymbol.{WasmLinkerSymbol}
 use Rattle.wl_symbols.specs.declared.linker_symbol.WasmLinkerSymbol.TheVariants.{CallCtors, InitTls}
-use Rattle.wl_bind.proofs.ListLaws.{get_in_front, or_assoc, or_false, or_true}
+use Rattle.wl_lists.proofs.Places.{get_in_front}
 use Rattle.wl_bind.proofs.SharedLaws.{host_here}
-
--- ---- truth values
 
 -- ---- marks
 
@@ -66,15 +65,15 @@ set_mark marks n k lt =
           let is : n ≡ k = eqb-true n k same in
           let here : get_or (set marks k true) k false ≡ true =
           get_or-set_same marks k true false lt in
-          rw (same, is) (here ∙ sym (or_true (get_or marks k false)))
+          rw (same, is) (here ∙ sym (or-true (get_or marks k false)))
       | inr other ↦
           rw other (get_or-set_other marks n k true false (other_number n k other)
-          ∙ sym (or_false (get_or marks k false)))
+          ∙ sym (or-false (get_or marks k false)))
     ]
 
 mark_one : (marks : List Bool) (number : Option ℕ) (k : ℕ) → k < length marks
     → is_marked (mark marks number) k ≡ (is_marked marks k || is_number k number)
-mark_one marks None k lt = sym (or_false (is_marked marks k))
+mark_one marks None k lt = sym (or-false (is_marked marks k))
 mark_one marks (Some n) k lt =
     elim (cases_Bool (ltb n (length marks))) [
       | inl within ↦ rw within (set_mark marks n k lt)
@@ -85,12 +84,12 @@ mark_one marks (Some n) k lt =
                 absurd (omega (arith, lt, ltb-false n (length marks) beyond, is))
             | inr not ↦ not
           ] in
-          rw (beyond, other) (sym (or_false (is_marked marks k)))
+          rw (beyond, other) (sym (or-false (is_marked marks k)))
     ]
 
 mark_each : (marks : List Bool) (numbers : List (Option ℕ)) (k : ℕ) → k < length marks
     → is_marked (mark_all marks numbers) k ≡ (is_marked marks k || list_any (is_number k) numbers)
-mark_each marks [] k lt = sym (or_false (is_marked marks k))
+mark_each marks [] k lt = sym (or-false (is_marked marks k))
 mark_each marks (n ∷ ns) k lt =
     mark_each (mark marks n) ns k (omega (arith, lt, mark_len marks n))
     ∙ (ap (λ (b : Bool). b || list_any (is_number k) ns) (mark_one marks n k lt)

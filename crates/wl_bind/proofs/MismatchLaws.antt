@@ -1,7 +1,7 @@
 -- Symbols that lead to functions of another type.
 use Rattle.std.proofs.Common.{◌≡◌, ◌∙◌, ◌⊎◌, ℕ, zero, suc, ◌+◌, ◌<◌, Bool, true, false, not, ◌&&◌, List, [], ◌∷◌, length, refl, sym, ap, subst, arith, inl, inr, Option, Some, None, find, slice_get, slice_index_or}
 use Rattle.std.specs.Option.{option_map_or}
-use Rattle.std.proofs.lemmas.Bool.{cases_Bool}
+use Rattle.std.proofs.lemmas.Bool.{cases_Bool, and_parts, not-true}
 use Rattle.std.proofs.lemmas.Option.{slice_get_within}
 use Rattle.wl_module.specs.Types.{FunctionType, same_type}
 use Rattle.wl_linking.specs.Object.{Object}
@@ -22,7 +22,6 @@ use Rattle.wl_bind.specs.BindingSteps.{is_other_type, differs, is_mismatch, name
 use Rattle.wl_bind.specs.declared.binding.FunctionTarget.{FunctionTarget}
 use Rattle.wl_symbols.specs.declared.relocated.Relocated.{Relocated}
 use Rattle.wl_bind.proofs.FindLaws.{find_none, find_some}
-use Rattle.wl_bind.proofs.ListLaws.{and_both, both, is_not, left_and, right_and}
 
 -- ---- what differs
 
@@ -36,19 +35,12 @@ there : {X : Type 0} (test : X → Bool) (o : Option X) → option_map_or test o
 there test None h = absurd cc
 there test (Some x) h = record { x = x; is = refl; so = h }
 
-passing : {X : Type 0} (test : X → Bool) (o : Option X) (x : X) → o ≡ Some x → test x ≡ true → option_map_or test o false ≡ true
-passing test None x is so = absurd cc
-passing test (Some y) x is so = (let same : y ≡ x = cc in rw same so)
-
-not_false : (b : Bool) → b ≡ false → not b ≡ true
-not_false b h = rw h refl
-
 -- a symbol that is looked at and leads to another type is a cause
 pub mismatch : (input : Input) (object number : ℕ) (e : LinkError) → IsLookedAt input object number → TellsMismatch input object number e → IsMismatch input e
 mismatch input object number e looked h =
     let leads : Symbol → Bool = λ (s : Symbol). option_map_or (differs input object s) (fun input object number) false in
     let s = there (λ (s : Symbol). is_function s.kind && leads s) (symbol_in input.link.objects object number) h.so in
-    let f = there (differs input object s.x) (fun input object number) (right_and (is_function s.x.kind) (leads s.x) s.so) in
+    let f = there (differs input object s.x) (fun input object number) (and_parts (is_function s.x.kind) (leads s.x) s.so).1 in
     let d = there (λ (t : FunctionType). is_other_type input.link.objects t f.x) (declared_type input.link.objects object s.x) f.so in
     let a = there (λ (t : FunctionType). not (same_type d.x t)) (target_type input.link.objects f.x) d.so in
     record {
@@ -57,38 +49,18 @@ mismatch input object number e looked h =
       looked_at = looked;
       symbol = s.x;
       is = s.is;
-      function = left_and (is_function s.x.kind) (leads s.x) s.so;
+      function = (and_parts (is_function s.x.kind) (leads s.x) s.so).0;
       target = f.x;
       leads = f.is;
       declared = d.x;
       declared_is = d.is;
       actual = a.x;
       actual_is = a.is;
-      differ = is_not (same_type d.x a.x) a.so;
+      differ = not-true (same_type d.x a.x) a.so;
       told = h.told;
     }
 
--- a cause is such a symbol
-pub is_one : (input : Input) (e : LinkError) (m : IsMismatch input e) → is_mismatch input m.object m.number ≡ true
-is_one input e m =
-    let leads : Symbol → Bool = λ (s : Symbol). option_map_or (differs input m.object s) (fun input m.object m.number) false in
-    let a = passing (λ (t : FunctionType). not (same_type m.declared t)) (target_type input.link.objects m.target) m.actual m.actual_is (not_false (same_type m.declared m.actual) m.differ) in
-    let d = passing (λ (t : FunctionType). is_other_type input.link.objects t m.target) (declared_type input.link.objects m.object m.symbol) m.declared m.declared_is a in
-    let f = passing (differs input m.object m.symbol) (fun input m.object m.number) m.target m.leads d in
-    passing (λ (s : Symbol). is_function s.kind && leads s) (symbol_in input.link.objects m.object m.number) m.symbol m.is (and_both (is_function m.symbol.kind) (leads m.symbol) m.function f)
-
--- none of those that are looked at is one
-pub all_clear : (input : Input) → ((object number : ℕ) → IsLookedAt input object number → is_mismatch input object number ≡ false) → Clear (IsMismatch input)
-all_clear input none = record {
-  none = λ e m. (let both : true ≡ false = sym (is_one input e m) ∙ none m.object m.number m.looked_at in cc);
-}
-
 -- ---- lists
-
-pub same_at : {X : Type 0} (xs : List X) (k : ℕ) (x y : X) → k < length xs → slice_index_or xs k x ≡ x → slice_index_or xs k y ≡ y → x ≡ y
-same_at [] k x y lt at_x at_y = absurd (omega (arith, lt))
-same_at (z ∷ xs) zero x y lt at_x at_y = sym at_x ∙ at_y
-same_at (z ∷ xs) (suc k) x y lt at_x at_y = same_at xs k x y (omega (arith, lt)) at_x at_y
 
 -- a number below the next is below, or the same
 pub below_or_at : (j k : ℕ) → j < k + 1 → (j < k) ⊎ (j ≡ k)
@@ -98,15 +70,6 @@ below_or_at (suc j) zero lt = absurd (omega (arith, lt))
 below_or_at (suc j) (suc k) lt = elim (below_or_at j k (omega (arith, lt))) [
   | inl less ↦ inl (omega (arith, less))
   | inr same ↦ inr (omega (arith, same))
-]
-
--- what holds of one more
-pub one_more : {X : Type 0} (test : X → Bool) (xs : List X) (k : ℕ) (x : X) → k < length xs → x ≡ slice_index_or xs k x → test x ≡ false
-    → ((j : ℕ) (y : X) → j < k → slice_index_or xs j y ≡ y → test y ≡ false)
-    → (j : ℕ) (y : X) → j < k + 1 → slice_index_or xs j y ≡ y → test y ≡ false
-one_more test xs k x lt is so before j y below at_y = elim (below_or_at j k below) [
-  | inl less ↦ before j y less at_y
-  | inr same ↦ (let e : x ≡ y = same_at xs k x y lt (sym is) (rw same at at_y) in ap test (sym e) ∙ so)
 ]
 
 -- what stands at a place within the list stands there whatever else would
@@ -135,11 +98,11 @@ pub a_relocation : (input : Input) (r : Relocated)
     → IsMismatch input (SignatureMismatch r.object r.relocation.index)
 a_relocation input r e =
     let found = find_some (names_mismatch input) (relocations input) r e in
-    let parts = both (not (names_a_type r.relocation.ty)) (is_mismatch input r.object r.relocation.index) found.1 in
+    let parts = and_parts (not (names_a_type r.relocation.ty)) (is_mismatch input r.object r.relocation.index) found.1 in
     let named : NamedByRelocation input r.object r.relocation.index = record {
       relocated = r;
       kept = found.0;
-      by_symbol = is_not (names_a_type r.relocation.ty) parts.0;
+      by_symbol = not-true (names_a_type r.relocation.ty) parts.0;
       object_is = refl;
       number_is = refl;
     } in

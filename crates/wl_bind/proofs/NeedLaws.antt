@@ -1,5 +1,6 @@
 -- What the linker is asked for, slot by slot and segment by segment.
-use Rattle.std.proofs.Common.{◌≡◌, ◌∙◌, ◌&&◌, ◌||◌, ℕ, zero, suc, ◌+◌, ◌<◌, ◌≤◌, Bool, true, false, List, [], ◌∷◌, ◌++◌, length, map, filter, get_or, drop, drop-cons, add-one, refl, sym, ap, inl, inr, arith, if◌then◌else◌, Some, slice_get}
+use Rattle.std.proofs.Common.{◌≡◌, ◌∙◌, ◌&&◌, ◌||◌, ℕ, suc, ◌+◌, ◌<◌, ◌≤◌, Bool, true, false, List, [], ◌∷◌, ◌++◌, length, map, filter, get_or, drop, drop-cons, add-one, refl, sym, ap, inl, inr, arith, if◌then◌else◌}
+use Rattle.std.proofs.Math.Bool.{or_assoc, or-false}
 use Rattle.std.specs.List.{list_any, range_with_len}
 use Rattle.std.proofs.lemmas.Bool.{cases_Bool}
 use Rattle.std.proofs.lemmas.List.{drop_all}
@@ -23,7 +24,6 @@ use Rattle.wl_bind.specs.declared.binding.GlobalTarget.{GlobalTarget}
 use Rattle.wl_bind.specs.declared.binding.GlobalTarget.TheVariants as global
 use Rattle.wl_bind.specs.declared.resolution.ImportResolution.TheVariants.{Unresolved}
 use Rattle.wl_bind.specs.declared.resolution.ObjectImportResolutions.{ObjectImportResolutions}
-use Rattle.wl_bind.proofs.ListLaws.{or_assoc, or_false}
 
 -- ---- numbers one by one
 
@@ -51,15 +51,8 @@ pub number_end : (test : ℕ → Bool) (n k : ℕ) (so_far all : Bool) → n ≤
 number_end test n k so_far all le is =
     let numbers : List ℕ = range_with_len 0 n in
     let past : length numbers ≤ k = omega (arith, length-range_with_len 0 n, le) in
-    sym (or_false so_far)
+    sym (or-false so_far)
     ∙ (ap (λ (ks : List ℕ). so_far || list_any test ks) (sym (drop_all k numbers past)) ∙ is)
-
--- what stands there
-pub here_at : {X : Type 0} (xs : List X) (k : ℕ) (x : X) → k < length xs → x ≡ get_or xs k x
-    → slice_get xs k ≡ Some x
-here_at [] k x lt at = absurd (omega (arith, lt))
-here_at (y ∷ xs) zero x lt at = ap (λ z. Some z) (sym at)
-here_at (y ∷ xs) (suc k) x lt at = here_at xs k x (omega (arith, lt)) at
 
 -- ---- slots
 

@@ -1,7 +1,7 @@
 -- The indices of what objects define, and of what their slots are resolved to.
-use Rattle.std.proofs.Common.{◌≡◌, ◌∙◌, ◌≤◌, ◌<◌, ◌^◌, ℕ, zero, suc, ◌+◌, true, false, if◌then◌else◌, List, [], ◌∷◌, ◌++◌, length, map, take, get_or, refl, sym, ap, subst, arith, inl, inr, Some, None, slice_get, slice_index_or, Result, Ok, Err, IfErr, length-append, length-take-le}
+use Rattle.std.proofs.Common.{◌≡◌, ◌∙◌, ◌≤◌, ◌<◌, ◌^◌, ℕ, zero, suc, ◌+◌, true, false, if◌then◌else◌, List, [], ◌∷◌, ◌++◌, length, map, take, get_or, refl, sym, ap, subst, arith, inl, inr, Some, None, slice_get, slice_index_or, Result, Ok, Err, IfErr, length-append}
 use Rattle.std.specs.List.{AllZip, range_with_len}
-use Rattle.std.proofs.lemmas.Bool.{cases_Bool}
+use Rattle.std.proofs.lemmas.Bool.{cases_Bool, and_parts}
 use Rattle.std.proofs.lemmas.List.{take_more, length-map}
 use Rattle.std.proofs.lemmas.Option.{slice_get_within, get_or_from_slice_get}
 use Rattle.indexmap.proofs.SetLemmas.{AllZip-push}
@@ -24,7 +24,7 @@ use Rattle.wl_symbols.specs.Input.{Input, keeps, keeps_slot}
 use Rattle.wl_bind.specs.Numbering.{IsNumbering}
 use Rattle.wl_bind.specs.NumberingSteps.{HasRoom, FitsOwn, own_indices_of, HasIndex, IsResolvedIndex, resolution_of, HaveSlotIndices, IsSlotIndex}
 use Rattle.wl_bind.specs.OwnIndices.{own_unit, kept_own, firsts_from, function_firsts, global_firsts, own_index, kept_count}
-use Rattle.wl_bind.specs.Parts.{joined, lengths_of, total, by_object, IsIndexOf, AreIndicesOf, AreRows, IsOver}
+use Rattle.wl_bind.specs.Parts.{joined, lengths_of, total, by_object, IsIndexOf, AreIndicesOf, IsOver}
 use Rattle.wl_bind.specs.Resolutions.{Resolving, rows_from, resolutions, by_all_rules}
 use Rattle.wl_bind.specs.Shared.{place_at}
 use Rattle.wl_bind.specs.SpaceFaults.{IsSpaceOver}
@@ -37,7 +37,6 @@ use Rattle.wl_bind.specs.declared.resolution.ImportResolution.{ImportResolution}
 use Rattle.wl_bind.specs.declared.resolution.ObjectImportResolutions.{ObjectImportResolutions}
 use Rattle.wl_bind.proofs.HostLaws.{IsAt, placed}
 use Rattle.wl_bind.proofs.IndexLaws.{over_as}
-use Rattle.wl_bind.proofs.ListLaws.{left_and}
 use Rattle.wl_bind.proofs.OwnLaws.{own_stands, firsts_length}
 use Rattle.wl_bind.proofs.PlaceLaws.{joined_length}
 use Rattle.wl_lists.proofs.Splits.{splits}
@@ -69,13 +68,6 @@ zip_map R S f (x ∷ xs) [] each zip = zip
 zip_map R S f (x ∷ xs) (y ∷ ys) each zip =
     (each zero x y refl zip.0, zip_map R S f xs ys (λ k z w at r. each (suc k) z w at r) zip.1)
 
-pub zip_joined : {A B : Type 0} (R : A → B → Type 0) (xs more_xs : List A) (ys more_ys : List B)
-    → AllZip R xs ys → AllZip R more_xs more_ys → AllZip R (xs ++ more_xs) (ys ++ more_ys)
-zip_joined R [] mx [] my zip more = more
-zip_joined R [] mx (y ∷ ys) my zip more = absurd zip
-zip_joined R (x ∷ xs) mx [] my zip more = absurd zip
-zip_joined R (x ∷ xs) mx (y ∷ ys) my zip more = (zip.0, zip_joined R xs mx ys my zip.1 more)
-
 -- what is made of what stands at a place
 get_mapped : {X Y : Type 0} (f : X → Y) (xs : List X) (k : ℕ) (x : X) (d : Y) → slice_get xs k ≡ Some x
     → get_or (map f xs) k d ≡ f x
@@ -100,7 +92,7 @@ live_within : (input : Input) (u : LinkUnit) → IsLiveOf input.link input.live 
     → u.object < length input.link.objects
 live_within input u live is =
     let there : exists input.live.units u ≡ true =
-    left_and (exists input.live.units u) (slice_index_or input.live.marks (unit_number input.live.units u) false) is in
+    (and_parts (exists input.live.units u) (slice_index_or input.live.marks (unit_number input.live.units u) false) is).0 in
     within input.link.objects u.object u.unit
     (subst (λ (ns : List UnitCounts). exists ns u ≡ true) live.units there)
 
@@ -363,26 +355,6 @@ pub globals_room : (input : Input) (start : ℕ) → start ≡ total (lengths_of
 globals_room input start is room = let long = globals_long input in omega (arith, room, is, long)
 
 -- ---- rows
-
-rows_pushed : {X : Type 0} (P : ℕ → Object → X → Type 0) (n m : ℕ) (os : List Object) (rows : List X) (o : Object) (row : X)
-    → n + length os ≡ m → AreRows P n os rows → P m o row → AreRows P n (os ++ o ∷ []) (rows ++ row ∷ [])
-rows_pushed P n m [] [] o row is are so =
-    let e : m ≡ n = omega (arith, is) in (subst (λ (i : ℕ). P i o row) e so, tt)
-rows_pushed P n m [] (r ∷ rows) o row is are so = absurd are
-rows_pushed P n m (p ∷ os) [] o row is are so = absurd are
-rows_pushed P n m (p ∷ os) (r ∷ rows) o row is are so =
-    (are.0, rows_pushed P (n + 1) m os rows o row (omega (arith, is)) are.1 so)
-
--- one row more
-pub row_more : {X : Type 0} (P : ℕ → Object → X → Type 0) (objects : List Object) (rows new : List X) (k : ℕ) (row : X)
-    → k < length objects → ((o : Object) → slice_get objects k ≡ Some o → P k o row) → new ≡ rows ++ row ∷ []
-    → AreRows P 0 (take k objects) rows → AreRows P 0 (take (k + 1) objects) new
-row_more P objects rows new k row lt here pushed so_far =
-    let s = splits objects k lt in
-    let more : take (k + 1) objects ≡ take k objects ++ s.x ∷ [] =
-    take_more objects k s.x lt ∙ ap (λ (o : Object). take k objects ++ o ∷ []) (get_or_from_slice_get objects k s.x s.x s.here) in
-    let long : length (take k objects) ≡ k = length-take-le k objects (omega (arith, lt)) in
-    rw (more, pushed) (rows_pushed P 0 k (take k objects) rows s.x row (omega (arith, long)) so_far (here s.x s.here))
 
 -- the row of an object has few entries
 pub row_few : (input : Input) (kind : WasmSymbolKind) (object : ℕ) (o : Object) (row : List ImportResolution) (count : ℕ)

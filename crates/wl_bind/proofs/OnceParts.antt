@@ -1,36 +1,14 @@
 -- Lists in which nothing stands twice, and parts of a space.
-use Rattle.std.proofs.Common.{◌≡◌, ◌⊎◌, ◌∙◌, ℕ, zero, suc, ◌+◌, ◌≤◌, Bool, true, false, List, [], ◌∷◌, ◌++◌, refl, sym, ap, subst, arith, inl, inr, Some, slice_get, filter, map, if◌then◌else◌}
-use Rattle.std.specs.List.{list_any, range_with_len}
+use Rattle.std.proofs.Common.{◌≡◌, ◌∙◌, ℕ, ◌+◌, ◌≤◌, Bool, true, false, List, [], ◌∷◌, ◌++◌, sym, ap, subst, arith, inl, inr, filter, map, if◌then◌else◌}
 use Rattle.std.proofs.lemmas.Bool.{cases_Bool}
 use Rattle.std.proofs.lemmas.List.{append-nil, append_assoc}
-use Rattle.indexmap.specs.IndexSet.{insert_all}
 use Rattle.wl_linking.specs.Object.{Object}
-use Rattle.wl_bind.specs.Parts.{by_object, joined, StandOnce}
+use Rattle.wl_bind.specs.Parts.{by_object, joined}
+use Rattle.wl_lists.proofs.In.{IsIn, in_split, in_map}
+use Rattle.wl_lists.proofs.Once.{Distinct, distinct-append, distinct-map}
+use Rattle.wl_lists.proofs.Rows.{given_by}
 
 -- ---- what stands in a list
-
-abbrev pub IsIn : {X : Type 0} → List X → X → Type 0
-IsIn [] z = ⊥
-IsIn (x ∷ xs) z = (x ≡ z) ⊎ IsIn xs z
-
-pub in_at : {X : Type 0} (xs : List X) (k : ℕ) (z : X) → slice_get xs k ≡ Some z → IsIn xs z
-in_at [] k z e = absurd (cc)
-in_at (x ∷ xs) zero z e = let h : x ≡ z = cc in inl h
-in_at (x ∷ xs) (suc k) z e = inr (in_at xs k z e)
-
-pub in_split : {X : Type 0} (xs ys : List X) (z : X) → IsIn (xs ++ ys) z → IsIn xs z ⊎ IsIn ys z
-in_split [] ys z h = inr h
-in_split (x ∷ xs) ys z h = elim h [
-  | inl e ↦ inl (inl e)
-  | inr r ↦ elim (in_split xs ys z r) [ inl a ↦ inl (inr a) | inr b ↦ inr b ]
-]
-
-pub in_filter : {X : Type 0} (p : X → Bool) (xs : List X) (z : X) → IsIn (filter p xs) z → IsIn xs z
-in_filter p [] z h = h
-in_filter p (x ∷ xs) z h = elim (cases_Bool (p x)) [
-  | inl t ↦ elim (rw t at h) [ inl e ↦ inl e | inr r ↦ inr (in_filter p xs z r) ]
-  | inr f ↦ inr (in_filter p xs z (rw f at h))
-]
 
 pub passes : {X : Type 0} (p : X → Bool) (xs : List X) (z : X) → IsIn (filter p xs) z → p z ≡ true
 passes p [] z h = absurd h
@@ -41,160 +19,6 @@ passes {X} p (x ∷ xs) z h = elim (cases_Bool (p x)) [
   ]
   | inr f ↦ passes p xs z (rw f at h)
 ]
-
-in_map_filter : {X Y : Type 0} (f : X → Y) (p : X → Bool) (xs : List X) (z : Y) → IsIn (map f (filter p xs)) z
-    → IsIn (map f xs) z
-in_map_filter f p [] z h = h
-in_map_filter f p (x ∷ xs) z h = elim (cases_Bool (p x)) [
-  | inl t ↦ elim (rw t at h) [ inl e ↦ inl e | inr r ↦ inr (in_map_filter f p xs z r) ]
-  | inr g ↦ inr (in_map_filter f p xs z (rw g at h))
-]
-
-pub record Came {X Y : Type 0} (f : X → Y) (xs : List X) (z : Y) : Type 0 where
-  pub from : X
-  pub there : IsIn xs from
-  pub to : f from ≡ z
-
-pub in_map : {X Y : Type 0} (f : X → Y) (xs : List X) (z : Y) → IsIn (map f xs) z → Came f xs z
-in_map f [] z h = absurd h
-in_map f (x ∷ xs) z h = elim h [
-  | inl e ↦ record { from = x; there = inl refl; to = e }
-  | inr r ↦ (let c = in_map f xs z r in record { from = c.from; there = inr c.there; to = c.to })
-]
-
--- ---- nothing stands twice
-
-abbrev pub Distinct : {X : Type 0} → List X → Type 0
-Distinct [] = Unit {0}
-Distinct (x ∷ xs) = (IsIn xs x → ⊥) × Distinct xs
-
-pub once_from : {X : Type 0} (xs : List X) → Distinct xs → StandOnce xs
-once_from [] d i k z a b = absurd (cc)
-once_from (x ∷ xs) d zero zero z a b = refl
-once_from (x ∷ xs) d zero (suc k) z a b = absurd (d.0 (let e : x ≡ z = cc in rw e (in_at xs k z b)))
-once_from (x ∷ xs) d (suc i) zero z a b = absurd (d.0 (let e : x ≡ z = cc in rw e (in_at xs i z a)))
-once_from (x ∷ xs) d (suc i) (suc k) z a b = ap suc (once_from xs d.1 i k z a b)
-
-pub distinct-append : {X : Type 0} (xs ys : List X) → Distinct xs → Distinct ys
-    → ((z : X) → IsIn xs z → IsIn ys z → ⊥) → Distinct (xs ++ ys)
-distinct-append [] ys a b apart = b
-distinct-append (x ∷ xs) ys a b apart = (
-  λ h. elim (in_split xs ys x h) [ inl l ↦ a.0 l | inr r ↦ apart x (inl refl) r ],
-  distinct-append xs ys a.1 b (λ z l r. apart z (inr l) r),
-)
-
-pub distinct-map_filter : {X Y : Type 0} (f : X → Y) (p : X → Bool) (xs : List X) → Distinct (map f xs)
-    → Distinct (map f (filter p xs))
-distinct-map_filter f p [] d = d
-distinct-map_filter f p (x ∷ xs) d = elim (cases_Bool (p x)) [
-  | inl t ↦ rw t (λ h. d.0 (in_map_filter f p xs (f x) h), distinct-map_filter f p xs d.1)
-  | inr g ↦ rw g (distinct-map_filter f p xs d.1)
-]
-
-pub distinct-filter : {X : Type 0} (p : X → Bool) (xs : List X) → Distinct xs → Distinct (filter p xs)
-distinct-filter p [] d = d
-distinct-filter p (x ∷ xs) d = elim (cases_Bool (p x)) [
-  | inl t ↦ rw t (λ h. d.0 (in_filter p xs x h), distinct-filter p xs d.1)
-  | inr g ↦ rw g (distinct-filter p xs d.1)
-]
-
-pub distinct-map : {X Y : Type 0} (f : X → Y) → ((a b : X) → f a ≡ f b → a ≡ b) → (xs : List X) → Distinct xs
-    → Distinct (map f xs)
-distinct-map f same [] d = d
-distinct-map {X} f same (x ∷ xs) d = (
-  λ h. let c = in_map f xs (f x) h in d.0 (let e : c.from ≡ x = same c.from x c.to in
-      let P : X → Type 0 = λ w. IsIn xs w in subst P e c.there),
-  distinct-map f same xs d.1,
-)
-
-pub distinct_if : {X : Type 0} (b : Bool) (xs : List X) → Distinct xs → Distinct (if b then xs else [])
-distinct_if true xs d = d
-distinct_if false xs d = tt
-
--- ---- numbers
-
-range_least : (a n z : ℕ) → IsIn (range_with_len a n) z → a ≤ z
-range_least a zero z h = absurd h
-range_least a (suc n) z h = elim h [
-  | inl e ↦ omega (arith, e)
-  | inr r ↦ (let m : a + 1 ≤ z = range_least (a + 1) n z r in omega (arith, m))
-]
-
-pub distinct-range : (a n : ℕ) → Distinct (range_with_len a n)
-distinct-range a zero = tt
-distinct-range a (suc n) = (
-  λ h. let m : a + 1 ≤ a = range_least (a + 1) n a h in absurd (omega (arith, m)),
-  distinct-range (a + 1) n,
-)
-
--- ---- first occurrences, of things that differ by what they are told by
-
-in_skip : {X Y : Type 0} (f : X → Y) (front : List X) (x : X) (bs : List X) (z : Y)
-    → IsIn (map f (front ++ bs)) z → IsIn (map f (front ++ x ∷ bs)) z
-in_skip f [] x bs z h = inr h
-in_skip f (a ∷ front) x bs z h = elim h [ inl e ↦ inl e | inr r ↦ inr (in_skip f front x bs z r) ]
-
-distinct-skip : {X Y : Type 0} (f : X → Y) (front : List X) (x : X) (bs : List X)
-    → Distinct (map f (front ++ x ∷ bs)) → Distinct (map f (front ++ bs))
-distinct-skip f [] x bs d = d.1
-distinct-skip f (a ∷ front) x bs d = (λ h. d.0 (in_skip f front x bs (f a) h), distinct-skip f front x bs d.1)
-
-distinct-firsts_onto : {X Y : Type 0} (f : X → Y) (same : X → X → Bool) (seen xs : List X)
-    → Distinct (map f (seen ++ xs)) → Distinct (map f (insert_all same seen xs))
-distinct-firsts_onto f same seen [] d = rw append-nil at d
-distinct-firsts_onto f same seen (x ∷ xs) d = elim (cases_Bool (list_any (same x) seen)) [
-  | inl t ↦ rw t (distinct-firsts_onto f same seen xs (distinct-skip f seen x xs d))
-  | inr g ↦ rw g (distinct-firsts_onto f same (seen ++ x ∷ []) xs (rw append_assoc d))
-]
-
-pub distinct-firsts : {X Y : Type 0} (f : X → Y) (same : X → X → Bool) (xs : List X) → Distinct (map f xs)
-    → Distinct (map f (insert_all same [] xs))
-distinct-firsts f same xs d = distinct-firsts_onto f same [] xs d
-
--- ---- first occurrences by a test that everything passes with itself
-
-any_in : {X : Type 0} (same : X → X → Bool) → ((x : X) → same x x ≡ true) → (xs : List X) (x : X) → IsIn xs x
-    → list_any (same x) xs ≡ true
-any_in same self [] x h = absurd h
-any_in {X} same self (y ∷ xs) x h = elim h [
-  | inl e ↦ (let P : X → Type 0 = λ z. same x z ≡ true in let t : same x y ≡ true = subst P (sym e) (self x) in rw t refl)
-  | inr r ↦ elim (cases_Bool (same x y)) [ inl t ↦ rw t refl | inr f ↦ rw f (any_in same self xs x r) ]
-]
-
-distinct-push : {X : Type 0} (xs : List X) (x : X) → Distinct xs → (IsIn xs x → ⊥) → Distinct (xs ++ x ∷ [])
-distinct-push {X} xs x d out =
-    distinct-append xs (x ∷ []) d (λ h. h, tt)
-    (λ z l r. elim r [ inl e ↦ (let P : X → Type 0 = λ w. IsIn xs w in out (subst P (sym e) l)) | inr n ↦ n ])
-
-distinct-self_onto : {X : Type 0} (same : X → X → Bool) → ((x : X) → same x x ≡ true) → (seen xs : List X)
-    → Distinct seen → Distinct (insert_all same seen xs)
-distinct-self_onto same self seen [] d = d
-distinct-self_onto same self seen (x ∷ xs) d = elim (cases_Bool (list_any (same x) seen)) [
-  | inl t ↦ rw t (distinct-self_onto same self seen xs d)
-  | inr f ↦ rw f (distinct-self_onto same self (seen ++ x ∷ []) xs
-      (distinct-push seen x d (λ h. let t = any_in same self seen x h in absurd (cc))))
-]
-
-pub distinct-self : {X : Type 0} (same : X → X → Bool) → ((x : X) → same x x ≡ true) → (xs : List X)
-    → Distinct (insert_all same [] xs)
-distinct-self same self xs = distinct-self_onto same self [] xs tt
-
-in_firsts_onto : {X : Type 0} (same : X → X → Bool) (seen xs : List X) (z : X) → IsIn (insert_all same seen xs) z
-    → IsIn seen z ⊎ IsIn xs z
-in_firsts_onto same seen [] z h = inl h
-in_firsts_onto same seen (x ∷ xs) z h = elim (cases_Bool (list_any (same x) seen)) [
-  | inl t ↦ elim (in_firsts_onto same seen xs z (rw t at h)) [ inl a ↦ inl a | inr b ↦ inr (inr b) ]
-  | inr f ↦ elim (in_firsts_onto same (seen ++ x ∷ []) xs z (rw f at h)) [
-    | inl a ↦ elim (in_split seen (x ∷ []) z a) [
-      | inl c ↦ inl c
-      | inr c ↦ elim c [ inl e ↦ inr (inl e) | inr n ↦ absurd n ]
-    ]
-    | inr b ↦ inr (inr b)
-  ]
-]
-
-pub in_firsts : {X : Type 0} (same : X → X → Bool) (xs : List X) (z : X) → IsIn (insert_all same [] xs) z → IsIn xs z
-in_firsts same xs z h = elim (in_firsts_onto same [] xs z h) [ inl a ↦ absurd a | inr b ↦ b ]
 
 -- ---- object by object
 
@@ -217,24 +41,6 @@ distinct-by_object key f of each i (o ∷ objects) =
     distinct-append (f i o) (by_object f (i + 1) objects) (each i o) (distinct-by_object key f of each (i + 1) objects)
     (λ z l r. let e : key z ≡ i = of i o z l in
     let m : i + 1 ≤ key z = by_object_least key f of (i + 1) objects z r in absurd (omega (arith, e, m)))
-
--- what stands among all comes from one of them
-pub record Given {X : Type 0} (f : ℕ → Object → List X) (i : ℕ) (objects : List Object) (z : X) : Type 0 where
-  pub place : ℕ
-  pub object : Object
-  pub at : slice_get objects place ≡ Some object
-  pub there : IsIn (f (i + place) object) z
-
-pub given_by : {X : Type 0} (f : ℕ → Object → List X) (i : ℕ) (objects : List Object) (z : X)
-    → IsIn (by_object f i objects) z → Given f i objects z
-given_by f i [] z h = absurd h
-given_by {X} f i (o ∷ objects) z h = elim (in_split (f i o) (by_object f (i + 1) objects) z h) [
-  | inl l ↦ (let here : i ≡ i + 0 = omega arith in
-      record { place = 0; object = o; at = refl; there = subst (λ (n : ℕ). IsIn (f n o) z) here l })
-  | inr r ↦ (let g = given_by f (i + 1) objects z r in
-      let here : (i + 1) + g.place ≡ i + suc g.place = omega arith in
-      record { place = suc g.place; object = g.object; at = g.at; there = subst (λ (n : ℕ). IsIn (f n g.object) z) here g.there })
-]
 
 -- ---- parts of a space
 

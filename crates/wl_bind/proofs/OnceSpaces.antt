@@ -1,5 +1,6 @@
 -- No entry stands twice in the function space, in the global space, or in the types of the output.
 use Rattle.std.proofs.Common.{◌≡◌, ◌∙◌, ℕ, suc, ◌+◌, ◌-◌, ◌≤◌, ◌&&◌, Bool, true, false, not, List, [], ◌∷◌, ◌++◌, length, refl, sym, ap, subst, arith, inl, inr, Some, slice_get, filter, filter_map, map, if◌then◌else◌}
+use Rattle.std.proofs.lemmas.Bool.{not-true}
 use Rattle.std.specs.List.{range_with_len}
 use Rattle.std.specs.Option.{option_map_or, is_none}
 use Rattle.std.proofs.lemmas.List.{map-append}
@@ -34,8 +35,11 @@ use Rattle.wl_bind.specs.Sameness.{same_made}
 use Rattle.wl_bind.specs.declared.binding.FunctionTarget.TheVariants as function
 use Rattle.wl_bind.specs.declared.binding.GlobalTarget.TheVariants as global
 use Rattle.wl_bind.specs.declared.exported.DataSymbol.{DataSymbol}
-use Rattle.wl_bind.proofs.ListLaws.{is_not}
-use Rattle.wl_bind.proofs.OnceParts.{IsIn, in_split, passes, in_firsts, in_map, Distinct, once_from, distinct-append, distinct-filter, distinct-map_filter, distinct-map, distinct_if, distinct-range, distinct-firsts, distinct-self, distinct-by_object, given_by, IsPart, AreParts, distinct-joined, part_of, part_if, part_by_object, joined_end}
+use Rattle.wl_lists.proofs.Firsts.{in_firsts, distinct-firsts, distinct-self}
+use Rattle.wl_lists.proofs.In.{IsIn, in_split, in_map}
+use Rattle.wl_lists.proofs.Once.{Distinct, once_from, distinct-append, distinct-filter, distinct-map_filter, distinct-map, distinct_if, distinct-range}
+use Rattle.wl_lists.proofs.Rows.{given_by}
+use Rattle.wl_bind.proofs.OnceParts.{passes, distinct-by_object, IsPart, AreParts, distinct-joined, part_of, part_if, part_by_object, joined_end}
 use Rattle.wl_bind.proofs.SameLaws.{made_self, pairs_self}
 
 -- ---- slots by their places
@@ -258,7 +262,7 @@ dynamic_told input d h = dynamic_if input d input.link.args.export_dynamic h
 
 forced_told : (input : Input) (d : DataSymbol) → IsIn (forced_data input) d → is_dynamic input d ≡ false
 forced_told input d h =
-    is_not (is_dynamic input d)
+    not-true (is_dynamic input d)
     (passes (λ (x : DataSymbol). not (is_dynamic input x)) (filter_map (forced_by input) input.link.args.export_symbols) d
     (in_firsts same_data (filter (λ (x : DataSymbol). not (is_dynamic input x)) (filter_map (forced_by input) input.link.args.export_symbols)) d h))
 

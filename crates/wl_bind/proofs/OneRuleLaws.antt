@@ -2,7 +2,7 @@
 use Rattle.std.proofs.Common.{◌≡◌, ◌∙◌, ◌⊎◌, zero, suc, Bool, true, false, not, List, [], ◌∷◌, ◌++◌, filter, find, refl, sym, ap, arith, inl, inr, Option, Some, None, Contains, bytes_eq}
 use Rattle.std.specs.List.{list_any}
 use Rattle.std.specs.Option.{unwrap_or, is_none}
-use Rattle.std.proofs.lemmas.Bool.{cases_Bool}
+use Rattle.std.proofs.lemmas.Bool.{cases_Bool, and_parts}
 use Rattle.std.proofs.lemmas.List.Elements.{Contains-push_cases}
 use Rattle.std.proofs.lemmas.Slice.Eq.{bytes_eq-Decides}
 use Rattle.indexmap.specs.IndexSet.{insert_key, insert_all}
@@ -16,18 +16,16 @@ use Rattle.wl_bind.specs.FunctionBinding.{left_functions, link_stubs, host_funct
 use Rattle.wl_bind.specs.BindingCases.{IsOfStub, IsOfHost, IsBoundAs}
 use Rattle.wl_bind.specs.declared.binding.FunctionTarget.{FunctionTarget}
 use Rattle.wl_bind.specs.declared.binding.FunctionTarget.TheVariants.{Host, Stub}
+use Rattle.wl_lists.proofs.Found.{cases_option}
+use Rattle.wl_lists.proofs.In.{Contains-here, Contains-none, Contains-filter}
 use Rattle.wl_bind.proofs.FindLaws.{find_some}
-use Rattle.wl_bind.proofs.RowLaws.{passes}
-use Rattle.wl_bind.proofs.LeftLaws.{cases_option, any_at, all_inserted, found, stub_found, no_stub, rules_join, named_binds}
-use Rattle.wl_bind.proofs.ListLaws.{left_and, none_found, right_and}
+use Rattle.wl_bind.proofs.LeftLaws.{any_at, all_inserted, found, stub_found, no_stub, rules_join, named_binds}
+use Rattle.wl_bind.proofs.ListLaws.{none_found}
 
 -- ---- lists
 
 one_behind : {X : Type 0} (y : X) (xs : List X) (x : X) → Contains xs x → Contains (y ∷ xs) x
 one_behind y xs x among = (suc among.0, omega (arith, among.1), among.2)
-
-in_front : {X : Type 0} (x : X) (xs : List X) → Contains (x ∷ xs) x
-in_front x xs = (zero, omega arith, refl)
 
 -- an element of a list is the first one, or is behind it
 behind_first : {X : Type 0} (y : X) (kept xs : List X) (x : X) → (Contains kept x → Contains xs x) → Contains (y ∷ kept) x → Contains (y ∷ xs) x
@@ -55,15 +53,12 @@ inserted_of same keys (y ∷ xs) x among = elim (inserted_of same (insert_key sa
   | inr rest ↦ inr (one_behind y xs x rest)
   | inl key ↦ elim (key_of same keys y x key) [
     | inl before ↦ inl before
-    | inr here ↦ inr (rw (← here) (in_front y xs))
+    | inr here ↦ inr (rw (← here) (Contains-here y xs))
   ]
 ]
 
-none_in : {X : Type 0} (x : X) → Contains [] x → ⊥
-none_in x among = omega (arith, among.1)
-
 listed_of : {X : Type 0} (same : X → X → Bool) (xs : List X) (x : X) → Contains (insert_all same [] xs) x → Contains xs x
-listed_of same xs x among = elim (inserted_of same [] xs x among) [ inl none ↦ absurd (none_in x none) | inr rest ↦ rest ]
+listed_of same xs x among = elim (inserted_of same [] xs x among) [ inl none ↦ absurd (Contains-none x none) | inr rest ↦ rest ]
 
 -- ---- slots
 
@@ -96,8 +91,8 @@ host_found : (input : Input) (t s : ImportSlot) → slot_target input.link t ≡
     → find (same_import t) (first_imports (host_functions input)) ≡ Some s → IsOfHost input t (binds_function input t)
 host_found input t s none no_stub_of is =
     let among = find_some (same_import t) (first_imports (host_functions input)) s is in
-    let origin : bytes_eq t.item.origin s.item.origin ≡ true = left_and (bytes_eq t.item.origin s.item.origin) (bytes_eq t.item.name s.item.name) among.1 in
-    let name : bytes_eq t.item.name s.item.name ≡ true = right_and (bytes_eq t.item.origin s.item.origin) (bytes_eq t.item.name s.item.name) among.1 in
+    let origin : bytes_eq t.item.origin s.item.origin ≡ true = (and_parts (bytes_eq t.item.origin s.item.origin) (bytes_eq t.item.name s.item.name) among.1).0 in
+    let name : bytes_eq t.item.name s.item.name ≡ true = (and_parts (bytes_eq t.item.origin s.item.origin) (bytes_eq t.item.name s.item.name) among.1).1 in
     let target : binds_function input t ≡ unwrap_or (by_stub input t) (by_host input t) = rules_join input t ∙ rw none refl in
     let stub : by_stub input t ≡ None = rw no_stub_of refl in
     let host : by_host input t ≡ Host s.object s.number = rw is refl in
@@ -118,7 +113,7 @@ host_case input t listed none no_one =
     let hosts : List ImportSlot = host_functions input in
     let test : ImportSlot → Bool = λ (s : ImportSlot). not (is_stub input.link.objects (left_functions input) s) in
     let passed : not (is_stub input.link.objects (left_functions input) t) ≡ true = rw so refl in
-    let here : Contains hosts t = passes test (left_functions input) t listed passed in
+    let here : Contains hosts t = Contains-filter test (left_functions input) t listed passed in
     let any : list_any (same_import t) (first_imports hosts) ≡ true = any_at same_import [] hosts t here.0 here.1 here.2 (own_import t) in
     elim (cases_option (find (same_import t) (first_imports hosts))) [
       | inr s ↦ host_found input t s.0 none so s.1
@@ -131,7 +126,7 @@ bound_as input t kept = elim (cases_option (slot_target input.link t)) [
   | inr n ↦ inl (record { named = n.0; bound = n.1; target_is = named_binds input t n.0 n.1 })
   | inl none ↦
       (let no_name : is_none (slot_target input.link t) ≡ true = rw none refl in
-      let listed : Contains (left_functions input) t = passes (λ (s : ImportSlot). is_none (slot_target input.link s)) (kept_slots input Func) t kept no_name in
+      let listed : Contains (left_functions input) t = Contains-filter (λ (s : ImportSlot). is_none (slot_target input.link s)) (kept_slots input Func) t kept no_name in
       elim (cases_option (find (same_field t) (link_stubs input))) [
         | inr s ↦ inr (inl (stub_case input t s.0 listed none s.1))
         | inl no_one ↦ inr (inr (host_case input t listed none no_one))

@@ -1,7 +1,8 @@
 -- What objects define stands in a space at the first index of its object and its ordinal.
 use Rattle.std.proofs.Common.{◌≡◌, ◌∙◌, ℕ, zero, suc, ◌+◌, ◌-◌, ◌<◌, ◌≤◌, Bool, true, false, List, [], ◌∷◌, ◌++◌, map, filter, length, Some, refl, sym, ap, arith, slice_get, slice_index_or, if◌then◌else◌, length-append, append_assoc, nat_lt, inl, inr}
 use Rattle.std.specs.List.{range_with_len}
-use Rattle.std.proofs.lemmas.Bool.{cases_Bool, ltb-true}
+use Rattle.std.proofs.lemmas.Bool.{cases_Bool, ltb-true, and_parts}
+use Rattle.std.proofs.lemmas.List.{length-map}
 use Rattle.std.proofs.lemmas.List.Elements.{filter-append}
 use Rattle.std.proofs.lemmas.Option.{cond_some}
 use Rattle.wl_linking.specs.Object.{Object}
@@ -14,9 +15,8 @@ use Rattle.wl_bind.specs.OwnIndices.{own_unit, own_count, kept_own, firsts_from}
 use Rattle.wl_bind.specs.Parts.{by_object}
 use Rattle.wl_bind.specs.declared.own_indices.Own.{Own}
 use Rattle.wl_bind.specs.declared.own_indices.Own.TheVariants.{Functions, Globals}
+use Rattle.wl_lists.proofs.Places.{get_in_front, mapped_at, get_behind}
 use Rattle.wl_bind.proofs.ClosedLaws.{counts_at}
-use Rattle.wl_bind.proofs.ListLaws.{get_in_front, left_and, length_mapped, mapped_at}
-use Rattle.wl_bind.proofs.PlaceLaws.{get_behind}
 
 -- ---- numbers that pass a test
 
@@ -99,7 +99,7 @@ below_own input Globals object number (suc n) =
 
 live_exists : (live : Live) (u : LinkUnit) → is_live live u ≡ true → exists live.units u ≡ true
 live_exists live u e =
-    left_and (exists live.units u) (slice_index_or live.marks (unit_number live.units u) false) e
+    (and_parts (exists live.units u) (slice_index_or live.marks (unit_number live.units u) false) e).0
 
 own_index_is : (own : Own) (number : ℕ) → unit_index (own_unit own number) ≡ number
 own_index_is Functions number = refl
@@ -137,7 +137,7 @@ own_stands_from {Y} input own entry front i (x ∷ objects) zero first n number 
 own_stands_from {Y} input own entry front i (x ∷ objects) (suc k) first n number o at first_is kept =
     let mine = map (entry i) (kept_own input own i x) in
     let len : length (front ++ mine) ≡ length front + length (kept_own input own i x) =
-    length-append front mine ∙ ap (λ (m : ℕ). length front + m) (length_mapped (entry i) (kept_own input own i x)) in
+    length-append front mine ∙ ap (λ (m : ℕ). length front + m) (length-map (kept_own input own i x) (entry i)) in
     let here : i + suc k ≡ (i + 1) + k = omega arith in
     let more = own_stands_from input own entry (front ++ mine) (i + 1) objects k first n number o at
     (ap (λ (m : ℕ). slice_get (firsts_from input own m (i + 1) objects) k) len ∙ first_is)

@@ -1,18 +1,12 @@
 -- Lists that stand in a space from a place on, and the parts of a space.
-use Rattle.std.proofs.Common.{◌≡◌, ℕ, zero, suc, ◌+◌, List, [], ◌∷◌, ◌++◌, length, refl, sym, ap, subst, ◌∙◌, arith, Some, slice_get, length-append, append_assoc}
+use Rattle.std.proofs.Common.{◌≡◌, ℕ, zero, suc, ◌+◌, List, [], ◌∷◌, ◌++◌, length, refl, sym, ap, subst, ◌∙◌, Some, slice_get, length-append, append_assoc}
 use Rattle.wl_bind.specs.Parts.{joined, lengths_of, starts_from, total}
-use Rattle.wl_bind.proofs.ListLaws.{get_in_front}
+use Rattle.wl_lists.proofs.Places.{get_behind, get_in_front}
 
 -- ---- a list stands in a space from a place on
 
 pub record StandsFrom {X : Type 0} (space : List X) (n : ℕ) (xs : List X) : Type 0 where
   pub is : (k : ℕ) (x : X) → slice_get xs k ≡ Some x → slice_get space (n + k) ≡ Some x
-
-pub get_behind : {X : Type 0} (xs ys : List X) (k n : ℕ) → length xs + k ≡ n
-    → slice_get (xs ++ ys) n ≡ slice_get ys k
-get_behind [] ys k n e = let e' : n ≡ k = omega (arith, e) in rw e'
-get_behind (x ∷ xs) ys k zero e = absurd (omega (arith, e))
-get_behind (x ∷ xs) ys k (suc n) e = get_behind xs ys k n (omega (arith, e))
 
 -- a list stands behind what is in front of it
 pub stands_behind : {X : Type 0} (front xs behind : List X)

@@ -1,8 +1,8 @@
 -- The index of a function that a function symbol leads to stands in the row of an object.
 use Rattle.std.proofs.Common.{◌≡◌, ◌∙◌, ◌⊎◌, ◌≤◌, ◌<◌, ◌==◌, ◌||◌, ◌&&◌, not, ℕ, zero, suc, ◌+◌, ◌-◌, Bool, true, false, List, [], ◌∷◌, length, map, refl, sym, ap, subst, arith, inl, inr, Option, Some, None, unwrap_or, slice_get, nat_lt, nat_le, if◌then◌else◌, eqb-true, Result, Ok, Err, IfOk}
-use Rattle.std.specs.List.{AllByRecursion, range_with_len, list_all}
+use Rattle.std.specs.List.{AllByRecursion, range_with_len}
 use Rattle.std.specs.Option.{option_map, option_and_then, option_or}
-use Rattle.std.proofs.lemmas.Bool.{cases_Bool}
+use Rattle.std.proofs.lemmas.Bool.{cases_Bool, or_parts}
 use Rattle.std.proofs.lemmas.List.{length-map}
 use Rattle.std.proofs.lemmas.List.FromFn.{get_or-range_with_len, length-range_with_len}
 use Rattle.std.proofs.lemmas.Option.{slice_get_within, slice_get-map, slice_get-get_or}
@@ -40,50 +40,12 @@ use Rattle.wl_bind.specs.declared.binding.FunctionTarget.TheVariants as function
 use Rattle.wl_bind.specs.declared.redirects.LocalFunction.{LocalFunction}
 use Rattle.wl_bind.proofs.ClosedLaws.{SlotLaws, kept_function}
 use Rattle.wl_bind.proofs.HostLaws.{IsAt, placed}
-use Rattle.wl_bind.proofs.LeftLaws.{cases_option, rules_join, named_binds}
-use Rattle.wl_bind.proofs.ListLaws.{all_at, get_in_front, left_and, right_and}
+use Rattle.wl_bind.proofs.LeftLaws.{rules_join, named_binds}
 use Rattle.wl_bind.proofs.NumberingLaws.{zip_maps, slots_here}
-use Rattle.wl_bind.proofs.PlaceLaws.{get_behind}
+use Rattle.wl_lists.proofs.Found.{cases_option}
+use Rattle.wl_lists.proofs.Places.{test_at, all_at, get_in_front, get_behind}
+use Rattle.wl_lists.proofs.Rows.{RowOf, row_of_object}
 use Rattle.wl_lists.proofs.Splits.{splits}
-
--- ---- rows
-
--- the row of an object
-pub record RowOf {X : Type 0} (P : ℕ → Object → X → Type 0) (rows : List X) (k n : ℕ) (o : Object) : Type 0 where
-  pub row : X
-  pub here : slice_get rows k ≡ Some row
-  pub is : P n o row
-
-pub row_of_object : {X : Type 0} (P : ℕ → Object → X → Type 0) (n : ℕ) (objects : List Object) (rows : List X)
-    (k m : ℕ) (o : Object) → AreRows P n objects rows → slice_get objects k ≡ Some o → m ≡ n + k → RowOf P rows k m o
-row_of_object P n [] rows k m o are at is = absurd cc
-row_of_object P n (p ∷ objects) [] k m o are at is = absurd are
-row_of_object {X} P n (p ∷ objects) (row ∷ rows) zero m o are at is =
-    let same : p ≡ o = cc in
-    let here : n ≡ m = omega (arith, is) in
-    record {
-      row = row;
-      here = refl;
-      is = subst (λ (q : Object). P m q row) same (subst (λ (i : ℕ). P i p row) here are.0);
-    }
-row_of_object P n (p ∷ objects) (row ∷ rows) (suc k) m o are at is =
-    let rest = row_of_object P (n + 1) objects rows k m o are.1 at (omega (arith, is)) in
-    record { row = rest.row; here = rest.here; is = rest.is }
-
--- an object has a row, and only one
-pub row_within : {X : Type 0} (P : ℕ → Object → X → Type 0) (objects : List Object) (rows : List X) (k : ℕ) (o : Object)
-    → AreRows P 0 objects rows → slice_get objects k ≡ Some o → k < length rows
-row_within P objects rows k o are at =
-    let r = row_of_object P 0 objects rows k k o are at (omega arith) in
-    slice_get_within rows k r.row r.here
-
-pub row_found : {X : Type 0} (P : ℕ → Object → X → Type 0) (objects : List Object) (rows : List X) (k : ℕ) (o : Object) (row : X)
-    → AreRows P 0 objects rows → slice_get objects k ≡ Some o → slice_get rows k ≡ Some row → P k o row
-row_found {X} P objects rows k o row are at found =
-    let r = row_of_object P 0 objects rows k k o are at (omega arith) in
-    let some : Some r.row ≡ Some row = sym r.here ∙ found in
-    let same : r.row ≡ row = cc in
-    subst (λ (x : X). P k o x) same r.is
 
 -- ---- an index as a place
 
@@ -127,14 +89,6 @@ pub record IsGiven (input : Input) (rows : List (List ℕ)) : Type 0 where
   pub numbers : (kind : WasmSymbolKind) (o : Object) (k : ℕ) (s : LinkedSymbol) → IsWhole o
       → slice_get o.symbols k ≡ Some s → is_definition_of kind s ≡ true → (n : ℕ) × (own_number kind o s.index ≡ Some n)
 
--- a test that each of a list passes
-pub test_at : {X : Type 0} (test : X → Bool) (xs : List X) (k : ℕ) (x : X) → list_all test xs ≡ true → slice_get xs k ≡ Some x
-    → test x ≡ true
-test_at test [] k x all at = absurd cc
-test_at test (y ∷ xs) zero x all at =
-    let same : y ≡ x = cc in ap test (sym same) ∙ left_and (test y) (list_all test xs) all
-test_at test (y ∷ xs) (suc k) x all at = test_at test xs k x (right_and (test y) (list_all test xs) all) at
-
 -- the function leads to the place of its entry
 abbrev Leads : Input → List (List ℕ) → Option FunctionTarget → LocalFunction → Type 0
 Leads input rows target f =
@@ -155,10 +109,6 @@ place_of_entry input rows given object o f e is here at =
 
 -- ---- functions that objects define
 
-neither : (a b : Bool) → (a || b) ≡ false → (a ≡ false) × (b ≡ false)
-neither true b h = absurd cc
-neither false b h = (refl, h)
-
 -- the number among what is defined, and the index
 pub under : (imports count index n : ℕ) → defined_number imports count index ≡ Some n → (imports + n ≡ index) × (n < count)
 under imports count index n is = elim (cases_Bool (nat_lt index imports || nat_le count (index - imports))) [
@@ -166,7 +116,7 @@ under imports count index n is = elim (cases_Bool (nat_lt index imports || nat_l
   | inr not_so ↦
       (let some : Some (index - imports) ≡ Some n = rw not_so at is in
       let same : index - imports ≡ n = cc in
-      let parts = neither (nat_lt index imports) (nat_le count (index - imports)) not_so in
+      let parts = or_parts (nat_lt index imports) (nat_le count (index - imports)) not_so in
       let first = parts.0 in
       let second = parts.1 in
       let le : imports ≤ index = grind (arith, first) in

@@ -2,7 +2,7 @@
 use Rattle.std.proofs.Common.{◌≡◌, ◌∙◌, ◌<◌, ◌||◌, ◌&&◌, ◌==◌, not, ℕ, zero, suc, ◌+◌, Bool, true, false, List, [], ◌∷◌, ◌++◌, length, filter_map, refl, sym, ap, subst, arith, inl, inr, Option, Some, None, slice_get, Contains, nat_lt, if◌then◌else◌}
 use Rattle.std.specs.List.{list_any}
 use Rattle.std.specs.Option.{option_and_then, option_map, option_map_or, option_or}
-use Rattle.std.proofs.lemmas.Bool.{cases_Bool, ltb-true}
+use Rattle.std.proofs.lemmas.Bool.{cases_Bool, ltb-true, and_from, not-true, and_parts, or_left, or_right}
 use Rattle.wl_module.specs.Types.{FunctionType}
 use Rattle.wl_module.specs.declared.imports.ExternalKind.TheVariants as external
 use Rattle.wl_linking.specs.Fitting.{IsWhole, IsFitting}
@@ -54,19 +54,21 @@ use Rattle.wl_bind.specs.declared.binding.FunctionTarget.TheVariants as function
 use Rattle.wl_symbols.specs.declared.relocated.FixupPlace.{FixupPlace}
 use Rattle.wl_symbols.specs.declared.relocated.FixupPlace.TheVariants.{Code, Segment}
 use Rattle.wl_symbols.specs.declared.relocated.Relocated.{Relocated}
+use Rattle.wl_lists.proofs.Firsts.{in_firsts}
+use Rattle.wl_lists.proofs.Found.{cases_option, any_in}
+use Rattle.wl_lists.proofs.In.{IsIn, in_split, Contains-filter as stays, at_is_in, list_in, in_list}
+use Rattle.wl_lists.proofs.Places.{test_at, there_is, all_at}
+use Rattle.wl_lists.proofs.Rows.{Given, given_by}
 use Rattle.wl_bind.proofs.ClosedLaws.{function_units, counts_at, definition_is, other_is}
 use Rattle.wl_bind.proofs.HostLaws.{IsAt, placed, kept_at}
-use Rattle.wl_bind.proofs.LeftLaws.{cases_option}
 use Rattle.wl_bind.proofs.MadeLaws.{BindingLaws}
 use Rattle.wl_bind.proofs.NumberingLaws.{slots_here}
-use Rattle.wl_bind.proofs.OnceParts.{IsIn, in_split, in_firsts, Given, given_by}
-use Rattle.wl_bind.proofs.RedirectLaws.{test_at, target_is, undefined_below, kind_is}
-use Rattle.wl_bind.proofs.RowLaws.{passes as stays, at_is_in, slot_is_one}
+use Rattle.wl_bind.proofs.RedirectLaws.{target_is, undefined_below, kind_is}
+use Rattle.wl_bind.proofs.RowLaws.{slot_is_one}
 use Rattle.wl_bind.proofs.SameLaws.{eqb_self, target_self, target_one}
-use Rattle.wl_bind.proofs.StartLaws.{there_is}
-use Rattle.wl_bind.proofs.ListedLaws.{MadeOf, any_in, as_in, as_listed, made_of_some, still_in}
+use Rattle.wl_bind.proofs.ListedLaws.{MadeOf, made_of_some, still_in}
 use Rattle.wl_bind.proofs.FirstSlotLaws.{bound_is_there, kept_is_there}
-use Rattle.wl_bind.proofs.ListLaws.{all_at, and_both, is_not, left_and, made_of_one, or_left, or_right}
+use Rattle.wl_bind.proofs.ListLaws.{made_of_one}
 
 -- ---- what is told of objects, of names, of slots and of live sets
 
@@ -169,7 +171,7 @@ is_from : (input : Input) (r : Relocated) → Contains (relocations input) r →
 is_from input r listed =
     let objects : List Object = input.link.objects in
     let all : IsIn (by_object (object_relocations input.live) 0 objects) r =
-    subst (λ (rs : List Relocated). IsIn rs r) (relocations_by_object input.live 0 objects) (as_in (relocations input) r listed) in
+    subst (λ (rs : List Relocated). IsIn rs r) (relocations_by_object input.live 0 objects) (list_in (relocations input) r listed) in
     let g : Given (object_relocations input.live) 0 objects r = given_by (object_relocations input.live) 0 objects r all in
     let same : 0 + g.place ≡ g.place = omega arith in
     let o : Object = g.object in
@@ -219,7 +221,7 @@ type_is_named laws input r settled listed so =
     let ty = there_is o.types number lt in
     let named : list_any (names_type number) (object_relocations input.live r.object o) ≡ true =
     any_in (names_type number) (object_relocations input.live r.object o) r from.among
-    (and_both (names_a_type r.relocation.ty) (r.relocation.index == number) so (eqb_self number)) in
+    (and_from (names_a_type r.relocation.ty) (r.relocation.index == number) so (eqb_self number)) in
     let live : is_live_type input r.object o number ≡ true =
     or_right (is_type_of_function input r.object o number || list_any (is_type_of_host input number) (object_slots r.object Func o))
     (list_any (names_type number) (object_relocations input.live r.object o)) named in
@@ -432,7 +434,7 @@ own_of link i k target is = elim (cases_option (slice_get link.objects i)) [
 ]
 
 not_undefined : (s : LinkedSymbol) → is_definition_of Func s ≡ true → is_undefined s ≡ false
-not_undefined s so = is_not (is_undefined s) (left_and (not (is_undefined s)) (is_imported_as Func s.kind) so)
+not_undefined s so = not-true (is_undefined s) (and_parts (not (is_undefined s)) (is_imported_as Func s.kind) so).0
 
 -- what is defined in place of a weak function is kept
 replacing_kept : Laws → (input : Input) (r : Relocated) → IsSettled input → (n : Names input r) → n.symbol.kind ≡ Func
@@ -441,7 +443,7 @@ replacing_kept : Laws → (input : Input) (r : Relocated) → IsSettled input �
 replacing_kept laws input r settled n kind weak i k stands target own =
     let replaceable : is_replaceable n.symbol ≡ true =
     or_right (is_undefined n.symbol) (is_weak n.symbol && gives_way n.symbol.kind)
-    (and_both (is_weak n.symbol) (gives_way n.symbol.kind) weak (ap gives_way kind)) in
+    (and_from (is_weak n.symbol) (gives_way n.symbol.kind) weak (ap gives_way kind)) in
     let unit : other_unit input.link (units_of input.link.objects) r.object r.relocation.index
     ≡ Some (record { object = i; unit = DefinedFunction own.number }) =
     other_is input.link r.object r.relocation.index n.symbol (Symbol i k) n.found stands
@@ -476,7 +478,7 @@ defined_leads : Laws → (input : Input) (r : Relocated) → IsSettled input →
     else own_function r.object n.from.object n.symbol)
 defined_leads laws input r settled n kind not_so =
     let defines : is_definition_of Func n.symbol ≡ true =
-    and_both (not (is_undefined n.symbol)) (is_imported_as Func n.symbol.kind) (ap not not_so) (ap (is_imported_as Func) kind) in
+    and_from (not (is_undefined n.symbol)) (is_imported_as Func n.symbol.kind) (ap not not_so) (ap (is_imported_as Func) kind) in
     let self : Option FunctionTarget = own_function r.object n.from.object n.symbol in
     let other : Option FunctionTarget = option_or (defined_function input r.object r.relocation.index) self in
     let own : LeadsOut input self = own_leads laws input r settled n defines in
@@ -557,11 +559,11 @@ in_table input r target listed asks of leads no_stub_it =
     let list : List FunctionTarget = filter_map (table_function_of input) (relocations input) in
     let given : table_function_of input r ≡ Some target =
     ap (λ (b : Bool). if b then option_and_then unless_stub (function_named input r) else None)
-    (and_both (is_table_index r.relocation.ty || is_global_index r.relocation.ty) (names_function input r) asks of)
+    (and_from (is_table_index r.relocation.ty || is_global_index r.relocation.ty) (names_function input r) asks of)
     ∙ (ap (λ (x : Option FunctionTarget). option_and_then unless_stub x) leads ∙ no_stub_it) in
-    as_listed (table_functions input) target
+    in_list (table_functions input) target
     (still_in same_target target_one list target (target_self target)
-    (made_of_one (table_function_of input) (relocations input) r target (as_in (relocations input) r listed) given))
+    (made_of_one (table_function_of input) (relocations input) r target (list_in (relocations input) r listed) given))
 
 pub slot_is_there : (input : Input) (r : Relocated) (target : FunctionTarget) → Contains (relocations input) r
     → (is_table_index r.relocation.ty || is_global_index r.relocation.ty) ≡ true → names_function input r ≡ true
@@ -596,10 +598,10 @@ table_is_kept laws input target settled listed =
     let list : List FunctionTarget = filter_map (table_function_of input) (relocations input) in
     let made : MadeOf (table_function_of input) (relocations input) target =
     made_of_some (table_function_of input) (relocations input) target
-    (in_firsts same_target list target (as_in (table_functions input) target listed)) in
+    (in_firsts same_target list target (list_in (table_functions input) target listed)) in
     let r : Relocated = made.x in
     let a = asked (is_table_index r.relocation.ty || is_global_index r.relocation.ty) (names_function input r)
     (function_named input r) target made.is in
     let f : NamesFunction input r =
-    function_is_named laws input r settled (as_listed (relocations input) r made.there) (no_type (taking_of r.relocation.ty) a.0) a.1 in
+    function_is_named laws input r settled (in_list (relocations input) r made.there) (no_type (taking_of r.relocation.ty) a.0) a.1 in
     same_out input (fun input r.object r.relocation.index) f.target target f.leads a.2 f.there_is

@@ -1,5 +1,6 @@
 -- What slots are resolved to, rule by rule.
-use Rattle.std.proofs.Common.{◌≡◌, ℕ, suc, ◌==◌, ◌&&◌, Bool, true, false, not, List, [], ◌∷◌, length, map, Option, Some, None, refl, sym, ap, inl, inr, arith}
+use Rattle.std.proofs.Common.{◌≡◌, ℕ, suc, ◌==◌, ◌&&◌, Bool, false, not, List, [], ◌∷◌, length, map, Option, Some, None, refl, sym, ap, inl, inr, arith}
+use Rattle.std.proofs.Math.Bool.{and-false}
 use Rattle.std.specs.List.{position, position_or_len}
 use Rattle.std.specs.Option.{option_or, option_map, option_map_or}
 use Rattle.std.specs.Str.{bytes_eq}
@@ -67,10 +68,6 @@ filled x name = elim (cases_Bool (length (x ∷ name) == 0)) [
   | inr e ↦ e
 ]
 
-and_false : (b : Bool) → (b && false) ≡ false
-and_false true = refl
-and_false false = refl
-
 unnamed : (name : List ℕ) → has_that_name name [] ≡ false
 unnamed [] = refl
 unnamed (x ∷ name) = rw (filled x name) refl
@@ -79,7 +76,7 @@ symbol_called : (s : LinkedSymbol) (name : List ℕ) → has_that_name name s.na
 symbol_called s name = elim (cases_Bool (bytes_eq s.name name)) [
   | inl e ↦ (let one : s.name ≡ name = (bytes_eq-Decides s.name name).0 e in
       ap (λ (n : List ℕ). not (length n == 0) && bytes_eq s.name name) (sym one))
-  | inr e ↦ rw (e, and_false (not (length name == 0)), and_false (has_name s)) refl
+  | inr e ↦ rw (e, and-false (not (length name == 0)), and-false (has_name s)) refl
 ]
 
 called_in : (s : Option LinkedSymbol) (name : List ℕ)

@@ -1,7 +1,6 @@
 -- Slots and rows, object by object.
-use Rattle.std.proofs.Common.{◌≡◌, ◌∙◌, ℕ, zero, suc, ◌+◌, ◌<◌, Bool, true, List, [], ◌∷◌, ◌++◌, length, drop, map, filter, refl, sym, ap, arith, inl, inr, append_assoc, Option, Some, slice_get, slice_index_or, Contains}
+use Rattle.std.proofs.Common.{◌≡◌, ◌∙◌, ℕ, zero, suc, ◌+◌, ◌<◌, List, [], ◌∷◌, ◌++◌, length, drop, map, refl, sym, ap, arith, append_assoc, Option, slice_get, slice_index_or, Contains}
 use Rattle.std.specs.Option.{option_map_or, option_and_then}
-use Rattle.std.proofs.lemmas.Bool.{cases_Bool}
 use Rattle.std.proofs.lemmas.List.Elements.{Contains-append_left, Contains-append_right}
 use Rattle.std.proofs.lemmas.Option.{get_or_from_slice_get}
 use Rattle.wl_linking.specs.Object.{Object}
@@ -14,30 +13,6 @@ use Rattle.wl_bind.specs.FunctionSymbols.{kept_binding, binding_at, bindings_fro
 use Rattle.wl_bind.specs.BindingSteps.{row_at}
 use Rattle.wl_bind.specs.declared.binding.FunctionTarget.{FunctionTarget}
 use Rattle.wl_lists.proofs.Splits.{splits}
-
--- ---- lists
-
--- an element of a list that passes is among those that pass
-passes_at : {X : Type 0} (test : X → Bool) (xs : List X) (x : X) (k : ℕ) → k < length xs → slice_index_or xs k x ≡ x → test x ≡ true → Contains (filter test xs) x
-passes_at test [] x k lt is so = absurd (omega (arith, lt))
-passes_at test (y ∷ xs) x zero lt is so =
-    let passed : test y ≡ true = rw is so in
-    rw passed (zero, omega arith, is)
-passes_at test (y ∷ xs) x (suc k) lt is so =
-    let rest = passes_at test xs x k (omega (arith, lt)) is so in
-    elim (cases_Bool (test y)) [
-      | inl passed ↦ rw passed (suc rest.0, omega (arith, rest.1), rest.2)
-      | inr fails ↦ rw fails rest
-    ]
-
-pub passes : {X : Type 0} (test : X → Bool) (xs : List X) (x : X) → Contains xs x → test x ≡ true → Contains (filter test xs) x
-passes test xs x listed so = passes_at test xs x listed.0 listed.1 listed.2 so
-
--- what stands at a place is in the list
-pub at_is_in : {X : Type 0} (xs : List X) (k : ℕ) (x : X) → slice_get xs k ≡ Some x → Contains xs x
-at_is_in [] k x at = absurd cc
-at_is_in (y ∷ xs) zero x at = (let is : y ≡ x = cc in (zero, omega arith, is))
-at_is_in (y ∷ xs) (suc k) x at = (let rest = at_is_in xs k x at in (suc rest.0, omega (arith, rest.1), rest.2))
 
 -- ---- the slots of objects
 

@@ -4,7 +4,7 @@ use Rattle.std.specs.List.{list_any, cons_option}
 use Rattle.std.specs.Option.{option_and_then}
 use Rattle.indexmap.specs.IndexSet.{insert_key, insert_all}
 use Rattle.wl_bind.specs.Scan.{unless_stub}
-use Rattle.std.proofs.lemmas.Bool.{cases_Bool, eqb-true}
+use Rattle.std.proofs.lemmas.Bool.{cases_Bool, eqb-true, and_parts}
 use denote.Enum.Bare.{same_true, true_same}
 use Rattle.wl_symbols.specs.contracts.linker_symbol.WasmLinkerSymbol.{the_type}
 use Rattle.wl_symbols.specs.contracts.linker_symbol.WasmLinkerSymbolPartialEq.TheImpl as made
@@ -14,7 +14,6 @@ use Rattle.wl_symbols.specs.declared.entry.Definition.TheVariants as definition
 use Rattle.wl_bind.specs.declared.binding.FunctionTarget.{FunctionTarget}
 use Rattle.wl_bind.specs.declared.binding.FunctionTarget.TheVariants as function
 use Rattle.wl_bind.specs.Sameness.{same_definition, same_target, same_pair}
-use Rattle.wl_bind.proofs.ListLaws.{both}
 
 pub made_one : (a b : WasmLinkerSymbol) → made.ghosts.eq a b ≡ true → a ≡ b
 made_one a b e = same_true the_type (search rules) a b e
@@ -27,7 +26,7 @@ eqb_self n = eq-eqb n n refl
 
 -- the two numbers of two things
 pairs_one : {T : Type 0} (f : ℕ → ℕ → T) (a b c d : ℕ) → (eqb a c && eqb b d) ≡ true → f a b ≡ f c d
-pairs_one f a b c d e = let h = both (eqb a c) (eqb b d) e in rw (eqb-true a c h.0, eqb-true b d h.1) refl
+pairs_one f a b c d e = let h = and_parts (eqb a c) (eqb b d) e in rw (eqb-true a c h.0, eqb-true b d h.1) refl
 
 pub pairs_self : (a b : ℕ) → (eqb a a && eqb b b) ≡ true
 pairs_self a b = rw (eqb_self a, eqb_self b) refl
@@ -68,7 +67,7 @@ target_self (function.Stub o s) = pairs_self o s
 
 pub pair_one : (a b : Definition × FunctionTarget) → same_pair a b ≡ true → a ≡ b
 pair_one a b e =
-    let h = both (same_definition a.0 b.0) (same_target a.1 b.1) e in
+    let h = and_parts (same_definition a.0 b.0) (same_target a.1 b.1) e in
     let first = definition_one a.0 b.0 h.0 in
     let second = target_one a.1 b.1 h.1 in
     λ i. (first i, second i)

@@ -36,13 +36,16 @@ use Rattle.wl_bind.specs.declared.own_indices.Own.TheVariants.{Functions}
 use Rattle.wl_bind.specs.declared.parts.PartStarts.{PartStarts}
 use Rattle.wl_bind.specs.declared.resolution.ImportResolution.{ImportResolution}
 use Rattle.wl_bind.specs.declared.resolution.ImportResolution.TheVariants.{Unresolved, ResolvedFunction, LinkerDefined, WeakUndefStub}
+use Rattle.wl_lists.proofs.Beside.{zip_joined}
+use Rattle.wl_lists.proofs.Found.{cases_option}
+use Rattle.wl_lists.proofs.In.{Contains-filter, at_is_in}
+use Rattle.wl_lists.proofs.Places.{get_in_front, mapped_at}
 use Rattle.wl_bind.proofs.ClosedLaws.{bound_of_kind, is_function, kept_function}
 use Rattle.wl_bind.proofs.HostLaws.{IsAt, placed}
-use Rattle.wl_bind.proofs.LeftLaws.{cases_option, no_place, some_place, stub_found, no_stub, rules_join, named_binds}
-use Rattle.wl_bind.proofs.ListLaws.{get_in_front, mapped_at}
+use Rattle.wl_bind.proofs.LeftLaws.{no_place, some_place, stub_found, no_stub, rules_join, named_binds}
 use Rattle.wl_bind.proofs.MadeLaws.{BindingLaws, bound_is_made_function}
-use Rattle.wl_bind.proofs.NumberingLaws.{zip_map, zip_joined, slots_here, fits, function_at, has_ordinal, own_functions}
-use Rattle.wl_bind.proofs.RowLaws.{passes, at_is_in, slot_is_one}
+use Rattle.wl_bind.proofs.NumberingLaws.{zip_map, slots_here, fits, function_at, has_ordinal, own_functions}
+use Rattle.wl_bind.proofs.RowLaws.{slot_is_one}
 
 -- ---- what is told of slots, of names and of host imports
 
@@ -275,7 +278,7 @@ left_leads : ImportLaws → (n : Numbering) → IsNumbering n.input.now n
 left_leads laws n is object k t here kept listed none =
     let input : Input = n.input.now in
     let no_name : is_none (slot_target input.link t) ≡ true = rw none refl in
-    let left : Contains (left_functions input) t = passes (λ (s : ImportSlot). is_none (slot_target input.link s)) (kept_slots input Func) t listed no_name in
+    let left : Contains (left_functions input) t = Contains-filter (λ (s : ImportSlot). is_none (slot_target input.link s)) (kept_slots input Func) t listed no_name in
     let binds : binds_function input t ≡ unwrap_or (by_stub input t) (by_host input t) = rules_join input t ∙ rw none refl in
     elim (cases_option (find (same_field t) (link_stubs input))) [
       | inr s ↦
@@ -287,7 +290,7 @@ left_leads laws n is object k t here kept listed none =
           let target : binds_function input t ≡ by_host input t = binds ∙ rw so refl in
           let test : ImportSlot → Bool = λ (s : ImportSlot). not (is_stub input.link.objects (left_functions input) s) in
           let passed : not (is_stub input.link.objects (left_functions input) t) ≡ true = rw so refl in
-          let among : Contains (host_functions input) t = passes test (left_functions input) t left passed in
+          let among : Contains (host_functions input) t = Contains-filter test (left_functions input) t left passed in
           let host : is_host_slot input Func t ≡ true = rw (kept, target) refl in
           subst (λ (x : FunctionTarget). FunctionLeads n t x) (sym target)
           (host_leads laws n is object k t here among host))
@@ -300,7 +303,7 @@ function_leads : ImportLaws → (n : Numbering) → IsNumbering n.input.now n
 function_leads laws n is live object k t here kept =
     let input : Input = n.input.now in
     let listed : Contains (kept_slots input Func) t =
-    passes (is_kept_slot input) (slots_from Func 0 input.link.objects) t
+    Contains-filter (is_kept_slot input) (slots_from Func 0 input.link.objects) t
     (slot_is_one Func input.link.objects object t (at_is_in (import_slots input.link.objects object Func) k t here)) kept in
     let resolved : function_resolution input t ≡ as_function input t (binds_function input t) = rw kept refl in
     subst (λ (r : ImportResolution). Leads n Func t r (function_space input) (FunctionOf (binds_function input t))) (sym resolved)

@@ -3,9 +3,11 @@ use Rattle.std.proofs.Common.{◌≡◌, ◌∙◌, ℕ, zero, suc, ◌+◌, ◌
 use Rattle.std.specs.List.{range_with_len}
 use Rattle.std.proofs.lemmas.Bool.{cases_Bool, ltb-true, lt-ltb}
 use Rattle.std.proofs.lemmas.List.FromFn.{length-map-range_with_len}
+use Rattle.std.proofs.lemmas.Option.{slice_get_within}
 use Rattle.wl_bind.specs.Parts.{joined, lengths_of, starts_from, total, AreStarts, start_of, single_of, HasEntry}
 use Rattle.wl_bind.specs.PartSteps.{entry_of}
 use Rattle.wl_bind.specs.declared.parts.PartStarts.{PartStarts}
+use Rattle.wl_lists.proofs.Places.{there_is, range_at}
 use Rattle.wl_bind.proofs.PlaceLaws.{StandsFrom, part_stands}
 
 -- ---- starts by lengths
@@ -105,16 +107,6 @@ single_is {X} parts rest s k test x are at =
 
 -- ---- an entry of a part
 
-pub there_is : {X : Type 0} (xs : List X) (k : ℕ) → k < length xs → (x : X) × (slice_get xs k ≡ Some x)
-there_is [] k lt = absurd (omega (arith, lt))
-there_is (x ∷ xs) zero lt = (x, refl)
-there_is (x ∷ xs) (suc k) lt = there_is xs k (omega (arith, lt))
-
-pub within : {X : Type 0} (xs : List X) (k : ℕ) (x : X) → slice_get xs k ≡ Some x → k < length xs
-within [] k x e = absurd cc
-within (y ∷ xs) zero x e = omega arith
-within (y ∷ xs) (suc k) x e = let rest : k < length xs = within xs k x e in omega (arith, rest)
-
 -- so many behind the start of a part stands its entry
 pub entry_is : {X : Type 0} (parts : List (List X)) (rest : List X) (s : PartStarts) (k : ℕ) (part : List X) (place : ℕ)
     → AreStarts parts s → slice_get parts k ≡ Some part → HasEntry s k place
@@ -132,7 +124,7 @@ pub entry_found : {X : Type 0} (parts : List (List X)) (rest : List X) (s : Part
     → MatchOption index absent (λ i. slice_get (joined parts ++ rest) i ≡ Some x)
 entry_found parts rest s k part place x index absent is are at there =
     let next = next_is parts s k part are at in
-    let inside : place < length part = within part place x there in
+    let inside : place < length part = slice_get_within part place x there in
     let lt : start_of s k + place < start_of s (k + 1) = omega (arith, next, inside) in
     let found : index ≡ Some (start_of s k + place) =
     is ∙ ap (λ (b : Bool). if b then Some (start_of s k + place) else None) (lt-ltb (start_of s k + place) (start_of s (k + 1)) lt) in
@@ -140,14 +132,6 @@ entry_found parts rest s k part place x index absent is are at there =
     subst P (sym found) ((part_is parts rest s k part are at).is place x there)
 
 -- ---- numbers as entries
-
-pub numbered_at : {X : Type 0} (f : ℕ → X) (a n k : ℕ) → k < n → slice_get (map f (range_with_len a n)) k ≡ Some (f (a + k))
-numbered_at f a zero k lt = absurd (omega (arith, lt))
-numbered_at f a (suc n) zero lt =
-    let here : a ≡ a + 0 = omega arith in ap (λ (m : ℕ). Some (f m)) here
-numbered_at f a (suc n) (suc k) lt =
-    let here : (a + 1) + k ≡ a + suc k = omega arith in
-    numbered_at f (a + 1) n k (omega (arith, lt)) ∙ ap (λ (m : ℕ). Some (f m)) here
 
 -- an entry of a part of numbered entries
 pub numbers_stand : {X : Type 0} (parts : List (List X)) (rest : List X) (s : PartStarts) (k : ℕ) (f : ℕ → X) (n place : ℕ)
@@ -159,7 +143,7 @@ numbers_stand parts rest s k f n place are at has =
     let lt : place < n = omega (arith, next, has, len) in
     let here : 0 + place ≡ place = omega arith in
     entry_is parts rest s k (map f (range_with_len 0 n)) place are at has
-    ∙ (numbered_at f 0 n place lt ∙ ap (λ (m : ℕ). Some (f m)) here)
+    ∙ (range_at f 0 n place lt ∙ ap (λ (m : ℕ). Some (f m)) here)
 
 -- what holds of a thing and its index holds of what is the same
 pub made_at : {M : Type 0} (Is : M → Option ℕ → Type 0) {m n : M} {index found : Option ℕ} → m ≡ n → index ≡ found

@@ -1,19 +1,7 @@
 -- Steps that are clear, and steps that refuse, in a row.
 use Rattle.wl_linking.specs.declared.error.LinkError.{LinkError}
 use Rattle.wl_linking.specs.Steps.{Clear, Refuses, Step, here, behind, NoStep}
-
-pub clear_end : Clear NoStep
-clear_end = record { none = λ e h. h }
-
-none_of : (cause rest : LinkError → Type 0) → Clear cause → Clear rest → (e : LinkError)
-    → Step cause rest e → ⊥
-none_of cause rest first others e (here h) = first.none e h
-none_of cause rest first others e (behind clear h) = others.none e h
-
--- both are clear
-pub clear_step : (cause rest : LinkError → Type 0) → Clear cause → Clear rest
-    → Clear (Step cause rest)
-clear_step cause rest first others = record { none = none_of cause rest first others }
+use Rattle.wl_linking.proofs.StepLaws.{clear_step, first_clear, rest_clear, refuses_behind}
 
 -- one of three steps, before others
 pub one_of_three : (a b c rest : LinkError → Type 0) (e : LinkError)
@@ -25,24 +13,6 @@ one_of_three a b c rest e (behind x (behind y (here h))) = behind x (behind y (h
 one_of_three a b c rest e (behind x (behind y (behind z h))) = absurd h
 
 -- ---- some steps, and those behind them
-
-first_clear : (cause rest : LinkError → Type 0) → Clear (Step cause rest) → Clear cause
-first_clear cause rest clear = record { none = λ e h. clear.none e (here h) }
-
-rest_clear : (cause rest : LinkError → Type 0) → Clear (Step cause rest) → Clear rest
-rest_clear cause rest clear = record {
-  none = λ e h. clear.none e (behind
-      (first_clear cause rest clear) h);
-}
-
-pub refuses_here : (cause rest : LinkError → Type 0) (e : LinkError) → Refuses cause e
-    → Refuses (Step cause rest) e
-refuses_here cause rest e h = record { cause_is = λ other. here (h.cause_is other) }
-
-pub refuses_behind : (cause rest : LinkError → Type 0) (e : LinkError) → Clear cause
-    → Refuses rest e
-    → Refuses (Step cause rest) e
-refuses_behind cause rest e clear h = record { cause_is = λ other. behind clear (h.cause_is other) }
 
 pub three_refuse : (a b c rest : LinkError → Type 0) (e : LinkError)
     → Refuses (Step a (Step b (Step c NoStep))) e

@@ -1,9 +1,9 @@
 -- Two lists side by side, the second stepped place by place.
 use Rattle.std.proofs.Common.{◌≡◌, ◌∙◌, ℕ, zero, suc, ◌+◌, ◌<◌, ◌≤◌, List, [], ◌∷◌, Some, None, length, refl, sym, ap, get_or, drop, drop-cons, slice_get, slice_set, arith}
 use Rattle.std.proofs.lemmas.List.{drop_all}
-use Rattle.std.proofs.lemmas.Option.{slice_get-get_or}
+use Rattle.std.proofs.lemmas.Option.{slice_get-get_or, same_Some}
 use Rattle.wl_bind.specs.Stepped.{stepped_behind, step_at}
-use Rattle.wl_bind.proofs.ListLaws.{next_is, some_same}
+use Rattle.wl_bind.proofs.ListLaws.{next_is}
 
 module _ {X Y : Type 0} (step : ℕ → X → Y → Y) where
   -- what is there is stepped
@@ -11,7 +11,7 @@ module _ {X Y : Type 0} (step : ℕ → X → Y → Y) where
       → slice_set ys place z ≡ step_at step place n x ys
   set_steps [] place n x y z is e = absurd cc
   set_steps (u ∷ ys) zero n x y z is e =
-      ap (λ (w : Y). w ∷ ys) (e ∙ ap (step n x) (sym (some_same u y is)))
+      ap (λ (w : Y). w ∷ ys) (e ∙ ap (step n x) (sym (same_Some u y is)))
   set_steps (u ∷ ys) (suc place) n x y z is e =
       ap (λ (zs : List Y). u ∷ zs) (set_steps ys place n x y z is e)
 

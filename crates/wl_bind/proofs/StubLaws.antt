@@ -24,8 +24,8 @@ use Rattle.wl_bind.specs.declared.binding.FunctionTarget.TheVariants as function
 use Rattle.wl_bind.specs.declared.resolution.ImportResolution.{ImportResolution}
 use Rattle.wl_bind.specs.declared.resolution.ImportResolution.TheVariants.{Unresolved, WeakUndefStub}
 use Rattle.wl_bind.specs.declared.resolution.ObjectImportResolutions.{ObjectImportResolutions}
+use Rattle.wl_lists.proofs.In.{Contains-here, Contains-there, Contains-filter}
 use Rattle.wl_bind.proofs.ResolvingLaws.{mapped_position, joined}
-use Rattle.wl_bind.proofs.MemberLaws.{at_front, behind, sifted}
 
 -- the resolutions of an object
 abbrev the_row : List ImportResolution → List ImportResolution → ObjectImportResolutions
@@ -83,8 +83,8 @@ picked input t true None later stub is = is refl refl
 is_left : (input : Input) (t : ImportSlot) → Contains (slots_from Func 0 input.link.objects) t → is_kept_slot input t ≡ true
     → slot_target input.link t ≡ None → Contains (left_functions input) t
 is_left input t one kept none =
-    sifted (λ (u : ImportSlot). is_none (slot_target input.link u)) (kept_slots input Func) t
-    (sifted (is_kept_slot input) (slots_from Func 0 input.link.objects) t one kept)
+    Contains-filter (λ (u : ImportSlot). is_none (slot_target input.link u)) (kept_slots input Func) t
+    (Contains-filter (is_kept_slot input) (slots_from Func 0 input.link.objects) t one kept)
     (ap is_none none)
 
 walked_function : (input : Input) (object n : ℕ) (symbols : List LinkedSymbol) (i : Imported) → StubsAreTold input
@@ -115,9 +115,9 @@ walked_slots input object n symbols (i ∷ is) told among =
     let rest = numbered_slots object Func symbols (n + 1) is in
     ap (λ (r : ImportResolution). r
     ∷ stepped (walked_at (walk_of input (later_by_stub (map first_slot (link_stubs input))) Func object)) (n + 1) is (map (named_resolution input) rest))
-    (walked_function input object n symbols i told (among t (at_front t rest)))
+    (walked_function input object n symbols i told (among t (Contains-here t rest)))
     ∙ ap (λ (rs : List ImportResolution). function_resolution input t ∷ rs)
-    (walked_slots input object (n + 1) symbols is told (λ u h. among u (behind t u rest h)))
+    (walked_slots input object (n + 1) symbols is told (λ u h. among u (Contains-there t u rest h)))
 
 -- ---- the slots of all objects
 

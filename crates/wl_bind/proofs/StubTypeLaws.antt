@@ -1,5 +1,5 @@
 -- Each stub has a type, since objects are whole.
-use Rattle.std.proofs.Common.{◌≡◌, ◌∙◌, ℕ, suc, ◌+◌, Bool, true, false, List, [], ◌∷◌, length, refl, sym, ap, subst, arith, inl, inr, Option, Some, None, slice_get, filter_map, nat_lt}
+use Rattle.std.proofs.Common.{◌≡◌, ◌∙◌, ℕ, suc, ◌+◌, Bool, true, false, List, [], ◌∷◌, length, refl, sym, ap, subst, arith, inl, inr, Option, Some, None, slice_get, nat_lt}
 use Rattle.std.specs.List.{list_all, AllByRecursion}
 use Rattle.std.proofs.lemmas.Bool.{cases_Bool, ltb-true}
 use Rattle.std.specs.Option.{option_and_then, is_none}
@@ -20,9 +20,10 @@ use Rattle.wl_symbols.specs.Input.{Input}
 use Rattle.wl_symbols.specs.KeptSlots.{slots_from, is_kept_slot, kept_slots}
 use Rattle.wl_bind.specs.FunctionBinding.{left_functions, link_stubs}
 use Rattle.wl_bind.specs.FunctionTypes.{type_in, type_number, slot_type, stub_types}
-use Rattle.wl_bind.proofs.ListLaws.{all_at}
-use Rattle.wl_bind.proofs.OnceParts.{IsIn, in_split, in_filter, passes, in_firsts}
-use Rattle.wl_bind.proofs.StartLaws.{there_is}
+use Rattle.wl_lists.proofs.Firsts.{in_firsts}
+use Rattle.wl_lists.proofs.In.{IsIn, in_split, in_filter, all_mapped}
+use Rattle.wl_lists.proofs.Places.{all_at, there_is}
+use Rattle.wl_bind.proofs.OnceParts.{passes}
 
 -- ---- where a slot is from
 
@@ -104,13 +105,6 @@ slot_typed objects t whole fitting h =
     )
 
 -- ---- stubs
-
-all_mapped : {X Y : Type 0} (f : X → Option Y) (xs : List X) → ((x : X) → IsIn xs x → (y : Y) × (f x ≡ Some y))
-    → length (filter_map f xs) ≡ length xs
-all_mapped f [] all = refl
-all_mapped f (x ∷ xs) all =
-    let here = all x (inl refl) in
-    rw here.1 (ap suc (all_mapped f xs (λ z h. all z (inr h))))
 
 -- there are as many types of stubs as stubs
 pub stubs_typed : (input : Input) → AllByRecursion IsWhole input.link.objects → ((o : Object) → IsWhole o → IsFitting o)

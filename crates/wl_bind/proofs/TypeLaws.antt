@@ -11,7 +11,7 @@ use Rattle.wl_custom.specs.declared.symbols.WasmSymbolKind.TheVariants.{Func}
 use Rattle.wl_symbols.specs.ImportSlots.{slot_imports, numbered_slots, import_slots}
 use Rattle.wl_bind.specs.FunctionTypes.{type_in, slot_type}
 use Rattle.wl_bind.specs.BindingSteps.{numbers_in, slot_numbers, number_at}
-use Rattle.wl_bind.proofs.LeftLaws.{cases_option}
+use Rattle.wl_lists.proofs.Found.{cases_option}
 
 -- the types of these slots, by the numbers of the types of imports
 in_row : (objects : List Object) (i : ℕ) (symbols : List Symbol) (n : ℕ) (imports : List Imported) (k : ℕ)

@@ -1,6 +1,7 @@
 -- A space of the output is its parts, one behind the other; the index of an entry is its place.
 use Rattle.std.specs.Prelude.{◌≡◌, ◌≤◌, ◌<◌, ℕ, ◌+◌, ◌||◌, Bool, false, List, [], ◌∷◌, ◌++◌, map, length, nat_lt, if◌then◌else◌, Option, Some, None, unwrap_or, slice_get, ⊤}
 use Rattle.std.specs.List.{AllZip}
+use Rattle.wl_lists.specs.Rows as rows
 use Rattle.wl_linking.specs.Object.{Object}
 use Rattle.wl_linking.specs.declared.error.LinkError.{LinkError}
 use Rattle.wl_linking.specs.declared.error.LinkError.TheVariants.{OutOfMemory, TooLarge}
@@ -84,15 +85,11 @@ IsOver count _ = ⊥
 
 -- each row is what it is to be of its object, the first of which has that number
 abbrev pub AreRows : {X : Type 0} → (ℕ → Object → X → Type 0) → ℕ → List Object → List X → Type 0
-AreRows IsRow object [] [] = ⊤
-AreRows IsRow object (o ∷ objects) (row ∷ rows) =
-    IsRow object o row × AreRows IsRow (object + 1) objects rows
-AreRows IsRow object _ _ = ⊥
+AreRows IsRow = rows.AreRows IsRow
 
 -- what each of these objects gives, one behind the other, the first of which has that number
 abbrev pub by_object : {X : Type 0} → (ℕ → Object → List X) → ℕ → List Object → List X
-by_object f object [] = []
-by_object f object (o ∷ objects) = f object o ++ by_object f (object + 1) objects
+by_object f = rows.by_number f
 
 -- one of these objects passes, the first of which has that number
 abbrev pub any_object : (ℕ → Object → Bool) → ℕ → List Object → Bool

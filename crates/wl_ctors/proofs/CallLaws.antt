@@ -1,10 +1,10 @@
 -- What a function that runs at the start leads to.
-use Rattle.std.proofs.Common.{◌≡◌, ◌∙◌, ℕ, zero, suc, ◌+◌, ◌-◌, ◌^◌, ◌<◌, ◌&&◌, ◌||◌, Bool, true, false, not, nat_lt, nat_le, List, [], ◌∷◌, length, refl, sym, ap, subst, arith, inl, inr, ◌⊎◌, Contains, Option, Some, None, slice_get, if◌then◌else◌}
+use Rattle.std.proofs.Common.{◌≡◌, ◌∙◌, ℕ, zero, suc, ◌+◌, ◌-◌, ◌^◌, ◌<◌, ◌||◌, Bool, true, false, not, nat_lt, nat_le, List, [], ◌∷◌, length, refl, sym, ap, subst, arith, inl, inr, Contains, Option, Some, None, slice_get, if◌then◌else◌}
 use Rattle.std.specs.Cmp.Lexicographic.{pointwise, as_long}
 use Rattle.std.specs.List.{AllByRecursion, range_with_len}
 use Rattle.std.specs.Option.{option_map, option_or}
-use Rattle.std.proofs.lemmas.Bool.{cases_Bool, leb-false}
-use Rattle.std.proofs.lemmas.Option.{same_Some}
+use Rattle.std.proofs.lemmas.Bool.{cases_Bool, leb-false, and_parts, not-true, or_parts}
+use Rattle.std.proofs.lemmas.Option.{same_Some, slice_get_within}
 use Rattle.wl_module.specs.Types.{FunctionType, same_type, same_value}
 use Rattle.wl_module.specs.declared.imports.ExternalKind.TheVariants as external
 use Rattle.wl_linking.specs.Fitting.{IsWhole}
@@ -47,7 +47,9 @@ use Rattle.wl_bind.specs.declared.binding.FunctionTarget.TheVariants.{Defined}
 use Rattle.wl_ctors.specs.CallSteps.{type_of_own, result_count}
 use Rattle.wl_ctors.specs.InitCalls.{IsInitCall}
 use Rattle.wl_ctors.specs.declared.calls.InitCall.{InitCall}
-use Rattle.wl_ctors.proofs.ListLaws.{there_is, place_within, holds_at, mapped_at, zip_at}
+use Rattle.wl_lists.proofs.Beside.{zip_right}
+use Rattle.wl_lists.proofs.Found.{cases_option}
+use Rattle.wl_lists.proofs.Places.{there_is, all_at, mapped_at}
 
 -- ---- what is told of objects and of live sets
 
@@ -65,18 +67,6 @@ pub record Laws : Type 0 where
       → is_live live u ≡ true
 
 -- ---- tests
-
-both : (a b : Bool) → (a && b) ≡ true → (a ≡ true) × (b ≡ true)
-both true b e = (refl, e)
-both false b e = absurd cc
-
-neither : (a b : Bool) → (a || b) ≡ false → (a ≡ false) × (b ≡ false)
-neither true b e = absurd cc
-neither false b e = (refl, e)
-
-not_so : (a : Bool) → not a ≡ true → a ≡ false
-not_so true e = absurd cc
-not_so false e = refl
 
 function_kind : (kind : WasmSymbolKind) → is_function kind ≡ true → kind ≡ Func
 function_kind Func e = refl
@@ -104,7 +94,7 @@ below : (imports count index n : ℕ) → defined_number imports count index ≡
 below imports count index n e =
     let given = unless_past (nat_lt index imports || nat_le count (index - imports))
     (index - imports) n e in
-    let tests = neither (nat_lt index imports) (nat_le count (index - imports)) given.0 in
+    let tests = or_parts (nat_lt index imports) (nat_le count (index - imports)) given.0 in
     let lt : index - imports < count = leb-false count (index - imports) tests.1 in
     subst (λ (k : ℕ). k < count) given.1 lt
 
@@ -179,14 +169,14 @@ init_is : Laws → (input : Input) (object : ℕ) (o : Object) (f : WasmInitFunc
     → slice_get input.link.objects object ≡ Some o → Contains o.init_funcs f
     → IsInit input object o f
 init_is laws input object o f settled here one =
-    let whole : IsWhole o = holds_at IsWhole input.link.objects object o settled.whole here in
+    let whole : IsWhole o = all_at IsWhole input.link.objects object o settled.whole here in
     let found = laws.symbols o f whole one in
     let s : LinkedSymbol = found.0 in
     let at : slice_get o.symbols f.symbol_index ≡ Some s = found.1 in
-    let parts = both (is_function s.kind) (not (is_undefined s))
+    let parts = and_parts (is_function s.kind) (not (is_undefined s))
     (defined_init input object o f s settled here one at) in
     let kind : s.kind ≡ Func = function_kind s.kind parts.0 in
-    let defined : is_undefined s ≡ false = not_so (is_undefined s) parts.1 in
+    let defined : is_undefined s ≡ false = not-true (is_undefined s) parts.1 in
     let so : is_definition_of Func s ≡ true = rw (defined, kind) refl in
     let number = laws.numbers Func o f.symbol_index s whole at so in
     record {
@@ -243,10 +233,6 @@ record IsOther (objects : List Object) (object symbol : ℕ) (target : SlotTarge
   defines : Defines objects object o s number
   target_is : target ≡ slot.Defined object number
 
-cases_option : {X : Type 0} (o : Option X) → (o ≡ None) ⊎ ((x : X) × (o ≡ Some x))
-cases_option None = inl refl
-cases_option (Some x) = inr (x, refl)
-
 target_of : (object : ℕ) (target : SlotTarget) (b : Bool) (number : Option ℕ)
     → (if b then option_map (λ (n : ℕ). slot.Defined object n) number else None) ≡ Some target
     → (b ≡ true) × ((n : ℕ) × (number ≡ Some n) × (target ≡ slot.Defined object n))
@@ -266,7 +252,7 @@ other_of link object symbol target is = elim (cases_option (slice_get link.objec
         let t = target_of object target (is_definition_of Func s.0)
         (own_number Func o.0 (s.0).index) e in
         let number = t.1 in
-        let parts = both (not (is_undefined s.0)) (is_imported_as Func (s.0).kind) t.0 in
+        let parts = and_parts (not (is_undefined s.0)) (is_imported_as Func (s.0).kind) t.0 in
         record {
           o = o.0;
           s = s.0;
@@ -275,7 +261,7 @@ other_of link object symbol target is = elim (cases_option (slice_get link.objec
           defines = record {
             here = o.1;
             kind = imported_kind (s.0).kind parts.1;
-            defined = not_so (is_undefined s.0) parts.0;
+            defined = not-true (is_undefined s.0) parts.0;
             number_is = number.1;
           };
           target_is = number.2;
@@ -404,7 +390,7 @@ redirected input object o redirects symbol entry are lt is =
     let number : 0 + symbol ≡ symbol = omega arith in
     let at = mapped_at (symbol_function input object) (range_with_len 0 (length o.symbols)) symbol
     symbol (in_range 0 (length o.symbols) symbol lt ∙ ap (λ (i : ℕ). Some i) number) in
-    let told = zip_at (IsPlaceOf (function_space input)) (symbol_functions input object o)
+    let told = zip_right (IsPlaceOf (function_space input)) (symbol_functions input object o)
     redirects symbol (symbol_function input object symbol) are at in
     let p = place_told input entry (symbol_function input object symbol) told.0 is told.2 in
     (p.0, rw told.1 p.1, p.2)
@@ -431,7 +417,7 @@ has_type : Laws → (objects : List Object) (object : ℕ) (o : Object) (number 
 has_type laws objects object o number whole here within =
     let t = there_is o.functions number within in
     let lt : t.0 < length o.types =
-    laws.types o number t.0 (holds_at IsWhole objects object o whole here) t.1 in
+    laws.types o number t.0 (all_at IsWhole objects object o whole here) t.1 in
     let ty = there_is o.types t.0 lt in
     let own : type_of_own o number ≡ Some ty.0 = rw t.1 ty.1 in
     record { ty = ty.0; type_number = t.0; at = ty.1; own = own; typed = rw here own }
@@ -439,7 +425,7 @@ has_type laws objects object o number whole here within =
 -- the same types have as many results
 same_long : (a b : FunctionType) → same_type a b ≡ true → length a.results ≡ length b.results
 same_long a b same =
-    let parts = both (pointwise same_value a.params b.params)
+    let parts = and_parts (pointwise same_value a.params b.params)
     (pointwise same_value a.results b.results) same in
     as_long same_value a.results b.results parts.1
 
@@ -500,7 +486,7 @@ results_fit laws input object o f settled here one =
     within_of objects object o i.symbol i.number i.defines in
     let t : HasType objects object o i.number =
     has_type laws objects object o i.number settled.whole here within in
-    let whole : IsWhole o = holds_at IsWhole objects object o settled.whole here in
+    let whole : IsWhole o = all_at IsWhole objects object o settled.whole here in
     let short = laws.short o t.type_number t.ty whole t.at in
     let count =
     counted objects object o f.symbol_index i.symbol i.number t.ty i.at i.defines t.own in
@@ -528,7 +514,7 @@ call_is laws input object o redirects f call settled clear here are one priority
     let same : same_type own.ty other.ty ≡ true =
     agree input object o f own.ty other.ty target clear one i own.typed kept.leads other.typed in
     let place = redirected input object o redirects f.symbol_index (FunctionOf target) are
-    (place_within o.symbols f.symbol_index i.symbol i.at)
+    (slice_get_within o.symbols f.symbol_index i.symbol i.at)
     (entry_is input object f.symbol_index kept.object kept.number kept.leads kept.kept) in
     let index_is : call.index ≡ place.0 = index place.0 place.1 in
     record {

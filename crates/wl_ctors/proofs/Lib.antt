@@ -1,4 +1,3 @@
-pub mod ListLaws
 pub mod OrderLaws
 pub mod OneLaws
 pub mod CallLaws

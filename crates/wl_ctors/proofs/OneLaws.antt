@@ -11,7 +11,7 @@ use Rattle.wl_bind.specs.Parts.{StandOnce}
 use Rattle.wl_bind.specs.declared.binding.FunctionTarget.{FunctionTarget}
 use Rattle.wl_ctors.specs.InitCalls.{InitFunction, init_functions, IsInitCall, AreInitCalls, priority_of}
 use Rattle.wl_ctors.specs.declared.calls.InitCall.{InitCall}
-use Rattle.wl_ctors.proofs.ListLaws.{zip_one}
+use Rattle.wl_lists.proofs.Beside.{zip_one}
 use Rattle.wl_ctors.proofs.OrderLaws.{order_one}
 
 same_call : (a b : InitCall) → a.priority ≡ b.priority → a.index ≡ b.index

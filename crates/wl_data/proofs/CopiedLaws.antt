@@ -1,18 +1,18 @@
 -- Where segments end, and which are copied.
-use Rattle.std.proofs.Common.{◌≡◌, ◌⊎◌, inl, inr, ℕ, zero, suc, ◌+◌, ◌%◌, ◌≤◌, Bool, true, false, cond, not, ◌&&◌, ◌||◌, List, [], ◌∷◌, ◌++◌, length, refl, sym, ap, ◌∙◌, subst, arith, Option, Some, None}
-use Rattle.std.specs.Prelude.{slice_get, ◌==◌}
-use Rattle.std.specs.Int.{next_multiple_of}
+use Rattle.std.proofs.Common.{◌≡◌, ◌⊎◌, inl, inr, ℕ, zero, suc, ◌+◌, Bool, true, false, cond, not, List, [], ◌∷◌, ◌++◌, refl, sym, ◌∙◌, subst, arith, Some, None}
+use Rattle.std.proofs.lemmas.Bool.{or_right, not-true, and_parts}
+use Rattle.std.specs.Prelude.{slice_get}
 use Rattle.std.specs.List.{AllZip}
 use Rattle.wl_data.specs.declared.options.DataOptions.{DataOptions}
 use Rattle.wl_data.specs.declared.places.DataPlaces.{DataPlaces}
 use Rattle.wl_data.specs.Segments.{KeptData, SegmentLayout}
-use Rattle.wl_data.specs.Layouts.{goes_to_block, goes_to_memory, is_shared_init, is_passive}
-use Rattle.wl_data.specs.DataPlaces.{in_one_row, by_object, DataInput, IsDataPlaces, lies_in_memory, is_template, HasLayout, HaveLayouts, in_output_order, AddressRange, addresses_of, segment_ranges, block_ranges, flag_of, flag_place, has_init, data_end, data_start, tls_size, pass_over, LieApart, AreSeparate, EndBy, IsLastWord}
+use Rattle.wl_data.specs.Layouts.{goes_to_block, goes_to_memory, is_shared_init}
+use Rattle.wl_data.specs.DataPlaces.{in_one_row, by_object, DataInput, IsDataPlaces, lies_in_memory, is_template, HasLayout, HaveLayouts, in_output_order, segment_ranges, block_ranges, flag_of, flag_place, has_init, data_end, data_start, pass_over, AreSeparate, EndBy, IsLastWord}
 use Rattle.wl_data.proofs.Multiples.{least_found}
 use Rattle.wl_data.proofs.RangeLaws.{shared_in_memory, not_both}
 use Rattle.wl_data.proofs.OrderLaws.{rows_in_order, block_in_order_too, end_behind}
 use Rattle.wl_data.proofs.PlacesLaws.{by_object_taken, same_count, places_for}
-use Rattle.wl_data.proofs.ApartLaws.{AreApart, AllEndBy, mixed_apart, mixed_end, order_ends, order_apart, separate, ends}
+use Rattle.wl_data.proofs.ApartLaws.{mixed_apart, mixed_end, order_ends, order_apart, separate, ends}
 
 -- ---- each layout is that of a segment
 
@@ -43,26 +43,14 @@ segment_of d p i l h e = layout_has d.options d.objects p.layouts i l (places_fo
 
 -- ---- what is copied is passive
 
-either_true : (a b : Bool) → b ≡ true → (a || b) ≡ true
-either_true true b e = refl
-either_true false b e = e
-
-left_true : (a b : Bool) → (a && b) ≡ true → a ≡ true
-left_true true b e = refl
-left_true false b e = absurd (let z : false ≡ true = e in cc)
-
-not_true : (a : Bool) → not a ≡ true → a ≡ false
-not_true true e = absurd (let z : false ≡ true = e in cc)
-not_true false e = refl
-
 pub shared_copied : (d : DataInput) (p : DataPlaces) (i : ℕ) (l : SegmentLayout) → IsDataPlaces d p → slice_get (in_one_row p.layouts) i ≡ Some l → l.shared_init ≡ true → (l.passive ≡ true) × (lies_in_memory l ≡ true)
 shared_copied d p i l h e t =
     let one = segment_of d p i l h e in
     let s = one.0 in
     let pass = pass_over d.options s.tls in
     let shared : is_shared_init pass s ≡ true = sym one.1.shared_init ∙ t in
-    let block : goes_to_block pass s ≡ false = not_true (goes_to_block pass s) (left_true (not (goes_to_block pass s)) s.active (shared_in_memory pass s shared)) in
-    let passive : l.passive ≡ true = one.1.passive ∙ either_true (not (goes_to_memory pass s)) (is_shared_init pass s) shared in
+    let block : goes_to_block pass s ≡ false = not-true (goes_to_block pass s) (and_parts (not (goes_to_block pass s)) s.active (shared_in_memory pass s shared)).0 in
+    let passive : l.passive ≡ true = one.1.passive ∙ or_right (not (goes_to_memory pass s)) (is_shared_init pass s) shared in
     let template : l.tls_template ≡ false = one.1.tls_template ∙ block in
     (passive, rw (template, passive, t) refl)
 
@@ -73,7 +61,7 @@ own_copied d p i l h e t =
     let pass = pass_over d.options s.tls in
     let block : goes_to_block pass s ≡ true = sym one.1.tls_template ∙ t in
     let memory : goes_to_memory pass s ≡ false = not_both pass s block in
-    (one.1.passive ∙ rw memory refl, left_true d.options.shared_tls s.tls block)
+    (one.1.passive ∙ rw memory refl, (and_parts d.options.shared_tls s.tls block).0)
 
 -- ---- where they end
 

@@ -4,9 +4,7 @@ use Rattle.std.specs.Prelude.{filter, ◌==◌}
 use Rattle.std.specs.Int.{next_multiple_of}
 use Rattle.std.specs.List.{AllByRecursion}
 use Rattle.std.proofs.lemmas.List.{map-append, take_more}
-use Rattle.wl_linking.specs.declared.error.LinkError.{LinkError}
-use Rattle.wl_linking.specs.declared.error.LinkError.TheVariants.{OutOfMemory}
-use Rattle.wl_linking.specs.Steps.{Clear, Refuses}
+use Rattle.wl_linking.specs.Steps.{Clear}
 use Rattle.std.proofs.lemmas.List.Elements.{filter-append}
 use Rattle.wl_data.specs.declared.pass.Frontier.{Frontier}
 use Rattle.wl_data.specs.declared.pass.Pass.{Pass}
@@ -236,15 +234,6 @@ passes_one pass s a e p = record {
 }
 
 -- ---- refusals
-
-pub refuses_as : (P Q : LinkError → Type 0) (e : LinkError) → (P e → Q e) → Refuses P e → Refuses Q e
-refuses_as P Q e f h = record { cause_is = λ not. f (h.cause_is not) }
-
-pub refuses_for : (P : LinkError → Type 0) (e : LinkError) → P e → Refuses P e
-refuses_for P e h = record { cause_is = λ not. h }
-
-pub refuses_memory : (P : LinkError → Type 0) (e : LinkError) → e ≡ OutOfMemory → Refuses P e
-refuses_memory P e is = record { cause_is = λ not. absurd (not is) }
 
 pub laid_one : (pass : Pass) (s : KeptData) (place : ℕ) (a b : Frontier) (l : SegmentLayout) → is_chosen pass s ≡ true → StandsThere pass a b (record { segment = s; place = place }) → IsLayoutOf pass (record { segment = s; place = place }) l → AreLaidOut pass (s ∷ []) a b (l ∷ [])
 laid_one pass s place a b l e p q = record {

@@ -12,6 +12,7 @@ use Rattle.wl_data.specs.Segments.{KeptData, SegmentLayout}
 use Rattle.wl_data.specs.Spans.{AreInRow}
 use Rattle.wl_data.specs.Layouts.{is_chosen, goes_to_block, goes_to_memory, block_alignment, PlacedData, span_of, spans_of, memory_spans, block_spans, IsLayoutOf, AreLayoutsOf, AreLaidOut}
 use Rattle.wl_data.specs.DataPlaces.{AreObjectsLaid, in_one_row, DataInput, IsDataPlaces, by_object, lies_in_memory, HasLayout, HaveLayouts, AddressRange, StandApart, segment_ranges, block_ranges, first_stack, flag_ranges, last_stack, memory_ranges, data_end, data_start, tls_start, tls_base, tls_size, flag_of, pass_over}
+use Rattle.wl_lists.proofs.Beside.{zip_joined}
 use Rattle.wl_data.proofs.LayoutLaws.{laid_end}
 use Rattle.wl_data.proofs.RangeLaws.{lies_is, taken, taken-append}
 use Rattle.wl_data.proofs.UniqueLaws.{FormsAreOne, laid_same}
@@ -120,12 +121,6 @@ pass_for : (o : DataOptions) (tls : Bool) (segments : List KeptData) (a b : Fron
 pass_for o tls segments a b ls p =
     subst (λ (xs : List KeptData). AllZip (HasLayout o) xs ls) p.stand.chosen (laid_for o tls p.placed ls a.memory b.memory a.block b.block p.stand.memory p.stand.block p.laid)
 
-zip_append : {A B : Type 0} (R : A → B → Type 0) (xs us : List A) (ys vs : List B) → AllZip R xs ys → AllZip R us vs → AllZip R (xs ++ us) (ys ++ vs)
-zip_append R [] us [] vs p q = q
-zip_append R [] us (y ∷ ys) vs p q = absurd p
-zip_append R (x ∷ xs) us [] vs p q = absurd p
-zip_append R (x ∷ xs) us (y ∷ ys) vs p q = (p.0, zip_append R xs us ys vs p.1 q)
-
 objects_for : (o : DataOptions) (objects : List (List KeptData)) (a b e f : Frontier) (cs os : List (List SegmentLayout)) → AreObjectsLaid (pass_over o false) objects a b cs → AreObjectsLaid (pass_over o true) objects e f os
     → AllZip (HaveLayouts o) objects (by_object cs os)
 objects_for o [] a b e f [] os p q = tt
@@ -133,7 +128,7 @@ objects_for o [] a b e f (c ∷ cs) os p q = absurd p
 objects_for o (x ∷ objects) a b e f [] os p q = absurd p
 objects_for o (x ∷ objects) a b e f (c ∷ cs) [] p q = absurd q
 objects_for o (x ∷ objects) a b e f (c ∷ cs) (w ∷ os) p q = (
-  zip_append (HasLayout o) (filter (is_chosen (pass_over o false)) x) (filter (is_chosen (pass_over o true)) x) c w (pass_for o false x a p.0 c p.1) (pass_for o true x e q.0 w q.1),
+  zip_joined (HasLayout o) (filter (is_chosen (pass_over o false)) x) (filter (is_chosen (pass_over o true)) x) c w (pass_for o false x a p.0 c p.1) (pass_for o true x e q.0 w q.1),
   objects_for o objects p.0 b q.0 f cs os p.2 q.2,
 )
 

@@ -1,5 +1,6 @@
 -- What wrappers call: what runs the constructors, and a function that isn't imported.
 use Rattle.std.proofs.Common.{◌≡◌, ◌∙◌, ◌≤◌, ◌⊎◌, ℕ, zero, suc, ◌&&◌, ◌||◌, Bool, true, false, not, nat_le, List, [], ◌∷◌, length, filter, refl, subst, arith, inl, inr, Some, slice_get, if◌then◌else◌}
+use Rattle.std.proofs.lemmas.Bool.{and_parts}
 use Rattle.std.specs.List.{list_any}
 use Rattle.std.specs.Str.{bytes_eq}
 use Rattle.std.proofs.lemmas.Option.{same_Some}
@@ -11,8 +12,8 @@ use Rattle.wl_bind.specs.Made.{is_made, is_bound, is_forced, has_init_functions}
 use Rattle.wl_exports.specs.Exports.{ExportEntry, Entity, exports}
 use Rattle.wl_exports.specs.Wrapped.{WrapperEntry, IsWrapper, AreWrappers}
 use Rattle.wl_exports.specs.Wrappers.{is_ctors_name, calls_ctors, wraps, can_wrap, is_own, is_own_function, wrapped}
-use Rattle.wl_exports.proofs.ListLaws.{zip_at}
-use Rattle.wl_exports.proofs.WrapLaws.{own_by_index, and_left}
+use Rattle.wl_lists.proofs.Beside.{zip_left}
+use Rattle.wl_exports.proofs.WrapLaws.{own_by_index}
 
 -- ---- what passes a test
 
@@ -48,7 +49,7 @@ constructors_made input i e at =
     let wrap : wraps input ≡ true = (wrapped_test (wraps input) (exports input) i e at).0 in
     let own = not (list_any calls_ctors input.link.objects) in
     let named = not (list_any (λ (x : ExportEntry). is_ctors_name x.name) (exports input)) in
-    let some = and_left (has_init_functions input) own (and_left (has_init_functions input && own) named wrap) in
+    let some = (and_parts (has_init_functions input) own (and_parts (has_init_functions input && own) named wrap).0).0 in
     made_so (has_init_functions input) (is_bound input CallCtors) (is_forced input CallCtors) some
 
 -- ---- functions that aren't imported
@@ -59,12 +60,12 @@ le_by a b h = grind arith
 pub calls_own : (input : Input) (ws : List WrapperEntry) (i : ℕ) (w : WrapperEntry) → AreWrappers input ws
     → slice_get ws i ≡ Some w → length (host_function_part input) ≤ w.original
 calls_own input ws i w zip at =
-    let found = zip_at (IsWrapper input) (wrapped input) ws i w zip at in
+    let found = zip_left (IsWrapper input) (wrapped input) ws i w zip at in
     let e : ExportEntry = found.0 in
     let is : IsWrapper input e w = found.2 in
     let can : can_wrap e ≡ true = (wrapped_test (wraps input) (exports input) i e found.1).1 in
     let own : is_own_function e.entity ≡ true =
-    and_left (is_own_function e.entity) (not (bytes_eq (name_of InitTls) e.name)) can in
+    (and_parts (is_own_function e.entity) (not (bytes_eq (name_of InitTls) e.name)) can).0 in
     let of_function : is_own is.function ≡ true =
     subst (λ (x : Entity). is_own_function x ≡ true) is.leads own in
     let hosts = length (host_function_part input) in

@@ -2,8 +2,8 @@
 use Rattle.std.proofs.Common.{◌≡◌, ◌⊎◌, ◌∙◌, ◌≤◌, ◌<◌, ℕ, ◌+◌, ◌-◌, true, false, cond, List, [], ◌∷◌, ◌++◌, length, take, get_or, refl, sym, ap, subst, arith, inl, inr, Option, Some, slice_get, eqb, eqb-true, eq-eqb, append_assoc, true≢false, length-append, length-take}
 use Rattle.std.specs.List.{list_any}
 use Rattle.std.specs.HashMap.{HashMap}
-use Rattle.std.proofs.lemmas.Bool.{cases_Bool}
-use Rattle.std.proofs.lemmas.List.{take_more, take_all}
+use Rattle.std.proofs.lemmas.Bool.{cases_Bool, and_parts}
+use Rattle.std.proofs.lemmas.List.{take_more, take_all, length-map}
 use Rattle.std.proofs.lemmas.Option.{slice_get_within}
 use Rattle.indexmap.specs.IndexSet.{insert_all}
 use Rattle.wl_symbols.specs.declared.linker_symbol.WasmLinkerSymbol.TheVariants.{MemoryBase, TableBase, StackPointer, TlsBase, TlsSize, TlsAlign}
@@ -14,13 +14,15 @@ use Rattle.wl_bind.specs.Parts.{AreStarts, joined, lengths_of, total}
 use Rattle.wl_bind.specs.declared.exported.DataSymbol.{DataSymbol}
 use Rattle.wl_bind.specs.declared.parts.PartStarts.{PartStarts}
 use Rattle.wl_exports.specs.DataSteps.{IsNoted, IsLeft, NotesPlaces, AreDataPlaces, exported_data}
-use Rattle.wl_exports.proofs.ListLaws.{IsIn, behind_at, both, front_at, in_list, in_split, length_mapped, list_in, map_at}
+use Rattle.wl_lists.proofs.In.{IsIn, in_list, in_split, list_in}
+use Rattle.wl_lists.proofs.Places.{mapped_at}
+use Rattle.wl_exports.proofs.ListLaws.{behind_at, front_at}
 
 -- ---- data symbols that are the same
 
 pub same_is : (a b : DataSymbol) → same_data a b ≡ true → a ≡ b
 same_is a b e =
-    let h = both (eqb a.object b.object) (eqb a.symbol b.symbol) e in
+    let h = and_parts (eqb a.object b.object) (eqb a.symbol b.symbol) e in
     let first : a.object ≡ b.object = eqb-true a.object b.object h.0 in
     let second : a.symbol ≡ b.symbol = eqb-true a.symbol b.symbol h.1 in
     λ i. record { object = first i; symbol = second i }
@@ -143,8 +145,8 @@ pub data_end : (input : Input) (s : PartStarts) → AreStarts (global_parts inpu
 data_end input s are =
     let e = are.end in
     let apart = total_apart (before_data input) (dynamic_part input ∷ forced_part input ∷ []) in
-    let dynamic = length_mapped DataOf (dynamic_data input) in
-    let forced = length_mapped DataOf (forced_data input) in
+    let dynamic = length-map (dynamic_data input) DataOf in
+    let forced = length-map (forced_data input) DataOf in
     omega (arith, e, apart, dynamic, forced)
 
 space_is : (input : Input) → global_space input
@@ -168,7 +170,7 @@ at_start input k =
 pub dynamic_stands : (input : Input) (k : ℕ) (d : DataSymbol) → slice_get (dynamic_data input) k ≡ Some d
     → slice_get (global_space input) (data_start input + k) ≡ Some (DataOf d)
 dynamic_stands input k d at =
-    let here = map_at DataOf (dynamic_data input) k d at in
+    let here = mapped_at DataOf (dynamic_data input) k d at in
     let within = slice_get_within (dynamic_part input) k (DataOf d) here in
     let both_parts : List GlobalEntry = dynamic_part input ++ (forced_part input ++ []) in
     let longer = length-append (dynamic_part input) (forced_part input ++ []) in
@@ -181,12 +183,12 @@ pub forced_stands : (input : Input) (k : ℕ) (d : DataSymbol) → slice_get (fo
     → slice_get (global_space input) ((data_start input + length (dynamic_data input)) + k) ≡ Some (DataOf d)
 forced_stands input k d at =
     let n = length (dynamic_data input) in
-    let here = map_at DataOf (forced_data input) k d at in
+    let here = mapped_at DataOf (forced_data input) k d at in
     let within = slice_get_within (forced_part input) k (DataOf d) here in
     let both_parts : List GlobalEntry = dynamic_part input ++ (forced_part input ++ []) in
     let longer = length-append (dynamic_part input) (forced_part input ++ []) in
     let rest = length-append (forced_part input) [] in
-    let len = length_mapped DataOf (dynamic_data input) in
+    let len = length-map (dynamic_data input) DataOf in
     let lt : n + k < length both_parts = omega (arith, within, longer, len, rest) in
     let place : (data_start input + n) + k ≡ data_start input + (n + k) = omega arith in
     ap (λ m. slice_get (global_space input) m) place

@@ -1,9 +1,10 @@
 -- Exports by names and by symbols, one after the other.
-use Rattle.std.proofs.Common.{◌≡◌, ◌∙◌, ◌≤◌, ◌<◌, ℕ, zero, suc, ◌+◌, ◌&&◌, not, Bool, true, false, List, [], ◌∷◌, ◌++◌, length, map, filter_map, take, get_or, refl, sym, ap, subst, arith, Option, Some, None, slice_get, Contains, append_assoc, append-nil, add-one, if◌then◌else◌}
+use Rattle.std.proofs.Common.{◌≡◌, ◌∙◌, ◌<◌, ℕ, zero, suc, ◌+◌, ◌&&◌, not, true, false, List, [], ◌∷◌, ◌++◌, length, filter_map, take, get_or, refl, sym, ap, subst, arith, Option, Some, None, slice_get, Contains, append_assoc, append-nil, add-one, if◌then◌else◌}
+use Rattle.std.proofs.lemmas.Bool.{and_parts, not-true}
 use Rattle.std.specs.Option.{option_map, option_and_then, option_to_list}
 use Rattle.std.specs.Prelude.{string_bytes, String}
 use Rattle.std.specs.declared.alloc.Global.{Global}
-use Rattle.std.proofs.lemmas.List.{take_all, take_more}
+use Rattle.std.proofs.lemmas.List.{take_more, map-append}
 use Rattle.wl_module.specs.Exports.{Exported}
 use Rattle.wl_linking.specs.Object.{Object}
 use Rattle.wl_custom.specs.Symbols.{Symbol as LinkedSymbol, is_data, has_name, is_undefined, is_function}
@@ -24,15 +25,13 @@ use Rattle.wl_symbols.specs.SlotTargets.{own_number}
 use Rattle.wl_exports.specs.Exports.{ExportEntry, Entity, OfFunction, export_of, by_names, object_entity, defined_entity, defined_of_kind, named_entity, only_function, named_function, unless_made, candidate, by_symbol, candidates, is_code, stack_pointer_export, dynamic_exports}
 use Rattle.wl_exports.specs.ExportSteps.{IsPlainIf, AddsExports, takes}
 use Rattle.wl_exports.specs.declared.dynamic.Wanted.{Wanted}
+use Rattle.wl_lists.proofs.In.{in_at, in_list}
+use Rattle.wl_lists.proofs.Places.{item_at, mapped_at}
 use Rattle.wl_exports.proofs.GrowLaws.{adds_more, adds_same}
 use Rattle.wl_exports.proofs.ShownLaws.{Found, entity_found}
-use Rattle.wl_exports.proofs.ListLaws.{at_read, both, in_at, in_list, map_at, not_true, one_item}
+use Rattle.wl_exports.proofs.ListLaws.{one_item}
 
 -- ---- by names
-
-map_append : {X Y : Type 0} (f : X → Y) (xs ys : List X) → map f (xs ++ ys) ≡ map f xs ++ map f ys
-map_append f [] ys = refl
-map_append {X} {Y} f (x ∷ xs) ys = ap (λ (zs : List Y). f x ∷ zs) (map_append f xs ys)
 
 front_more : {X Y : Type 0} (f : X → Option Y) (xs : List X) (w x : X) (o : Option Y) → f w ≡ o
     → filter_map f (xs ++ x ∷ []) ≡ filter_map f xs ++ option_to_list (f x)
@@ -50,7 +49,7 @@ pub texts_more : (items : List (String Global)) (i : ℕ) (s : String Global) �
     → texts (take (i + 1) items) ≡ texts (take i items) ++ string_bytes s ∷ []
 texts_more items i s lt is =
     ap texts (take_more items i s lt)
-    ∙ (map_append string_bytes (take i items) (get_or items i s ∷ [])
+    ∙ (map-append string_bytes (take i items) (get_or items i s ∷ [])
     ∙ ap (λ (z : String Global). texts (take i items) ++ string_bytes z ∷ []) (sym is))
 
 -- the export of what stands for a name
@@ -73,19 +72,11 @@ names_next input entity items i s name old middle new lt is named_so a b =
     (by_names entity (texts (take (i + 1) items))) old new more
     (adds_more input (by_names entity front) (option_to_list (name_entry entity name)) old middle new a b)
 
-pub names_all : (input : Input) (entity : List ℕ → Option Entity) (items : List (String Global)) (i : ℕ)
-    (names : List (List ℕ)) (old new : List Exported) → length items ≤ i → texts items ≡ names
-    → AddsExports input (by_names entity (texts (take i items))) old new
-    → AddsExports input (by_names entity names) old new
-names_all input entity items i names old new past are a =
-    adds_same input (by_names entity (texts (take i items))) (by_names entity names) old new
-    (ap (λ (zs : List (String Global)). by_names entity (texts zs)) (take_all i items past) ∙ ap (by_names entity) are) a
-
 -- the name is one of them
 pub name_in : (items : List (String Global)) (i : ℕ) (s : String Global) (name : List ℕ) (names : List (List ℕ))
     → i < length items → s ≡ get_or items i s → name ≡ string_bytes s → texts items ≡ names → Contains names name
 name_in items i s name names lt is named_so are =
-    let at : slice_get (texts items) i ≡ Some (string_bytes s) = map_at string_bytes items i s (at_read items i s lt is) in
+    let at : slice_get (texts items) i ≡ Some (string_bytes s) = mapped_at string_bytes items i s (item_at items i s lt is) in
     let here : slice_get names i ≡ Some name =
     subst (λ (ns : List (List ℕ)). slice_get ns i ≡ Some name) are
     (at ∙ ap (λ (n : List ℕ). Some n) (sym named_so)) in
@@ -118,8 +109,8 @@ function_kind Table e = absurd cc
 
 pub function_parts_of : (s : LinkedSymbol) → is_defined_function s ≡ true → (s.kind ≡ Func) × (is_undefined s ≡ false)
 function_parts_of s e =
-    let h = both (is_function s.kind) (not (is_undefined s)) e in
-    (function_kind s.kind h.0, not_true (is_undefined s) h.1)
+    let h = and_parts (is_function s.kind) (not (is_undefined s)) e in
+    (function_kind s.kind h.0, not-true (is_undefined s) h.1)
 
 all_functions : (f : ℕ → FunctionEntry) (n : Option ℕ)
     → option_and_then only_function (option_map (λ k. OfFunction (f k)) n) ≡ option_map (λ k. OfFunction (f k)) n
@@ -201,9 +192,6 @@ pub names_one : (entity : List ℕ → Option Entity) (asked : Option (List ℕ)
     → option_to_list (name_entry entity name) ≡ by_names entity (option_to_list asked)
 names_one entity asked name e =
     sym (ap (λ (o : Option (List ℕ)). by_names entity (option_to_list o)) e ∙ one_item (name_entry entity name))
-
-pub both_true : (a b : Bool) → a ≡ true → b ≡ true → (a && b) ≡ true
-both_true a b x y = rw (x, y) refl
 
 pub dynamic_is : (input : Input) → input.link.args.export_dynamic ≡ true
     → (stack_pointer_export input ++ candidates input is_code) ++ candidates input is_data ≡ dynamic_exports input

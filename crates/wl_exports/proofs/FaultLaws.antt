@@ -1,5 +1,5 @@
 -- Why there can't be these exports.
-use Rattle.std.proofs.Common.{◌≡◌, ◌⊎◌, ◌∙◌, ◌≤◌, ◌<◌, ℕ, zero, suc, ◌+◌, ◌||◌, Bool, true, false, not, List, [], ◌∷◌, ◌++◌, length, take, get_or, refl, sym, ap, subst, arith, inl, inr, Option, Some, None, IsSome, slice_get, Contains, true≢false, Result, Ok, Err, MatchResult, OnOk, IfErr}
+use Rattle.std.proofs.Common.{◌≡◌, ◌⊎◌, ◌∙◌, ◌≤◌, ◌<◌, ℕ, zero, suc, ◌+◌, ◌||◌, Bool, true, false, List, [], ◌∷◌, ◌++◌, length, take, get_or, refl, sym, ap, subst, arith, inl, inr, Option, Some, None, IsSome, slice_get, Contains, true≢false, Result, Ok, Err, MatchResult, OnOk, IfErr}
 use Rattle.std.specs.List.{AllByRecursion, AllZip}
 use Rattle.std.specs.Option.{option_map_or, option_and_then}
 use Rattle.std.specs.Prelude.{string_bytes, String}
@@ -14,9 +14,9 @@ use Rattle.wl_linking.specs.Object.{Object}
 use Rattle.wl_linking.specs.Steps.{Clear, Refuses}
 use Rattle.wl_custom.specs.Symbols.{Symbol as LinkedSymbol, is_undefined, is_table}
 use Rattle.wl_linking.specs.declared.error.LinkError.{LinkError}
-use Rattle.wl_linking.specs.declared.error.LinkError.TheVariants.{ExportNotFound, DuplicateExport, WrongKind}
+use Rattle.wl_linking.specs.declared.error.LinkError.TheVariants.{DuplicateExport}
 use Rattle.wl_custom.specs.declared.symbols.WasmSymbolKind.{WasmSymbolKind}
-use Rattle.wl_custom.specs.declared.symbols.WasmSymbolKind.TheVariants.{Func, Data, Global, Table}
+use Rattle.wl_custom.specs.declared.symbols.WasmSymbolKind.TheVariants.{Func, Data, Global}
 use Rattle.wl_symbols.specs.Entries.{symbol_in}
 use Rattle.wl_symbols.specs.Names.{named}
 use Rattle.wl_words.specs.Texts.{texts}
@@ -30,10 +30,12 @@ use Rattle.wl_exports.specs.FaultSteps.{IsSoundSymbol, IsSymbolFault, no_room, a
 use Rattle.wl_exports.specs.Faults.{IsExportFault, is_table_symbol}
 use Rattle.wl_exports.specs.NameSteps.{has_export}
 use Rattle.wl_exports.specs.Sources.{IsPlainExport}
-use Rattle.wl_exports.proofs.ListLaws.{IsIn, at_read, in_list, in_split, list_in, zip_at, zip_from}
+use Rattle.wl_lists.proofs.Beside.{zip_left, zip_right}
+use Rattle.wl_lists.proofs.In.{IsIn, in_list, in_split, list_in}
+use Rattle.wl_lists.proofs.Places.{item_at}
 use Rattle.wl_exports.proofs.EntryLaws.{texts_more}
 use Rattle.wl_exports.proofs.NameLaws.{bytes_is, bytes_self}
-use Rattle.wl_exports.proofs.ShownLaws.{AreNumbered, Found, found, entity_found, no_entity, holds_at, function_value, global_value}
+use Rattle.wl_exports.proofs.ShownLaws.{AreNumbered, Found, found, entity_found, holds_at, function_value, global_value}
 
 -- ---- symbols
 
@@ -48,18 +50,6 @@ no_table : (input : Input) (object number : ℕ) → symbol_in input.link.object
     → is_table_symbol input (Some (Symbol object number)) ≡ false
 no_table input object number none =
     ap (λ (o : Option LinkedSymbol). option_map_or (λ (t : LinkedSymbol). is_table t.kind) o false) none
-
-pub gone : (input : Input) (name : List ℕ) (object number : ℕ)
-    → symbol_in input.link.objects object number ≡ None
-    → IsSymbolFault input name object number (ExportNotFound name)
-gone input name object number none =
-    nothing (no_table input object number none) (no_entity input object number none) refl
-
-pub table_fault : (input : Input) (name : List ℕ) (object number : ℕ) (s : LinkedSymbol)
-    → symbol_in input.link.objects object number ≡ Some s → s.kind ≡ Table
-    → IsSymbolFault input name object number (WrongKind object number)
-table_fault input name object number s at kind =
-    a_table (table_by input object number s at ∙ ap is_table kind) refl
 
 -- the entity of a symbol that its object defines
 entity_by : (input : Input) (object number : ℕ) (s : LinkedSymbol)
@@ -170,8 +160,8 @@ pub repeat_fault : (input : Input) (xs : List Exported) (e : LinkError)
     → AllZip (IsPlainExport input) (first_exports input) xs → IsRepeat xs e → Refuses (IsExportFault input) e
 repeat_fault input xs e zip (lack told) = record { cause_is = λ other. absurd (other told) }
 repeat_fault input xs e zip (twice r) =
-    let a = zip_at (IsPlainExport input) (first_exports input) xs r.first r.one zip r.here in
-    let b = zip_at (IsPlainExport input) (first_exports input) xs r.second r.other zip r.there in
+    let a = zip_left (IsPlainExport input) (first_exports input) xs r.first r.one zip r.here in
+    let b = zip_left (IsPlainExport input) (first_exports input) xs r.second r.other zip r.there in
     record {
       cause_is = λ other. inr (inr (record {
         first = r.first;
@@ -189,8 +179,8 @@ repeat_fault input xs e zip (twice r) =
 pub sound_first : (input : Input) (xs : List Exported) → AllZip (IsPlainExport input) (first_exports input) xs
     → AreDistinct xs → AreSoundFirst input
 sound_first input xs zip distinct i k a b lt at_a at_b same =
-    let x = zip_from (IsPlainExport input) (first_exports input) xs i a zip at_a in
-    let y = zip_from (IsPlainExport input) (first_exports input) xs k b zip at_b in
+    let x = zip_right (IsPlainExport input) (first_exports input) xs i a zip at_a in
+    let y = zip_right (IsPlainExport input) (first_exports input) xs k b zip at_b in
     distinct i k x.0 y.0 lt x.1 y.1 (x.2.name ∙ (same ∙ sym y.2.name))
 
 pub clear_of : (input : Input) → AreSoundNames input → AreSoundFirst input → Clear (IsExportFault input)
@@ -278,7 +268,7 @@ repeat_at xs i x lt at taken =
       one = a.1;
       here = h.1;
       other = x;
-      there = at_read xs i x lt at;
+      there = item_at xs i x lt at;
       same = sym a.3;
       told = ap (λ (n : List ℕ). DuplicateExport n) a.3;
     })
@@ -349,10 +339,6 @@ sound_by numbered input object number s whole at defined (inr (inl kind)) =
     (λ o w here. gives_global numbered object number s o kind defined w here)
 sound_by numbered input object number s whole at defined (inr (inr kind)) =
     sound_symbol numbered input object number s Data whole at kind defined refl (λ o w here. (_, refl))
-
-pub not_false : (b : Bool) → not b ≡ false → b ≡ true
-not_false true e = refl
-not_false false e = absurd cc
 
 -- one of three kinds
 pub kind_of_three : (a b : WasmSymbolKind) → a ≡ b → ((a ≡ Func) ⊎ ((a ≡ Global) ⊎ (a ≡ Data)))

@@ -8,10 +8,8 @@ use Rattle.wl_bind.specs.Parts.{by_object}
 use Rattle.wl_exports.specs.Exports.{ExportEntry, export_of, own_entity}
 use Rattle.wl_exports.specs.ExportSteps.{AddsExports}
 use Rattle.wl_exports.specs.Sources.{IsPlainExport}
-use Rattle.wl_exports.proofs.ListLaws.{zip_joined, filter_map_more}
-
-pub adds_none : (input : Input) (old : List Exported) → AddsExports input [] old old
-adds_none input old = record { more = []; are = tt; grown = sym (append-nil old) }
+use Rattle.wl_lists.proofs.Beside.{zip_joined}
+use Rattle.wl_exports.proofs.ListLaws.{filter_map_more}
 
 pub adds_more : (input : Input) (front behind : List ExportEntry) (old middle new : List Exported)
     → AddsExports input front old middle → AddsExports input behind middle new
@@ -38,12 +36,6 @@ adds_next input f xs i x old middle new lt is a b =
     adds_same input (filter_map f (take i xs) ++ option_to_list (f x)) (filter_map f (take (i + 1) xs)) old new
     (sym (filter_map_more f xs i x lt is))
     (adds_more input (filter_map f (take i xs)) (option_to_list (f x)) old middle new a b)
-
-pub adds_all : {X : Type 0} (input : Input) (f : X → Option ExportEntry) (xs : List X) (i : ℕ)
-    (old new : List Exported) → (take i xs ≡ xs)
-    → AddsExports input (filter_map f (take i xs)) old new → AddsExports input (filter_map f xs) old new
-adds_all {X} input f xs i old new whole a =
-    subst (λ (zs : List X). AddsExports input (filter_map f zs) old new) whole a
 
 -- ---- object by object
 

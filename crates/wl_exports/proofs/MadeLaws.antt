@@ -1,11 +1,10 @@
 -- What the linker makes stands in a space only where the output has it.
-use Rattle.std.proofs.Common.{◌≡◌, ◌⊎◌, ◌∙◌, ℕ, ◌+◌, ◌||◌, Bool, true, false, List, [], ◌∷◌, ◌++◌, length, map, filter_map, refl, sym, ap, subst, inl, inr, Option, Some, None, if◌then◌else◌, find, is_some}
-use Rattle.std.specs.List.{list_any, range_with_len}
+use Rattle.std.proofs.Common.{◌≡◌, ◌∙◌, ℕ, ◌+◌, Bool, true, false, List, [], ◌∷◌, ◌++◌, length, map, filter_map, refl, sym, ap, subst, inl, inr, Option, Some, None, if◌then◌else◌, find, is_some}
+use Rattle.std.specs.List.{range_with_len}
 use Rattle.std.specs.Option.{option_map, option_and_then, option_map_or}
 use Rattle.std.specs.Str.{bytes_eq}
 use Rattle.std.proofs.lemmas.Bool.{cases_Bool}
 use Rattle.std.proofs.lemmas.Option.{same_Some}
-use Rattle.indexmap.specs.IndexSet.{insert_all}
 use Rattle.wl_linking.specs.Object.{Object}
 use Rattle.wl_custom.specs.declared.symbols.WasmSymbolKind.{WasmSymbolKind}
 use Rattle.wl_custom.specs.declared.symbols.WasmSymbolKind.TheVariants as symbol
@@ -31,7 +30,9 @@ use Rattle.wl_bind.specs.declared.binding.GlobalTarget.TheVariants as global
 use Rattle.wl_exports.specs.Exports.{ExportEntry, Entity, export_of, made_of_kind, made_entity, made_under}
 use Rattle.wl_exports.specs.ExportSteps.{IsPlainIf, kind_of_symbol, kind_of_made}
 use Rattle.wl_exports.specs.Sources.{IsPlainExport}
-use Rattle.wl_exports.proofs.ListLaws.{IsIn, in_at, in_split}
+use Rattle.wl_lists.proofs.Firsts.{in_firsts_onto}
+use Rattle.wl_lists.proofs.Found.{any_in}
+use Rattle.wl_lists.proofs.In.{IsIn, in_at, in_split}
 
 -- ---- all of a list
 
@@ -88,20 +89,6 @@ functions_made input =
 
 -- ---- data of the linker's
 
-in_seen_or : {X : Type 0} (same : X → X → Bool) (seen xs : List X) (z : X)
-    → IsIn (insert_all same seen xs) z → IsIn seen z ⊎ IsIn xs z
-in_seen_or same seen [] z h = inl h
-in_seen_or same seen (x ∷ xs) z h = elim (cases_Bool (list_any (same x) seen)) [
-  | inl t ↦ elim (in_seen_or same seen xs z (rw t at h)) [ inl a ↦ inl a | inr b ↦ inr (inr b) ]
-  | inr f ↦ elim (in_seen_or same (seen ++ x ∷ []) xs z (rw f at h)) [
-    | inl a ↦ elim (in_split seen (x ∷ []) z a) [
-      | inl c ↦ inl c
-      | inr c ↦ elim c [ inl e ↦ inr (inl e) | inr n ↦ absurd n ]
-    ]
-    | inr b ↦ inr (inr b)
-  ]
-]
-
 record FromName (names : List (List ℕ)) (m : WasmLinkerSymbol) : Type 0 where
   pub name : List ℕ
   pub among : IsIn names name
@@ -130,20 +117,6 @@ found_passes {X} p (y ∷ xs) x e = elim (cases_Bool (p y)) [
       subst (λ (z : X). p z ≡ true) (same_Some y x first) t
   | inr f ↦ found_passes p xs x (rw f at e)
 ]
-
-pub any_in : (p : List ℕ → Bool) (names : List (List ℕ)) (name : List ℕ) → IsIn names name → p name ≡ true
-    → list_any p names ≡ true
-any_in p [] name h e = absurd h
-any_in p (n ∷ names) name h e = elim h [
-  | inl same ↦
-      let here : p n ≡ true = subst (λ (k : List ℕ). p k ≡ true) (sym same) e in
-      rw here refl
-  | inr rest ↦ or_right (p n) (list_any p names) (any_in p names name rest e)
-]
-  where
-    or_right : (a b : Bool) → b ≡ true → (a || b) ≡ true
-    or_right true b k = refl
-    or_right false b k = k
 
 data_made : (input : Input) (m : WasmLinkerSymbol) → is_exported_as_data true m ≡ true → is_forced input m ≡ true
     → is_made input m ≡ true
@@ -178,7 +151,7 @@ data_from (Some k) m e =
 address_made : (input : Input) (m : WasmLinkerSymbol) → IsIn (exported_addresses input.link.args) m
     → is_made input m ≡ true
 address_made input m h =
-    elim (in_seen_or same_made [] (filter_map data_named input.link.args.export_symbols) m h) [
+    elim (in_firsts_onto same_made [] (filter_map data_named input.link.args.export_symbols) m h) [
       | inl none ↦ absurd none
       | inr among ↦
           (let f = from_name input.link.args.export_symbols m among in

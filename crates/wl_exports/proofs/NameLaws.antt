@@ -1,10 +1,11 @@
 -- Names that are taken.
 use Rattle.std.proofs.Common.{◌≡◌, ◌∙◌, ◌<◌, ℕ, ◌+◌, ◌||◌, Bool, true, false, not, cond, List, [], ◌∷◌, ◌++◌, length, take, get_or, refl, sym, ap, subst, inl, inr, if◌then◌else◌, eqb, eqb-true, eq-eqb, append_assoc, append-nil, true≢false}
+use Rattle.std.proofs.Math.Bool.{or-false, or_comm}
 use Rattle.std.specs.Borrow.{Bor}
 use Rattle.std.specs.HashSet.{HashSet}
 use Rattle.std.specs.List.{AllZip, list_any}
 use Rattle.std.specs.Str.{bytes_eq}
-use Rattle.std.proofs.lemmas.Bool.{cases_Bool}
+use Rattle.std.proofs.lemmas.Bool.{cases_Bool, and_parts}
 use Rattle.std.proofs.lemmas.List.{take_more}
 use Rattle.wl_module.specs.Exports.{Exported}
 use Rattle.wl_symbols.specs.Input.{Input}
@@ -12,7 +13,7 @@ use Rattle.wl_exports.specs.Exports.{ExportEntry, same_name, unless_taken, first
 use Rattle.wl_exports.specs.ExportSteps.{AddsExports}
 use Rattle.wl_exports.specs.NameSteps.{holds_name, has_export, HoldsNames, untaken}
 use Rattle.wl_exports.specs.Sources.{IsPlainExport, ArePlainExports}
-use Rattle.wl_exports.proofs.ListLaws.{both, zip_joined}
+use Rattle.wl_lists.proofs.Beside.{zip_joined}
 
 -- ---- texts
 
@@ -21,7 +22,7 @@ bytes_is [] [] e = refl
 bytes_is [] (y ∷ b) e = absurd cc
 bytes_is (x ∷ a) [] e = absurd cc
 bytes_is (x ∷ a) (y ∷ b) e =
-    let h = both (eqb x y) (bytes_eq a b) e in
+    let h = and_parts (eqb x y) (bytes_eq a b) e in
     let first = eqb-true x y h.0 in
     let rest = bytes_is a b h.1 in
     λ i. first i ∷ rest i
@@ -47,16 +48,6 @@ pub cond_or : (a b : Bool) → cond a true b ≡ (a || b)
 cond_or true b = refl
 cond_or false b = refl
 
-or_turn : (a b : Bool) → (a || b) ≡ (b || a)
-or_turn true true = refl
-or_turn true false = refl
-or_turn false true = refl
-or_turn false false = refl
-
-or_false : (a : Bool) → (a || false) ≡ a
-or_false true = refl
-or_false false = refl
-
 any_append : {X : Type 0} (p : X → Bool) (xs ys : List X) → list_any p (xs ++ ys) ≡ (list_any p xs || list_any p ys)
 any_append p [] ys = refl
 any_append p (x ∷ xs) ys = elim (cases_Bool (p x)) [
@@ -76,8 +67,8 @@ holds_more old new xs x name is more so_far wanted =
     more wanted
     ∙ (ap (λ (b : Bool). bytes_eq name wanted || b) (so_far wanted)
     ∙ (ap (λ (b : Bool). b || has_export wanted xs) turned
-    ∙ (or_turn (bytes_eq wanted x.name) (has_export wanted xs)
-    ∙ (ap (λ (b : Bool). has_export wanted xs || b) (sym (or_false (bytes_eq wanted x.name)))
+    ∙ (or_comm (bytes_eq wanted x.name) (has_export wanted xs)
+    ∙ (ap (λ (b : Bool). has_export wanted xs || b) (sym (or-false (bytes_eq wanted x.name)))
     ∙ sym (any_append (λ (y : Exported). bytes_eq wanted y.name) xs (x ∷ []))))))
 
 pub holds_next : {S : Type 0} (old new : HashSet (Bor (List ℕ)) S) (before xs : List Exported) (i : ℕ) (x : Exported)

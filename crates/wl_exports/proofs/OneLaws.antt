@@ -10,6 +10,7 @@ use Rattle.wl_exports.specs.Exports.{ExportEntry, Entity, OfFunction, OfGlobal, 
 use Rattle.wl_exports.specs.Sources.{IsOf}
 use Rattle.wl_exports.specs.Wrapped.{WrapperEntry, is_wrapped, IsExportIf, IsWrapper, AreOutputExports, AreWrappers}
 use Rattle.wl_exports.specs.Wrappers.{wrapped}
+use Rattle.wl_lists.proofs.Places.{there_is}
 
 export_one : (a b : Exported) → a.name ≡ b.name → a.kind ≡ b.kind → a.index ≡ b.index → a ≡ b
 export_one a b n k x = λ i. record { name = n i; kind = k i; index = x i }
@@ -30,11 +31,6 @@ if_one input false number e a b functions globals x y =
     export_one a b (x.name ∙ sym y.name) h.0 h.1
 if_one input true number e a b functions globals x y =
     export_one a b (x.0 ∙ sym y.0) (x.1 ∙ sym y.1) (x.2 ∙ sym y.2)
-
-there_is : {X : Type 0} (xs : List X) (k : ℕ) → k < length xs → (x : X) × (slice_get xs k ≡ Some x)
-there_is [] k lt = absurd (omega (arith, lt))
-there_is (x ∷ xs) zero lt = (x, refl)
-there_is (x ∷ xs) (suc k) lt = there_is xs k (omega (arith, lt))
 
 -- lists that agree at each place
 same_lists : (xs ys : List Exported) (n : ℕ) → length xs ≡ n → length ys ≡ n

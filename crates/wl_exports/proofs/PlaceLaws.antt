@@ -2,7 +2,8 @@
 use Rattle.std.proofs.Common.{◌≡◌, ◌∙◌, ◌≤◌, ◌<◌, ℕ, zero, suc, ◌+◌, ◌-◌, ◌==◌, ◌||◌, Bool, true, false, nat_lt, nat_le, List, [], ◌∷◌, ◌++◌, length, map, refl, sym, ap, subst, arith, inl, inr, Option, Some, None, slice_get, if◌then◌else◌, eqb-true}
 use Rattle.std.specs.List.{range_with_len}
 use Rattle.std.specs.Option.{option_map}
-use Rattle.std.proofs.lemmas.Bool.{cases_Bool, leb-false, ltb-false}
+use Rattle.std.proofs.lemmas.Bool.{cases_Bool, leb-false, ltb-false, or_parts}
+use Rattle.std.proofs.lemmas.List.{length-map}
 use Rattle.std.proofs.lemmas.Option.{same_Some, slice_get_within}
 use Rattle.wl_index.specs.declared.index.TheConstants.{WASM_DEAD_INDEX, MAX_ENTRIES}
 use Rattle.wl_module.specs.Exports.{Exported}
@@ -25,7 +26,8 @@ use Rattle.wl_bind.specs.declared.binding.FunctionTarget.TheVariants as function
 use Rattle.wl_bind.specs.declared.binding.GlobalTarget.TheVariants as global
 use Rattle.wl_exports.specs.Exports.{OfFunction, OfGlobal, export_of}
 use Rattle.wl_exports.specs.ExportSteps.{IsPlainIf, index_at, unless_dead}
-use Rattle.wl_exports.proofs.ListLaws.{behind_at, range_at, length_mapped}
+use Rattle.wl_lists.proofs.Places.{range_at}
+use Rattle.wl_exports.proofs.ListLaws.{behind_at}
 
 -- ---- rows and places
 
@@ -130,10 +132,6 @@ the_map input maps object o m h some = same_Some h.map_is m (sym h.at ∙ some)
 
 -- ---- what an object defines
 
-neither : (a b : Bool) → (a || b) ≡ false → (a ≡ false) × (b ≡ false)
-neither true b e = absurd cc
-neither false b e = (refl, e)
-
 unless_past : (past : Bool) (x n : ℕ) → (if past then None else Some x) ≡ Some n
     → (past ≡ false) × (x ≡ n)
 unless_past true x n e = absurd cc
@@ -148,7 +146,7 @@ stands_behind : (imports count index n : ℕ) → defined_number imports count i
     → StandsBehind imports count index n
 stands_behind imports count index n e =
     let given = unless_past (nat_lt index imports || nat_le count (index - imports)) (index - imports) n e in
-    let tests = neither (nat_lt index imports) (nat_le count (index - imports)) given.0 in
+    let tests = or_parts (nat_lt index imports) (nat_le count (index - imports)) given.0 in
     let ge : imports ≤ index = ltb-false index imports tests.0 in
     let lt : index - imports < count = leb-false count (index - imports) tests.1 in
     let same = given.1 in
@@ -170,7 +168,7 @@ function_there counted input object o index n number kept =
     let own = map (own_function_entry input object) (range_with_len 0 (length o.functions)) in
     let s = stands_behind (count_imports external.Func o.imports) (length o.functions) index n number in
     let len : length slots ≡ count_imports external.Func o.imports =
-    length_mapped (function_slot_entry input) (object_slots object symbol.Func o) ∙ counted object o in
+    length-map (object_slots object symbol.Func o) (function_slot_entry input) ∙ counted object o in
     let place : index ≡ length slots + n = omega (arith, s.behind, len) in
     let entry : own_function_entry input object (0 + n) ≡ Some (FunctionOf (function.Defined object n)) =
     let zero_n : 0 + n ≡ n = omega arith in
@@ -190,7 +188,7 @@ global_there counted input object o index n number kept =
     let own = map (own_global_entry input object) (range_with_len 0 (length o.globals)) in
     let s = stands_behind (count_imports external.Global o.imports) (length o.globals) index n number in
     let len : length slots ≡ count_imports external.Global o.imports =
-    length_mapped (global_slot_entry input) (object_slots object symbol.Global o) ∙ counted object o in
+    length-map (object_slots object symbol.Global o) (global_slot_entry input) ∙ counted object o in
     let place : index ≡ length slots + n = omega (arith, s.behind, len) in
     let entry : own_global_entry input object (0 + n) ≡ Some (GlobalOf (global.Defined object n)) =
     let zero_n : 0 + n ≡ n = omega arith in

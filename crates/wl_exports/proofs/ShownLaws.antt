@@ -1,8 +1,8 @@
 -- What symbols and names define is in the output, where it is exported.
-use Rattle.std.proofs.Common.{◌≡◌, ◌⊎◌, ◌∙◌, ℕ, zero, suc, ◌+◌, ◌&&◌, ◌||◌, Bool, true, false, not, List, [], ◌∷◌, filter, filter_map, refl, sym, ap, subst, arith, inl, inr, Option, Some, None, slice_get, if◌then◌else◌, Contains}
+use Rattle.std.proofs.Common.{◌≡◌, ◌⊎◌, ◌∙◌, ℕ, zero, suc, ◌+◌, ◌&&◌, Bool, true, false, not, List, [], ◌∷◌, filter, filter_map, refl, sym, ap, subst, arith, inl, inr, Option, Some, None, slice_get, if◌then◌else◌, Contains}
 use Rattle.std.specs.List.{AllByRecursion}
 use Rattle.std.specs.Option.{option_map, option_map_or, option_and_then}
-use Rattle.std.proofs.lemmas.Bool.{cases_Bool}
+use Rattle.std.proofs.lemmas.Bool.{cases_Bool, or_right, and_parts}
 use Rattle.std.proofs.lemmas.Option.{same_Some}
 use Rattle.wl_module.specs.Exports.{Exported}
 use Rattle.wl_linking.specs.Fitting.{IsWhole}
@@ -36,8 +36,10 @@ use Rattle.wl_bind.specs.declared.exported.DataSymbol.{DataSymbol}
 use Rattle.wl_exports.specs.DataSteps.{exported_data}
 use Rattle.wl_exports.specs.Exports.{Entity, OfFunction, OfGlobal, export_of, defined_of_kind, defined_entity, object_entity}
 use Rattle.wl_exports.specs.ExportSteps.{IsPlainIf, IsShown}
+use Rattle.wl_lists.proofs.In.{IsIn, filter_in, in_back, in_front, in_list, list_in}
+use Rattle.wl_lists.proofs.Rows.{object_in}
 use Rattle.wl_exports.proofs.DataLaws.{in_once}
-use Rattle.wl_exports.proofs.ListLaws.{IsIn, both, filter_in, filter_map_in, in_back, in_front, in_list, list_in}
+use Rattle.wl_exports.proofs.ListLaws.{filter_map_in}
 use Rattle.wl_exports.proofs.PlaceLaws.{AreCounted, AreGlobalsCounted, function_there, global_there}
 
 -- ---- what is counted on
@@ -54,10 +56,6 @@ abbrev pub AreKeptRoots : Type 0
 AreKeptRoots =
     (link : Link) (live : Live) (u : LinkUnit) → IsLiveOf link live → IsRoot link u
     → is_live live u ≡ true
-
-or_right : (a b : Bool) → b ≡ true → (a || b) ≡ true
-or_right true b e = refl
-or_right false b e = e
 
 unless : {X : Type 0} (b : Bool) (x y : X) → b ≡ false → (if b then x else y) ≡ y
 unless b x y e = rw e refl
@@ -99,18 +97,6 @@ entity_found input object number s f =
     let here = f.here in
     let at = f.at in
     rw (here, at) refl
-
-nothing_in : (objects : List Object) (object number : ℕ) (f : Object → LinkedSymbol → Option Entity)
-    → symbol_in objects object number ≡ None
-    → option_and_then (λ (o : Object). option_and_then (f o) (slice_get o.symbols number)) (slice_get objects object) ≡ None
-nothing_in [] object number f e = refl
-nothing_in (o ∷ objects) zero number f e = rw e refl
-nothing_in (o ∷ objects) (suc object) number f e = nothing_in objects object number f e
-
-pub no_entity : (input : Input) (object number : ℕ) → symbol_in input.link.objects object number ≡ None
-    → object_entity input (Symbol object number) ≡ None
-no_entity input object number none =
-    nothing_in input.link.objects object number (defined_entity input object number) none
 
 -- ---- what names are asked for keeps
 
@@ -158,19 +144,6 @@ from_in input object n (suc k) m (x ∷ symbols) s same at passes =
     (dynamic_from input object (n + 1) symbols) (record { object = object; symbol = m })
     (from_in input object (n + 1) k m symbols s (omega (arith, same)) at passes)
 
-object_in : {X : Type 0} (f : ℕ → Object → List X) (n i m : ℕ) (objects : List Object) (o : Object)
-    (z : X) → n + i ≡ m → slice_get objects i ≡ Some o → IsIn (f m o) z → IsIn (by_object f n objects) z
-object_in f n i m [] o z same at h = absurd cc
-object_in {X} f n zero m (p ∷ objects) o z same at h =
-    let is : p ≡ o = cc in
-    let number : m ≡ n = omega (arith, same) in
-    let P : Object → Type 0 = λ q. IsIn (f m q) z in
-    let Q : ℕ → Type 0 = λ k. IsIn (f k p) z in
-    in_front (f n p) (by_object f (n + 1) objects) z (subst Q number (subst P (sym is) h))
-object_in f n (suc i) m (p ∷ objects) o z same at h =
-    in_back (f n p) (by_object f (n + 1) objects) z
-    (object_in f (n + 1) i m objects o z (omega (arith, same)) at h)
-
 dynamic_there : (input : Input) (object number : ℕ) (o : Object) (s : LinkedSymbol)
     → input.link.args.export_dynamic ≡ true → slice_get input.link.objects object ≡ Some o
     → slice_get o.symbols number ≡ Some s → is_dynamic_data input object number s ≡ true
@@ -198,7 +171,7 @@ forced_there input name object number o s asked unmade names here at defined dat
     ∙ (ap (option_and_then (data_of input)) names ∙ given) in
     elim (cases_Bool (is_dynamic input d)) [
       | inl holds ↦
-          let parts = both input.link.args.export_dynamic
+          let parts = and_parts input.link.args.export_dynamic
           (option_map_or (is_dynamic_data input object number) (symbol_in input.link.objects object number) false) holds in
           let passes : is_dynamic_data input object number s ≡ true =
           sym (ap (λ (x : Option LinkedSymbol). option_map_or (is_dynamic_data input object number) x false) stands)
@@ -309,15 +282,6 @@ entity_of : (input : Input) (object number : ℕ) (o : Object) (s : LinkedSymbol
 entity_of input object number o s kind defined is =
     unless (is_undefined s) None (defined_of_kind object number o s.kind s.index) defined
     ∙ ap (λ (k : WasmSymbolKind). defined_of_kind object number o k s.index) is
-
--- what is no function, global or data isn't exported
-pub other_is : (input : Input) (object number : ℕ) (o : Object) (s : LinkedSymbol) (name : List ℕ)
-    (kind : WasmSymbolKind) → is_undefined s ≡ false → s.kind ≡ kind
-    → defined_of_kind object number o kind s.index ≡ None
-    → IsPlainIf input (option_map (export_of name) (defined_entity input object number o s)) None
-other_is input object number o s name kind defined is none =
-    subst (λ (e : Option Entity). IsPlainIf input (option_map (export_of name) e) None)
-    (sym (entity_of input object number o s kind defined is ∙ none)) tt
 
 pub function_shown : AreNumbered → AreCounted → (input : Input) (object number : ℕ) (o : Object) (s : LinkedSymbol)
     (name : List ℕ) (x : Option Exported)

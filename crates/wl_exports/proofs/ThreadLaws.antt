@@ -13,9 +13,10 @@ use Rattle.wl_symbols.specs.Input.{Input}
 use Rattle.wl_bind.specs.Made.{has_shared_tls}
 use Rattle.wl_exports.specs.Exports.{ExportEntry, export_of, made_entity, thread_exports, stack_pointer_export}
 use Rattle.wl_exports.specs.ExportSteps.{AddsExports, uses_mutable_globals}
+use Rattle.wl_lists.proofs.Found.{any_in}
+use Rattle.wl_lists.proofs.In.{IsIn, list_in}
 use Rattle.wl_exports.proofs.GrowLaws.{adds_more, adds_same}
-use Rattle.wl_exports.proofs.ListLaws.{IsIn, list_in}
-use Rattle.wl_exports.proofs.MadeLaws.{any_in, made_entry}
+use Rattle.wl_exports.proofs.MadeLaws.{made_entry}
 
 three : (b : Bool) (x y z : ExportEntry)
     → option_to_list (if b then Some x else None) ++ option_to_list (if b then Some y else None)

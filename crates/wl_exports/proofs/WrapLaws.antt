@@ -3,7 +3,7 @@ use Rattle.std.specs.Int.{from_bool}
 use Rattle.std.proofs.Common.{◌≡◌, ◌∙◌, ◌≤◌, ◌<◌, ℕ, zero, suc, ◌+◌, ◌&&◌, ◌||◌, Bool, true, false, not, nat_le, List, [], ◌∷◌, ◌++◌, length, map, filter, take, get_or, refl, sym, ap, subst, arith, inl, inr, Some, slice_get, if◌then◌else◌, append_assoc, append-nil, length-append}
 use Rattle.std.specs.List.{AllZip, list_any}
 use Rattle.std.specs.Str.{bytes_eq}
-use Rattle.std.proofs.lemmas.Bool.{cases_Bool}
+use Rattle.std.proofs.lemmas.Bool.{cases_Bool, and_parts}
 use Rattle.std.proofs.lemmas.List.{take_more, take_all}
 use Rattle.std.proofs.lemmas.List.Elements.{filter-append}
 use Rattle.std.proofs.lemmas.Option.{same_Some, slice_get_within}
@@ -25,7 +25,9 @@ use Rattle.wl_exports.specs.Sources.{IsOf, IsPlainExport}
 use Rattle.wl_exports.specs.WrapSteps.{with_export, with_wrapper}
 use Rattle.wl_exports.specs.Wrapped.{WrapperEntry, is_wrapped, IsExportIf, IsExportAt, IsWrapper, AreOutputExports, AreWrappers}
 use Rattle.wl_exports.specs.Wrappers.{is_ctors_name, calls_ctors, wraps, can_wrap, is_own, is_own_function, wrapped}
-use Rattle.wl_exports.proofs.ListLaws.{IsIn, in_at, in_split, append_split, from_map, zip_at, zip_length, zip_joined}
+use Rattle.wl_lists.proofs.Beside.{zip_left, zip_length, zip_joined}
+use Rattle.wl_lists.proofs.In.{IsIn, in_at, in_split}
+use Rattle.wl_lists.proofs.Places.{append_split, came_at}
 
 -- ---- functions that aren't imported
 
@@ -84,7 +86,7 @@ space_is input = append_assoc (host_function_part input) (behind_hosts input) (o
 not_host : (input : Input) (i : ℕ) (f : FunctionEntry) → slice_get (host_function_part input) i ≡ Some f
     → is_own f ≡ false
 not_host input i f at =
-    let h = from_map (λ (t : ImportSlot). FunctionOf (Host t.object t.number)) (first_imports (host_functions input)) i f at in
+    let h = came_at (λ (t : ImportSlot). FunctionOf (Host t.object t.number)) (first_imports (host_functions input)) i f at in
     subst (λ (k : FunctionEntry). is_own k ≡ false) h.2 refl
 
 le_true : (a b : ℕ) → a ≤ b → nat_le a b ≡ true
@@ -188,7 +190,7 @@ pub count_more : (input : Input) (xs : List Exported) (i : ℕ) (x : Exported) (
     → old ≡ length (filter can_wrap (take i (exports input)))
     → old + one_if one ≡ length (filter can_wrap (take (i + 1) (exports input)))
 count_more input xs i x old one zip at test so_far =
-    let e = zip_at (IsPlainExport input) (exports input) xs i x zip at in
+    let e = zip_left (IsPlainExport input) (exports input) xs i x zip at in
     let grown = ap (λ (es : List ExportEntry). length es) (filter_more can_wrap (exports input) i e.0 e.1) in
     let sum = length-append (filter can_wrap (take i (exports input))) (if can_wrap e.0 then e.0 ∷ [] else []) in
     let last = length_if (can_wrap e.0) e.0 in
@@ -263,20 +265,12 @@ wrapper_of input e x (OfGlobal g) is plain can leads = let fails : false ≡ tru
 wrapper_of input e x OfTable is plain can leads = let fails : false ≡ true = rw is at can in absurd cc
 wrapper_of input e x OfMemory is plain can leads = let fails : false ≡ true = rw is at can in absurd cc
 
-and_right : (a b : Bool) → (a && b) ≡ true → b ≡ true
-and_right true b e = e
-and_right false b e = absurd cc
-
 own_is_function : (input : Input) (entity : Entity) (x : Exported) → IsOf input entity x
     → is_own_function entity ≡ true → x.kind ≡ external.Func
 own_is_function input (OfFunction f) x is own = is.0
 own_is_function input (OfGlobal g) x is own = absurd cc
 own_is_function input OfTable x is own = absurd cc
 own_is_function input OfMemory x is own = absurd cc
-
-pub and_left : (a b : Bool) → (a && b) ≡ true → a ≡ true
-and_left true b e = refl
-and_left false b e = absurd cc
 
 -- one more export
 pub wrapped_more : (input : Input) (k functions : ℕ) (e : ExportEntry) (x : Exported) (one : Bool)
@@ -305,9 +299,9 @@ wrapped_more input k functions e x true old new ws vs at plain test count grows 
     let y : Exported = record { name = x.name; kind = x.kind; index = functions + length ws } in
     let w : WrapperEntry = record { name = x.name; original = x.index } in
     let grown : new ≡ old ++ y ∷ [] = grows in
-    let can : can_wrap e ≡ true = and_right (wraps input) (can_wrap e) (sym test) in
+    let can : can_wrap e ≡ true = (and_parts (wraps input) (can_wrap e) (sym test)).1 in
     let own : is_own_function e.entity ≡ true =
-    and_left (is_own_function e.entity) (not (bytes_eq (name_of InitTls) e.name)) can in
+    (and_parts (is_own_function e.entity) (not (bytes_eq (name_of InitTls) e.name)) can).0 in
     let kind : x.kind ≡ external.Func = own_is_function input e.entity x plain.leads own in
     let zip_len = zip_length (IsWrapper input) (filter (is_wrapped input) (take k (exports input))) ws so_far.wrappers in
     let index : functions + length ws

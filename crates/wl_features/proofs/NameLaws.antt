@@ -1,5 +1,6 @@
 -- Whether a name is among those of a list.
-use Rattle.std.proofs.Common.{◌≡◌, ◌+◌, ◌<◌, ℕ, Bool, true, false, List, [], ◌∷◌, ◌++◌, cond, append-nil, ◌||◌, filter, length, get_or, take, Contains, Some, slice_get, bytes_eq, refl, sym, ap, ◌∙◌, subst, eq-eqb}
+use Rattle.std.proofs.Common.{◌≡◌, ◌+◌, ◌<◌, ℕ, true, false, List, [], ◌∷◌, ◌++◌, cond, append-nil, ◌||◌, filter, length, get_or, take, Contains, Some, slice_get, bytes_eq, refl, sym, ap, ◌∙◌, subst, eq-eqb}
+use Rattle.std.proofs.Math.Bool.{or-false}
 use Rattle.std.specs.Cmp.Lexicographic.{nat_list_eq_equiv, same_text}
 use Rattle.std.specs.List.{list_any}
 use Rattle.std.specs.Option.{option_map}
@@ -70,10 +71,6 @@ none_next names name k d lt other before =
 -- an object's feature as its fields
 abbrev pub feature_of : ℕ → List ℕ → Feature
 feature_of prefix name = record { prefix = prefix; name = name }
-
-or-false : (b : Bool) → (b || false) ≡ b
-or-false true = refl
-or-false false = refl
 
 module _ (features : List Feature) (k : ℕ) (f : Feature) (lt : k < length features)
     (is : f ≡ get_or features k f)

@@ -29,9 +29,8 @@ use Rattle.wl_live.specs.declared.object_facts.UnitFault.{UnitFault}
 use Rattle.wl_symbols.specs.declared.units.WasmGcUnit.{WasmGcUnit}
 use Rattle.wl_symbols.specs.declared.units.WasmGcUnit.TheVariants.{DefinedFunction, DefinedGlobal, DataSegment, FunctionImport, GlobalImport}
 use Rattle.wl_symbols.proofs.KeptLaws.{OneNumbers}
-use Rattle.wl_lists.proofs.In.{Contains-none}
+use Rattle.wl_lists.proofs.In.{Contains-none, Contains-here}
 use Rattle.wl_live.proofs.JoinLaws.{in_single}
-use Rattle.wl_live.proofs.ReachLaws.{Contains-here}
 
 -- ---- fields
 

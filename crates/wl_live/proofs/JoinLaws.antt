@@ -1,11 +1,10 @@
 -- Lists that are joined end to end, and what stands in them.
 use Rattle.std.proofs.Common.{◌≡◌, ℕ, zero, suc, ◌+◌, List, [], ◌∷◌, ◌++◌, map, inl, inr, refl, ap, sym, ◌∙◌, subst, arith, Option, Some, None, slice_get, Contains, length, get_or, drop, drop-cons, append_assoc, ◌<◌}
-use Rattle.std.specs.List.{flat_map, AllZip}
+use Rattle.std.specs.List.{flat_map}
 use Rattle.std.specs.Option.{option_map, option_to_list}
 use Rattle.std.proofs.lemmas.List.Elements.{Contains-append_left, Contains-append_right, Contains-append_cases}
 use Rattle.std.proofs.lemmas.Option.{same_Some}
-use Rattle.wl_live.proofs.ReachLaws.{Contains-here, Contains-there, Contains-cons_cases}
-use Rattle.wl_lists.proofs.In.{Contains-none}
+use Rattle.wl_lists.proofs.In.{Contains-none, Contains-here, Contains-there, Contains-cons_cases}
 
 pub in_single : {X : Type 0} (x y : X) → Contains (x ∷ []) y → y ≡ x
 in_single x y (zero, lt, e) = sym e
@@ -60,14 +59,6 @@ in_map f (x ∷ xs) y m =
       | inr there ↦ let r = in_map f xs y there in (r.0, Contains-there x r.0 xs r.1, r.2)
     ]
 
-pub map_in : {X Y : Type 0} (f : X → Y) (xs : List X) (x : X) → Contains xs x → Contains (map f xs) (f x)
-map_in f [] x m = absurd (Contains-none x m)
-map_in {X = X} f (z ∷ xs) x m =
-    elim (Contains-cons_cases z x xs m) [
-      | inl e ↦ subst (λ (w : X). Contains (f z ∷ map f xs) (f w)) e (Contains-here (f z) (map f xs))
-      | inr there ↦ Contains-there (f z) (f x) (map f xs) (map_in f xs x there)
-    ]
-
 pub flat_map_drop : {X Y : Type 0} (f : X → List Y) (xs : List X) (k : ℕ) (d : X) → k < length xs → flat_map f (drop k xs) ≡ f (get_or xs k d) ++ flat_map f (drop (k + 1) xs)
 flat_map_drop {X = X} f xs k d lt =
     let one : suc k ≡ k + 1 = omega arith in
@@ -88,25 +79,3 @@ in_option f (Some x) y (suc k, lt, e) = absurd (omega arith)
 
 pub option_in : {X Y : Type 0} (f : X → Y) (o : Option X) (x : X) → o ≡ Some x → Contains (option_to_list (option_map f o)) (f x)
 option_in f o x e = rw e (Contains-here (f x) [])
-
--- ---- lists side by side
-
-pub zip_length : {A B : Type 0} (R : A → B → Type 0) (xs : List A) (ys : List B) → AllZip R xs ys → length xs ≡ length ys
-zip_length R [] [] z = refl
-zip_length R [] (b ∷ ys) z = absurd z
-zip_length R (a ∷ xs) [] z = absurd z
-zip_length R (a ∷ xs) (b ∷ ys) z = omega (arith, zip_length R xs ys z.1)
-
-pub zip_left : {A B : Type 0} (R : A → B → Type 0) (xs : List A) (ys : List B) (k : ℕ) (y : B) → AllZip R xs ys → slice_get ys k ≡ Some y → (x : A) × (slice_get xs k ≡ Some x) × R x y
-zip_left R [] [] k y z at = absurd (cc)
-zip_left R [] (b ∷ ys) k y z at = absurd z
-zip_left R (a ∷ xs) [] k y z at = absurd z
-zip_left {B = B} R (a ∷ xs) (b ∷ ys) zero y z at = (a, refl, subst (λ (w : B). R a w) (same_Some b y at) z.0)
-zip_left R (a ∷ xs) (b ∷ ys) (suc k) y z at = zip_left R xs ys k y z.1 at
-
-pub zip_right : {A B : Type 0} (R : A → B → Type 0) (xs : List A) (ys : List B) (k : ℕ) (x : A) → AllZip R xs ys → slice_get xs k ≡ Some x → (y : B) × (slice_get ys k ≡ Some y) × R x y
-zip_right R [] [] k x z at = absurd (cc)
-zip_right R [] (b ∷ ys) k x z at = absurd z
-zip_right R (a ∷ xs) [] k x z at = absurd z
-zip_right {A = A} R (a ∷ xs) (b ∷ ys) zero x z at = (b, refl, subst (λ (w : A). R w b) (same_Some a x at) z.0)
-zip_right R (a ∷ xs) (b ∷ ys) (suc k) x z at = zip_right R xs ys k x z.1 at

@@ -1,11 +1,12 @@
 -- What is reached among the numbers is what is reached among the units.
-use Rattle.std.proofs.Common.{◌≡◌, ◌⊎◌, ℕ, zero, suc, ◌<◌, Bool, true, List, [], ◌∷◌, get_or, inl, inr, refl, ap, sym, ◌∙◌, subst, arith, Option, Some, None, All, Contains}
+use Rattle.std.proofs.Common.{◌≡◌, ℕ, zero, suc, ◌<◌, Bool, true, List, [], ◌∷◌, get_or, inl, inr, refl, ap, sym, ◌∙◌, subst, arith, Option, Some, None, All, Contains}
 use Rattle.std.specs.Option.{option_map, option_and_then, option_to_list}
 use Rattle.std.proofs.lemmas.List.Elements.{Contains-append_left, Contains-append_right, Contains-append_cases, Contains-get_or}
 use Rattle.std.proofs.lemmas.Option.{same_Some}
 use Rattle.wl_reach.specs.Search.{IsReached, MarksReached}
 use Rattle.wl_reach.specs.Graph.{HasEdge, HasEdges}
 use Rattle.wl_reach.specs.declared.graph.Edge.{Edge}
+use Rattle.wl_lists.proofs.In.{Contains-here, Contains-there, Contains-cons_cases}
 use Rattle.wl_reach.proofs.ChainLaws.{IsReached-root, IsReached-step, IsReached-closed}
 use Rattle.wl_live.specs.declared.references.Reference.{Reference}
 use Rattle.wl_symbols.specs.declared.units.LinkUnit.{LinkUnit}
@@ -16,16 +17,6 @@ use Rattle.wl_live.specs.Marking.{UnitsReached}
 use Rattle.wl_symbols.proofs.NumberingLaws.{number_if_found, number_if_parts, unit_number-injective, unit_number-lt}
 
 -- ---- what is found
-
-pub Contains-here : {X : Type 0} (x : X) (xs : List X) → Contains (x ∷ xs) x
-Contains-here x xs = (0, omega arith, refl)
-
-pub Contains-there : {X : Type 0} (y x : X) (xs : List X) → Contains xs x → Contains (y ∷ xs) x
-Contains-there y x xs m = (suc m.0, omega (arith, m.1), m.2)
-
-pub Contains-cons_cases : {X : Type 0} (y x : X) (xs : List X) → Contains (y ∷ xs) x → (y ≡ x) ⊎ Contains xs x
-Contains-cons_cases y x xs (zero, lt, e) = inl e
-Contains-cons_cases y x xs (suc k, lt, e) = inr (k, omega arith, e)
 
 pub Contains-option : {Y : Type 0} (o : Option Y) (y : Y) → o ≡ Some y → Contains (option_to_list o) y
 Contains-option None y e = absurd (cc)

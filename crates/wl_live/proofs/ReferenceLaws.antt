@@ -34,12 +34,12 @@ use Rattle.wl_symbols.specs.declared.units.WasmGcUnit.{WasmGcUnit}
 use Rattle.wl_symbols.specs.declared.units.WasmGcUnit.TheVariants.{DefinedFunction, DefinedGlobal, DataSegment, FunctionImport, GlobalImport}
 use Rattle.wl_symbols.proofs.KeptLaws.{OneNumbers}
 use Rattle.wl_symbols.proofs.NumberingLaws.{unit_number-lt}
-use Rattle.wl_live.proofs.ReachLaws.{Contains-here}
 use Rattle.wl_symbols.proofs.ExistLaws.{at_object}
 use Rattle.wl_live.proofs.RootLaws.{in_roots, roots_in}
 use Rattle.wl_symbols.proofs.ExistLaws.{root_exists}
-use Rattle.wl_lists.proofs.In.{Contains-none}
-use Rattle.wl_live.proofs.JoinLaws.{in_single, in_joined, joined_in, in_flat, flat_in, in_map, map_in, in_option, option_in, zip_left, zip_right}
+use Rattle.wl_lists.proofs.Beside.{zip_left, zip_right}
+use Rattle.wl_lists.proofs.In.{Contains-none, Contains-here, Contains-map}
+use Rattle.wl_live.proofs.JoinLaws.{in_single, in_joined, joined_in, in_flat, flat_in, in_map, in_option, option_in}
 
 abbrev pub refers_to : LinkUnit → LinkUnit → Reference
 refers_to u v = record { from = u; to = v }
@@ -245,7 +245,7 @@ segments_in only k (c ∷ bodies) uses zero b numbers n a at has one =
     rw a.4
     (Contains-append_left (segment_uses k a.0) a.1 (record { function = k + 0; segment = n.index })
     (subst (λ (i : ℕ). Contains (segment_uses k a.0) (record { function = i; segment = n.index })) same
-    (map_in (λ (x : DataIndexImm). record { function = k; segment = x.index }) a.0 n (subst (λ (l : List DataIndexImm). Contains l n) list one))))
+    (Contains-map (λ (x : DataIndexImm). record { function = k; segment = x.index }) a.0 n (subst (λ (l : List DataIndexImm). Contains l n) list one))))
 segments_in only k (c ∷ bodies) uses (suc j) b numbers n a at has one =
     let same : k + 1 + j ≡ k + suc j = omega arith in
     rw a.4
@@ -377,7 +377,7 @@ number_in only link facts u v all b =
     object_in link facts u.object z.0 (refers_to u v) z.1
     (Contains-append_right (flat_map (use_references link ns u.object) z.0.uses) _ (refers_to u v)
     (Contains-append_right (flat_map (slot_references link ns u.object) z.0.slots) (map (segment_reference u.object) z.0.segments) (refers_to u v)
-    (subst (λ (x : Reference). Contains (map (segment_reference u.object) z.0.segments) x) same (map_in (segment_reference u.object) z.0.segments used listed))))
+    (subst (λ (x : Reference). Contains (map (segment_reference u.object) z.0.segments) x) same (Contains-map (segment_reference u.object) z.0.segments used listed))))
 
 pub references_in : OneNumbers → (link : Link) (facts : List Facts) (u v : LinkUnit) → AreAllFacts link.objects facts → How link u v → Contains (references link (units_of link.objects) facts) (refers_to u v)
 references_in only link facts u v all (inl b) = use_in link facts u v all b

@@ -16,9 +16,10 @@ use Rattle.wl_symbols.specs.Live.{Live, is_live, IsLiveOf}
 use Rattle.wl_live.specs.Marking.{HasNoKept, IsKeptOne}
 use Rattle.wl_live.specs.declared.object_facts.UnitFault.{UnitFault}
 use Rattle.wl_symbols.specs.declared.units.UnitCounts.{UnitCounts}
+use Rattle.wl_lists.proofs.Beside.{zip_left, zip_right}
 use Rattle.wl_symbols.proofs.ExistLaws.{units_of-at}
 use Rattle.wl_live.proofs.FaultLaws.{fault_exists}
-use Rattle.wl_live.proofs.JoinLaws.{in_single, zip_left, zip_right}
+use Rattle.wl_live.proofs.JoinLaws.{in_single}
 
 -- ---- the faults of an object, one by one
 

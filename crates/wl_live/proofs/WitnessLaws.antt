@@ -1,6 +1,6 @@
 -- There are facts of any objects: that there are none is impossible.
 use Rattle.std.specs.Prelude.{MatchOption}
-use Rattle.std.proofs.Common.{◌≡◌, ◌⊎◌, ℕ, zero, suc, ◌+◌, ◌<◌, ◌≤◌, List, [], ◌∷◌, ◌++◌, length, inl, inr, refl, subst, arith, Option, Some, None, slice_get}
+use Rattle.std.proofs.Common.{◌≡◌, ◌⊎◌, ℕ, zero, suc, ◌+◌, ◌≤◌, List, [], ◌∷◌, ◌++◌, length, inl, inr, refl, subst, arith, Option, Some, None}
 use Rattle.wl_module.specs.Bodies.{Body}
 use Rattle.wl_bytes.specs.declared.read_error.ReadError.{ReadError}
 use Rattle.wl_linking.specs.Object.{Object}
@@ -15,6 +15,7 @@ use Rattle.wl_live.specs.declared.object_facts.SegmentUse.{SegmentUse}
 use Rattle.wl_live.specs.declared.object_facts.UnitFault.{UnitFault}
 use Rattle.wl_symbols.specs.declared.units.WasmGcUnit.TheVariants.{DefinedFunction, DefinedGlobal}
 use Rattle.wl_lists.proofs.In.{Contains-none}
+use Rattle.wl_lists.proofs.Places.{there_is}
 use Rattle.wl_live.proofs.FaultLaws.{FaultsOfGlobals, FaultsOfBodies-more, FaultsOfGlobals-more, AreFaults-from}
 
 -- that there is none is impossible
@@ -29,11 +30,6 @@ joined p f none = p (λ x. f x none)
 
 either_way : (P : Type 0) → Possible (P ⊎ (P → ⊥))
 either_way P none = none (inr (λ p. none (inl p)))
-
-item_at : {X : Type 0} (xs : List X) (k : ℕ) → k < length xs → (x : X) × (slice_get xs k ≡ Some x)
-item_at [] k lt = absurd (omega arith)
-item_at (x ∷ xs) zero lt = (x, refl)
-item_at (x ∷ xs) (suc k) lt = item_at xs k (omega arith)
 
 -- ---- segments
 
@@ -66,7 +62,7 @@ error_of Cause = made told (either_way ((e : ReadError) × Cause e))
 body_faults : (o : Object) (n : ℕ) → n ≤ length o.bodies → Possible ((faults : List UnitFault) × FaultsOfBodies o n faults)
 body_faults o zero le = λ none. none ([], record { only = λ f m. absurd (Contains-none f m); every = λ k e lt f. absurd (omega arith) })
 body_faults o (suc n) le =
-    let b = item_at o.bodies n (omega (arith, le)) in
+    let b = there_is o.bodies n (omega (arith, le)) in
     let next : n + 1 ≡ suc n = omega arith in
     joined (body_faults o n (omega (arith, le)))
     (λ old. made
@@ -80,7 +76,7 @@ global_faults o zero le =
     made (λ b. (b.0, record { only = b.1.only; bodies = b.1.every; globals = λ k e lt f. absurd (omega arith) }))
     (body_faults o (length o.bodies) (omega arith))
 global_faults o (suc n) le =
-    let g = item_at o.globals n (omega (arith, le)) in
+    let g = there_is o.globals n (omega (arith, le)) in
     let next : n + 1 ≡ suc n = omega arith in
     joined (global_faults o n (omega (arith, le)))
     (λ old. made

@@ -1,6 +1,6 @@
 -- Which segments the output has of an object, and where they begin.
-use Rattle.std.proofs.Common.{◌≡◌, ◌∙◌, ◌⊎◌, ◌≤◌, ◌<◌, ◌==◌, ◌&&◌, ◌||◌, not, ℕ, zero, suc, ◌+◌, Bool, true, false, if◌then◌else◌, List, [], ◌∷◌, ◌++◌, length, map, filter, take, set, get_or, replicate, find, nat_lt, refl, sym, ap, subst, arith, inl, inr, Option, Some, None, slice_get}
-use Rattle.std.specs.List.{AllZip, list_all, range_with_len, slice_index_or}
+use Rattle.std.proofs.Common.{◌≡◌, ◌∙◌, ◌≤◌, ◌<◌, ◌==◌, ◌&&◌, ◌||◌, not, ℕ, zero, suc, ◌+◌, Bool, true, false, if◌then◌else◌, List, [], ◌∷◌, ◌++◌, length, map, filter, take, set, get_or, replicate, find, nat_lt, refl, sym, ap, subst, arith, inl, inr, Option, Some, None, slice_get}
+use Rattle.std.specs.List.{AllZip, range_with_len, slice_index_or}
 use Rattle.std.specs.Option.{option_map_or, option_and_then}
 use Rattle.std.proofs.lemmas.Bool.{cases_Bool, cases_eq, eq-eqb, ne_eqb}
 use Rattle.std.proofs.lemmas.List.{get_or-set_same, get_or-set_other, length-set, take_more}
@@ -30,8 +30,9 @@ use Rattle.wl_plan.specs.AddressSteps.{AreOnce, starts_among, AreObjectStarts}
 use Rattle.wl_plan.specs.KeptData.{kept_data, kept_from, kept_segments, segments_from}
 use Rattle.wl_plan.specs.Placing.{data_options, IsPlacing}
 use Rattle.wl_plan.specs.declared.placing.Placing.{Placing}
-use Rattle.wl_plan.proofs.ListLaws.{left_and, right_and}
-use Rattle.wl_plan.proofs.RowLaws.{row_found}
+use Rattle.wl_lists.proofs.Found.{cases_option}
+use Rattle.wl_lists.proofs.Places.{test_at}
+use Rattle.wl_lists.proofs.Rows.{row_found}
 
 -- ---- lists
 
@@ -411,14 +412,6 @@ start_at g object number o starts are lt =
 
 -- ---- symbols
 
-test_at : {X : Type 0} (test : X → Bool) (xs : List X) (k : ℕ) (x : X) → list_all test xs ≡ true
-    → slice_get xs k ≡ Some x → test x ≡ true
-test_at test [] k x all at = absurd cc
-test_at test (y ∷ xs) zero x all at =
-    let same : y ≡ x = cc in ap test (sym same) ∙ left_and (test y) (list_all test xs) all
-test_at test (y ∷ xs) (suc k) x all at =
-    test_at test xs k x (right_and (test y) (list_all test xs) all) at
-
 data_kind : (k : WasmSymbolKind) → is_data k ≡ true → k ≡ Data
 data_kind Func is = absurd cc
 data_kind Data is = refl
@@ -483,10 +476,6 @@ none_more P i here before n lt is = elim (cases_eq n i) [
   | inl e ↦ here (subst P e is)
   | inr ne ↦ before n (omega (arith, lt, ne)) is
 ]
-
-cases_option : {X : Type 0} (o : Option X) → (o ≡ None) ⊎ ((x : X) × (o ≡ Some x))
-cases_option None = inl refl
-cases_option (Some x) = inr (x, refl)
 
 -- what is no symbol has no address
 outside : (input : Input) (g : Placing) (object number : ℕ)

@@ -1,16 +1,13 @@
 -- What becomes of the bodies of kept functions.
-use Rattle.std.proofs.Common.{◌≡◌, ◌∙◌, ◌≤◌, ◌<◌, ℕ, ◌+◌, Bool, true, false, not, ◌||◌, ◌==◌, List, [], ◌∷◌, ◌++◌, length, refl, sym, ap, subst, arith, inl, inr, Option, Some, None, slice_get, if◌then◌else◌, eqb-true, lt-ltb, length-append}
+use Rattle.std.proofs.Common.{◌≡◌, ◌∙◌, ◌<◌, ℕ, ◌+◌, Bool, true, false, not, ◌||◌, ◌==◌, List, [], ◌∷◌, length, refl, sym, ap, subst, arith, inl, inr, Option, Some, None, slice_get, if◌then◌else◌, eqb-true, lt-ltb}
 use Rattle.std.specs.Option.{option_and_then}
 use Rattle.std.proofs.lemmas.Bool.{cases_lt}
 use Rattle.wl_module.specs.Bodies.{Body}
 use Rattle.wl_bytes.specs.Outcome.{HasCause}
-use Rattle.wl_module.specs.Places.{IsPart}
 use Rattle.wl_bytes.specs.declared.read_error.ReadError.{ReadError}
 use Rattle.wl_bytes.specs.declared.read_error.ReadError.TheVariants as read
 use Rattle.wl_bytes.specs.declared.read_error.Why.TheVariants.{BadIndex}
-use Rattle.wl_linking.specs.Fitting.{IsObject}
 use Rattle.wl_linking.specs.Object.{Object}
-use Rattle.wl_linking.specs.Stretches.{PartsStandIn}
 use Rattle.wl_linking.specs.declared.error.LinkError.TheVariants.{OutOfMemory}
 use Rattle.wl_symbols.specs.Link.{Link}
 use Rattle.wl_live.specs.Faults.{HasBodyFault, object_refusal}
@@ -30,10 +27,6 @@ use Rattle.wl_plan.specs.declared.placing.Placing.{Placing}
 use Rattle.wl_plan.proofs.NumberLaws.{counts_at}
 
 -- ---- what lower crates say
-
--- names, expressions, bodies and bytes of segments stand in the bytes of objects
-abbrev pub PartsStand : Type 0
-PartsStand = (bytes : List ℕ) (o : Object) → IsObject o bytes → PartsStandIn bytes o
 
 -- a segment that a live body numbers is live
 abbrev pub SegmentsAreClosed : Type 0
@@ -65,11 +58,6 @@ pub body_at : (input : Input) (object function : ℕ) (o : Object) (b : Body)
     → slice_get input.link.objects object ≡ Some o → slice_get o.bodies function ≡ Some b
     → body_in input object function ≡ Some b
 body_at input object function o b here there = rw here there
-
-part-le : (bytes text : List ℕ) → IsPart bytes text → length text ≤ length bytes
-part-le bytes text p =
-    let s = p.1 in
-    omega (arith, ap (λ (l : List ℕ). length l) s.whole, length-append s.front (text ++ s.back), length-append text s.back)
 
 -- ---- no refusal but want of memory
 

@@ -12,7 +12,7 @@ use Rattle.wl_symbols.specs.Relocations.{relocations}
 use Rattle.wl_symbols.specs.declared.relocated.FixupPlace.{FixupPlace}
 use Rattle.wl_symbols.specs.declared.relocated.FixupPlace.TheVariants.{Code, Segment}
 use Rattle.wl_symbols.specs.declared.relocated.Relocated.{Relocated}
-use Rattle.wl_plan.proofs.ListLaws.{at_is_in}
+use Rattle.wl_lists.proofs.In.{at_is_in}
 
 -- ---- sections
 

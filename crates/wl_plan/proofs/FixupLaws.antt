@@ -50,8 +50,8 @@ use Rattle.wl_plan.specs.Table.{slot_of, slot_of_entry, space_slots}
 use Rattle.wl_plan.specs.declared.layout.FixupTo.TheVariants.{Value}
 use Rattle.wl_plan.specs.declared.fixups.FixupSources.{FixupSources}
 use Rattle.wl_plan.specs.declared.placing.Placing.{Placing}
+use Rattle.wl_lists.proofs.Rows.{rows_length, row_found}
 use Rattle.wl_plan.proofs.ListLaws.{of_range}
-use Rattle.wl_plan.proofs.RowLaws.{rows_length, row_found}
 use Rattle.wl_plan.proofs.SlotLaws.{TableLaws, slot_is}
 
 -- ---- lists

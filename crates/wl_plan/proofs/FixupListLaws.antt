@@ -9,8 +9,8 @@ use Rattle.wl_symbols.specs.declared.relocated.Relocated.{Relocated}
 use Rattle.wl_plan.specs.FixupSteps.{IsRefusedAt, NoneRefused}
 use Rattle.wl_plan.specs.Fixups.{IsFixupFault}
 use Rattle.wl_plan.specs.declared.fixups.FixupSources.{FixupSources}
+use Rattle.wl_lists.proofs.Beside.{zip_joined}
 use Rattle.wl_plan.proofs.FixupLaws.{reason_of}
-use Rattle.wl_plan.proofs.ListLaws.{zip_joined}
 
 -- ---- the relocation at hand
 

@@ -1,11 +1,10 @@
 -- Entries of the function space, their types, and the functions of the output that they are.
-use Rattle.std.proofs.Common.{◌≡◌, ◌⊎◌, ◌∙◌, ℕ, zero, suc, ◌+◌, ◌<◌, ◌≤◌, Bool, true, false, List, [], ◌∷◌, ◌++◌, length, refl, sym, ap, subst, arith, inl, inr, Option, Some, None, slice_get, filter, filter_map, map, take, get_or, is_some, if◌then◌else◌, Contains, Result, Ok, Err, OnOk}
-use Rattle.std.specs.List.{AllByRecursion, AllZip, list_any, range_with_len}
+use Rattle.std.proofs.Common.{◌≡◌, ◌∙◌, ℕ, zero, suc, ◌+◌, ◌<◌, ◌≤◌, Bool, true, false, List, [], ◌∷◌, ◌++◌, length, refl, sym, ap, subst, arith, inl, inr, Option, Some, None, slice_get, filter, filter_map, map, take, get_or, is_some, if◌then◌else◌, Contains, Result, Ok, Err, OnOk}
+use Rattle.std.specs.List.{AllByRecursion, AllZip, range_with_len}
 use Rattle.std.specs.Option.{option_map, option_map_or, option_and_then, is_none}
 use Rattle.std.proofs.lemmas.Bool.{cases_Bool, cases_eq}
 use Rattle.std.proofs.lemmas.List.{append-nil, append_assoc, take_all, length-map}
 use Rattle.std.proofs.lemmas.Option.{same_Some, get_or_from_slice_get, slice_get-get_or}
-use Rattle.indexmap.specs.IndexSet.{insert_all}
 use Rattle.wl_module.specs.Imports.{Imported}
 use Rattle.wl_module.specs.Types.{FunctionType}
 use Rattle.wl_module.specs.declared.types.ValType.{ValType}
@@ -34,28 +33,12 @@ use Rattle.wl_bind.specs.declared.binding.FunctionTarget.TheVariants.{Defined, M
 use Rattle.wl_plan.specs.FunctionSteps.{AddsFunction, AddsFunctions, own_function_part}
 use Rattle.wl_plan.specs.Functions.{own_functions, origin_of, IsOutputFunction}
 use Rattle.wl_plan.specs.Origins.{Origin, OfStub, PlannedFunction}
-use Rattle.wl_plan.proofs.ListLaws.{IsIn, in_at, in_list, in_split, in_front, in_back, in_filter, in_map, map_in, there_is, mapped_at, zip_joined, drop_front, all_at}
-use Rattle.wl_plan.proofs.RowLaws.{by_object_more}
-
--- ---- what stands in a list
-
-in_firsts_onto : {X : Type 0} (same : X → X → Bool) (seen xs : List X) (z : X)
-    → IsIn (insert_all same seen xs) z → IsIn seen z ⊎ IsIn xs z
-in_firsts_onto same seen [] z h = inl h
-in_firsts_onto same seen (x ∷ xs) z h = elim (cases_Bool (list_any (same x) seen)) [
-  | inl t ↦ elim (in_firsts_onto same seen xs z (rw t at h)) [ inl a ↦ inl a | inr b ↦ inr (inr b) ]
-  | inr f ↦ elim (in_firsts_onto same (seen ++ x ∷ []) xs z (rw f at h)) [
-    | inl a ↦ elim (in_split seen (x ∷ []) z a) [
-      | inl c ↦ inl c
-      | inr c ↦ elim c [ inl e ↦ inr (inl e) | inr n ↦ absurd n ]
-    ]
-    | inr b ↦ inr (inr b)
-  ]
-]
-
-pub in_firsts : {X : Type 0} (same : X → X → Bool) (xs : List X) (z : X)
-    → IsIn (insert_all same [] xs) z → IsIn xs z
-in_firsts same xs z h = elim (in_firsts_onto same [] xs z h) [ inl a ↦ absurd a | inr b ↦ b ]
+use Rattle.wl_lists.proofs.Beside.{zip_joined}
+use Rattle.wl_lists.proofs.Firsts.{in_firsts}
+use Rattle.wl_lists.proofs.In.{filter_in, IsIn, in_at, in_list, in_split, in_front, in_back, in_filter, in_map, map_in, in_if, all_mapped}
+use Rattle.wl_lists.proofs.Places.{there_is, mapped_at, all_at}
+use Rattle.wl_lists.proofs.Rows.{object_in, by_object_more}
+use Rattle.wl_plan.proofs.ListLaws.{drop_front}
 
 -- ---- what stands at a place
 
@@ -65,14 +48,6 @@ pub take_next : {X : Type 0} (xs : List X) (k : ℕ) (x : X) → slice_get xs k 
 take_next [] k x e = absurd cc
 take_next {X} (y ∷ xs) zero x e = let same : y ≡ x = cc in ap (λ (z : X). z ∷ []) same
 take_next {X} (y ∷ xs) (suc k) x e = ap (λ (zs : List X). y ∷ zs) (take_next xs k x e)
-
--- where each has something, what is left has as many, in order
-pub all_mapped : {X Y : Type 0} (f : X → Option Y) (xs : List X)
-    → ((x : X) → IsIn xs x → (y : Y) × (f x ≡ Some y)) → length (filter_map f xs) ≡ length xs
-all_mapped f [] all = refl
-all_mapped f (x ∷ xs) all =
-    let here = all x (inl refl) in
-    rw here.1 (ap suc (all_mapped f xs (λ z h. all z (inr h))))
 
 pub filter_at : {X Y : Type 0} (f : X → Option Y) (xs : List X) (k : ℕ) (x : X)
     → ((x : X) → IsIn xs x → (y : Y) × (f x ≡ Some y)) → slice_get xs k ≡ Some x
@@ -87,19 +62,6 @@ filter_at f (y ∷ xs) (suc k) x all e =
     rw here.1 (filter_at f xs k x (λ z h. all z (inr h)) e)
 
 -- ---- object by object
-
-pub object_in : {X : Type 0} (f : ℕ → Object → List X) (n i m : ℕ) (objects : List Object) (o : Object)
-    (z : X) → n + i ≡ m → slice_get objects i ≡ Some o → IsIn (f m o) z → IsIn (by_object f n objects) z
-object_in f n i m [] o z same at h = absurd cc
-object_in {X} f n zero m (p ∷ objects) o z same at h =
-    let is : p ≡ o = cc in
-    let number : m ≡ n = omega (arith, same) in
-    let P : Object → Type 0 = λ q. IsIn (f m q) z in
-    let Q : ℕ → Type 0 = λ k. IsIn (f k p) z in
-    in_front (f n p) (by_object f (n + 1) objects) z (subst Q number (subst P (sym is) h))
-object_in f n (suc i) m (p ∷ objects) o z same at h =
-    in_back (f n p) (by_object f (n + 1) objects) z
-    (object_in f (n + 1) i m objects o z (omega (arith, same)) at h)
 
 pub record Given {X : Type 0} (f : ℕ → Object → List X) (z : X) : Type 0 where
   pub number : ℕ
@@ -169,16 +131,6 @@ range_in a (suc n) k le lt = elim (cases_eq a k) [
   | inr ne ↦ inr (range_in (a + 1) n k (grind (arith, le, ne)) (omega (arith, lt)))
 ]
 
-pub kept_in : {X : Type 0} (p : X → Bool) (xs : List X) (z : X) → p z ≡ true → IsIn xs z → IsIn (filter p xs) z
-kept_in p [] z so h = absurd h
-kept_in {X} p (x ∷ xs) z so h = elim (cases_Bool (p x)) [
-  | inl t ↦ rw t (elim h [ inl e ↦ inl e | inr r ↦ inr (kept_in p xs z so r) ])
-  | inr f ↦ rw f (elim h [
-    | inl e ↦ absurd (let P : X → Type 0 = λ y. p y ≡ false in let no : p z ≡ false = subst P e f in cc)
-    | inr r ↦ kept_in p xs z so r
-  ])
-]
-
 pub kept_stands : (input : Input) (object : ℕ) (o : Object) (function : ℕ)
     → slice_get input.link.objects object ≡ Some o → function < length o.functions
     → keeps input object (DefinedFunction function) ≡ true
@@ -186,7 +138,7 @@ pub kept_stands : (input : Input) (object : ℕ) (o : Object) (function : ℕ)
 kept_stands input object o function at lt keep =
     own_stands input object o (FunctionOf (Defined object function)) at
     (map_in (λ (k : ℕ). FunctionOf (Defined object k)) (kept_functions input object o) function
-    (kept_in (λ (k : ℕ). keeps input object (DefinedFunction k)) (range_with_len 0 (length o.functions)) function keep
+    (filter_in (λ (k : ℕ). keeps input object (DefinedFunction k)) (range_with_len 0 (length o.functions)) function keep
     (range_in 0 (length o.functions) function (omega arith) (omega (arith, lt)))))
 
 -- ---- what the linker makes
@@ -206,10 +158,6 @@ own_no_made input m h =
     let g = in_object (functions_of input) 0 input.link.objects (FunctionOf (Made m)) h in
     let c = in_map (λ (k : ℕ). FunctionOf (Defined g.number k)) (kept_functions input g.number g.object) (FunctionOf (Made m)) g.there in
     let e = c.to in absurd cc
-
-pub in_if : {X : Type 0} (b : Bool) (x z : X) → IsIn (if b then x ∷ [] else []) z → (b ≡ true) × (x ≡ z)
-in_if true x z h = elim h [ inl e ↦ (refl, e) | inr r ↦ absurd r ]
-in_if false x z h = absurd h
 
 pub if_in : {X : Type 0} (b : Bool) (x : X) → b ≡ true → IsIn (if b then x ∷ [] else []) x
 if_in true x is = inl refl

@@ -3,7 +3,7 @@ use Rattle.std.proofs.Common.{◌≤◌, ◌++◌, get_or, nat_lt, ◌≡◌, �
 use Rattle.std.specs.List.{filter_map, cons_option, list_any, range_with_len}
 use Rattle.std.specs.Result.{IfErr, OnErr}
 use Rattle.std.specs.Option.{option_map, unwrap_or}
-use Rattle.std.proofs.lemmas.Bool.{cases_Bool, ltb-true, ltb-false}
+use Rattle.std.proofs.lemmas.Bool.{cases_Bool, ltb-true, ltb-false, and_parts}
 use Rattle.std.proofs.lemmas.List.{length-map}
 use Rattle.std.proofs.lemmas.List.FromFn.{length-map-range_with_len, get_or-map-range_with_len}
 use Rattle.std.proofs.lemmas.Option.{slice_get-map, slice_get-get_or, same_Some, slice_get_past}
@@ -32,8 +32,7 @@ use Rattle.wl_plan.specs.AddressSteps.{IsHighAt}
 use Rattle.wl_plan.specs.Globals.{global_in}
 use Rattle.wl_plan.specs.IndexedMaps.{IsWholeMap, AreWholeMaps}
 use Rattle.wl_plan.specs.declared.placing.Placing.{Placing}
-use Rattle.wl_plan.proofs.ListLaws.{right_and}
-use Rattle.wl_plan.proofs.RowLaws.{row_of}
+use Rattle.wl_lists.proofs.Rows.{row_of}
 
 -- ---- GOT lists
 
@@ -163,7 +162,7 @@ high_symbol input g d r gives high =
     let given = some_if (is_global_index r.relocation.ty && names_data input r)
     (definition_of input r) d gives in
     let data_ : names_data input r ≡ true =
-    right_and (is_global_index r.relocation.ty) (names_data input r) given.0 in
+    (and_parts (is_global_index r.relocation.ty) (names_data input r) given.0).1 in
     let address : symbol_address input g r.object r.relocation.index
     ≡ address_of_definition input g d =
     rw data_ (ap (address_of_definition input g) given.1) in

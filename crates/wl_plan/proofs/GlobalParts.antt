@@ -35,8 +35,10 @@ use Rattle.wl_plan.specs.declared.layout.GlobalOrigin.TheVariants as origin
 use Rattle.wl_plan.specs.declared.layout.MadeGlobal.{MadeGlobal}
 use Rattle.wl_plan.specs.declared.layout.PlannedGlobal.{PlannedGlobal}
 use Rattle.wl_plan.specs.declared.placing.Placing.{Placing}
-use Rattle.wl_plan.proofs.ListLaws.{zip_joined, drop_front}
-use Rattle.wl_plan.proofs.RowLaws.{by_object_more}
+use Rattle.wl_lists.proofs.Beside.{zip_joined}
+use Rattle.wl_lists.proofs.In.{Contains-map}
+use Rattle.wl_lists.proofs.Rows.{by_object_more}
+use Rattle.wl_plan.proofs.ListLaws.{drop_front}
 
 -- ---- lists
 
@@ -59,14 +61,6 @@ module _ {X : Type 0} where
   is_at (x ∷ xs) (suc i) d lt =
       let rest = is_at xs i d (omega (arith, lt)) in
       (suc rest.0, omega (arith, rest.1), rest.2)
-
-in_map : {X Y : Type 0} (f : X → Y) (xs : List X) (x : X) → Contains xs x
-    → Contains (map f xs) (f x)
-in_map f [] x (k, lt, e) = absurd (omega (arith, lt))
-in_map f (y ∷ xs) x (zero, lt, e) = (zero, omega arith, ap f e)
-in_map f (y ∷ xs) x (suc k, lt, e) =
-    let rest = in_map f xs x (k, omega (arith, lt), e) in
-    (suc rest.0, omega (arith, rest.1), rest.2)
 
 in_range : {Y : Type 0} (f : ℕ → Y) (n k : ℕ) → k < n → Contains (map f (range_with_len 0 n)) (f k)
 in_range f n k lt = (
@@ -146,7 +140,7 @@ module _ (s : GlobalSources) where
       → Refuses (IsPartFault s (map f xs)) e
   refuses_one f xs i d lt h =
       refuses_of (f (get_or xs i d) ∷ []) (map f xs)
-      (only (f (get_or xs i d)) (map f xs) (in_map f xs (get_or xs i d) (is_at xs i d lt))) h
+      (only (f (get_or xs i d)) (map f xs) (Contains-map f xs (get_or xs i d) (is_at xs i d lt))) h
 
   pub refuses_upto : {e : LinkError} (f : ℕ → GlobalEntry) (n k : ℕ) → k < n
       → Refuses (IsPartFault s (f k ∷ [])) e

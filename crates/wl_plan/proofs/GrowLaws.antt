@@ -1,5 +1,5 @@
 -- Lists of bodies that grow, and the function space behind the imports.
-use Rattle.std.proofs.Common.{◌≡◌, ◌∙◌, ◌<◌, ℕ, zero, suc, ◌+◌, Bool, true, List, [], ◌∷◌, ◌++◌, length, map, take, refl, sym, ap, subst, arith, Some, slice_get, append_assoc, append-nil}
+use Rattle.std.proofs.Common.{◌≡◌, ◌∙◌, ◌<◌, ℕ, zero, suc, ◌+◌, Bool, true, List, [], ◌∷◌, ◌++◌, length, map, take, refl, sym, ap, subst, arith, Some, slice_get, append_assoc}
 use Rattle.wl_linking.specs.Object.{Object}
 use Rattle.wl_symbols.specs.Live.{Live, is_live}
 use Rattle.wl_symbols.specs.declared.units.LinkUnit.{LinkUnit}
@@ -21,14 +21,13 @@ use Rattle.wl_plan.specs.Bodies.{IsBodyOf, IsBodyIn, body_in, called}
 use Rattle.wl_plan.specs.BodySteps.{IsBodyFrom, AddsMadeBody, AddsBodies}
 use Rattle.wl_plan.specs.FunctionSteps.{own_function_part}
 use Rattle.wl_plan.specs.declared.placing.Placing.{Placing}
-use Rattle.wl_plan.proofs.FunctionLaws.{functions_below, one_own, made_is}
-use Rattle.wl_plan.proofs.ListLaws.{zip_joined, there_is, in_at}
-use Rattle.wl_plan.proofs.RowLaws.{by_object_more}
+use Rattle.wl_lists.proofs.Beside.{zip_joined}
+use Rattle.wl_lists.proofs.In.{in_at}
+use Rattle.wl_lists.proofs.Places.{there_is}
+use Rattle.wl_lists.proofs.Rows.{by_object_more}
+use Rattle.wl_plan.proofs.FunctionLaws.{one_own, made_is}
 
 -- ---- lists that grow
-
-pub adds_none : (input : Input) (g : Placing) (old : List Body) → AddsBodies input g [] old old
-adds_none input g old = record { more = []; are = tt; grown = sym (append-nil old) }
 
 pub adds_one : (input : Input) (g : Placing) (entry : FunctionEntry) (old new : List Body) (b : Body)
     → IsBodyOf input g entry b → new ≡ old ++ b ∷ [] → AddsBodies input g (entry ∷ []) old new
@@ -158,15 +157,6 @@ objects_more input g objects i o old middle new here so_far a =
     (front ++ by_object (functions_of input) 0 (take (i + 1) objects)) old new
     (append_assoc front done own ∙ ap (λ (es : List FunctionEntry). front ++ es) more)
     (adds_more input g (front ++ done) own old middle new so_far a)
-
--- behind the last function of an object
-pub functions_end : (input : Input) (g : Placing) (object : ℕ) (o : Object) (n : ℕ)
-    (old new : List Body) → n ≡ length o.functions
-    → AddsBodies input g (functions_below input object n) old new
-    → AddsBodies input g (functions_of input object o) old new
-functions_end input g object o n old new is a =
-    adds_same input g (functions_below input object n) (functions_of input object o) old new
-    (ap (λ m. functions_below input object m) is) a
 
 -- a unit that was looked up is kept
 pub kept_is : (live other : Live) (u : LinkUnit) (b : Bool) → b ≡ is_live live u → b ≡ true

@@ -26,8 +26,11 @@ use Rattle.wl_plan.specs.Imports.{IsFunctionImport, IsGlobalImport, global_type_
 use Rattle.wl_plan.specs.PlannedImports.{PlannedImport}
 use Rattle.wl_plan.specs.declared.layout.OutputImportEntity.TheVariants.{Global}
 use Rattle.wl_plan.specs.declared.placing.Placing.{Placing}
-use Rattle.wl_plan.proofs.FunctionLaws.{IsLocated, HaveTypes, in_firsts, host_stands, left_located, slot_here, slot_object, take_next}
-use Rattle.wl_plan.proofs.ListLaws.{IsIn, in_at, in_list, in_filter, map_in, mapped_at, came_at, zip_joined}
+use Rattle.wl_lists.proofs.Beside.{zip_joined}
+use Rattle.wl_lists.proofs.Firsts.{in_firsts}
+use Rattle.wl_lists.proofs.In.{IsIn, in_at, in_list, in_filter, map_in}
+use Rattle.wl_lists.proofs.Places.{mapped_at, came_at}
+use Rattle.wl_plan.proofs.FunctionLaws.{IsLocated, HaveTypes, host_stands, left_located, slot_here, slot_object, take_next}
 
 -- ---- imports that are added
 

@@ -24,9 +24,9 @@ use Rattle.wl_plan.specs.IndexedMaps.{IsWholeMap, AreWholeMaps}
 use Rattle.wl_plan.specs.IndexSteps.{number_among, numbers_among, segments_before, IsMapOf, IsWholeMapOf, AreLowOf, IsHighSymbol}
 use Rattle.wl_plan.specs.declared.addresses.AddressBook.{AddressBook}
 use Rattle.wl_plan.specs.declared.placing.Placing.{Placing}
+use Rattle.wl_lists.proofs.Places.{there_is, get_in_front, get_behind, mapped_at}
+use Rattle.wl_lists.proofs.Rows.{row_found, rows_length, row_more}
 use Rattle.wl_plan.proofs.AddressLaws.{one_set, hits, hits_at, index_of, AreLaid, laid_here, others_before, none_high}
-use Rattle.wl_plan.proofs.ListLaws.{there_is, get_in_front, get_behind, mapped_at}
-use Rattle.wl_plan.proofs.RowLaws.{row_found, rows_length, row_more}
 
 -- ---- the first place at which a test passes
 

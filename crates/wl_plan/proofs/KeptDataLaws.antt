@@ -1,8 +1,10 @@
 -- The kept segments of objects, one by one.
-use Rattle.std.proofs.Common.{◌≡◌, ◌∙◌, ℕ, zero, suc, ◌+◌, ◌<◌, Bool, true, false, List, [], ◌∷◌, ◌++◌, length, get_or, drop, drop-cons, add-one, append_assoc, slice_get, Some, if◌then◌else◌, sym, ap, arith}
+use Rattle.std.proofs.Common.{◌≡◌, ◌∙◌, ℕ, zero, suc, ◌+◌, ◌<◌, Bool, true, false, List, [], ◌∷◌, length, get_or, drop, drop-cons, add-one, slice_get, Some, if◌then◌else◌, sym, ap, arith}
 use Rattle.std.specs.List.{AllByRecursion}
 use Rattle.std.specs.Option.{option_map_or}
+use Rattle.std.proofs.lemmas.Nat.{pow_pos}
 use Rattle.wl_module.specs.Segments.{Segment}
+use Rattle.wl_linking.specs.Bounds.{HasAlignment}
 use Rattle.wl_linking.specs.Fitting.{IsWhole}
 use Rattle.wl_custom.specs.Infos.{SegmentInfo}
 use Rattle.wl_linking.specs.Object.{Object}
@@ -13,9 +15,7 @@ use Rattle.wl_data.specs.Segments.{KeptData}
 use Rattle.wl_symbols.specs.declared.units.WasmGcUnit.TheVariants.{DataSegment}
 use Rattle.wl_symbols.specs.Input.{Input, keeps}
 use Rattle.wl_plan.specs.KeptData.{kept_data, kept_from, segments_from}
-use Rattle.wl_plan.proofs.ListLaws.{all_at}
-use Rattle.wl_plan.proofs.SectionLaws.{all_append}
-use Rattle.wl_plan.proofs.WholeLaws.{HasAlignment, segments_are_aligned, segments_are_spanned}
+use Rattle.wl_lists.proofs.Places.{all_append, all_at}
 
 -- ---- items of lists
 
@@ -25,30 +25,22 @@ split_at xs k x within is = rw (add-one) (drop-cons xs k x within ∙ ap (λ y. 
 
 -- ---- one segment
 
+-- what is known of the segments of whole objects: where they end, and that each has an alignment
+abbrev pub SegmentsAreSpanned : Type 0
+SegmentsAreSpanned = (o : Object) → IsWhole o → AllByRecursion IsSpanned o.segments
+
+abbrev pub SegmentsAreAligned : Type 0
+SegmentsAreAligned = (o : Object) → IsWhole o → AllByRecursion HasAlignment o.segment_infos
+
 -- where a segment of a whole object ends
-pub segment_spanned : (o : Object) (k : ℕ) (s : Segment) → IsWhole o → slice_get o.segments k ≡ Some s → IsSpanned s
-segment_spanned o k s whole here = all_at IsSpanned o.segments k s (segments_are_spanned o whole) here
-
--- ---- the segments of an object
-
--- one segment more
-pub kept_more : (input : Input) (object : ℕ) (o : Object) (k : ℕ) (s : Segment) (before after all : List KeptData) → k < length o.segments → s ≡ get_or o.segments k s
-    → after ≡ before ++ (if keeps input object (DataSegment k) then kept_data o k s ∷ [] else [])
-    → before ++ kept_from input object o k (drop k o.segments) ≡ all
-    → after ++ kept_from input object o (k + 1) (drop (k + 1) o.segments) ≡ all
-kept_more input object o k s before after all within is more so_far =
-    let here : List KeptData = if keeps input object (DataSegment k) then kept_data o k s ∷ [] else [] in
-    let rest : List KeptData = kept_from input object o (k + 1) (drop (k + 1) o.segments) in
-    ap (λ (xs : List KeptData). xs ++ rest) more
-    ∙ (append_assoc before here rest
-    ∙ (ap (λ (ss : List Segment). before ++ kept_from input object o k ss) (sym (split_at o.segments k s within is))
-    ∙ so_far))
+pub segment_spanned : SegmentsAreSpanned → (o : Object) (k : ℕ) (s : Segment) → IsWhole o → slice_get o.segments k ≡ Some s → IsSpanned s
+segment_spanned spanned o k s whole here = all_at IsSpanned o.segments k s (spanned o whole) here
 
 -- ---- they can be placed
 
 some_alignment : (infos : List SegmentInfo) (n : ℕ) → AllByRecursion HasAlignment infos → 0 < option_map_or (λ (info : SegmentInfo). info.alignment) (slice_get infos n) 1
 some_alignment [] n h = omega arith
-some_alignment (i ∷ infos) zero h = omega (arith, h.0)
+some_alignment (i ∷ infos) zero h = omega (arith, pow_pos h.0.0, h.0.2)
 some_alignment (i ∷ infos) (suc n) h = some_alignment infos n h.1
 
 one_can : (b : Bool) (s : KeptData) → CanBePlaced s → AllByRecursion CanBePlaced (if b then s ∷ [] else [])
@@ -63,6 +55,6 @@ kept_can input object o k (s ∷ ss) aligned spanned =
     (kept_can input object o (k + 1) ss aligned spanned.1)
 
 -- those of whole objects can
-pub all_can : (input : Input) (k : ℕ) (objects : List Object) → AllByRecursion IsWhole objects → AllByRecursion AllCanBePlaced (segments_from input k objects)
-all_can input k [] h = tt
-all_can input k (o ∷ objects) h = (kept_can input k o 0 o.segments (segments_are_aligned o h.0) (segments_are_spanned o h.0), all_can input (k + 1) objects h.1)
+pub all_can : SegmentsAreSpanned → SegmentsAreAligned → (input : Input) (k : ℕ) (objects : List Object) → AllByRecursion IsWhole objects → AllByRecursion AllCanBePlaced (segments_from input k objects)
+all_can spanned aligned input k [] h = tt
+all_can spanned aligned input k (o ∷ objects) h = (kept_can input k o 0 o.segments (aligned o h.0) (spanned o h.0), all_can spanned aligned input (k + 1) objects h.1)

@@ -1,8 +1,4 @@
 pub mod ListLaws
-pub mod RowLaws
-pub mod StepLaws
-pub mod SectionLaws
-pub mod WholeLaws
 pub mod KeptDataLaws
 pub mod ThreadDataLaws
 pub mod PlacingLaws

@@ -27,7 +27,7 @@ use Rattle.wl_plan.specs.Plan.{IsPlan}
 use Rattle.wl_plan.specs.Planned.{IsUnplannedOption}
 use Rattle.wl_plan.specs.declared.layout.LinkPlan.{LinkPlan}
 use Rattle.wl_plan.specs.declared.objects.TheConstants.{MAX_OBJECT}
-use Rattle.wl_plan.proofs.StepLaws.{IsRow, clear_end, clear_step, refuses_behind, refuses_here, row_behind, row_clear, row_end, row_more}
+use Rattle.wl_linking.proofs.StepLaws.{IsRow, clear_end, clear_step, refuses_behind, refuses_here, row_behind, row_clear, row_end, row_more}
 
 -- ---- bytes by their number
 

@@ -1,8 +1,8 @@
 -- Which number each segment of an object has in the output.
-use Rattle.std.proofs.Common.{◌≡◌, ◌∙◌, ◌≤◌, ◌<◌, ℕ, zero, suc, ◌+◌, true, false, ◌==◌, List, [], ◌∷◌, ◌++◌, length, map, take, get_or, refl, sym, ap, subst, arith, inl, inr, Option, Some, None, slice_get, slice_index_or, position, eqb-true, ltb-true}
+use Rattle.std.proofs.Common.{◌≡◌, ◌∙◌, ◌≤◌, ◌<◌, ℕ, zero, suc, ◌+◌, true, false, ◌==◌, List, [], ◌∷◌, length, map, refl, sym, ap, subst, arith, inl, inr, Option, Some, None, slice_get, slice_index_or, position, eqb-true, ltb-true}
 use Rattle.std.specs.List.{range_with_len}
-use Rattle.std.proofs.lemmas.Bool.{cases_Bool}
-use Rattle.std.proofs.lemmas.List.{map_more, length-map}
+use Rattle.std.proofs.lemmas.Bool.{cases_Bool, and_parts}
+use Rattle.std.proofs.lemmas.List.{length-map}
 use Rattle.std.proofs.lemmas.Option.{slice_get_within}
 use Rattle.wl_index.specs.declared.index.TheConstants.{WASM_DEAD_INDEX, MAX_ENTRIES}
 use Rattle.wl_linking.specs.Object.{Object}
@@ -21,20 +21,13 @@ use Rattle.wl_plan.specs.BodySteps.{kept_number, AreNewNumbers, AreAllNumbers}
 use Rattle.wl_plan.specs.IndexedMaps.{IsWholeMap, AreWholeMaps}
 use Rattle.wl_plan.specs.Placing.{IsPlacing}
 use Rattle.wl_plan.specs.declared.placing.Placing.{Placing}
-use Rattle.wl_plan.proofs.ListLaws.{came_at, zip_left, zip_right, left_and, mapped_at, of_range}
-use Rattle.wl_plan.proofs.RowLaws.{rows_length, row_of}
+use Rattle.wl_lists.proofs.Beside.{zip_right, zip_left}
+use Rattle.wl_lists.proofs.Places.{came_at, mapped_at}
+use Rattle.wl_lists.proofs.Rows.{rows_length, row_of}
+use Rattle.wl_plan.proofs.ListLaws.{of_range}
 use Rattle.wl_plan.proofs.SegmentLaws.{SegmentsHaveLayouts, place_is}
 
 -- ---- lists
-
--- what is made of each of the first items, and of one more
-pub mapped_more : {X Y : Type 0} (f : X → Y) (xs : List X) (i : ℕ) (x : X) (old new : List Y) (y : Y)
-    → i < length xs → x ≡ get_or xs i x → y ≡ f x → new ≡ old ++ y ∷ []
-    → old ≡ map f (take i xs) → new ≡ map f (take (i + 1) xs)
-mapped_more {X} {Y} f xs i x old new y lt here made pushed so_far =
-    pushed
-    ∙ (ap (λ (ys : List Y). ys ++ y ∷ []) so_far
-    ∙ (ap (λ (z : Y). map f (take i xs) ++ z ∷ []) (made ∙ ap f here) ∙ sym (map_more f xs i x lt)))
 
 range_back : {Y : Type 0} (f : ℕ → Y) (a n k : ℕ) (y : Y)
     → slice_get (map f (range_with_len a n)) k ≡ Some y → y ≡ f (a + k)
@@ -68,8 +61,7 @@ pub kept_within : (input : Input) (object : ℕ) (o : Object) (number : ℕ)
 kept_within input object o number live here kept =
     let u : LinkUnit = record { object = object; unit = DataSegment number } in
     let there : exists input.live.units u ≡ true =
-    left_and (exists input.live.units u)
-    (slice_index_or input.live.marks (unit_number input.live.units u) false) kept in
+    (and_parts (exists input.live.units u) (slice_index_or input.live.marks (unit_number input.live.units u) false) kept).0 in
     let among : exists (units_of input.link.objects) u ≡ true =
     subst (λ (ns : List UnitCounts). exists ns u ≡ true) live.units there in
     ltb-true number (length o.segments) (rw (counts_at input.link.objects object o here) at among)
@@ -127,7 +119,7 @@ has_number law input g object o indices number placed room live here are kept =
     let entry : slice_get (local_segments input object o) number ≡ Some (Some (object, number)) =
     of_range (segment_entry input object) (length o.segments) number lt
     ∙ ap (λ (x : Option (ℕ × ℕ)). Some x) (entry_kept input object number kept) in
-    let z = zip_left (IsIndexOf space) (local_segments input object o) indices number
+    let z = zip_right (IsIndexOf space) (local_segments input object o) indices number
     (Some (object, number)) are entry in
     let within : z.0 < length space = slice_get_within space z.0 (object, number) z.2 in
     record {
@@ -146,7 +138,7 @@ left_number input g object o indices number are left = by_index (slice_get indic
         → new_index (map kept_number indices) number ≡ None
     by_index None here = new_none indices number here
     by_index (Some index) here =
-        let z = zip_right (IsIndexOf (segment_space g)) (local_segments input object o) indices number
+        let z = zip_left (IsIndexOf (segment_space g)) (local_segments input object o) indices number
         index are here in
         let e : 0 + number ≡ number = omega arith in
         let entry : z.0 ≡ None =

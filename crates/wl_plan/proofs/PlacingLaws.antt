@@ -1,11 +1,11 @@
 -- The memories of objects, the steps of placing, and how many segments there are.
-use Rattle.std.proofs.Common.{◌≡◌, ◌∙◌, ℕ, suc, ◌+◌, ◌*◌, ◌^◌, ◌<◌, ◌≤◌, max, Bool, true, false, cond, not, ◌||◌, ◌==◌, List, [], ◌∷◌, ◌++◌, length, map, fold, filter, drop, get_or, Option, Some, None, is_some, Result, Ok, Err, IfOk, OnOk, refl, sym, ap, subst, arith, inl, inr, length-append, sum_by}
+use Rattle.std.proofs.Common.{◌≡◌, ◌∙◌, ℕ, suc, ◌+◌, ◌*◌, ◌^◌, ◌<◌, ◌≤◌, max, Bool, true, false, cond, not, ◌||◌, ◌==◌, List, [], ◌∷◌, ◌++◌, length, map, fold, filter, drop, get_or, Option, Some, None, is_some, Result, Ok, Err, IfOk, refl, sym, ap, subst, arith, inl, inr, length-append, sum_by}
 use Rattle.std.specs.List.{AllByRecursion, AllZip, cons_option, flat_map, list_any}
-use Rattle.std.specs.Option.{option_map_or}
 use Rattle.std.proofs.lemmas.Bool.{cases_lt, ne_eqb}
 use Rattle.std.proofs.lemmas.List.{length-map, map-append}
 use Rattle.wl_module.specs.Imports.{Imported}
 use Rattle.wl_module.specs.declared.limits.MemoryType.{MemoryType}
+use Rattle.wl_linking.specs.Bounds.{IsSmallMemory, memories_of, memory_in}
 use Rattle.wl_linking.specs.Fitting.{IsWhole}
 use Rattle.wl_linking.specs.Object.{Object}
 use Rattle.wl_linking.specs.Steps.{Clear, NoStep, Refuses, Step, behind, here}
@@ -25,13 +25,12 @@ use Rattle.wl_symbols.specs.Input.{Input}
 use Rattle.wl_bind.specs.Made.{greatest}
 use Rattle.wl_plan.specs.Addresses.{numbers_from, segment_space}
 use Rattle.wl_plan.specs.KeptData.{all_segments}
-use Rattle.wl_plan.specs.Placing.{AreTooManySegments, IsHeapTooHigh, IsMemoryFault, data_input, data_options, first_pages, least_pages, memories_of, memory_in, memory_needs, memory_pages, memory_steps, place_fault, placing_of, stack_pointer}
-use Rattle.wl_plan.specs.PlacingSteps.{import_pages, imported_memories, is_memory_import, most_pages}
+use Rattle.wl_plan.specs.Placing.{AreTooManySegments, IsHeapTooHigh, IsMemoryFault, data_input, data_options, first_pages, least_pages, memory_needs, memory_pages, memory_steps, place_fault, placing_of, stack_pointer}
+use Rattle.wl_plan.specs.PlacingSteps.{imported_memories, is_memory_import, most_pages}
 use Rattle.wl_plan.specs.declared.placing.Placing.{Placing}
+use Rattle.wl_linking.proofs.StepLaws.{clear_end, clear_step, refuses_here, refuses_behind}
+use Rattle.wl_lists.proofs.Beside.{zip_length}
 use Rattle.wl_plan.proofs.KeptDataLaws.{split_at}
-use Rattle.wl_plan.proofs.ListLaws.{zip_length}
-use Rattle.wl_plan.proofs.StepLaws.{clear_end, clear_step, refuses_here, refuses_behind}
-use Rattle.wl_plan.proofs.WholeLaws.{IsSmallMemory, memories_are_small}
 
 -- ---- the greatest of numbers
 
@@ -39,14 +38,6 @@ use Rattle.wl_plan.proofs.WholeLaws.{IsSmallMemory, memories_are_small}
 pub greatest-append : (ms ns : List ℕ) → greatest (ms ++ ns) ≡ max (greatest ms) (greatest ns)
 greatest-append [] ns = omega arith
 greatest-append (m ∷ ms) ns = omega (arith, greatest-append ms ns)
-
-pages_one : (o : Option MemoryType) (ms : List MemoryType) → most_pages (cons_option o ms) ≡ max (option_map_or (λ (m : MemoryType). m.initial) o 0) (most_pages ms)
-pages_one None ms = omega arith
-pages_one (Some m) ms = refl
-
--- of those of imports, of memories and of objects, one more
-pub imports_one : (i : Imported) (is : List Imported) → most_pages (imported_memories (i ∷ is)) ≡ max (import_pages i) (most_pages (imported_memories is))
-imports_one i is = pages_one (memory_in i.entity) (imported_memories is)
 
 pub objects_one : (o : Object) (os : List Object) → greatest (flat_map least_pages (o ∷ os)) ≡ max (greatest (least_pages o)) (greatest (flat_map least_pages os))
 objects_one o os = greatest-append (least_pages o) (flat_map least_pages os)
@@ -83,9 +74,9 @@ pages_below [] h = omega arith
 pages_below (m ∷ ms) h = omega (arith, h.0, pages_below ms h.1)
 
 -- the memories of whole objects begin with no more pages than a memory can have
-pub objects_below : (os : List Object) → AllByRecursion IsWhole os → greatest (flat_map least_pages os) ≤ 65536
-objects_below [] h = omega arith
-objects_below (o ∷ os) h = omega (arith, objects_one o os, pages_below (memories_of o) (memories_are_small o h.0), objects_below os h.1)
+pub objects_below : ((o : Object) → IsWhole o → AllByRecursion IsSmallMemory (memories_of o)) → (os : List Object) → AllByRecursion IsWhole os → greatest (flat_map least_pages os) ≤ 65536
+objects_below small [] h = omega arith
+objects_below small (o ∷ os) h = omega (arith, objects_one o os, pages_below (memories_of o) (small o h.0), objects_below small os h.1)
 
 -- ---- how many segments there are
 
@@ -210,11 +201,6 @@ past_refused input segments o e same options count size refuses =
 pub place_clear : (input : Input) → Clear (AreTooManySegments input) → Clear (IsBadStackSize input.link.args.z_stack_size) → Clear (IsPastMemory (data_input input)) → Clear (IsMemoryFault input)
     → Clear (place_fault input)
 place_clear input count size past memory = clear_step _ _ count (clear_step _ _ size (clear_step _ _ past (clear_step _ _ memory clear_end)))
-
--- what follows where there is an answer
-pub on_ok : {A E P Q : Type 0} (r : Result A E) → (P → Q) → OnOk r P → OnOk r Q
-on_ok (Ok x) step h = step h
-on_ok (Err e) step h = h
 
 -- how many segments an answer has
 pub few_if : {E : Type 0} (r : Result Placing E) (input : Input) (places : DataPlaces) → IfOk r (λ (g : Placing). g ≡ placing_of input places) → length (numbers_from 0 places.layouts) ≤ MAX_ENTRIES

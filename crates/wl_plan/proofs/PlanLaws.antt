@@ -43,8 +43,8 @@ use Rattle.wl_plan.specs.Outline.{AreFew, HasWrapperRoom}
 use Rattle.wl_plan.specs.Placing.{IsPlacing, AreTooManySegments, IsMemoryFault, data_input, place_steps}
 use Rattle.wl_plan.specs.SizeSteps.{IsTooBig}
 use Rattle.wl_plan.specs.declared.placing.Placing.{Placing}
-use Rattle.wl_plan.proofs.ListLaws.{zip_length}
-use Rattle.wl_plan.proofs.StepLaws.{IsRow, row_end, row_more, first_clear, rest_clear}
+use Rattle.wl_linking.proofs.StepLaws.{IsRow, row_end, row_more, first_clear, rest_clear}
+use Rattle.wl_lists.proofs.Beside.{zip_length}
 use Rattle.wl_plan.proofs.UniqueBodies.{FormsAreOne, bodies_one}
 
 -- ---- rows of steps

@@ -17,8 +17,8 @@ use Rattle.wl_plan.specs.Outline.{AreChecked, HasWrapperRoom}
 use Rattle.wl_plan.specs.Placing.{IsPlacing, place_fault}
 use Rattle.wl_plan.specs.declared.layout.LinkPlan.{LinkPlan}
 use Rattle.wl_plan.specs.declared.placing.Placing.{Placing}
+use Rattle.wl_linking.proofs.StepLaws.{clear_end, clear_step, refuses_behind, refuses_here, refuses_more, row_behind, row_clear, row_refuses}
 use Rattle.wl_plan.proofs.PlanLaws.{OnePlacing, at_most, index_is_row, index_row, place_is_row, place_row, placed_clear, placed_refuses}
-use Rattle.wl_plan.proofs.StepLaws.{clear_end, clear_step, refuses_behind, refuses_here, refuses_more, row_behind, row_clear, row_refuses}
 
 -- what is judged behind the numbering of things
 abbrev behind_index : Input → LinkError → Type 0

@@ -1,7 +1,7 @@
 -- Where the fields of kept relocations stand.
-use Rattle.std.proofs.Common.{◌≡◌, ◌∙◌, ◌≤◌, ◌<◌, ℕ, zero, suc, ◌+◌, Bool, true, false, ◌&&◌, ◌==◌, List, [], ◌∷◌, ◌++◌, length, map, take, drop, refl, sym, ap, append-nil, append_assoc, subst, arith, inl, inr, Option, Some, slice_get, Result, Ok, Err, IfOk, if◌then◌else◌, eqb-true, Contains}
+use Rattle.std.proofs.Common.{◌≡◌, ◌∙◌, ◌≤◌, ◌<◌, ℕ, zero, suc, ◌+◌, Bool, true, false, ◌&&◌, ◌==◌, List, [], ◌∷◌, ◌++◌, length, map, take, drop, refl, sym, ap, append-nil, append_assoc, subst, arith, inl, inr, Option, Some, slice_get, if◌then◌else◌, eqb-true, Contains}
 use Rattle.std.specs.List.{AllByRecursion, AllZip}
-use Rattle.std.proofs.lemmas.Bool.{cases_lt}
+use Rattle.std.proofs.lemmas.Bool.{cases_lt, and_parts}
 use Rattle.std.proofs.lemmas.List.{drop_all}
 use Rattle.std.proofs.lemmas.Option.{slice_get_within}
 use Rattle.std.proofs.lemmas.List.Elements.{Contains-append_left, Contains-append_right}
@@ -29,8 +29,8 @@ use Rattle.wl_plan.specs.Bodies.{body_in, new_number, IsMovedBy, IsMovedAt, IsMo
 use Rattle.wl_plan.specs.BodySteps.{AreNewNumbers, AreSoundBodies, HasSoundBody}
 use Rattle.wl_plan.specs.PositionSteps.{is_code, share_body, goes_on, AreOfOneBody, AreKept, IsThere}
 use Rattle.wl_plan.specs.declared.placing.Placing.{Placing}
-use Rattle.wl_plan.proofs.ListLaws.{came_at, left_and, right_and, at_is_in, all_at}
-use Rattle.wl_plan.proofs.SegmentLaws.{append_split}
+use Rattle.wl_lists.proofs.In.{at_is_in}
+use Rattle.wl_lists.proofs.Places.{came_at, all_at, append_split}
 use Rattle.wl_plan.proofs.BodyLaws.{body_at}
 use Rattle.wl_plan.proofs.FixupListLaws.{all_more}
 
@@ -239,8 +239,7 @@ first_code first other e =
     let same_unit : Bool = first.site.unit == other.site.unit in
     let same_object : Bool = first.object == other.object in
     let both : Bool = is_code first.place && is_code other.place in
-    left_and (is_code first.place) (is_code other.place)
-    (left_and both same_object (left_and (both && same_object) same_unit e))
+    (and_parts (is_code first.place) (is_code other.place) (and_parts both same_object (and_parts (both && same_object) same_unit e).0).0).0
 
 -- what two fields of one body have in common
 pub record AreShared (first other : Relocated) : Type 0 where
@@ -253,13 +252,13 @@ shared first other e =
     let same_unit : Bool = first.site.unit == other.site.unit in
     let same_object : Bool = first.object == other.object in
     let both : Bool = is_code first.place && is_code other.place in
-    let a = left_and (both && same_object) same_unit e in
-    let b = left_and both same_object a in
+    let a = (and_parts (both && same_object) same_unit e).0 in
+    let b = (and_parts both same_object a).0 in
     record {
-      place = codes other.place (right_and (is_code first.place) (is_code other.place) b);
-      object = sym (eqb-true first.object other.object (right_and both same_object a));
+      place = codes other.place (and_parts (is_code first.place) (is_code other.place) b).1;
+      object = sym (eqb-true first.object other.object (and_parts both same_object a).1);
       unit = sym (eqb-true first.site.unit other.site.unit
-          (right_and (both && same_object) same_unit e));
+          (and_parts (both && same_object) same_unit e).1);
     }
 
 -- ---- how they move
@@ -521,9 +520,3 @@ vector_is (x ∷ new) [] n e is = absurd (omega (arith, e))
 vector_is {X} (x ∷ new) (y ∷ old) zero e is = absurd (omega (arith, is))
 vector_is {X} (x ∷ new) (y ∷ old) (suc n) e is =
     ap (λ (zs : List X). x ∷ zs) (vector_is new old n (omega (arith, e)) (omega (arith, is)))
-
--- what follows from what a call ensures
-pub if_ok_then : {X E : Type 0} (r : Result X E) (P Q : X → Type 0) → ((x : X) → P x → Q x)
-    → IfOk r P → IfOk r Q
-if_ok_then (Ok x) P Q f h = f x h
-if_ok_then (Err e) P Q f h = tt

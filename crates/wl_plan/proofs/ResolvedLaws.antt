@@ -14,10 +14,10 @@ use Rattle.wl_plan.specs.Fixups.{address_named}
 use Rattle.wl_plan.specs.IndexedMaps.{AreWholeMaps}
 use Rattle.wl_plan.specs.Resolved.{IsNumbered, IsOf, answer_for, HasNoAddress}
 use Rattle.wl_plan.specs.declared.placing.Placing.{Placing}
+use Rattle.wl_linking.proofs.StepLaws.{first_clear}
 use Rattle.wl_plan.proofs.FixupLaws.{IsKnown, Laws, map_of, reason_of, resolves_as}
 use Rattle.wl_plan.proofs.PlanLaws.{few_by}
 use Rattle.wl_plan.proofs.SlotLaws.{TableLaws}
-use Rattle.wl_plan.proofs.StepLaws.{first_clear}
 use Rattle.wl_plan.proofs.TableLaws.{TableIs, table_is_few}
 
 pub settled : (input : Input) → IsNumbered input → IsSettled input

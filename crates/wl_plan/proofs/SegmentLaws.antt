@@ -1,5 +1,5 @@
 -- Each kept segment stands once among the segments of the output.
-use Rattle.std.proofs.Common.{◌≡◌, ◌∙◌, ◌⊎◌, ◌≤◌, ◌<◌, ℕ, zero, suc, ◌+◌, Bool, true, false, not, ◌&&◌, ◌==◌, List, [], ◌∷◌, ◌++◌, length, map, filter, refl, sym, ap, subst, arith, inl, inr, Some, slice_get, position, if◌then◌else◌, eqb-true, eq-eqb, eqb, lt-ltb}
+use Rattle.std.proofs.Common.{◌≡◌, ◌∙◌, ◌≤◌, ◌<◌, ℕ, zero, suc, ◌+◌, Bool, true, false, not, ◌&&◌, ◌==◌, List, [], ◌∷◌, ◌++◌, length, map, filter, refl, sym, ap, subst, arith, inl, inr, Some, slice_get, position, if◌then◌else◌, eqb-true, eq-eqb, eqb, lt-ltb}
 use Rattle.std.specs.List.{AllZip, position_or_len}
 use Rattle.std.proofs.lemmas.Bool.{cases_Bool}
 use Rattle.std.proofs.lemmas.List.{length-map}
@@ -17,19 +17,10 @@ use Rattle.wl_plan.specs.Bodies.{same_segment}
 use Rattle.wl_plan.specs.KeptData.{kept_data, kept_from, kept_segments, segments_from, all_segments}
 use Rattle.wl_plan.specs.Placing.{IsPlacing, data_input}
 use Rattle.wl_plan.specs.declared.placing.Placing.{Placing}
-use Rattle.wl_plan.proofs.ListLaws.{came_at, zip_right}
+use Rattle.wl_lists.proofs.Beside.{zip_left}
+use Rattle.wl_lists.proofs.Places.{append_split, came_at}
 
 -- ---- lists
-
--- what stands in one of two lists
-pub append_split : {X : Type 0} (xs ys : List X) (i : ℕ) (x : X) → slice_get (xs ++ ys) i ≡ Some x
-    → (slice_get xs i ≡ Some x) ⊎ ((j : ℕ) × (i ≡ length xs + j) × (slice_get ys j ≡ Some x))
-append_split [] ys i x here = inr (i, omega arith, here)
-append_split (y ∷ xs) ys zero x here = inl here
-append_split (y ∷ xs) ys (suc i) x here = elim (append_split xs ys i x here) [
-  | inl front ↦ inl front
-  | inr behind ↦ inr (behind.0, omega (arith, behind.1), behind.2)
-]
 
 -- what passed a test
 pub from_filter : {X : Type 0} (test : X → Bool) (xs : List X) (i : ℕ) (x : X)
@@ -179,8 +170,8 @@ layouts_once : (o : DataOptions) (n : ℕ) (segments : List KeptData) (layouts :
     → slice_get layouts i ≡ Some l → slice_get layouts k ≡ Some m
     → l.segment_index ≡ m.segment_index → i ≡ k
 layouts_once o n segments layouts i k l m h have at_i at_k e =
-    let a = zip_right (HasLayout o) (in_output_order segments) layouts i l have at_i in
-    let b = zip_right (HasLayout o) (in_output_order segments) layouts k m have at_k in
+    let a = zip_left (HasLayout o) (in_output_order segments) layouts i l have at_i in
+    let b = zip_left (HasLayout o) (in_output_order segments) layouts k m have at_k in
     let here : l.segment_index ≡ (a.0).original = (a.2).segment_index in
     let there : m.segment_index ≡ (b.0).original = (b.2).segment_index in
     ordered_once n segments i k a.0 b.0 h a.1 b.1 (sym here ∙ e ∙ there)
@@ -275,7 +266,7 @@ segments_once law input g placed i k p at_i at_k =
     let list : a.list ≡ b.list = cc (there, b.has) in
     let here : slice_get b.list a.place ≡ Some a.layout =
     subst (λ (ls : List SegmentLayout). slice_get ls a.place ≡ Some a.layout) list a.here in
-    let z = zip_right (HaveLayouts d.options) (all_segments input) layouts b.row b.list have b.has in
+    let z = zip_left (HaveLayouts d.options) (all_segments input) layouts b.row b.list have b.has in
     let place : a.place ≡ b.place =
     layouts_once d.options 0 z.0 b.list a.place b.place a.layout b.layout
     (kept_of input 0 input.link.objects b.row z.0 z.1) z.2 here b.here

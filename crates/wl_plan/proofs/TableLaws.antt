@@ -39,10 +39,16 @@ use Rattle.wl_plan.specs.IndexedMaps.{IsWholeMap, AreWholeMaps}
 use Rattle.wl_plan.specs.Table.{IsElement}
 use Rattle.wl_plan.specs.TableSteps.{index_at, table_minimums}
 use Rattle.wl_plan.specs.declared.placing.Placing.{Placing}
-use Rattle.wl_plan.proofs.FunctionLaws.{ctors_stand, host_stands, if_in, kept_in, kept_stands, take_next, tls_stands}
-use Rattle.wl_plan.proofs.ListLaws.{IsIn, in_at, in_list, in_split, in_front, in_back, in_map, map_in, mapped_at, came_at, zip_joined, get_in_front, get_behind, Distinct, zip_left, of_range}
+use Rattle.wl_lists.proofs.Beside.{zip_joined, zip_right}
+use Rattle.wl_lists.proofs.Firsts.{any_kept}
+use Rattle.wl_lists.proofs.Found.{any_last}
+use Rattle.wl_lists.proofs.In.{place_in, filter_in, IsIn, in_at, in_list, in_split, in_front, in_back, in_map, map_in}
+use Rattle.wl_lists.proofs.Once.{Distinct}
+use Rattle.wl_lists.proofs.Places.{mapped_at, came_at, get_in_front, get_behind}
+use Rattle.wl_lists.proofs.Rows.{row_of_object}
+use Rattle.wl_plan.proofs.FunctionLaws.{ctors_stand, host_stands, if_in, kept_stands, take_next, tls_stands}
+use Rattle.wl_plan.proofs.ListLaws.{of_range}
 use Rattle.wl_plan.proofs.PlacingLaws.{greatest-append}
-use Rattle.wl_plan.proofs.RowLaws.{row_of_object}
 
 -- ---- a function in the map of an object
 
@@ -62,7 +68,7 @@ indexed : (input : Input) (g : Placing) (maps : List WasmObjectIndexMap) (object
 indexed input g maps object place o target all at here =
     let r = row_of_object (IsWholeMap input g) 0 input.link.objects maps object object o all at
     (omega arith) in
-    let z = zip_left (IsIndexOf (function_space input)) (local_functions input object o)
+    let z = zip_right (IsIndexOf (function_space input)) (local_functions input object o)
     r.row.function_indices place (Some (FunctionOf target)) r.is.functions here in
     record { map_is = r.row; at = r.here; index = z.0; here = z.1; stands = z.2 }
 
@@ -270,13 +276,6 @@ size_done objects k size all le so_far =
 
 -- ---- how many functions the table has
 
-place_in : {X : Type 0} (xs : List X) (x : X) → IsIn xs x → (k : ℕ) × (slice_get xs k ≡ Some x)
-place_in [] x h = absurd h
-place_in {X} (y ∷ xs) x h = elim h [
-  | inl e ↦ (0, ap (λ (z : X). Some z) e)
-  | inr r ↦ (let p = place_in xs x r in (suc p.0, p.1))
-]
-
 distinct_from : {X : Type 0} (xs : List X)
     → ((i k : ℕ) (x : X) → slice_get xs i ≡ Some x → slice_get xs k ≡ Some x → i ≡ k) → Distinct xs
 distinct_from [] once = tt
@@ -318,25 +317,6 @@ few {X} (x ∷ xs) ys d sub =
     omega (arith, rest, a, b)
 
 -- ---- host imports stand in the space
-
-any_front : {X : Type 0} (test : X → Bool) (xs ys : List X) → list_any test xs ≡ true → list_any test (xs ++ ys) ≡ true
-any_front test [] ys any = absurd cc
-any_front test (x ∷ xs) ys any = elim (cases_Bool (test x)) [
-  | inl y ↦ rw y refl
-  | inr n ↦ rw n (any_front test xs ys (rw n at any))
-]
-
-any_last : {X : Type 0} (test : X → Bool) (xs : List X) (x : X) → test x ≡ true → list_any test (xs ++ x ∷ []) ≡ true
-any_last test [] x so = rw so refl
-any_last test (y ∷ xs) x so = elim (cases_Bool (test y)) [ inl h ↦ rw h refl | inr n ↦ rw n (any_last test xs x so) ]
-
-any_kept : {X : Type 0} (test : X → Bool) (same : X → X → Bool) (seen xs : List X) → list_any test seen ≡ true
-    → list_any test (insert_all same seen xs) ≡ true
-any_kept test same seen [] any = any
-any_kept test same seen (x ∷ xs) any = elim (cases_Bool (list_any (same x) seen)) [
-  | inl t ↦ rw t (any_kept test same seen xs any)
-  | inr f ↦ rw f (any_kept test same (seen ++ x ∷ []) xs (any_front test seen (x ∷ []) any))
-]
 
 first_onto : {X : Type 0} (same : X → X → Bool) (seen xs : List X) (t : X) → same t t ≡ true → IsIn xs t
     → list_any (same t) (insert_all same seen xs) ≡ true
@@ -410,9 +390,9 @@ host_bound input t o s h bound =
     let no_stub : not (is_stub objects left t) ≡ true =
     ap not (no_stub_case (is_stub objects left t) stub.object stub.number is.stub) in
     let in_left : IsIn left t =
-    kept_in (λ (u : ImportSlot). is_none (slot_target input.link u)) (kept_slots input Func) t none h in
+    filter_in (λ (u : ImportSlot). is_none (slot_target input.link u)) (kept_slots input Func) t none h in
     let in_hosts : IsIn (host_functions input) t =
-    kept_in (λ (u : ImportSlot). not (is_stub objects left u)) left t no_stub in_left in
+    filter_in (λ (u : ImportSlot). not (is_stub objects left u)) left t no_stub in_left in
     let found = find_in (same_import t) hosts
     (first_onto same_import [] (host_functions input) t (same_self t) in_hosts) in
     let x : ImportSlot = found.0 in
@@ -443,7 +423,7 @@ host_in_space input o s is =
     slots_in Func 0 o o input.link.objects found.0 t (omega arith) found.1
     (in_at (object_slots o Func found.0) s t found.2) in
     host_stands input (FunctionOf (Host o s))
-    (host_bound input t o s (kept_in (is_kept_slot input) (slots_from Func 0 input.link.objects) t is.kept all) is.bound)
+    (host_bound input t o s (filter_in (is_kept_slot input) (slots_from Func 0 input.link.objects) t is.kept all) is.bound)
 
 made_in_space : (input : Input) (m : WasmLinkerSymbol) → IsMadeFunction input m → IsIn (function_space input) (FunctionOf (Made m))
 made_in_space input made.CallCtors is =

@@ -1,8 +1,9 @@
 -- The slots of functions by their indices, set one by one.
 use Rattle.std.proofs.Common.{◌≡◌, ◌∙◌, ℕ, zero, suc, ◌+◌, ◌<◌, ◌≤◌, ◌==◌, ◌||◌, Bool, true, false, List, [], ◌∷◌, ◌++◌, length, refl, sym, ap, subst, arith, inl, inr, Option, Some, None, slice_get, map, take, get_or, set, replicate, position, unwrap_or, if◌then◌else◌}
+use Rattle.std.proofs.Math.Bool.{or-true, or-false}
 use Rattle.std.specs.List.{AllZip, list_any, position_from}
 use Rattle.std.specs.Option.{option_map, option_or}
-use Rattle.std.proofs.lemmas.Bool.{cases_Bool, eq-eqb, eqb-true}
+use Rattle.std.proofs.lemmas.Bool.{cases_Bool, eq-eqb, eqb-true, and_parts}
 use Rattle.std.proofs.lemmas.Iterator.Adapters.{position_from-zero}
 use Rattle.std.proofs.lemmas.List.{take_all, length-map}
 use Rattle.std.proofs.lemmas.List.Quantifiers.{position-Some}
@@ -25,8 +26,10 @@ use Rattle.wl_bind.specs.declared.indices.LinkerDefinedIndices.{LinkerDefinedInd
 use Rattle.wl_bind.specs.declared.parts.PartStarts.{PartStarts}
 use Rattle.wl_plan.specs.Table.{space_slots, slot_of_entry, IsElement}
 use Rattle.wl_plan.specs.TableSteps.{is_stub_of, place_slot, slot_among, stub_slot}
-use Rattle.wl_plan.proofs.FunctionLaws.{in_if, in_object, take_next}
-use Rattle.wl_plan.proofs.ListLaws.{IsIn, in_at, in_split, in_map, there_is, mapped_at, left_and, right_and, zip_length}
+use Rattle.wl_lists.proofs.Beside.{zip_length}
+use Rattle.wl_lists.proofs.In.{IsIn, in_at, in_split, in_map, in_if}
+use Rattle.wl_lists.proofs.Places.{there_is, mapped_at}
+use Rattle.wl_plan.proofs.FunctionLaws.{in_object, take_next}
 use Rattle.wl_plan.proofs.TableLaws.{TableIs, table_is_few}
 
 -- ---- what is made of each, one by one
@@ -70,21 +73,13 @@ is_the_stub : (e : FunctionEntry) (t : ImportSlot) → is_stub_of e t ≡ true �
 is_the_stub (FunctionOf (Stub object slot)) t is =
     let first = object == t.object in
     let second = slot == t.number in
-    let a : object ≡ t.object = eqb-true object t.object (left_and first second is) in
-    let b : slot ≡ t.number = eqb-true slot t.number (right_and first second is) in
+    let a : object ≡ t.object = eqb-true object t.object (and_parts first second is).0 in
+    let b : slot ≡ t.number = eqb-true slot t.number (and_parts first second is).1 in
     ap (λ (o : ℕ). FunctionOf (Stub o slot)) a ∙ ap (λ (s : ℕ). FunctionOf (Stub t.object s)) b
 is_the_stub (FunctionOf (Defined object function)) t is = absurd cc
 is_the_stub (FunctionOf (Made m)) t is = absurd cc
 is_the_stub (FunctionOf (Host object slot)) t is = absurd cc
 is_the_stub InitMemory t is = absurd cc
-
-or_true : (b : Bool) → (b || true) ≡ true
-or_true true = refl
-or_true false = refl
-
-or_false : (b : Bool) → (b || false) ≡ b
-or_false true = refl
-or_false false = refl
 
 -- one more stub has its slot
 pub stub_set : (input : Input) (k index : ℕ) (t : ImportSlot) (old new : List ℕ) → StandOnce (function_space input)
@@ -102,13 +97,13 @@ stub_set input k index t old new once at stands is so_far =
     ap (λ (b : Bool). if b then 0 else WASM_DEAD_INDEX) (any_push (is_stub_of x) stubs t) in
     let here : 0 ≡ stub_slot (stubs ++ t ∷ []) e =
     sym (value e ∙ ap (λ (b : Bool). if b then 0 else WASM_DEAD_INDEX)
-    (ap (λ (b : Bool). list_any (is_stub_of e) stubs || b) (stub_of_itself t) ∙ or_true (list_any (is_stub_of e) stubs))) in
+    (ap (λ (b : Bool). list_any (is_stub_of e) stubs || b) (stub_of_itself t) ∙ or-true (list_any (is_stub_of e) stubs))) in
     let others : (j : ℕ) (x : FunctionEntry) → (j ≡ index → ⊥) → slice_get (function_space input) j ≡ Some x
     → stub_slot stubs x ≡ stub_slot (stubs ++ t ∷ []) x = λ j x ne there.
     elim (cases_Bool (is_stub_of x t)) [
       | inl y ↦ absurd (ne (once j index e (there ∙ ap (λ (z : FunctionEntry). Some z) (is_the_stub x t y)) stands))
       | inr n ↦ sym (value x ∙ ap (λ (b : Bool). if b then 0 else WASM_DEAD_INDEX)
-          (ap (λ (b : Bool). list_any (is_stub_of x) stubs || b) n ∙ or_false (list_any (is_stub_of x) stubs)))
+          (ap (λ (b : Bool). list_any (is_stub_of x) stubs || b) n ∙ or-false (list_any (is_stub_of x) stubs)))
     ] in
     is ∙ (ap (λ (ns : List ℕ). set ns index 0) so_far
     ∙ (set_mapped (stub_slot stubs) (stub_slot (stubs ++ t ∷ [])) (function_space input) index e 0 stands here others

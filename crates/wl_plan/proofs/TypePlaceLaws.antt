@@ -6,7 +6,7 @@ use Rattle.std.proofs.lemmas.List.Quantifiers.{position-Some}
 use Rattle.std.proofs.lemmas.Option.{slice_get-get_or}
 use Rattle.wl_module.specs.SameType.{types_equiv}
 use Rattle.wl_module.specs.Types.{FunctionType, same_type}
-use Rattle.wl_plan.proofs.ListLaws.{IsIn, list_in}
+use Rattle.wl_lists.proofs.In.{IsIn, list_in}
 
 any_in : {X : Type 0} (same : X → X → Bool) (xs : List X) (x : X) → ((x : X) → same x x ≡ true) → IsIn xs x
     → list_any (same x) xs ≡ true

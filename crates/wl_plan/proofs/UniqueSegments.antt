@@ -1,5 +1,5 @@
 -- No segment stands twice among those of the output.
-use Rattle.std.proofs.Common.{◌≡◌, ◌⊎◌, ◌∙◌, ℕ, zero, suc, ◌+◌, ◌≤◌, Bool, not, List, [], ◌∷◌, ◌++◌, refl, sym, ap, subst, arith, inl, inr, filter, map}
+use Rattle.std.proofs.Common.{◌≡◌, ◌⊎◌, ◌∙◌, ℕ, ◌+◌, ◌≤◌, Bool, not, List, [], ◌∷◌, refl, sym, ap, subst, arith, inl, inr, filter, map}
 use Rattle.std.specs.List.{AllZip}
 use Rattle.std.proofs.lemmas.Bool.{cases_Bool}
 use Rattle.std.proofs.lemmas.List.{map-append}
@@ -15,44 +15,12 @@ use Rattle.wl_plan.specs.Addresses.{numbers_from, segment_space}
 use Rattle.wl_plan.specs.KeptData.{kept_from, kept_segments, segments_from}
 use Rattle.wl_plan.specs.Placing.{data_input, data_options, IsPlacing}
 use Rattle.wl_plan.specs.declared.placing.Placing.{Placing}
+use Rattle.wl_lists.proofs.In.{in_map_filter, IsIn, in_split}
+use Rattle.wl_lists.proofs.Once.{once_from, distinct-append, distinct-map_filter, Distinct}
 use Rattle.wl_plan.proofs.AddressLaws.{index_of, original_of}
-use Rattle.wl_plan.proofs.ListLaws.{IsIn, in_at, in_split, Distinct}
 use Rattle.wl_plan.proofs.SegmentLaws.{SegmentsHaveLayouts}
 
--- ---- what stands in a list
-
-in_map_filter : {X Y : Type 0} (f : X → Y) (p : X → Bool) (xs : List X) (z : Y)
-    → IsIn (map f (filter p xs)) z → IsIn (map f xs) z
-in_map_filter f p [] z h = h
-in_map_filter f p (x ∷ xs) z h = elim (cases_Bool (p x)) [
-  | inl t ↦ elim (rw t at h) [ inl e ↦ inl e | inr r ↦ inr (in_map_filter f p xs z r) ]
-  | inr g ↦ inr (in_map_filter f p xs z (rw g at h))
-]
-
 -- ---- lists in which nothing stands twice
-
-pub once_from : {X : Type 0} (xs : List X) → Distinct xs → StandOnce xs
-once_from [] d i k z a b = absurd (cc)
-once_from (x ∷ xs) d zero zero z a b = refl
-once_from (x ∷ xs) d zero (suc k) z a b = absurd (d.0 (let e : x ≡ z = cc in rw e (in_at xs k z b)))
-once_from (x ∷ xs) d (suc i) zero z a b = absurd (d.0 (let e : x ≡ z = cc in rw e (in_at xs i z a)))
-once_from (x ∷ xs) d (suc i) (suc k) z a b = ap suc (once_from xs d.1 i k z a b)
-
-distinct-append : {X : Type 0} (xs ys : List X) → Distinct xs → Distinct ys
-    → ((z : X) → IsIn xs z → IsIn ys z → ⊥) → Distinct (xs ++ ys)
-distinct-append [] ys a b apart = b
-distinct-append (x ∷ xs) ys a b apart = (
-  λ h. elim (in_split xs ys x h) [ inl l ↦ a.0 l | inr r ↦ apart x (inl refl) r ],
-  distinct-append xs ys a.1 b (λ z l r. apart z (inr l) r),
-)
-
-distinct-map_filter : {X Y : Type 0} (f : X → Y) (p : X → Bool) (xs : List X) → Distinct (map f xs)
-    → Distinct (map f (filter p xs))
-distinct-map_filter f p [] d = d
-distinct-map_filter f p (x ∷ xs) d = elim (cases_Bool (p x)) [
-  | inl t ↦ rw t (λ h. d.0 (in_map_filter f p xs (f x) h), distinct-map_filter f p xs d.1)
-  | inr g ↦ rw g (distinct-map_filter f p xs d.1)
-]
 
 -- what passes, and what doesn't, have nothing in common
 split_apart : {X Y : Type 0} (f : X → Y) (p : X → Bool) (xs : List X) (z : Y) → Distinct (map f xs)

@@ -1,5 +1,5 @@
 -- The functions of wrappers, their bodies, and their slots.
-use Rattle.std.proofs.Common.{◌≡◌, ◌∙◌, ◌≤◌, ◌<◌, ◌^◌, ℕ, zero, suc, ◌+◌, ◌-◌, List, [], ◌∷◌, ◌++◌, length, map, take, drop, refl, sym, ap, subst, arith, Option, Some, None, slice_get, append_assoc, append-nil, get_or}
+use Rattle.std.proofs.Common.{◌≡◌, ◌∙◌, ◌≤◌, ◌<◌, ◌^◌, ℕ, zero, suc, ◌+◌, ◌-◌, List, [], ◌∷◌, ◌++◌, length, map, take, drop, refl, sym, ap, subst, arith, Some, slice_get, append_assoc, append-nil, get_or}
 use Rattle.std.specs.List.{AllZip, AllByRecursion}
 use Rattle.std.specs.Option.{option_and_then}
 use Rattle.std.proofs.lemmas.List.{map-append, take_all}
@@ -31,8 +31,10 @@ use Rattle.wl_plan.specs.Functions.{own_functions, IsTypeNumber, IsOutputFunctio
 use Rattle.wl_plan.specs.Origins.{PlannedFunction, OfWrapper}
 use Rattle.wl_plan.specs.Table.{wrapper_slots}
 use Rattle.wl_plan.specs.declared.placing.Placing.{Placing}
+use Rattle.wl_lists.proofs.Beside.{zip_joined, zip_right, zip_left, zip_length}
+use Rattle.wl_lists.proofs.Found.{and_then_some}
+use Rattle.wl_lists.proofs.Places.{get_in_front, all_at, item_at}
 use Rattle.wl_plan.proofs.FunctionLaws.{take_next}
-use Rattle.wl_plan.proofs.ListLaws.{zip_joined, zip_left, zip_right, get_in_front, zip_length, all_at, item_at}
 use Rattle.wl_plan.proofs.PlanLaws.{hosts_length}
 
 -- ---- lists
@@ -83,7 +85,7 @@ pub called_at : (input : Input) (own more : List PlannedFunction) (hosts : ℕ) 
 called_at input own more hosts e w are count le is =
     let i = w.original - hosts in
     let at = own_at input w.original hosts is.function count (omega (arith, count, le)) is.original in
-    let found = zip_left (IsOutputFunction input (output_types input)) (own_functions input) own i
+    let found = zip_right (IsOutputFunction input (output_types input)) (own_functions input) own i
     is.function are at in
     record {
       called = found.0;
@@ -109,7 +111,7 @@ pub called_now : (input : Input) (k hosts : ℕ) (own functions : List PlannedFu
     → AreWrappers input ws → slice_get ws k ≡ Some w → HasWrappers input k own functions
     → (e : ExportEntry) × (slice_get (wrapped input) k ≡ Some e) × IsCalled input functions hosts e w
 called_now input k hosts own functions ws w are count le zip at so_far =
-    let found = zip_right (IsWrapper input) (wrapped input) ws k w zip at in
+    let found = zip_left (IsWrapper input) (wrapped input) ws k w zip at in
     let called = called_at input own so_far.more hosts found.0 w are count le found.2 in (
       found.0,
       found.1,
@@ -123,7 +125,7 @@ pub called_in : (input : Input) (functions : List PlannedFunction) (hosts k : �
     → AreWrappers input ws → slice_get ws k ≡ Some w
     → (e : ExportEntry) × (slice_get (wrapped input) k ≡ Some e) × IsCalled input functions hosts e w
 called_in input functions hosts k ws w are count le zip at =
-    let found = zip_right (IsWrapper input) (wrapped input) ws k w zip at in
+    let found = zip_left (IsWrapper input) (wrapped input) ws k w zip at in
     let called = called_at input are.own are.wrappers hosts found.0 w are.are_own count le found.2 in (
       found.0,
       found.1,
@@ -222,26 +224,21 @@ abbrev pub ShortTypes : Type 0
 ShortTypes = (o : Object) (number : ℕ) (ty : FunctionType) → IsWhole o
     → slice_get o.types number ≡ Some ty → length ty.params < 2 ^ 32
 
-then_some : {X Y : Type 0} (f : X → Option Y) (o : Option X) (y : Y) → option_and_then f o ≡ Some y
-    → (x : X) × (o ≡ Some x) × (f x ≡ Some y)
-then_some f None y e = absurd cc
-then_some f (Some x) y e = (x, refl, e)
-
 short_defined : ShortTypes → (objects : List Object) (object function : ℕ) (ty : FunctionType)
     → AllByRecursion IsWhole objects → type_of_defined objects object function ≡ Some ty
     → length ty.params < 2 ^ 32
 short_defined short objects object function ty whole is =
-    let a = then_some (λ (o : Object). option_and_then (slice_get o.types) (slice_get o.functions function))
+    let a = and_then_some (λ (o : Object). option_and_then (slice_get o.types) (slice_get o.functions function))
     (slice_get objects object) ty is in
     let o : Object = a.0 in
-    let b = then_some (slice_get o.types) (slice_get o.functions function) ty a.2 in
+    let b = and_then_some (slice_get o.types) (slice_get o.functions function) ty a.2 in
     short o b.0 ty (all_at IsWhole objects object o whole a.1) b.2
 
 short_slot : ShortTypes → (objects : List Object) (t : ImportSlot) (ty : FunctionType)
     → AllByRecursion IsWhole objects → slot_type objects t ≡ Some ty → length ty.params < 2 ^ 32
 short_slot short objects t ty whole is =
-    let a = then_some (type_in objects t.object) (type_number t.item.entity) ty is in
-    let b = then_some (λ (o : Object). slice_get o.types a.0) (slice_get objects t.object) ty a.2 in
+    let a = and_then_some (type_in objects t.object) (type_number t.item.entity) ty is in
+    let b = and_then_some (λ (o : Object). slice_get o.types a.0) (slice_get objects t.object) ty a.2 in
     short b.0 a.0 ty (all_at IsWhole objects t.object b.0 whole b.1) b.2
 
 short_made : (m : WasmLinkerSymbol) (ty : FunctionType) → type_of_made m ≡ Some ty
@@ -257,10 +254,10 @@ short_type short input (FunctionOf (Defined object function)) ty whole is =
     short_defined short input.link.objects object function ty whole is
 short_type short input (FunctionOf (Made m)) ty whole is = short_made m ty is
 short_type short input (FunctionOf (Host object slot)) ty whole is =
-    let a = then_some (slot_type input.link.objects) (function_slot input object slot) ty is in
+    let a = and_then_some (slot_type input.link.objects) (function_slot input object slot) ty is in
     short_slot short input.link.objects a.0 ty whole a.2
 short_type short input (FunctionOf (Stub object slot)) ty whole is =
-    let a = then_some (slot_type input.link.objects) (function_slot input object slot) ty is in
+    let a = and_then_some (slot_type input.link.objects) (function_slot input object slot) ty is in
     short_slot short input.link.objects a.0 ty whole a.2
 short_type short input InitMemory ty whole is =
     subst (λ (t : FunctionType). length t.params < 2 ^ 32) (same_Some _ ty is) (omega arith)

@@ -121,10 +121,6 @@ abbrev pub symbol_addresses : Input → Placing → ℕ → Object → List Wasm
 symbol_addresses input g object o =
     map (symbol_address input g object) (range_with_len 0 (length o.symbols))
 
--- the rows of all objects are these
-abbrev pub AreSymbolAddresses : Input → Placing → ℕ → Object → List WasmDataAddress → Type 0
-AreSymbolAddresses input g object o row = row ≡ symbol_addresses input g object o
-
 -- ---- addresses that are none
 
 -- it is past the last one

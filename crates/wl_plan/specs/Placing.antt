@@ -1,12 +1,10 @@
 -- Where data, stack and heap lie, and the memory that holds them.
-use Rattle.std.specs.Prelude.{◌≡◌, ◌≤◌, ◌<◌, ℕ, ◌*◌, ◌^◌, ◌==◌, ◌||◌, Bool, not, List, ◌++◌, map, length, max, sum_by, if◌then◌else◌, Option, Some, None}
-use Rattle.std.specs.List.{list_any, flat_map, filter_map}
+use Rattle.std.specs.Prelude.{◌≡◌, ◌≤◌, ◌<◌, ℕ, ◌*◌, ◌^◌, ◌==◌, ◌||◌, Bool, not, List, map, length, max, sum_by, if◌then◌else◌, None}
+use Rattle.std.specs.List.{list_any, flat_map}
 use Rattle.wl_index.specs.declared.memory.TheConstants.{LINKER_MEMORY_BASE}
 use Rattle.wl_module.specs.declared.limits.TheConstants.{WASM_PAGE_SIZE}
-use Rattle.wl_module.specs.Imports.{Imported}
-use Rattle.wl_module.specs.declared.imports.ImportEntity.{ImportEntity}
-use Rattle.wl_module.specs.declared.imports.ImportEntity.TheVariants as entity
 use Rattle.wl_module.specs.declared.limits.MemoryType.{MemoryType}
+use Rattle.wl_linking.specs.Bounds.{memories_of}
 use Rattle.wl_linking.specs.Object.{Object}
 use Rattle.wl_linking.specs.Steps.{Step, NoStep}
 use Rattle.wl_linking.specs.declared.error.LinkError.{LinkError}
@@ -26,18 +24,7 @@ use Rattle.wl_plan.specs.declared.placing.Placing.{Placing}
 
 -- ---- the memories of objects
 
--- the memory that is imported, if it is one
-abbrev pub memory_in : ImportEntity → Option MemoryType
-memory_in (entity.Memory m) = Some m
-memory_in (entity.Func number) = None
-memory_in (entity.Table t) = None
-memory_in (entity.Global g) = None
-
--- the memories of an object: those that it imports, and those that it defines
-abbrev pub memories_of : Object → List MemoryType
-memories_of o = filter_map (λ (i : Imported). memory_in i.entity) o.imports ++ o.memories
-
--- it has one
+-- an object has one
 abbrev pub has_memory : Object → Bool
 has_memory o = not (length (memories_of o) == 0)
 

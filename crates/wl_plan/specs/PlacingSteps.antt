@@ -5,7 +5,7 @@ use Rattle.std.specs.Option.{option_map_or}
 use Rattle.wl_module.specs.Imports.{Imported}
 use Rattle.wl_module.specs.declared.limits.MemoryType.{MemoryType}
 use Rattle.wl_bind.specs.Made.{greatest}
-use Rattle.wl_plan.specs.Placing.{memory_in}
+use Rattle.wl_linking.specs.Bounds.{memory_in}
 
 -- what is imported is a memory
 abbrev pub is_memory_import : Imported → Bool

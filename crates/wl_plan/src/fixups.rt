@@ -17,7 +17,7 @@ use std::alloc::Global;
 use wl_bind::{references_are_kept, same_targets_are_one, table_functions_stand_once};
 use wl_bytes::Form;
 use wl_index::{WasmDataAddress, WasmObjectIndexMap};
-use wl_linking::{File, LinkError, RelocationType};
+use wl_linking::{File, LinkError, RelocationType, addends_are_words};
 use wl_lists::ItemList;
 use wl_reloc::{AddressBase, RelocError, Taking, resolve_reloc};
 use wl_symbols::{LinkInput, Relocated, kept_relocations};
@@ -110,6 +110,7 @@ impl<'s, 'i, 'a> FixupSources<'s, 'i, 'a> {
         requires kept { Contains (relocations self.now.input.now) relocated.now }
         ensures { result ≡ relocated.now.relocation.addend }
     {
+        addends_are_words();
         relocated.relocation.addend as i32
     }
 

@@ -10,7 +10,7 @@ ghost use Rattle.wl_plan.specs.KeptData.{alignment_of, payload_start, kept_data,
 use std::alloc::{AllocError, Global};
 use wl_bind::thread_data;
 use wl_data::KeptSegment;
-use wl_linking::File;
+use wl_linking::{File, segments_keep_bounds};
 use wl_lists::ItemList;
 use wl_module::{DataKind, WasmDataSegment};
 use wl_symbols::{LinkInput, WasmGcUnit};
@@ -31,6 +31,7 @@ fn payload_start(file: &File<'_>, number: usize, segment: &WasmDataSegment<'_>) 
     requires here { slice_get file.now.segments number ≡ Some segment.now }
     ensures { result ≡ payload_start segment.now }
 {
+    segments_keep_bounds();
     segment.section_offset + segment.encoded_size - segment.payload.len() as u32
 }
 

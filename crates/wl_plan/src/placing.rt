@@ -25,7 +25,7 @@ use wl_data::{
     stack_pointer_init,
 };
 use wl_index::{LINKER_MEMORY_BASE, MAX_ENTRIES};
-use wl_linking::{File, LinkError, Quantity};
+use wl_linking::{File, LinkError, Quantity, memories_are_small, segments_keep_bounds};
 use wl_lists::ItemList;
 use wl_module::{Import, ImportEntity, MemoryType};
 use wl_symbols::LinkInput;
@@ -151,6 +151,7 @@ fn first_pages(files: &[File<'_>]) -> u64
     ensures pages { result ≡ first_pages files.now }
     ensures few { result ≤ MAX_PAGES }
 {
+    memories_are_small();
     let pages = all_pages(files);
     if any_defines_memory(files) {
         pages
@@ -277,6 +278,7 @@ pub(crate) fn place_data<'a>(
 {
     places_are_one();
     segments_have_layouts();
+    segments_keep_bounds();
     let _files = input.files().as_slice();
     let segments = all_segments(alloc, input)?;
     check_segment_count(input, segments.as_slice())?;

@@ -1,8 +1,8 @@
 -- The first entry of a name and strength, by places.
-use Rattle.std.proofs.Common.{◌≡◌, ℕ, Bool, true, false, ◌&&◌, List, [], ◌∷◌, ◌++◌, refl, ap, subst, sym, inl, inr, Some, None}
+use Rattle.std.proofs.Common.{◌≡◌, ℕ, true, List, [], ◌∷◌, ◌++◌, refl, ap, subst, sym, inl, inr, Some, None}
 use Rattle.std.specs.Str.{bytes_eq}
 use Rattle.std.proofs.lemmas.Slice.Eq.{bytes_eq-Decides}
-use Rattle.std.proofs.lemmas.Bool.{cases_Bool}
+use Rattle.std.proofs.lemmas.Bool.{cases_Bool, and_parts}
 use Rattle.wl_linking.specs.Object.{Object}
 use Rattle.wl_symbols.specs.Entries.{Entry, entries_of, is_strength, is_of, first_of}
 use Rattle.wl_symbols.specs.Names.{IsFirst, HasNone}
@@ -29,10 +29,6 @@ same_strength Undefined Strong h = absurd cc
 same_strength Undefined Weak h = absurd cc
 same_strength Undefined Undefined h = refl
 
-and-true : (a b : Bool) → (a && b) ≡ true → (a ≡ true) × (b ≡ true)
-and-true true b h = (refl, h)
-and-true false b h = absurd cc
-
 -- ---- a search
 
 -- the first entry of the name and strength has this place, and none stands in front of it
@@ -48,7 +44,7 @@ pub found : (name : List ℕ) (strength : Strength) (entries : List Entry) (p : 
 found name strength [] p is = absurd cc
 found name strength (x ∷ entries) p is = elim (cases_Bool (is_of name strength x)) [
   | inl t ↦ (let told : Some x.place ≡ Some p = rw t at is in
-      let parts = and-true (is_strength strength x.strength) (bytes_eq x.name name) t in
+      let parts = and_parts (is_strength strength x.strength) (bytes_eq x.name name) t in
       record {
         e = x;
         stands = record { front = []; back = entries; split = refl };

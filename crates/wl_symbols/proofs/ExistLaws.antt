@@ -23,6 +23,7 @@ use Rattle.wl_symbols.specs.declared.units.UnitCounts.{UnitCounts}
 use Rattle.wl_symbols.specs.declared.units.WasmGcUnit.{WasmGcUnit}
 use Rattle.wl_symbols.specs.declared.units.WasmGcUnit.TheVariants.{DefinedFunction, DefinedGlobal, DataSegment, FunctionImport, GlobalImport}
 use Rattle.wl_symbols.specs.Roots.IsRoot.{by_export, by_symbol, by_init, by_name}
+use Rattle.wl_lists.proofs.Found.{map_some}
 
 -- the unit of the object of that number
 abbrev pub at_object : ℕ → WasmGcUnit → LinkUnit
@@ -35,10 +36,6 @@ units_of-at objects k o at =
     get_or-map counts_of objects k o no_units lt ∙ ap counts_of here
 
 -- ---- options
-
-pub option_map_parts : {X Y : Type 0} (f : X → Y) (o : Option X) (y : Y) → option_map f o ≡ Some y → (x : X) × (o ≡ Some x) × (f x ≡ y)
-option_map_parts f None y e = absurd (cc)
-option_map_parts f (Some x) y e = (x, refl, same_Some (f x) y e)
 
 pub option_or_parts : {X : Type 0} (o p : Option X) (x : X) → option_or o p ≡ Some x → (o ≡ Some x) ⊎ (p ≡ Some x)
 option_or_parts None p x e = inr e
@@ -67,27 +64,27 @@ defined_within imports count index k e =
 
 pub function_import_has : (n : UnitCounts) (index : ℕ) (u : WasmGcUnit) → option_map FunctionImport (number_below n.function_imports index) ≡ Some u → has_unit n u ≡ true
 function_import_has n index u e =
-    let p = option_map_parts FunctionImport (number_below n.function_imports index) u e in
+    let p = map_some FunctionImport (number_below n.function_imports index) u e in
     subst (λ (w : WasmGcUnit). has_unit n w ≡ true) p.2 (imported_within n.function_imports index p.0 p.1)
 
 pub function_has : (n : UnitCounts) (index : ℕ) (u : WasmGcUnit) → option_map DefinedFunction (defined_number n.function_imports n.functions index) ≡ Some u → has_unit n u ≡ true
 function_has n index u e =
-    let p = option_map_parts DefinedFunction (defined_number n.function_imports n.functions index) u e in
+    let p = map_some DefinedFunction (defined_number n.function_imports n.functions index) u e in
     subst (λ (w : WasmGcUnit). has_unit n w ≡ true) p.2 (defined_within n.function_imports n.functions index p.0 p.1)
 
 pub global_import_has : (n : UnitCounts) (index : ℕ) (u : WasmGcUnit) → option_map GlobalImport (number_below n.global_imports index) ≡ Some u → has_unit n u ≡ true
 global_import_has n index u e =
-    let p = option_map_parts GlobalImport (number_below n.global_imports index) u e in
+    let p = map_some GlobalImport (number_below n.global_imports index) u e in
     subst (λ (w : WasmGcUnit). has_unit n w ≡ true) p.2 (imported_within n.global_imports index p.0 p.1)
 
 pub global_has : (n : UnitCounts) (index : ℕ) (u : WasmGcUnit) → option_map DefinedGlobal (defined_number n.global_imports n.globals index) ≡ Some u → has_unit n u ≡ true
 global_has n index u e =
-    let p = option_map_parts DefinedGlobal (defined_number n.global_imports n.globals index) u e in
+    let p = map_some DefinedGlobal (defined_number n.global_imports n.globals index) u e in
     subst (λ (w : WasmGcUnit). has_unit n w ≡ true) p.2 (defined_within n.global_imports n.globals index p.0 p.1)
 
 pub segment_has : (n : UnitCounts) (index : ℕ) (u : WasmGcUnit) → option_map DataSegment (number_below n.segments index) ≡ Some u → has_unit n u ≡ true
 segment_has n index u e =
-    let p = option_map_parts DataSegment (number_below n.segments index) u e in
+    let p = map_some DataSegment (number_below n.segments index) u e in
     subst (λ (w : WasmGcUnit). has_unit n w ≡ true) p.2 (imported_within n.segments index p.0 p.1)
 
 pub unit_by_has : (n : UnitCounts) (kind : WasmSymbolKind) (undefined : Bool) (index : ℕ) (u : WasmGcUnit) → unit_by n kind undefined index ≡ Some u → has_unit n u ≡ true
@@ -106,7 +103,7 @@ unit_in_has n s u e = let p = none_if (is_absolute s) (unit_by n s.kind (is_unde
 
 pub unit_at_exists : (ns : List UnitCounts) (k : ℕ) (s : LinkedSymbol) (v : LinkUnit) → unit_at ns k s ≡ Some v → exists ns v ≡ true
 unit_at_exists ns k s v e =
-    let p = option_map_parts (λ (u : WasmGcUnit). at_object k u) (unit_in (units_at ns k) s) v e in
+    let p = map_some (λ (u : WasmGcUnit). at_object k u) (unit_in (units_at ns k) s) v e in
     subst (λ (w : LinkUnit). exists ns w ≡ true) p.2 (unit_in_has (units_at ns k) s p.0 p.1)
 
 -- the unit of an object that has it

@@ -1,10 +1,11 @@
 -- The first of each that are the same: what is among them, and that each stands once.
-use Rattle.std.proofs.Common.{◌≡◌, ◌∙◌, ◌⊎◌, ℕ, zero, suc, ◌+◌, ◌<◌, ◌&&◌, ◌||◌, Bool, true, false, List, [], ◌∷◌, ◌++◌, length, refl, sym, ap, arith, inl, inr, Option, Some, None, is_some, map, filter, slice_get, slice_index_or, Contains, unwrap_or, position, find}
+use Rattle.std.proofs.Common.{◌≡◌, ◌∙◌, ◌⊎◌, ℕ, zero, suc, ◌<◌, ◌&&◌, ◌||◌, Bool, true, false, List, [], ◌∷◌, ◌++◌, length, refl, sym, ap, arith, inl, inr, Option, Some, None, is_some, map, filter, slice_get, Contains, unwrap_or, position, find}
+use Rattle.std.proofs.Math.Bool.{or-false, or_assoc}
 use Rattle.std.specs.List.{list_any, IsDistinct}
 use Rattle.std.specs.Option.{option_map}
 use Rattle.std.specs.Str.{bytes_eq}
 use Rattle.std.specs.Cmp.{IsEquivalence}
-use Rattle.std.proofs.lemmas.Bool.{cases_Bool}
+use Rattle.std.proofs.lemmas.Bool.{cases_Bool, and_parts}
 use Rattle.std.proofs.lemmas.Cmp.{nat_list_eq_equiv, on_equiv, and_equiv}
 use Rattle.std.proofs.lemmas.List.Folds.{list_any-append}
 use Rattle.std.proofs.lemmas.Map.Keys.{IsDistinct-push, apart_from_distinct}
@@ -14,7 +15,8 @@ use Rattle.indexmap.specs.IndexSet.{insert_key, insert_all}
 use Rattle.wl_linking.specs.Object.{Object}
 use Rattle.wl_symbols.specs.ImportSlots.{ImportSlot}
 use Rattle.wl_symbols.specs.Left.{HostImport, same_field, same_import, first_like, first_slot, place_of_name, place_of_import, is_stub_name, is_stub, stub_slots, stubs, first_imports}
-use Rattle.wl_symbols.proofs.ImportPlaceLaws.{any_placed, place_of_map, found_at, find_some}
+use Rattle.wl_lists.proofs.Found.{any_of, position_map}
+use Rattle.wl_symbols.proofs.ImportPlaceLaws.{any_placed, found_at, find_some}
 use Rattle.wl_symbols.proofs.TellingLaws.{stub_by_name}
 
 -- ---- slots that are the same
@@ -27,18 +29,6 @@ imports_equiv = and_equiv (on_equiv (λ (t : ImportSlot). t.item.origin) nat_lis
 
 -- ---- what is among the first ones
 
-or_assoc : (a b c : Bool) → ((a || b) || c) ≡ (a || (b || c))
-or_assoc true b c = refl
-or_assoc false b c = refl
-
-or_false : (a : Bool) → (a || false) ≡ a
-or_false true = refl
-or_false false = refl
-
-or_true : (a : Bool) → (a || true) ≡ true
-or_true true = refl
-or_true false = refl
-
 module _ {X : Type 0} {E : X → X → Bool} (laws : IsEquivalence E) where
   any_same : (x y : X) → E x y ≡ true → (xs : List X) → list_any (E x) xs ≡ list_any (E y) xs
   any_same x y same [] = refl
@@ -46,16 +36,16 @@ module _ {X : Type 0} {E : X → X → Bool} (laws : IsEquivalence E) where
 
   any_key : (x : X) (seen : List X) (y : X) → list_any (E x) (insert_key E seen y) ≡ (list_any (E x) seen || E x y)
   any_key x seen y = elim (cases_Bool (list_any (E y) seen)) [
-    | inr absent ↦ rw absent (list_any-append (E x) seen (y ∷ []) ∙ ap (λ b. list_any (E x) seen || b) (or_false (E x y)))
+    | inr absent ↦ rw absent (list_any-append (E x) seen (y ∷ []) ∙ ap (λ b. list_any (E x) seen || b) (or-false (E x y)))
     | inl there ↦ rw there (elim (cases_Bool (E x y)) [
       | inl same ↦ (let among : list_any (E x) seen ≡ true = any_same x y same seen ∙ there in rw among refl)
-      | inr other ↦ rw other (sym (or_false (list_any (E x) seen)))
+      | inr other ↦ rw other (sym (or-false (list_any (E x) seen)))
     ])
   ]
 
   -- one that is the same is among them where one was inserted
   pub any_first : (x : X) (seen xs : List X) → list_any (E x) (insert_all E seen xs) ≡ (list_any (E x) seen || list_any (E x) xs)
-  any_first x seen [] = sym (or_false (list_any (E x) seen))
+  any_first x seen [] = sym (or-false (list_any (E x) seen))
   any_first x seen (y ∷ xs) =
       any_first x (insert_key E seen y) xs ∙ ap (λ b. b || list_any (E x) xs) (any_key x seen y)
       ∙ or_assoc (list_any (E x) seen) (E x y) (list_any (E x) xs)
@@ -110,7 +100,7 @@ pub found_like : (same : ImportSlot → ImportSlot → Bool) (test : HostImport 
     → ((s : ImportSlot) → test (first_slot s) ≡ same t s)
     → position test (map first_slot slots) ≡ Some p → slice_get (map first_slot slots) p ≡ Some (first_slot (first_like same slots t))
 found_like same test slots t p agree e =
-    let at : position (λ s. test (first_slot s)) slots ≡ Some p = sym (place_of_map first_slot test slots) ∙ e in
+    let at : position (λ s. test (first_slot s)) slots ≡ Some p = sym (position_map first_slot test slots) ∙ e in
     let alike : (λ s. test (first_slot s)) ≡ same t = λ i s. agree s i in
     let there : position (same t) slots ≡ Some p = ap (λ f. position f slots) (sym alike) ∙ at in
     slice_get-map first_slot slots p ∙ ap (option_map first_slot) (found_at (same t) p slots there ∙ unwrapped (find (same t) slots) t (find_some (same t) p slots there))
@@ -124,25 +114,12 @@ any_in test (x ∷ xs) e = elim (cases_Bool (test x)) [
   | inr not_so ↦ (let r = any_in test xs (rw not_so at e) in (r.0, (suc r.1.0, omega (arith, r.1.1), r.1.2), r.2))
 ]
 
-any_at : {X : Type 0} (test : X → Bool) (xs : List X) (k : ℕ) (x : X) → k < length xs → slice_index_or xs k x ≡ x → test x ≡ true → list_any test xs ≡ true
-any_at test [] k x lt is so = absurd (omega (arith, lt))
-any_at test (y ∷ xs) zero x lt is so = rw (is, so) refl
-any_at test (y ∷ xs) (suc k) x lt is so = ap (λ b. test y || b) (any_at test xs k x (omega (arith, lt)) is so) ∙ or_true (test y)
-
-any_of : {X : Type 0} (test : X → Bool) (xs : List X) (x : X) → Contains xs x → test x ≡ true → list_any test xs ≡ true
-any_of test xs x listed so = any_at test xs listed.0 x listed.1 listed.2 so
-
 any_filter : {X : Type 0} (p q : X → Bool) (xs : List X) → list_any q (filter p xs) ≡ list_any (λ x. p x && q x) xs
 any_filter p q [] = refl
 any_filter p q (x ∷ xs) = elim (cases_Bool (p x)) [
   | inl so ↦ rw so (ap (λ b. q x || b) (any_filter p q xs))
   | inr not_so ↦ rw not_so (any_filter p q xs)
 ]
-
-both_are : (a b : Bool) → (a && b) ≡ true → (a ≡ true) × (b ≡ true)
-both_are true true e = (refl, refl)
-both_are true false e = absurd cc
-both_are false b e = absurd cc
 
 some_place : (o : Option ℕ) → is_some o ≡ true → (p : ℕ) × (o ≡ Some p)
 some_place None e = absurd cc
@@ -153,7 +130,7 @@ place_there : (same : ImportSlot → ImportSlot → Bool) (test : HostImport →
     → ((s : ImportSlot) → test (first_slot s) ≡ same t s) → is_some (position test (map first_slot slots)) ≡ list_any (same t) slots
 place_there same test slots t agree =
     let alike : (λ s. test (first_slot s)) ≡ same t = λ i s. agree s i in
-    ap is_some (place_of_map first_slot test slots ∙ ap (λ f. position f slots) alike) ∙ sym (any_placed (same t) slots)
+    ap is_some (position_map first_slot test slots ∙ ap (λ f. position f slots) alike) ∙ sym (any_placed (same t) slots)
 
 -- a slot of the list is a stub's where one of its field name is
 stub_among : (objects : List Object) (slots : List ImportSlot) (t : ImportSlot) → Contains slots t
@@ -165,7 +142,7 @@ stub_among objects slots t listed = elim (cases_Bool (is_stub objects slots t)) 
     | inr none ↦ none ∙ sym not_so
     | inl any ↦ absurd
         (let found = any_in (λ s. is_stub objects slots s && same_field t s) slots any in
-        let both = both_are (is_stub objects slots found.0) (same_field t found.0) found.2 in
+        let both = and_parts (is_stub objects slots found.0) (same_field t found.0) found.2 in
         let named : is_stub_name objects slots (found.0).item.name ≡ true = stub_by_name objects slots found.0 found.1 ∙ both.0 in
         let alike : t.item.name ≡ (found.0).item.name = (bytes_eq-Decides t.item.name (found.0).item.name).0 both.1 in
         let here : is_stub objects slots t ≡ true = sym (stub_by_name objects slots t listed) ∙ ap (is_stub_name objects slots) alike ∙ named in

@@ -1,5 +1,5 @@
 -- The place of the first of a list that passes a test, and one more behind the list.
-use Rattle.std.proofs.Common.{◌≡◌, ◌∙◌, ℕ, suc, ◌+◌, Bool, true, false, cond, List, [], ◌∷◌, ◌++◌, length, refl, sym, ap, arith, inl, inr, Option, Some, None, is_some, position, slice_get, map}
+use Rattle.std.proofs.Common.{◌≡◌, ◌∙◌, ℕ, suc, ◌+◌, Bool, true, false, cond, List, [], ◌∷◌, ◌++◌, length, refl, sym, ap, arith, inl, inr, Option, Some, None, is_some, position, slice_get}
 use Rattle.std.specs.List.{list_any, find, position_from}
 use Rattle.std.specs.Option.{option_or}
 use Rattle.std.proofs.lemmas.Bool.{cases_Bool}
@@ -54,14 +54,6 @@ one_more test xs x hit new old place meant at was absent e = elim (cases_Bool hi
       let told : new ≡ old = e ∙ ap (λ b. cond b (Some place) old) not_so in
       told ∙ was ∙ sym (push_placed test xs x ∙ rw other (or_none (position test xs))))
 ]
-
--- a place seen through a function
-map_from : {X Y : Type 0} (f : X → Y) (test : Y → Bool) (n : ℕ) (xs : List X) → position_from test n (map f xs) ≡ position_from (λ x. test (f x)) n xs
-map_from f test n [] = refl
-map_from f test n (x ∷ xs) = ap (λ o. cond (test (f x)) (Some n) o) (map_from f test (n + 1) xs)
-
-pub place_of_map : {X Y : Type 0} (f : X → Y) (test : Y → Bool) (xs : List X) → position test (map f xs) ≡ position (λ x. test (f x)) xs
-place_of_map f test xs = position_is test (map f xs) ∙ map_from f test 0 xs ∙ sym (position_is (λ x. test (f x)) xs)
 
 record Found {X : Type 0} (test : X → Bool) (n p : ℕ) (xs : List X) : Type 0 where
   place : ℕ

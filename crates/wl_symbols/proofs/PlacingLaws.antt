@@ -1,8 +1,7 @@
 -- The slots of an object, and one more symbol.
-use Rattle.std.proofs.Common.{◌≡◌, ◌∙◌, ℕ, zero, suc, ◌+◌, ◌<◌, ◌≤◌, ◌==◌, true, false, ◌&&◌, if◌then◌else◌, List, [], ◌∷◌, ◌++◌, length, refl, sym, ap, arith, inl, inr, set, get_or, take, map, length-take}
+use Rattle.std.proofs.Common.{◌≡◌, ◌∙◌, ℕ, zero, suc, ◌+◌, ◌<◌, ◌≤◌, ◌==◌, true, false, ◌&&◌, if◌then◌else◌, List, [], ◌∷◌, ◌++◌, length, refl, sym, ap, arith, inl, inr, set, get_or, take, length-take}
 use Rattle.std.proofs.lemmas.Bool.{cases_Bool, eqb-true, eqb-false}
 use Rattle.std.proofs.Math.Seq.{take-suc}
-use Rattle.std.proofs.lemmas.List.{map_more}
 use Rattle.wl_module.specs.Imports.{Imported}
 use Rattle.wl_custom.specs.Symbols.{Symbol, is_undefined}
 use Rattle.wl_custom.specs.declared.symbols.WasmSymbolKind.{WasmSymbolKind}
@@ -89,13 +88,3 @@ slots_taken object kind symbols i s is old new lt here o e =
     let more : take (suc i) symbols ≡ take i symbols ++ s ∷ [] = take-suc symbols i s lt ∙ ap (λ (x : Symbol). take i symbols ++ x ∷ []) (sym here) in
     let next : i + 1 ≡ suc i = omega arith in
     rw (next, more) (slots_more object kind (take i symbols) s is i old new (taken_length i symbols lt) o e)
-
--- ---- a list made item by item
-
--- what is made of each of the first items, and of one more
-pub mapped_more : {X Y : Type 0} (f : X → Y) (xs : List X) (i : ℕ) (x : X) (old new : List Y) (y : Y) → i < length xs → x ≡ get_or xs i x → y ≡ f x
-    → new ≡ old ++ y ∷ [] → old ≡ map f (take i xs) → new ≡ map f (take (i + 1) xs)
-mapped_more {X} {Y} f xs i x old new y lt here made pushed so_far =
-    pushed
-    ∙ (ap (λ (ys : List Y). ys ++ y ∷ []) so_far
-    ∙ (ap (λ (z : Y). map f (take i xs) ++ z ∷ []) (made ∙ ap f here) ∙ sym (map_more f xs i x lt)))

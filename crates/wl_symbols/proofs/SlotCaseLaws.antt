@@ -16,12 +16,9 @@ use Rattle.wl_symbols.specs.SlotTargets.{first_some, own_number, is_definition_o
 use Rattle.wl_symbols.specs.SlotCases.{HasDefinition, HasMadeSymbol, HasMadeField, HasNoDefinition, HasNoMadeSymbol, IsBoundTo, IsLeft}
 use Rattle.wl_symbols.specs.declared.targets.SlotTarget.{SlotTarget}
 use Rattle.wl_symbols.specs.declared.targets.SlotTarget.TheVariants.{Defined, Made}
+use Rattle.wl_lists.proofs.Found.{cases_option}
 
 -- ---- the first that gives something
-
-cases_option : {X : Type 0} (o : Option X) → (o ≡ None) ⊎ ((x : X) × (o ≡ Some x))
-cases_option None = inl refl
-cases_option (Some x) = inr (x, refl)
 
 -- what was found is given by one of them
 first_found : {X Y : Type 0} (f : X → Option Y) (xs : List X) (y : Y) → first_some f xs ≡ Some y → (x : X) × Contains xs x × (f x ≡ Some y)

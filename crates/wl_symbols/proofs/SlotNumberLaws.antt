@@ -1,7 +1,6 @@
 -- How slots are numbered, and how many there are.
-use Rattle.std.proofs.Common.{◌≡◌, ◌∙◌, ℕ, zero, suc, ◌+◌, ◌-◌, Bool, true, false, not, ◌&&◌, nat_lt, nat_le, List, [], ◌∷◌, length, refl, sym, ap, subst, arith, inl, inr, Some, slice_get}
-use Rattle.std.specs.List.{list_all}
-use Rattle.std.proofs.lemmas.Bool.{cases_Bool, leb-true, ltb-true}
+use Rattle.std.proofs.Common.{◌≡◌, ◌∙◌, ℕ, zero, suc, ◌+◌, ◌-◌, true, false, not, nat_lt, nat_le, List, [], ◌∷◌, length, refl, sym, ap, arith, inl, inr, Some, slice_get}
+use Rattle.std.proofs.lemmas.Bool.{cases_Bool, leb-true, ltb-true, and_parts, not-true}
 use Rattle.wl_module.specs.Imports.{Imported}
 use Rattle.wl_module.specs.declared.imports.ExternalKind.TheVariants as external
 use Rattle.wl_linking.specs.Object.{Object}
@@ -14,6 +13,7 @@ use Rattle.wl_symbols.specs.LinkerNames.{is_imported_as}
 use Rattle.wl_symbols.specs.Units.{defined_number}
 use Rattle.wl_symbols.specs.SlotTargets.{own_number, is_definition_of}
 use Rattle.wl_symbols.specs.ImportSlots.{ImportSlot, numbered_slots}
+use Rattle.wl_lists.proofs.Places.{test_at}
 
 -- one for each import
 pub slots_length : (object : ℕ) (kind : WasmSymbolKind) (ss : List Symbol) (n : ℕ) (is : List Imported)
@@ -29,19 +29,6 @@ slot_number object kind ss n (i ∷ is) zero t here = let same : n ≡ t.number 
 slot_number object kind ss n (i ∷ is) (suc k) t here = let rest = slot_number object kind ss (n + 1) is k t here in omega (arith, rest)
 
 -- ---- definitions
-
-and_parts : (a b : Bool) → (a && b) ≡ true → (a ≡ true) × (b ≡ true)
-and_parts true b h = (refl, h)
-and_parts false b h = absurd cc
-
--- what holds of all holds of the one at a place
-all_at : {X : Type 0} (test : X → Bool) (xs : List X) (k : ℕ) (x : X) → list_all test xs ≡ true → slice_get xs k ≡ Some x → test x ≡ true
-all_at test [] k x all here = absurd cc
-all_at test (y ∷ xs) zero x all here =
-    let is : y ≡ x = cc in
-    let parts = and_parts (test y) (list_all test xs) all in
-    subst (λ (z : _). test z ≡ true) is parts.0
-all_at test (y ∷ xs) (suc k) x all here = let parts = and_parts (test y) (list_all test xs) all in all_at test xs k x parts.1 here
 
 -- an index of a definition has a number
 under : (imports count index : ℕ) → number_exists false imports count index ≡ true → (n : ℕ) × (defined_number imports count index ≡ Some n)
@@ -75,23 +62,19 @@ global_exists spaces Section s is h u = absurd cc
 global_exists spaces Event s is h u = absurd cc
 global_exists spaces Table s is h u = absurd cc
 
-not_true : (b : Bool) → not b ≡ true → b ≡ false
-not_true true h = absurd cc
-not_true false h = refl
-
 -- each definition of a whole object has its number
 pub definition_number : (kind : WasmSymbolKind) (o : Object) (k : ℕ) (s : Symbol) → NamesExist o → slice_get o.symbols k ≡ Some s → is_definition_of kind s ≡ true
     → (n : ℕ) × (own_number kind o s.index ≡ Some n)
 definition_number Func o k s names here h =
     let parts = and_parts (not (is_undefined s)) (is_imported_as Func s.kind) h in
-    let there = all_at (symbol_exists (spaces_of o)) o.symbols k s names.symbols here in
+    let there = test_at (symbol_exists (spaces_of o)) o.symbols k s names.symbols here in
     under (count_imports external.Func o.imports) (length o.functions) s.index
-    (sym (function_exists (spaces_of o) s.kind s refl parts.1 (not_true (is_undefined s) parts.0)) ∙ there)
+    (sym (function_exists (spaces_of o) s.kind s refl parts.1 (not-true (is_undefined s) parts.0)) ∙ there)
 definition_number Global o k s names here h =
     let parts = and_parts (not (is_undefined s)) (is_imported_as Global s.kind) h in
-    let there = all_at (symbol_exists (spaces_of o)) o.symbols k s names.symbols here in
+    let there = test_at (symbol_exists (spaces_of o)) o.symbols k s names.symbols here in
     under (count_imports external.Global o.imports) (length o.globals) s.index
-    (sym (global_exists (spaces_of o) s.kind s refl parts.1 (not_true (is_undefined s) parts.0)) ∙ there)
+    (sym (global_exists (spaces_of o) s.kind s refl parts.1 (not-true (is_undefined s) parts.0)) ∙ there)
 definition_number Data o k s names here h = absurd (let none = and_parts (not (is_undefined s)) false h in let no_kind = none.1 in cc)
 definition_number Section o k s names here h = absurd (let none = and_parts (not (is_undefined s)) false h in let no_kind = none.1 in cc)
 definition_number Event o k s names here h = absurd (let none = and_parts (not (is_undefined s)) false h in let no_kind = none.1 in cc)

@@ -1,8 +1,9 @@
 -- Lists of imports, and maps of their places; which field names are stubs'.
-use Rattle.std.proofs.Common.{◌≡◌, ◌∙◌, ℕ, zero, suc, ◌+◌, ◌<◌, ◌&&◌, ◌||◌, Bool, true, false, not, cond, List, [], ◌∷◌, ◌++◌, length, refl, sym, ap, arith, inl, inr, Option, Some, is_some, map, filter, slice_index_or, Contains, unwrap_or}
+use Rattle.std.proofs.Common.{◌≡◌, ◌∙◌, ℕ, zero, suc, ◌<◌, ◌&&◌, ◌||◌, Bool, true, false, not, cond, List, [], ◌∷◌, ◌++◌, length, refl, sym, ap, arith, inl, inr, Option, Some, is_some, map, filter, slice_index_or, Contains, unwrap_or}
+use Rattle.std.proofs.Math.Bool.{and-false, and-true}
 use Rattle.std.specs.List.{list_any, list_all}
 use Rattle.std.specs.Str.{bytes_eq}
-use Rattle.std.proofs.lemmas.Bool.{cases_Bool}
+use Rattle.std.proofs.lemmas.Bool.{cases_Bool, and_parts}
 use Rattle.std.proofs.lemmas.Cmp.{nat_list_eq_equiv}
 use Rattle.std.proofs.lemmas.List.{map-append}
 use Rattle.std.proofs.lemmas.List.Elements.{Contains-append_right}
@@ -19,22 +20,6 @@ use Rattle.wl_symbols.proofs.ImportPlaceLaws.{any_placed, one_more}
 
 same_back : (a b : List ℕ) → bytes_eq a b ≡ bytes_eq b a
 same_back a b = nat_list_eq_equiv.symm a b
-
-and_left : (a b : Bool) → (a && b) ≡ true → a ≡ true
-and_left true b e = refl
-and_left false b e = absurd cc
-
-and_right : (a b : Bool) → (a && b) ≡ true → b ≡ true
-and_right true b e = e
-and_right false b e = absurd cc
-
-and_false : (a : Bool) → (a && false) ≡ false
-and_false true = refl
-and_false false = refl
-
-and_true : (a : Bool) → (a && true) ≡ a
-and_true true = refl
-and_true false = refl
 
 -- ---- one more import
 
@@ -86,8 +71,8 @@ told_names imports t o q origin name new old place from is absent at was e =
     one_more (λ (h : HostImport). bytes_eq o h.module_ && bytes_eq q h.name) imports (first_slot t) (bytes_eq origin o && bytes_eq name q) new old place
     (rw (left, right) refl) at was
     (λ so.
-    let eo : origin ≡ o = (bytes_eq-Decides origin o).0 (and_left (bytes_eq origin o) (bytes_eq name q) so) in
-    let eq : name ≡ q = (bytes_eq-Decides name q).0 (and_right (bytes_eq origin o) (bytes_eq name q) so) in
+    let eo : origin ≡ o = (bytes_eq-Decides origin o).0 (and_parts (bytes_eq origin o) (bytes_eq name q) so).0 in
+    let eq : name ≡ q = (bytes_eq-Decides name q).0 (and_parts (bytes_eq origin o) (bytes_eq name q) so).1 in
     rw (eo, eq) at absent) e
 
 -- ---- first occurrences, seen through a function
@@ -115,7 +100,7 @@ more_slots : (objects : List Object) (slots : List ImportSlot) (t : ImportSlot) 
     → is_stub_name objects (slots ++ t ∷ []) q ≡ (is_stub_name objects slots q && (not (bytes_eq q t.item.name) || is_weak_slot objects t))
 more_slots objects slots t q =
     let test : ImportSlot → Bool = λ (s : ImportSlot). not (bytes_eq q s.item.name) || is_weak_slot objects s in
-    list_all-append test slots (t ∷ []) ∙ ap (λ b. list_all test slots && b) (and_true (test t))
+    list_all-append test slots (t ∷ []) ∙ ap (λ b. list_all test slots && b) (and-true (test t))
 
 -- what a map says of a name after one more slot
 pub names_more : (objects : List Object) (look : List ℕ → Option Bool) (new : Option Bool) (q name : List ℕ) (slots : List ImportSlot)
@@ -135,13 +120,13 @@ names_more objects look new q name slots t had both e h is b all = elim (cases_B
       (let other : bytes_eq q t.item.name ≡ false = sym (same_back name q ∙ ap (bytes_eq q) is) ∙ not_so in
       let told : new ≡ look q = e ∙ ap (λ c. cond c (Some both) (look q)) not_so in
       ap (λ o. unwrap_or o true) told ∙ all q
-      ∙ sym (more_slots objects slots t q ∙ rw other (and_true (is_stub_name objects slots q))))
+      ∙ sym (more_slots objects slots t q ∙ rw other (and-true (is_stub_name objects slots q))))
 ]
 
 pass_at : {X : Type 0} (p : X → Bool) (xs : List X) (k : ℕ) (x : X) → k < length xs → slice_index_or xs k x ≡ x → list_all p xs ≡ true → p x ≡ true
 pass_at p [] k x lt is e = absurd (omega (arith, lt))
-pass_at p (y ∷ xs) zero x lt is e = rw (← is) (and_left (p y) (list_all p xs) e)
-pass_at p (y ∷ xs) (suc k) x lt is e = pass_at p xs k x (omega (arith, lt)) is (and_right (p y) (list_all p xs) e)
+pass_at p (y ∷ xs) zero x lt is e = rw (← is) (and_parts (p y) (list_all p xs) e).0
+pass_at p (y ∷ xs) (suc k) x lt is e = pass_at p xs k x (omega (arith, lt)) is (and_parts (p y) (list_all p xs) e).1
 
 pub pass_in : {X : Type 0} (p : X → Bool) (xs : List X) (x : X) → Contains xs x → list_all p xs ≡ true → p x ≡ true
 pass_in p xs x listed e = pass_at p xs listed.0 x listed.1 listed.2 e
@@ -150,7 +135,7 @@ pass_in p xs x listed e = pass_at p xs listed.0 x listed.1 listed.2 e
 pub stub_by_name : (objects : List Object) (slots : List ImportSlot) (t : ImportSlot) → Contains slots t
     → is_stub_name objects slots t.item.name ≡ is_stub objects slots t
 stub_by_name objects slots t listed = elim (cases_Bool (is_stub_name objects slots t.item.name)) [
-  | inr not_so ↦ not_so ∙ sym (rw not_so (and_false (is_weak_slot objects t)))
+  | inr not_so ↦ not_so ∙ sym (rw not_so (and-false (is_weak_slot objects t)))
   | inl so ↦
       (let self : bytes_eq t.item.name t.item.name ≡ true = (bytes_eq-Decides t.item.name t.item.name).1 refl in
       let passes : (not (bytes_eq t.item.name t.item.name) || is_weak_slot objects t) ≡ true =

@@ -40,7 +40,7 @@ fn repeated(firsts: Firsts, strength: Strength) -> Option<Place>
 
 /// Adds a symbol, behind all before. Answers with the symbol whose strong name it repeats, if it
 /// does.
-fn add<'a, L: Ledger>(
+pub(crate) fn add<'a, L: Ledger>(
     names: &mut CountedNames<'a>,
     name: &'a str,
     strength: Strength,

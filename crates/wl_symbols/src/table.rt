@@ -4,6 +4,7 @@ ghost use Rattle.std.specs.Prelude.{◌≡◌, ◌↔◌, ◌+◌, ◌*◌, ◌<
 ghost use Rattle.wl_linking.specs.Steps.{Clear, Refuses};
 ghost use Rattle.wl_symbols.specs.Link.{link_of};
 ghost use Rattle.wl_symbols.specs.Entries.{symbol_in, symbol_count, entries_of};
+ghost use Rattle.wl_symbols.specs.Adding.{Holds, firsts_in};
 ghost use Rattle.wl_symbols.specs.Names.{named, def};
 ghost use Rattle.wl_symbols.specs.Repeats.{HasOneStrong, refusal_of, IsDuplicate};
 
@@ -43,7 +44,7 @@ impl<'f, 'a> Model for SymbolTable<'f, 'a> {
 }
 
 /// The refusal of two strong symbols of one name.
-fn duplicate(alloc: Global, repeat: &Repeat<'_>) -> Result<LinkError, AllocError>
+pub(crate) fn duplicate(alloc: Global, repeat: &Repeat<'_>) -> Result<LinkError, AllocError>
     ensures { IfOk result (λ e. e ≡ refusal_of repeat.now) }
 {
     Ok(LinkError::DuplicateSymbol {
@@ -56,6 +57,30 @@ fn duplicate(alloc: Global, repeat: &Repeat<'_>) -> Result<LinkError, AllocError
 }
 
 impl<'f, 'a> SymbolTable<'f, 'a> {
+    /// The table of these objects, by names that have the first symbols of each of theirs. What a
+    /// symbol stands for takes a step, where other objects know it.
+    pub(crate) fn of<L: Ledger>(
+        alloc: Global,
+        files: &'f FileList<'a>,
+        args: &'f WasmArgs,
+        names: CountedNames<'a>,
+        steps: &mut Steps<L>,
+    ) -> Result<Self, AllocError>
+        requires { Holds (firsts_in names.names.firsts) (entries_of 0 files.now) }
+        ensures table { IfOk result (λ table. table ≡ link_of files.now args.now) }
+        ensures counted { OnOk result
+            (steps.new ≡ steps.old + length (entries_of 0 files.now)) }
+        ensures cost { steps.new ≤ steps.old + symbol_count files.now }
+    {
+        let definitions = DefinitionRows::of(alloc, &names, files, args, steps)?;
+        Ok(SymbolTable {
+            files,
+            args,
+            names: names.finish(),
+            definitions,
+        })
+    }
+
     /// The table of the names of these objects, which sees that no two of them define one name.
     ///
     /// # Errors
@@ -98,13 +123,7 @@ impl<'f, 'a> SymbolTable<'f, 'a> {
         if let Some(repeat) = add_files(&mut names, files.as_slice(), steps)? {
             return Err(duplicate(alloc, &repeat)?);
         }
-        let definitions = DefinitionRows::of(alloc, &names, files, args, steps)?;
-        Ok(SymbolTable {
-            files,
-            args,
-            names: names.finish(),
-            definitions,
-        })
+        Ok(SymbolTable::of(alloc, files, args, names, steps)?)
     }
 
     /// The objects that it was built of.

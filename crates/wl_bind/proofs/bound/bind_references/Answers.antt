@@ -4,7 +4,8 @@ use Rattle.wl_bind.specs.Kinds.{IsWrongKind}
 use Rattle.wl_bind.specs.Signatures.{IsMismatch}
 use Rattle.wl_bind.specs.Undefined.{IsUndefinedData, IsUndefinedImport}
 use Rattle.wl_bind.specs.Conflicts.{IsStubConflict, IsHostConflict}
-use Rattle.wl_bind.proofs.StepLaws.{clear_end, clear_step, clear_four, four_refuse, behind_four, refuses_here, refuses_behind}
+use Rattle.wl_linking.proofs.StepLaws.{clear_end, clear_step, refuses_here, refuses_behind}
+use Rattle.wl_bind.proofs.StepLaws.{clear_four, four_refuse, behind_four}
 use Rattle.wl_bind.proofs.bound.bind_references.Goals as goal
 
 pub returns-in_err-slots-clause-err : goal.returns-in_err-slots-clause-err

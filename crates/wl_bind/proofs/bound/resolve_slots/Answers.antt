@@ -4,7 +4,8 @@ use Rattle.wl_bind.specs.Kinds.{IsWrongKind}
 use Rattle.wl_bind.specs.Signatures.{IsMismatch}
 use Rattle.wl_bind.specs.Undefined.{IsUndefinedData}
 use Rattle.wl_bind.specs.Conflicts.{IsStubConflict}
-use Rattle.wl_bind.proofs.StepLaws.{clear_end, clear_step, three_refuse, refuses_here, refuses_behind}
+use Rattle.wl_linking.proofs.StepLaws.{clear_end, clear_step, refuses_here, refuses_behind}
+use Rattle.wl_bind.proofs.StepLaws.{three_refuse}
 use Rattle.wl_bind.proofs.bound.resolve_slots.Goals as goal
 
 pub returns-in_err-scan-clause-err : goal.returns-in_err-scan-clause-err

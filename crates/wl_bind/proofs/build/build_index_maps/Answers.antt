@@ -5,7 +5,8 @@ use Rattle.wl_bind.specs.Signatures.{IsMismatch}
 use Rattle.wl_bind.specs.Undefined.{IsUndefinedData, IsUndefinedImport}
 use Rattle.wl_bind.specs.Conflicts.{IsStubConflict, IsHostConflict}
 use Rattle.wl_bind.specs.SpaceFaults.{IsSpaceTooLarge}
-use Rattle.wl_bind.proofs.StepLaws.{clear_end, clear_step, clear_six, six_refuse, behind_six, refuses_here}
+use Rattle.wl_linking.proofs.StepLaws.{clear_end, clear_step, refuses_here}
+use Rattle.wl_bind.proofs.StepLaws.{clear_six, six_refuse, behind_six}
 use Rattle.wl_bind.proofs.build.build_index_maps.Goals as goal
 
 pub returns-in_err-bound-clause-err : goal.returns-in_err-bound-clause-err

@@ -5,7 +5,7 @@ use Rattle.wl_bind.specs.GlobalSpace.{global_space, local_globals}
 use Rattle.wl_symbols.specs.Input.{Input}
 use Rattle.wl_bind.specs.OutputTypes.{AreTypeIndices}
 use Rattle.wl_bind.specs.Parts.{AreIndicesOf}
-use Rattle.wl_bind.proofs.RedirectLaws.{row_within, row_found}
+use Rattle.wl_lists.proofs.Rows.{row_within, row_found}
 use Rattle.wl_bind.proofs.index_maps.index_map.Goals as goal
 
 abbrev AreFunctions : Input → ℕ → Object → List ℕ → Type 0

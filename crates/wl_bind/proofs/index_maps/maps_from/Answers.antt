@@ -1,7 +1,8 @@
 use Rattle.std.proofs.Common.{◌∙◌, ◌<◌, List, length, subst}
 use Rattle.wl_linking.specs.Object.{Object}
 use Rattle.wl_bind.specs.IndexMaps.{IsIndexMap}
-use Rattle.wl_bind.proofs.NumberingLaws.{row_more, same_object}
+use Rattle.wl_lists.proofs.Rows.{row_more}
+use Rattle.wl_bind.proofs.NumberingLaws.{same_object}
 use Rattle.wl_bind.proofs.index_maps.maps_from.Goals as goal
 
 pub loop-object-preserved : goal.loop-object-preserved

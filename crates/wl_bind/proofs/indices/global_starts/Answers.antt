@@ -1,4 +1,5 @@
 use Rattle.std.proofs.Common.{◌≡◌, ◌∙◌, List, [], ◌∷◌, ℕ, length, ap, sym}
+use Rattle.std.proofs.lemmas.List.{length-map}
 use Rattle.wl_symbols.specs.ImportSlots.{ImportSlot}
 use Rattle.wl_symbols.specs.Left.{HostImport, first_slot, first_imports}
 use Rattle.wl_symbols.specs.declared.linker_symbol.WasmLinkerSymbol.{WasmLinkerSymbol}
@@ -14,7 +15,6 @@ use Rattle.wl_bind.specs.Shared.{Shared}
 use Rattle.wl_bind.specs.declared.binding.GlobalTarget.TheVariants as global
 use Rattle.wl_bind.specs.declared.exported.DataSymbol.{DataSymbol}
 use Rattle.wl_bind.proofs.IndexLaws.{length_if, lengths_mapped, length_numbered, starts_ok, starts_err}
-use Rattle.wl_bind.proofs.ListLaws.{length_mapped}
 use Rattle.wl_bind.proofs.indices.global_starts.Goals as goal
 
 -- how long the parts are, as they were counted
@@ -55,21 +55,21 @@ lengths_are c =
     c.count_made-6.ensures ∙ sym (length_if (is_made input made.TlsAlign) (GlobalOf (global.Made made.TlsAlign))) in
     let e7 : length c.as_slice.result.now ≡ length (address_part input) =
     ap (λ (ms : List WasmLinkerSymbol). length ms) (c.as_slice.ensures ∙ c.requires.exported.addresses)
-    ∙ sym (length_mapped AddressOf (exported_addresses input.link.args)) in
+    ∙ sym (length-map (exported_addresses input.link.args) AddressOf) in
     let e8 : c.len.result ≡ length (got_mem_part input) =
     (c.len.ensures ∙ ap (λ (s : Scanned). length s.got_mem) (c.scan.view_is ∙ c.requires.scan))
-    ∙ length_mapped (got_mem_entry input) (got_mem input)
+    ∙ length-map (got_mem input) (got_mem_entry input)
     ∙ sym (length_numbered (λ k. GlobalOf (global.GotMem k)) 0 (length (got_mem input))) in
     let e9 : c.len-2.result ≡ length (got_func_part input) =
     (c.len-2.ensures ∙ ap (λ (s : Scanned). length s.got_func) (c.scan.view_is ∙ c.requires.scan))
-    ∙ length_mapped (got_func_entry input) (got_func input)
+    ∙ length-map (got_func input) (got_func_entry input)
     ∙ sym (length_numbered (λ k. GlobalOf (global.GotFunc k)) 0 (length (got_func input))) in
     let e10 : length c.as_slice-2.result.now ≡ length (dynamic_part input) =
     ap (λ (ds : List DataSymbol). length ds) (c.as_slice-2.ensures ∙ c.requires.exported.dynamic)
-    ∙ sym (length_mapped DataOf (dynamic_data input)) in
+    ∙ sym (length-map (dynamic_data input) DataOf) in
     let e11 : length c.as_slice-3.result.now ≡ length (forced_part input) =
     ap (λ (ds : List DataSymbol). length ds) (c.as_slice-3.ensures ∙ c.requires.exported.forced)
-    ∙ sym (length_mapped DataOf (forced_data input)) in
+    ∙ sym (length-map (forced_data input) DataOf) in
     λ i. e0 i ∷ e1 i ∷ e2 i ∷ e3 i ∷ e4 i ∷ e5 i ∷ e6 i ∷ e7 i ∷ e8 i ∷ e9 i ∷ e10 i ∷ e11 i ∷ []
 
 pub returns-clause-ok : goal.returns-clause-ok

@@ -6,7 +6,8 @@ use Rattle.wl_symbols.specs.declared.units.WasmGcUnit.TheVariants.{DataSegment}
 use Rattle.wl_symbols.specs.Input.{keeps}
 use Rattle.wl_bind.specs.Made.{is_filled, is_kept_thread_data, is_kept_common_data, keeps_thread_data, keeps_common_data}
 use Rattle.wl_bind.specs.ThreadData.{is_thread_segment}
-use Rattle.wl_bind.proofs.NeedLaws.{number_more, number_end, here_at}
+use Rattle.wl_lists.proofs.Places.{item_at}
+use Rattle.wl_bind.proofs.NeedLaws.{number_more, number_end}
 use Rattle.wl_bind.proofs.needs.kept_among.Goals as goal
 
 pub bounds-marks-k : goal.bounds-marks-k
@@ -33,7 +34,7 @@ loop-k-preserved c =
     ap (λ (bs : List Bool). get_or bs k false) c.requires
     ∙ get_or-map-range_with_len (is_thread_segment file) 0 n k k false within same in
     let at : item ≡ get_or file.segments k item = search rules in
-    let here : slice_get file.segments k ≡ Some item = here_at file.segments k item within at in
+    let here : slice_get file.segments k ≡ Some item = item_at file.segments k item within at in
     record {
       thread = number_more (is_kept_thread_data input object file) n k c.loop-k.kept.thread
           c.kept_by_segment.result.thread c.joined-kept.result.thread

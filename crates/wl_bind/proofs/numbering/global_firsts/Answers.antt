@@ -1,9 +1,9 @@
 use Rattle.std.proofs.Common.{◌≡◌, ◌∙◌, ◌+◌, ℕ, subst, IfOk}
+use Rattle.std.proofs.lemmas.Result.{on_ok_weaker}
 use Rattle.wl_bind.specs.OwnIndices.{firsts_from, kept_count}
 use Rattle.wl_bind.specs.Parts.{IsOver}
 use Rattle.wl_bind.specs.SpaceFaults.{IsSpaceOver}
 use Rattle.wl_bind.specs.declared.own_indices.Own.TheVariants.{Globals}
-use Rattle.wl_bind.proofs.GotLaws.{on_ok}
 use Rattle.wl_bind.proofs.NumberingLaws.{if_err, globals_over, globals_room}
 use Rattle.wl_bind.proofs.numbering.global_firsts.Goals as goal
 
@@ -16,7 +16,7 @@ returns-clause-firsts c =
 
 pub returns-clause-room : goal.returns-clause-room
 returns-clause-room c =
-    on_ok c.first_indices.result
+    on_ok_weaker c.first_indices.result
     (globals_room c.args.input.now c.globals_end.result (c.globals_end.ensures ∙ c.requires.globals.end))
     c.first_indices.ensures.room
 

@@ -1,5 +1,5 @@
 use Rattle.wl_bind.specs.Resolutions.{named_resolution}
-use Rattle.wl_bind.proofs.MapLaws.{mapped_more}
+use Rattle.wl_lists.proofs.Places.{mapped_more}
 use Rattle.wl_bind.proofs.resolving.resolve_import_symbols.Goals as goal
 
 pub loop-slot-preserved : goal.loop-slot-preserved

@@ -1,7 +1,7 @@
 use Rattle.std.proofs.lemmas.Result.{err_from_is_err_and}
 use Rattle.wl_data.specs.Layouts.{HasNoRoom}
 use Rattle.wl_data.specs.DataPlaces.{in_one_row}
-use Rattle.wl_data.proofs.LayoutLaws.{refuses_as, refuses_memory}
+use Rattle.wl_linking.proofs.StepLaws.{refuses_more, refuses_memory}
 use Rattle.wl_data.proofs.ObjectLaws.{objects_more, passes_objects}
 use Rattle.wl_data.proofs.placing.lay_objects.Goals as goal
 
@@ -9,7 +9,7 @@ pub returns-in_err-more-clause-err : goal.returns-in_err-more-clause-err
 returns-in_err-more-clause-err c =
     let p = err_from_is_err_and c.from_residual.result c.from_residual.ensures.1 in
     let there = passes_objects c.args.pass c.args.objects.now c.loop-object.object-index c.object-item.result c.args.frontier.now c.loop-object.frontier c.loop-object.layouts.items c.loop-object-test.true c.object-item.is c.requires c.loop-object.invariant in
-    rw (p.1, p.2) (refuses_as (HasNoRoom c.args.pass c.object-item.result c.loop-object.frontier) (HasNoRoom c.args.pass (in_one_row c.args.objects.now) c.args.frontier.now) _ (λ x. (x.0, there x.1)) (rw c.as_slice.ensures at c.in_err-more.ensures.err))
+    rw (p.1, p.2) (refuses_more (HasNoRoom c.args.pass c.object-item.result c.loop-object.frontier) (HasNoRoom c.args.pass (in_one_row c.args.objects.now) c.args.frontier.now) _ (λ x. (x.0, there x.1)) (rw c.as_slice.ensures at c.in_err-more.ensures.err))
 
 pub returns-in_err-push-clause-err : goal.returns-in_err-push-clause-err
 returns-in_err-push-clause-err c =

@@ -1,12 +1,12 @@
 use Rattle.std.proofs.Common.{◌≡◌, ◌∙◌, true, false, not, List, ℕ, [], take, ap, sym, subst}
+use Rattle.std.proofs.lemmas.Bool.{not-false, not-true}
 use Rattle.wl_linking.specs.declared.error.LinkError.{LinkError}
 use Rattle.wl_linking.specs.declared.error.LinkError.TheVariants.{DuplicateExport}
 use Rattle.wl_module.specs.Exports.{Exported}
 use Rattle.wl_exports.specs.FaultSteps.{IsRepeat}
 use Rattle.wl_exports.specs.NameSteps.{has_export}
 use Rattle.wl_exports.proofs.NameLaws.{holds_next}
-use Rattle.wl_exports.proofs.FaultLaws.{distinct_next, distinct_all, repeat_at, not_false}
-use Rattle.wl_exports.proofs.ListLaws.{not_true}
+use Rattle.wl_exports.proofs.FaultLaws.{distinct_next, distinct_all, repeat_at}
 use Rattle.wl_exports.proofs.checking.check_distinct.Goals as goal
 
 pub returns-then-not-is_free : goal.returns-then-not-is_free
@@ -23,7 +23,7 @@ returns-then-not-is_free c =
     let e : c.in_ok-duplicate.field-0 ≡ DuplicateExport x.name =
     c.in_ok-duplicate.ensures ∙ ap (λ (n : List ℕ). DuplicateExport n) (sym is) in
     subst (λ (d : LinkError). IsRepeat xs d) (sym e)
-    (repeat_at xs i x c.loop-export-test.true c.export-item.is (not_false (has_export x.name (take i xs)) free))
+    (repeat_at xs i x c.loop-export-test.true c.export-item.is (not-false (has_export x.name (take i xs)) free))
 
 pub loop-export-preserved : goal.loop-export-preserved
 loop-export-preserved c =
@@ -40,7 +40,7 @@ loop-export-preserved c =
       names = holds_next c.loop-export.taken c.take_name.new.taken [] xs i x c.export.inside.name.now
           c.loop-export-test.true c.export-item.is is c.in_ok-is_free.ensures.names c.loop-export.invariant.names;
       distinct = distinct_next xs i x c.loop-export-test.true c.export-item.is
-          (not_true (has_export x.name (take i xs)) free) c.loop-export.invariant.distinct;
+          (not-true (has_export x.name (take i xs)) free) c.loop-export.invariant.distinct;
     }
 
 pub returns : goal.returns

@@ -1,4 +1,5 @@
 use Rattle.std.proofs.Common.{◌≡◌, ◌∙◌, true, List, ℕ, sym, ap, subst, Option}
+use Rattle.std.proofs.lemmas.Bool.{and_from}
 use Rattle.std.specs.Option.{option_map}
 use Rattle.wl_custom.specs.Symbols.{Symbol as LinkedSymbol, has_name}
 use Rattle.wl_custom.specs.declared.symbols.WasmSymbolKind.{WasmSymbolKind}
@@ -6,7 +7,7 @@ use Rattle.wl_symbols.specs.Link.{Link}
 use Rattle.wl_symbols.specs.Roots.{is_candidate}
 use Rattle.wl_exports.specs.Exports.{ExportEntry, defined_entity, export_of}
 use Rattle.wl_exports.specs.ExportSteps.{IsPlainIf, takes}
-use Rattle.wl_exports.proofs.EntryLaws.{candidate_is, both_true}
+use Rattle.wl_exports.proofs.EntryLaws.{candidate_is}
 use Rattle.wl_exports.proofs.ShownLaws.{shown_candidate}
 use Rattle.wl_exports.proofs.dynamic.candidate_export.Goals as goal
 
@@ -33,5 +34,5 @@ returns-then-is_candidate c =
     c.symbol_export.result in
     subst (λ (e : Option ExportEntry). IsPlainIf input e c.symbol_export.result)
     (sym (candidate_is input c.args.wanted object number o s wanted
-    (both_true (has_name s) (is_candidate input.link object number s) has candidate)))
+    (and_from (has_name s) (is_candidate input.link object number s) has candidate)))
     (subst P name (c.symbol_export.ensures o shown))

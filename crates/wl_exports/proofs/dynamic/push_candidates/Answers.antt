@@ -2,8 +2,8 @@ use Rattle.std.proofs.Common.{◌≡◌, ◌∙◌, ◌<◌, List, length, get_o
 use Rattle.wl_linking.specs.Object.{Object}
 use Rattle.wl_exports.specs.Exports.{candidates_in}
 use Rattle.wl_exports.specs.ExportSteps.{takes}
+use Rattle.wl_lists.proofs.Places.{item_at}
 use Rattle.wl_exports.proofs.GrowLaws.{adds_object}
-use Rattle.wl_exports.proofs.ListLaws.{at_read}
 use Rattle.wl_exports.proofs.dynamic.push_candidates.Goals as goal
 
 pub loop-object-preserved : goal.loop-object-preserved
@@ -17,5 +17,5 @@ loop-object-preserved c =
     subst (λ (os : List Object). k < length os) objects c.loop-object-test.true in
     let is : o ≡ get_or input.link.objects k o = c.file-item.is ∙ ap (λ (os : List Object). get_or os k o) objects in
     adds_object input (candidates_in input (takes c.args.wanted)) input.link.objects k o c.args.exports.now.items
-    c.loop-object.exports.items c.push_symbols.new.exports.items (at_read input.link.objects k o lt is)
+    c.loop-object.exports.items c.push_symbols.new.exports.items (item_at input.link.objects k o lt is)
     c.loop-object.invariant c.in_ok-push_symbols.ensures

@@ -1,7 +1,7 @@
 use Rattle.std.proofs.Common.{◌≡◌, ◌∙◌, ◌<◌, List, length, get_or, ap, subst}
 use Rattle.wl_custom.specs.Symbols.{Symbol as LinkedSymbol}
+use Rattle.wl_lists.proofs.Places.{item_at}
 use Rattle.wl_exports.proofs.EntryLaws.{adds_symbol, wanted_candidate}
-use Rattle.wl_exports.proofs.ListLaws.{at_read}
 use Rattle.wl_exports.proofs.dynamic.push_symbols.Goals as goal
 
 pub loop-i-preserved : goal.loop-i-preserved
@@ -16,5 +16,5 @@ loop-i-preserved c =
     c.symbol-item.is ∙ ap (λ (xs : List LinkedSymbol). get_or xs i s) items in
     let f = wanted_candidate input c.args.wanted c.args.object c.args.file.now in
     adds_symbol input f c.args.file.now.symbols i s c.args.exports.now.items c.loop-i.exports.items
-    c.push_some.new.exports.items (at_read c.args.file.now.symbols i s lt is) c.loop-i.invariant
+    c.push_some.new.exports.items (item_at c.args.file.now.symbols i s lt is) c.loop-i.invariant
     (c.in_ok-push_some.ensures input (f i s) c.candidate_export-export.ensures)

@@ -7,7 +7,7 @@ use Rattle.wl_bind.specs.GlobalSpace.{local_globals}
 use Rattle.wl_bind.specs.References.{there}
 use Rattle.wl_exports.specs.Exports.{OfGlobal, export_of}
 use Rattle.wl_exports.specs.ExportSteps.{IsPlainIf, index_at}
-use Rattle.wl_exports.proofs.ListLaws.{at_read}
+use Rattle.wl_lists.proofs.Places.{item_at}
 use Rattle.wl_exports.proofs.PlaceLaws.{global_at, has_map, the_map}
 use Rattle.wl_exports.proofs.indexed.global_export.Goals as goal
 
@@ -18,7 +18,7 @@ returns-in-Some c = λ o here.
     let h = has_map input maps c.args.object o c.requires.maps c.requires.functions c.requires.globals here in
     let look = c.in-Some.ensures.lookup in
     let at : slice_get maps c.args.object ≡ Some c.in-Some.map.now =
-    at_read maps c.args.object c.in-Some.map.now look.3.0 look.1 in
+    item_at maps c.args.object c.in-Some.map.now look.3.0 look.1 in
     let one = the_map input maps c.args.object o c.in-Some.map.now h at in
     let is : c.export_at.result ≡ global_at c.args.name.now (index_at h.map_is.global_indices c.args.index) =
     c.export_at.ensures

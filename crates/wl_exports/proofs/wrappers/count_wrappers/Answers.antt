@@ -1,6 +1,6 @@
 use Rattle.std.proofs.Common.{◌≡◌, ◌∙◌, ◌+◌, true, sym, ap, arith}
 use Rattle.wl_exports.specs.Wrappers.{wraps}
-use Rattle.wl_exports.proofs.ListLaws.{at_read}
+use Rattle.wl_lists.proofs.Places.{item_at}
 use Rattle.wl_exports.proofs.WrapLaws.{count_more, count_all, at_most_one, one_if, byte_if}
 use Rattle.wl_exports.proofs.wrappers.count_wrappers.Goals as goal
 
@@ -9,7 +9,7 @@ loop-export-preserved c =
     let input = c.args.input.now in
     let i = c.loop-export.export-index in
     let x = c.export-item.result in
-    let at = at_read c.args.exports.now i x c.loop-export-test.true c.export-item.is in
+    let at = item_at c.args.exports.now i x c.loop-export-test.true c.export-item.is in
     let more = count_more input c.args.exports.now i x c.loop-export.count c.can_wrap.result c.requires.plain at
     (λ e plain. c.can_wrap.ensures input e c.requires.hosts plain) c.loop-export.invariant.counted in
     let one : c.from-count.result ≡ one_if c.can_wrap.result = c.from-count.ensures ∙ byte_if c.can_wrap.result in

@@ -6,7 +6,8 @@ use Rattle.wl_exports.specs.Exports.{exports}
 use Rattle.wl_exports.specs.Sources.{IsPlainExport}
 use Rattle.wl_exports.specs.Wrapped.{is_wrapped}
 use Rattle.wl_exports.specs.Wrappers.{can_wrap}
-use Rattle.wl_exports.proofs.ListLaws.{at_read, zip_at}
+use Rattle.wl_lists.proofs.Beside.{zip_left}
+use Rattle.wl_lists.proofs.Places.{item_at}
 use Rattle.wl_exports.proofs.WrapLaws.{wrapped_room, wrapped_more, all_wrapped}
 use Rattle.wl_exports.proofs.wrappers.wrap_exports.Goals as goal
 
@@ -25,10 +26,10 @@ loop-export-preserved c =
     let i = c.loop-export.export-index in
     let x = c.export-item.result in
     let items : c.as_slice-export-items.result.now ≡ c.args.exports = c.as_slice-export-items.ensures in
-    let at = at_read c.as_slice-export-items.result.now i x c.loop-export-test.true c.export-item.is in
+    let at = item_at c.as_slice-export-items.result.now i x c.loop-export-test.true c.export-item.is in
     let plain : AllZip (IsPlainExport input) (exports input) c.as_slice-export-items.result.now =
     subst (λ (xs : List Exported). AllZip (IsPlainExport input) (exports input) xs) (sym items) c.requires.plain in
-    let e = zip_at (IsPlainExport input) (exports input) c.as_slice-export-items.result.now i x plain at in
+    let e = zip_left (IsPlainExport input) (exports input) c.as_slice-export-items.result.now i x plain at in
     let test : c.is_wrapped-is_wrapped.result ≡ is_wrapped input e.0 =
     c.is_wrapped-is_wrapped.ensures input e.0 c.requires.hosts e.2
     ∙ ap (λ (b : Bool). b && can_wrap e.0) c.wraps-wraps.ensures in

@@ -3,7 +3,7 @@ use Rattle.std.specs.List.{AllByRecursion}
 use Rattle.std.proofs.lemmas.Option.{slice_get-get_or}
 use Rattle.wl_linking.specs.Fitting.{IsWhole}
 use Rattle.wl_live.specs.Facts.{Facts, AreFacts}
-use Rattle.wl_live.proofs.JoinLaws.{zip_length}
+use Rattle.wl_lists.proofs.Beside.{zip_length}
 use Rattle.wl_live.proofs.RefusalLaws.{ClearTo-more, Clear-from, Refuses-from}
 use Rattle.wl_live.proofs.refusals.check_faults.Goals as goal
 

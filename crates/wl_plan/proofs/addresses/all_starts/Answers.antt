@@ -1,9 +1,9 @@
 use Rattle.std.proofs.Common.{◌∙◌, ◌<◌, List, length, subst, arith}
 use Rattle.wl_linking.specs.Object.{Object}
 use Rattle.wl_plan.specs.AddressSteps.{AreObjectStarts}
+use Rattle.wl_lists.proofs.Places.{there_is}
+use Rattle.wl_lists.proofs.Rows.{rows_length, row_more}
 use Rattle.wl_plan.proofs.AddressLaws.{AreLaid, all_laid, same_object, once_for, starts_for}
-use Rattle.wl_plan.proofs.ListLaws.{there_is}
-use Rattle.wl_plan.proofs.RowLaws.{rows_length, row_more}
 use Rattle.wl_plan.proofs.addresses.all_starts.Goals as goal
 
 pub layouts_of-layouts-requires : goal.layouts_of-layouts-requires

@@ -1,6 +1,6 @@
 use Rattle.std.proofs.Common.{◌∙◌, []}
+use Rattle.wl_lists.proofs.Rows.{object_here}
 use Rattle.wl_plan.proofs.GrowLaws.{objects_more}
-use Rattle.wl_plan.proofs.RowLaws.{object_here}
 use Rattle.wl_plan.proofs.bodies.own_bodies.Goals as goal
 
 pub loop-object-preserved : goal.loop-object-preserved

@@ -1,7 +1,7 @@
 use Rattle.std.proofs.Common.{◌∙◌, ◌≤◌, List, length, subst}
 use Rattle.wl_linking.specs.Object.{Object}
+use Rattle.wl_lists.proofs.Rows.{object_here}
 use Rattle.wl_plan.proofs.GlobalParts.{adds_none, adds_object, all_objects}
-use Rattle.wl_plan.proofs.RowLaws.{object_here}
 use Rattle.wl_plan.proofs.globals.push_objects.Goals as goal
 
 pub loop-object-init : goal.loop-object-init

@@ -1,9 +1,9 @@
 use Rattle.std.proofs.Common.{◌∙◌, ℕ, refl, ap}
 use Rattle.std.proofs.lemmas.Result.{err_from_is_err_and}
 use Rattle.wl_plan.specs.IndexSteps.{numbers_among}
+use Rattle.wl_lists.proofs.Rows.{row_within}
 use Rattle.wl_plan.proofs.AddressLaws.{AreLaid, all_laid, once_for}
 use Rattle.wl_plan.proofs.IndexLaws.{first_room, high_symbol, made_whole, low_object}
-use Rattle.wl_plan.proofs.RowLaws.{row_within}
 use Rattle.wl_plan.proofs.index_maps.whole_map.Goals as goal
 
 pub layouts_of-layouts-requires : goal.layouts_of-layouts-requires

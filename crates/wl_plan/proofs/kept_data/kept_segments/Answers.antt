@@ -1,7 +1,7 @@
 use Rattle.std.proofs.Common.{◌≡◌, ◌∙◌, ◌+◌, ◌<◌, Bool, List, length, rules, ap, arith, get_or}
 use Rattle.std.proofs.lemmas.List.FromFn.{get_or-map-range_with_len, length-map-range_with_len}
 use Rattle.wl_bind.specs.ThreadData.{is_thread_segment}
-use Rattle.wl_plan.proofs.ListLaws.{item_at}
+use Rattle.wl_lists.proofs.Places.{item_at}
 use Rattle.wl_plan.proofs.kept_data.kept_segments.Goals as goal
 
 pub index-tls-requires : goal.index-tls-requires

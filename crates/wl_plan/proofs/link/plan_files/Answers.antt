@@ -9,8 +9,8 @@ use Rattle.wl_symbols.specs.Live.{IsLiveOf}
 use Rattle.wl_symbols.specs.Input.{Input}
 use Rattle.wl_plan.specs.Faults.{input_of}
 use Rattle.wl_plan.specs.Planned.{IsUnplannedOption}
+use Rattle.wl_linking.proofs.StepLaws.{refuses_here, refuses_behind, row_behind, row_refuses}
 use Rattle.wl_plan.proofs.LinkLaws.{AreClear, feature_is_row, feature_row, features_by, files_err, files_ok, input_alone, sound_by}
-use Rattle.wl_plan.proofs.StepLaws.{refuses_here, refuses_behind, row_behind, row_refuses}
 use Rattle.wl_plan.proofs.link.plan_files.Goals as goal
 
 pub returns-in_err-check_entry-clause-err : goal.returns-in_err-check_entry-clause-err

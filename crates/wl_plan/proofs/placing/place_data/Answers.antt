@@ -1,4 +1,4 @@
-use Rattle.std.proofs.lemmas.Result.{err_from_is_err_and}
+use Rattle.std.proofs.lemmas.Result.{err_from_is_err_and, on_ok_weaker}
 use Rattle.std.proofs.Common.{◌≡◌, ◌∙◌, List, rules, subst, sym}
 use Rattle.std.specs.List.{AllByRecursion}
 use Rattle.wl_linking.specs.Fitting.{IsWhole}
@@ -8,7 +8,7 @@ use Rattle.wl_data.specs.Segments.{KeptData}
 use Rattle.wl_plan.specs.KeptData.{all_segments}
 use Rattle.wl_plan.specs.Placing.{data_input, data_options}
 use Rattle.wl_plan.proofs.KeptDataLaws.{all_can}
-use Rattle.wl_plan.proofs.PlacingLaws.{fault_clear, few_if, numbers_few, on_ok, past_clear, past_refused, place_clear, size_clear}
+use Rattle.wl_plan.proofs.PlacingLaws.{fault_clear, few_if, numbers_few, past_clear, past_refused, place_clear, size_clear}
 use Rattle.wl_plan.proofs.placing.place_data.Goals as goal
 
 pub place_all-requires : goal.place_all-requires
@@ -17,7 +17,7 @@ place_all-requires c =
     let same : c.as_slice-2.result.now ≡ all_segments input = search rules in
     let whole : AllByRecursion IsWhole input.link.objects =
     subst (λ (os : List Object). AllByRecursion IsWhole os) (c.as_slice-files.ensures.objects ∙ c.files.ensures.objects) c.as_slice-files.ensures.whole in
-    subst (λ (rows : List (List KeptData)). AllByRecursion AllCanBePlaced rows) (sym same) (all_can input 0 input.link.objects whole)
+    subst (λ (rows : List (List KeptData)). AllByRecursion AllCanBePlaced rows) (sym same) (all_can c.segments_keep_bounds.ensures.spanned c.segments_keep_bounds.ensures.aligned input 0 input.link.objects whole)
 
 pub returns-in_err-places-clause-err : goal.returns-in_err-places-clause-err
 returns-in_err-places-clause-err c =
@@ -43,7 +43,7 @@ returns-clause-clear c =
     let places = c.in_ok-places.places in
     let same : c.as_slice-2.result.now ≡ all_segments input = search rules in
     let laid : IsDataPlaces (data_input input) places = search rules in
-    on_ok c.place_memory.result
+    on_ok_weaker c.place_memory.result
     (λ clear. place_clear input c.in_ok-check_segment_count.ensures.clear
     (size_clear input c.data_options-options.result c.data_options-options.ensures c.in_ok-ensure_stack_size_aligned.ensures.clear)
     (past_clear input c.as_slice-2.result.now c.data_options-options.result same c.data_options-options.ensures c.in_ok-places.ensures.clear)

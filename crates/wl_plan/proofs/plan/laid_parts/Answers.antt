@@ -1,7 +1,7 @@
 use Rattle.std.proofs.lemmas.Result.{err_from_is_err_and}
 use Rattle.wl_plan.specs.Faults.{laid_fault}
+use Rattle.wl_linking.proofs.StepLaws.{refuses_memory}
 use Rattle.wl_plan.proofs.PlannedLaws.{laid_clear, laid_refuses, place_refuses}
-use Rattle.wl_plan.proofs.StepLaws.{refuses_memory}
 use Rattle.wl_plan.proofs.plan.laid_parts.Goals as goal
 
 pub returns-in_err-placing-clause-err : goal.returns-in_err-placing-clause-err

@@ -8,9 +8,9 @@ use Rattle.wl_data.specs.Sizes.{segment_count}
 use Rattle.wl_exports.specs.Faults.{IsExportFault}
 use Rattle.wl_plan.specs.Faults.{IsSizeFault, IsValueFault}
 use Rattle.wl_plan.specs.SizeSteps.{IsTooBig}
+use Rattle.wl_linking.proofs.StepLaws.{clear_end, clear_step, refuses_behind, refuses_for, refuses_here}
 use Rattle.wl_plan.proofs.PlannedLaws.{checked_refused, checked_sound}
 use Rattle.wl_plan.proofs.PlanLaws.{bodies_few, segments_few, size_clear, size_refuses}
-use Rattle.wl_plan.proofs.StepLaws.{clear_end, clear_step, refuses_behind, refuses_for, refuses_here}
 use Rattle.wl_plan.proofs.UniqueBodies.{FormsAreOne}
 use Rattle.wl_plan.proofs.plan.output_parts.Goals as goal
 

@@ -7,8 +7,8 @@ use Rattle.wl_exports.specs.Wrapped.{WrapperEntry}
 use Rattle.wl_plan.specs.Fixups.{IsFixupFault}
 use Rattle.wl_plan.specs.Globals.{ArePlannedGlobals, IsGlobalFault}
 use Rattle.wl_plan.specs.Table.{function_slots, space_slots}
+use Rattle.wl_linking.proofs.StepLaws.{clear_both}
 use Rattle.wl_plan.proofs.SlotLaws.{TableLaws, few_in_table}
-use Rattle.wl_plan.proofs.StepLaws.{clear_both}
 use Rattle.wl_plan.proofs.WrapperLaws.{dead_are}
 use Rattle.wl_plan.proofs.plan.output_values.Goals as goal
 

@@ -1,7 +1,7 @@
 use Rattle.std.proofs.Common.{◌∙◌, ◌<◌, List, length, sym, subst}
 use Rattle.wl_linking.specs.Object.{Object}
+use Rattle.wl_lists.proofs.Rows.{object_here}
 use Rattle.wl_plan.proofs.PositionLaws.{unit_within}
-use Rattle.wl_plan.proofs.RowLaws.{object_here}
 use Rattle.wl_plan.proofs.positions.moved_code.Goals as goal
 
 pub moved_file-requires-clause-here : goal.moved_file-requires-clause-here

@@ -1,7 +1,7 @@
 use Rattle.std.proofs.Common.{◌≡◌, ◌<◌, List, length, Some, slice_get, sym, subst}
 use Rattle.wl_module.specs.Bodies.{Body}
+use Rattle.wl_lists.proofs.Places.{item_at}
 use Rattle.wl_plan.proofs.BodyLaws.{body_at}
-use Rattle.wl_plan.proofs.ListLaws.{item_at}
 use Rattle.wl_plan.proofs.PositionLaws.{first_sound, all_there}
 use Rattle.wl_plan.proofs.positions.moved_file.Goals as goal
 

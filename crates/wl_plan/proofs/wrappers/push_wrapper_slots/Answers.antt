@@ -2,7 +2,7 @@ use Rattle.std.proofs.Common.{◌∙◌, ◌++◌, List, ap, map, sym}
 use Rattle.std.proofs.lemmas.List.{append-nil, take_all}
 use Rattle.wl_index.specs.declared.index.TheConstants.{WASM_DEAD_INDEX}
 use Rattle.wl_exports.specs.Wrapped.{WrapperEntry}
-use Rattle.wl_plan.proofs.ListLaws.{item_at}
+use Rattle.wl_lists.proofs.Places.{item_at}
 use Rattle.wl_plan.proofs.WrapperLaws.{dead_more}
 use Rattle.wl_plan.proofs.wrappers.push_wrapper_slots.Goals as goal
 

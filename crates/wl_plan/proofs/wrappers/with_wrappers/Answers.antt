@@ -3,7 +3,7 @@ use Rattle.wl_bind.specs.OutputTypes.{output_types}
 use Rattle.wl_exports.specs.Wrapped.{WrapperEntry}
 use Rattle.wl_plan.specs.Functions.{AreOutputFunctions}
 use Rattle.wl_plan.specs.Origins.{PlannedFunction}
-use Rattle.wl_plan.proofs.ListLaws.{item_at}
+use Rattle.wl_lists.proofs.Places.{item_at}
 use Rattle.wl_plan.proofs.WrapperLaws.{called_now, no_wrappers, wrapper_more, wrappers_done}
 use Rattle.wl_plan.proofs.wrappers.with_wrappers.Goals as goal
 

@@ -1,5 +1,5 @@
 use Rattle.wl_symbols.specs.SlotTargets.{slot_target}
-use Rattle.wl_symbols.proofs.PlacingLaws.{mapped_more}
+use Rattle.wl_lists.proofs.Places.{mapped_more}
 use Rattle.wl_symbols.proofs.targets.slot_targets.Goals as goal
 
 pub loop-slot-preserved : goal.loop-slot-preserved

@@ -2,7 +2,8 @@ use Rattle.std.proofs.Common.{◌∙◌, ◌<◌, ℕ, List, length, subst}
 use Rattle.wl_linking.specs.Object.{Object}
 use Rattle.wl_bind.specs.GlobalSpace.{global_space, local_globals}
 use Rattle.wl_bind.specs.Parts.{AreIndicesOf}
-use Rattle.wl_bind.proofs.NumberingLaws.{row_more, same_object}
+use Rattle.wl_lists.proofs.Rows.{row_more}
+use Rattle.wl_bind.proofs.NumberingLaws.{same_object}
 use Rattle.wl_bind.proofs.numbering.Numbering.global_rows.Goals as goal
 
 pub loop-object-preserved : goal.loop-object-preserved

@@ -1,6 +1,6 @@
 use Rattle.wl_plan.specs.AddressSteps.{AreObjectStarts}
+use Rattle.wl_lists.proofs.Rows.{row_within, row_found}
 use Rattle.wl_plan.proofs.AddressLaws.{start_at}
-use Rattle.wl_plan.proofs.RowLaws.{row_within, row_found}
 use Rattle.wl_plan.proofs.addresses.AddressBook.start.Goals as goal
 
 pub starts_row-starts-requires : goal.starts_row-starts-requires

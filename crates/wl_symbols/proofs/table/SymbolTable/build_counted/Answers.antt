@@ -1,9 +1,7 @@
-use Rattle.std.proofs.Common.{[], ◌∙◌}
-use Rattle.wl_symbols.specs.Link.{link_of}
+use Rattle.std.proofs.Common.{[]}
 use Rattle.wl_symbols.specs.Entries.{entries_of}
 use Rattle.wl_symbols.specs.Adding.{firsts_in, Adds, Meets}
 use Rattle.wl_symbols.proofs.AdditionLaws.{none_none}
-use Rattle.wl_symbols.proofs.RowLaws.{rows_by}
 use Rattle.wl_symbols.proofs.RepeatLaws.{one_strong, none_twice, first_repeat}
 use Rattle.wl_symbols.proofs.table.SymbolTable.build_counted.Goals as goal
 
@@ -12,15 +10,10 @@ returns-in-Some-clause-err g c =
     let meets : Meets (firsts_in c.new-names.result.names.firsts) (entries_of 0 c.args.files.now) c.in-Some.repeat = rw (c.in-Some.is, c.as_slice.ensures.objects) at c.in_ok-repeat.ensures.adds in
     record { cause_is = λ not. (c.in-Some.repeat, first_repeat c.args.files.now c.in-Some.repeat (meets [] c.new-names.ensures none_none), c.in_ok-duplicate.ensures) }
 
-pub invariant_of-result : goal.invariant_of-result
-invariant_of-result g c =
+pub of-requires : goal.of-requires
+of-requires g c =
     let adds : Adds (firsts_in c.new-names.result.names.firsts) (firsts_in c.add_files.new.names.names.firsts) (entries_of 0 c.args.files.now) = rw (c.in_default.is, c.as_slice.ensures.objects) at c.in_ok-repeat.ensures.adds in
-    let holds = adds.found [] c.new-names.ensures in
-    let link = link_of c.args.files.now c.args.args.now in
-    rw c.finish.ensures (record {
-      holds = holds;
-      rows_are = c.in_ok-definitions.ensures.rows ∙ rows_by link (firsts_in c.add_files.new.names.names.firsts) holds;
-    })
+    adds.found [] c.new-names.ensures
 
 pub returns-clause-one : goal.returns-clause-one
 returns-clause-one g c =
