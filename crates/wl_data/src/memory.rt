@@ -1,6 +1,6 @@
 //! The size of the output's memory.
 
-ghost use Rattle.std.specs.Prelude.{◌≡◌, ◌≤◌, ◌/◌, ◌*◌, OnOk, IfOk, IfErr, OnErr, unwrap_or};
+ghost use Rattle.std.specs.Prelude.{◌≡◌, ◌<◌, ◌≤◌, ◌/◌, ◌*◌, OnOk, IfOk, IfErr, OnErr, unwrap_or};
 ghost use Rattle.wl_linking.specs.Steps.{Clear};
 ghost use Rattle.wl_module.specs.declared.limits.TheConstants.{MAX_PAGES};
 ghost use Rattle.wl_data.specs.Stack.{IsStackTooHigh};

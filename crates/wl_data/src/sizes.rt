@@ -14,6 +14,9 @@ use wl_index::MAX_ENTRIES;
 use wl_linking::{LinkError, Quantity};
 use wl_module::WasmFunctionBody;
 
+/// A segment takes fewer bytes than this, so that 32 bits hold their number.
+const SIZE_LIMIT: u64 = 4_294_967_296;
+
 /// What a section holds takes fewer bytes than this, so that its size can be told.
 const MEASURE_LIMIT: u64 = 1 << 62;
 
@@ -70,12 +73,12 @@ pub fn output_data_segment_encoded_size(
 {
     let count = uleb_len(u64::from(data_len)) as u64;
     let size = target_size(offset, memory_index, passive) + count + u64::from(data_len);
-    match u32::try_from(size) {
-        Ok(size) => Ok(size),
-        Err(_) => Err(LinkError::TooLarge {
+    if size >= SIZE_LIMIT {
+        return Err(LinkError::TooLarge {
             what: Quantity::Size,
-        }),
+        });
     }
+    Ok(size as u32)
 }
 
 /// Whether the output's segments can be numbered: a space has room for them. Calls on all of them
