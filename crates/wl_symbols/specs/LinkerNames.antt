@@ -1,10 +1,10 @@
 -- The names that the linker makes.
-use Rattle.std.specs.Prelude.{ℕ, Bool, true, false, if◌then◌else◌, List, [], ◌∷◌, codes, Option, Some, None, find}
+use Rattle.std.specs.Prelude.{ℕ, ◌&&◌, ◌||◌, Bool, true, false, if◌then◌else◌, List, [], ◌∷◌, codes, Option, Some, None, find}
 use Rattle.std.specs.Option.{option_and_then}
 use Rattle.std.specs.Str.{bytes_eq}
 use Rattle.wl_custom.specs.declared.symbols.WasmSymbolKind.{WasmSymbolKind}
 use Rattle.wl_custom.specs.declared.symbols.WasmSymbolKind.TheVariants.{Func, Data, Global}
-use Rattle.wl_custom.specs.Symbols.{is_data}
+use Rattle.wl_custom.specs.Symbols.{is_function, is_data, is_global}
 use Rattle.wl_symbols.specs.LinkerRows.{LinkerRow}
 use Rattle.wl_words.specs.declared.args.WasmArgs.{WasmArgs}
 use Rattle.wl_symbols.specs.declared.linker_symbol.MadeUnder.{MadeUnder}
@@ -86,9 +86,8 @@ is_exported_as_data has_memory made = is_data (row_of made).kind
 
 -- functions and globals are imported, and only as what they are
 abbrev pub is_imported_as : WasmSymbolKind → WasmSymbolKind → Bool
-is_imported_as Func Func = true
-is_imported_as Global Global = true
-is_imported_as _ _ = false
+is_imported_as kind other =
+    (is_function kind && is_function other) || (is_global kind && is_global other)
 
 -- an import of that kind can be bound to it
 abbrev pub matches_kind : WasmSymbolKind → WasmLinkerSymbol → Bool

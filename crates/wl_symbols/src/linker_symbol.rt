@@ -81,7 +81,7 @@ pub enum WasmLinkerSymbol {
 pub(crate) fn is_imported_as(kind: WasmSymbolKind, other: WasmSymbolKind) -> bool
     ensures { result ≡ is_imported_as kind other }
 {
-    (kind.is_function() || kind.is_global()) && kind == other
+    kind.is_function() && other.is_function() || kind.is_global() && other.is_global()
 }
 
 impl WasmLinkerSymbol {
