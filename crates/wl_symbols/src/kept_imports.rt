@@ -5,7 +5,7 @@ ghost use Rattle.wl_symbols.specs.KeptSlots.{is_kept_slot, kept_slots, left_slot
 ghost use Rattle.wl_symbols.specs.KeptSlots.{is_left_slot};
 
 use crate::input::LinkInput;
-use crate::slots::{ImportSlot, import_slots};
+use crate::slots::{ImportSlot, fill_slots};
 use crate::targets::slot_target;
 use std::alloc::{AllocError, Global};
 use wl_linking::WasmSymbolKind;
@@ -40,8 +40,9 @@ pub fn kept_slots<'i, 'a>(
     ensures { IfOk result (λ v. v.items ≡ kept_slots input.now kind) }
 {
     let mut kept = Vec::new(alloc);
+    let mut slots = Vec::new(alloc);
     for object in 0..input.files().len() {
-        let mut slots = import_slots(alloc, input.symbols(), object, kind)?;
+        fill_slots(alloc, input.symbols(), object, kind, &mut slots)?;
         retain_kept(input, &mut slots);
         kept.append(&mut slots)?;
     }

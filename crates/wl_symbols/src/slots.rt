@@ -147,18 +147,19 @@ pub fn is_slot_of(kind: WasmSymbolKind, entity: ImportEntity) -> bool
     }
 }
 
-/// The slots of a kind of an object, without symbols.
-fn bare_slots<'f, 'a>(
+/// Puts the slots of a kind of an object, without symbols, in place of what the list holds.
+fn fill_bare<'f, 'a>(
     alloc: Global,
     object: usize,
     kind: WasmSymbolKind,
     file: &'f File<'a>,
-) -> Result<Vec<ImportSlot<'f, 'a>>, AllocError>
-    ensures { IfOk result (λ v. v.items
+    slots: &mut Vec<ImportSlot<'f, 'a>>,
+) -> Result<(), AllocError>
+    ensures { OnOk result (slots.new.items
         ≡ numbered_slots object kind [] 0 (slot_imports kind file.now.imports)) }
 {
     file.stands_for_an_object();
-    let mut slots = Vec::new(alloc);
+    slots.clear();
     let mut number: u32 = 0;
     for import in file.imports() {
         if is_slot_of(kind, import.entity) {
@@ -172,7 +173,7 @@ fn bare_slots<'f, 'a>(
             number += 1;
         }
     }
-    Ok(slots)
+    Ok(())
 }
 
 /// Adds a symbol to the slot of that place, if there is one.
@@ -206,22 +207,41 @@ fn place_symbol(
     Ok(())
 }
 
-/// The slots of a kind of an object, under its number.
-fn object_slots<'f, 'a>(
+/// Puts the slots of a kind of an object, under its number, in place of what the list holds.
+fn fill_from<'f, 'a>(
     alloc: Global,
     object: usize,
     kind: WasmSymbolKind,
     file: &'f File<'a>,
-) -> Result<Vec<ImportSlot<'f, 'a>>, AllocError>
-    ensures { IfOk result (λ v. v.items ≡ object_slots object kind file.now) }
+    slots: &mut Vec<ImportSlot<'f, 'a>>,
+) -> Result<(), AllocError>
+    ensures { OnOk result (slots.new.items ≡ object_slots object kind file.now) }
 {
     file.stands_for_an_object();
-    let mut slots = bare_slots(alloc, object, kind, file)?;
+    fill_bare(alloc, object, kind, file, slots)?;
     let symbols = file.symbols();
     for (i, symbol) in symbols.iter().enumerate() {
-        place_symbol(&mut slots, kind, i as u32, symbol)?;
+        place_symbol(slots, kind, i as u32, symbol)?;
     }
-    Ok(slots)
+    Ok(())
+}
+
+/// Puts the slots of a kind of the object of that number in place of what the list holds, so that
+/// the slots of many objects, one after the other, take memory once.
+pub(crate) fn fill_slots<'t, 'a>(
+    alloc: Global,
+    table: &SymbolTable<'t, 'a>,
+    object: usize,
+    kind: WasmSymbolKind,
+    slots: &mut Vec<ImportSlot<'t, 'a>>,
+) -> Result<(), AllocError>
+    ensures { OnOk result (slots.new.items ≡ import_slots table.now.objects object kind) }
+{
+    if let Some(file) = table.files().get(object) {
+        return fill_from(alloc, object, kind, file, slots);
+    }
+    slots.clear();
+    Ok(())
 }
 
 /// The slots of a kind of the object of that number, a function or global each: none for other
@@ -237,8 +257,7 @@ pub fn import_slots<'t, 'a>(
 ) -> Result<Vec<ImportSlot<'t, 'a>>, AllocError>
     ensures { IfOk result (λ v. v.items ≡ import_slots table.now.objects object kind) }
 {
-    let Some(file) = table.files().get(object) else {
-        return Ok(Vec::new(alloc));
-    };
-    object_slots(alloc, object, kind, file)
+    let mut slots = Vec::new(alloc);
+    fill_slots(alloc, table, object, kind, &mut slots)?;
+    Ok(slots)
 }

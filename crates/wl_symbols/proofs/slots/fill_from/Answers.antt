@@ -1,6 +1,6 @@
 use Rattle.wl_symbols.specs.ImportSlots.{slot_imports}
 use Rattle.wl_symbols.proofs.PlacingLaws.{slots_taken}
-use Rattle.wl_symbols.proofs.slots.object_slots.Goals as goal
+use Rattle.wl_symbols.proofs.slots.fill_from.Goals as goal
 
 pub loop-i-preserved : goal.loop-i-preserved
 loop-i-preserved c =

@@ -1,6 +1,6 @@
 use Rattle.std.proofs.Common.{◌≡◌, ◌≤◌, ◌++◌, [], drop}
 use Rattle.wl_symbols.specs.ImportSlots.{slot_imports, numbered_slots}
-use Rattle.wl_symbols.proofs.slots.bare_slots.Given as goal
+use Rattle.wl_symbols.proofs.slots.fill_bare.Given as goal
 
 abbrev pub invariant-loop-import : goal.invariant-loop-import
 invariant-loop-import l = record {
