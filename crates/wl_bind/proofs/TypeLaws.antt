@@ -8,8 +8,8 @@ use Rattle.wl_module.specs.declared.imports.ImportEntity.TheVariants as entity
 use Rattle.wl_linking.specs.Object.{Object}
 use Rattle.wl_custom.specs.Symbols.{Symbol}
 use Rattle.wl_custom.specs.declared.symbols.WasmSymbolKind.TheVariants.{Func}
-use Rattle.wl_symbols.specs.ImportSlots.{slot_imports, numbered_slots, import_slots}
-use Rattle.wl_bind.specs.FunctionTypes.{type_in, slot_type}
+use Rattle.wl_symbols.specs.ImportSlots.{ImportSlot, slot_imports, numbered_slots, import_slots}
+use Rattle.wl_bind.specs.FunctionTypes.{type_in, type_number, slot_type}
 use Rattle.wl_bind.specs.BindingSteps.{numbers_in, slot_numbers, number_at}
 use Rattle.wl_lists.proofs.Found.{cases_option}
 
@@ -43,4 +43,29 @@ pub slot_typed : (objects : List Object) (i k : ℕ)
 slot_typed objects i k = elim (cases_option (slice_get objects i)) [
   | inl none ↦ rw (row_of objects i k, none) refl
   | inr o ↦ rw (row_of objects i k, o.1) (in_row objects i (o.0).symbols 0 (o.0).imports k)
+]
+
+-- ---- the numbers of these types
+
+number_in_row : (i : ℕ) (symbols : List Symbol) (n : ℕ) (imports : List Imported) (k : ℕ)
+    → option_and_then (λ (t : ImportSlot). type_number t.item.entity) (slice_get (numbered_slots i Func symbols n (slot_imports Func imports)) k) ≡ slice_get (numbers_in imports) k
+number_in_row i symbols n [] k = refl
+number_in_row i symbols n (m ∷ imports) k = by_entity m.entity refl k (λ j. number_in_row i symbols (n + 1) imports j) (number_in_row i symbols n imports k)
+  where
+    by_entity : (e : ImportEntity) → m.entity ≡ e → (k : ℕ)
+        → ((j : ℕ) → option_and_then (λ (t : ImportSlot). type_number t.item.entity) (slice_get (numbered_slots i Func symbols (n + 1) (slot_imports Func imports)) j) ≡ slice_get (numbers_in imports) j)
+        → option_and_then (λ (t : ImportSlot). type_number t.item.entity) (slice_get (numbered_slots i Func symbols n (slot_imports Func imports)) k) ≡ slice_get (numbers_in imports) k
+        → option_and_then (λ (t : ImportSlot). type_number t.item.entity) (slice_get (numbered_slots i Func symbols n (slot_imports Func (m ∷ imports))) k) ≡ slice_get (numbers_in (m ∷ imports)) k
+    by_entity (entity.Func t) e zero later same = rw e refl
+    by_entity (entity.Func t) e (suc k) later same = rw e (later k)
+    by_entity (entity.Table t) e k later same = rw e same
+    by_entity (entity.Memory t) e k later same = rw e same
+    by_entity (entity.Global t) e k later same = rw e same
+
+-- the number of the type of the slot of that number of an object
+pub slot_numbered : (objects : List Object) (i k : ℕ)
+    → option_and_then (λ (t : ImportSlot). type_number t.item.entity) (slice_get (import_slots objects i Func) k) ≡ number_at (slot_numbers objects) i k
+slot_numbered objects i k = elim (cases_option (slice_get objects i)) [
+  | inl none ↦ rw (row_of objects i k, none) refl
+  | inr o ↦ rw (row_of objects i k, o.1) (number_in_row i (o.0).symbols 0 (o.0).imports k)
 ]

@@ -1,5 +1,5 @@
 -- The types of the functions of the output.
-use Rattle.std.specs.Prelude.{◌≡◌, ℕ, [], Contains, Option, Some, slice_get}
+use Rattle.std.specs.Prelude.{◌≡◌, ℕ, List, [], Contains, Option, Some, slice_get}
 use Rattle.std.specs.Option.{option_and_then}
 use Rattle.wl_module.specs.Types.{FunctionType}
 use Rattle.wl_custom.specs.declared.symbols.WasmSymbolKind.TheVariants.{Func}
@@ -34,3 +34,13 @@ pub record HasOutputType (input : Input) (entry : FunctionEntry) : Type 0 where
   pub ty : FunctionType
   pub has : type_of_entry input entry ≡ Some ty
   pub one : Contains (output_types input) ty
+
+-- the function has a type, and where a map of types has that number it leads to this type of the
+-- output
+pub record HasTypeIndex (input : Input) (entry : FunctionEntry) (indices : List ℕ) (number : ℕ)
+    : Type 0 where
+  pub ty : FunctionType
+  pub has : type_of_entry input entry ≡ Some ty
+  pub index : ℕ
+  pub at : slice_get indices number ≡ Some index
+  pub typed : slice_get (output_types input) index ≡ Some ty

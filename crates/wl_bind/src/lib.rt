@@ -54,7 +54,9 @@ pub use indices::LinkerDefinedIndices;
 pub use laws::{same_targets_are_one, stubs_have_no_slot, table_functions_stand_once};
 pub use merging::{MergedTypes, merge_live_output_types};
 pub use needs::{LinkerImportAbsorption, has_init_functions};
-pub use reference_laws::{entries_have_types, references_are_kept, table_functions_are_kept};
+pub use reference_laws::{
+    entries_have_types, references_are_kept, table_functions_are_kept, types_have_indices,
+};
 pub use report::report_disallowed_unresolved_imports;
 pub use resolution::{ImportResolution, ObjectImportResolutions, ResolutionList};
 pub use resolving::{resolve_import_symbols, resolve_objects};

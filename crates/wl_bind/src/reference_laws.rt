@@ -1,16 +1,22 @@
 //! What callers may count on: functions with an empty body, each of which states a law of what kept
 //! relocations name.
 
-ghost use Rattle.std.specs.Prelude.{◌≡◌, ◌||◌, ℕ, true, false, Some, Contains};
+ghost use Rattle.std.specs.Prelude.{◌≡◌, ◌||◌, ℕ, List, true, false, Some, Contains, slice_get};
+ghost use Rattle.wl_linking.specs.Object.{Object as SpecObject};
 ghost use Rattle.wl_custom.specs.RelocationTypes.{names_a_type, is_table_index, is_global_index};
 ghost use Rattle.wl_symbols.specs.Input.{Input};
 ghost use Rattle.wl_bind.specs.FunctionSymbols.{fun};
-ghost use Rattle.wl_bind.specs.EntryTypes.{HasOutputType};
-ghost use Rattle.wl_bind.specs.FunctionSpace.{FunctionEntry, function_space};
+ghost use Rattle.wl_symbols.specs.Left.{HostImport as Asked};
+ghost use Rattle.wl_bind.specs.BindingSteps.{slot_numbers, number_at};
+ghost use Rattle.wl_bind.specs.EntryTypes.{HasOutputType, HasTypeIndex};
+ghost use Rattle.wl_bind.specs.FunctionSpace.{FunctionEntry, FunctionOf, kept_functions, function_space};
+ghost use Rattle.wl_bind.specs.OutputTypes.{AreTypeIndices};
+ghost use Rattle.wl_bind.specs.Shared.{function_imports};
 ghost use Rattle.wl_bind.specs.References.{IsSettled, HasSlot, IsInOutput, NamesType, NamesSymbol, NamesFunction, NamesGlobal};
 ghost use Rattle.wl_symbols.specs.Relocations.{relocations};
 ghost use Rattle.wl_bind.specs.Scan.{table_functions, names_function};
 ghost use Rattle.wl_bind.specs.declared.binding.FunctionTarget.{FunctionTarget as Target};
+ghost use Rattle.wl_bind.specs.declared.binding.FunctionTarget.TheVariants.{Defined, Host};
 ghost use Rattle.wl_symbols.specs.declared.relocated.Relocated.{Relocated as KeptRelocation};
 
 use wl_linking::whole_objects;
@@ -69,4 +75,24 @@ pub fn entries_have_types()
 {
     whole_objects();
     same_types_are_one();
+}
+
+/// The map of an object leads from the type of each function that is kept, and of each that the host
+/// is asked for, to that type among those of the output.
+pub fn types_have_indices()
+    ensures functions { (input : Input) (object : ℕ) (o : SpecObject) (indices : List ℕ)
+        (function : ℕ) → IsSettled input → slice_get input.link.objects object ≡ Some o
+        → AreTypeIndices input object o indices
+        → Contains (kept_functions input object o) function
+        → (number : ℕ) × (slice_get o.functions function ≡ Some number)
+        × HasTypeIndex input (FunctionOf (Defined object function)) indices number }
+    ensures hosts { (input : Input) (host : Asked) (o : SpecObject) (indices : List ℕ)
+        → IsSettled input → Contains (function_imports input) host
+        → slice_get input.link.objects host.object ≡ Some o
+        → AreTypeIndices input host.object o indices
+        → (number : ℕ)
+        × (number_at (slot_numbers input.link.objects) host.object host.slot ≡ Some number)
+        × HasTypeIndex input (FunctionOf (Host host.object host.slot)) indices number }
+{
+    whole_objects();
 }

@@ -117,7 +117,7 @@ impl SlotTypes {
     }
 
     /// The number of the type of a slot.
-    fn number(&self, object: usize, slot: u32) -> Option<u32>
+    pub fn number(&self, object: usize, slot: u32) -> Option<u32>
         ensures { result ≡ number_at self.now object slot }
     {
         let row = self.rows.get(object)?;
