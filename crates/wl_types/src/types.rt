@@ -36,6 +36,7 @@ pub struct TypeMerger {
 impl Model for TypeMerger {
     ghost use Rattle.std.specs.Prelude.{List, ◌≤◌, length};
     ghost use Rattle.wl_module.specs.Types.{FunctionType};
+    ghost use Rattle.wl_index.specs.declared.index.TheConstants.{MAX_ENTRIES};
 
     ghost Value = { List FunctionType };
 
