@@ -1,9 +1,9 @@
 -- Where data symbols lie, and which number each segment has in the output.
-use Rattle.std.specs.Prelude.{◌≡◌, ◌⊎◌, ◌≤◌, ℕ, ◌+◌, ◌==◌, ◌^◌, ◌&&◌, not, List, [], ◌∷◌, ◌++◌, map, length, if◌then◌else◌, Option, Some, None, find, Contains}
+use Rattle.std.specs.Prelude.{◌≡◌, ◌⊎◌, ◌≤◌, ℕ, ◌+◌, ◌==◌, ◌^◌, List, [], ◌∷◌, ◌++◌, map, length, if◌then◌else◌, Option, Some, None, find, Contains}
 use Rattle.std.specs.List.{range_with_len, slice_index_or}
 use Rattle.std.specs.Option.{option_map_or}
 use Rattle.wl_linking.specs.Object.{Object}
-use Rattle.wl_custom.specs.Symbols.{Symbol as LinkedSymbol, is_data, is_defined_data, is_absolute}
+use Rattle.wl_custom.specs.Symbols.{Symbol as LinkedSymbol, is_defined_data, is_absolute}
 use Rattle.wl_linking.specs.declared.error.LinkError.{LinkError}
 use Rattle.wl_linking.specs.declared.error.LinkError.TheVariants.{TooLarge}
 use Rattle.wl_linking.specs.declared.error.Quantity.TheVariants.{Address}
