@@ -286,7 +286,7 @@ fn table_size(input: &LinkInput<'_, '_>, scan: &RelocScan<'_>) -> u64
     requires { scan.now ≡ scan_of input.now }
     ensures { result ≡ table_size input.now }
 {
-    let mut size = scan.table_functions.as_slice().len() as u64 + u64::from(LINKER_TABLE_BASE);
+    let mut size = scan.table_functions.as_slice().len() as u64 + LINKER_TABLE_BASE as u64;
     for file in input.files().as_slice() {
         size = object_minimum(file).max(size);
     }
