@@ -4,7 +4,7 @@ use Rattle.std.specs.List.{AllByRecursion, AllZip, range_with_len}
 use Rattle.std.specs.Option.{option_map, option_map_or, option_and_then, is_none}
 use Rattle.std.proofs.lemmas.Bool.{cases_Bool, cases_eq}
 use Rattle.std.proofs.lemmas.List.{append-nil, append_assoc, take_all, length-map}
-use Rattle.std.proofs.lemmas.Option.{same_Some, get_or_from_slice_get, slice_get-get_or}
+use Rattle.std.proofs.lemmas.Option.{same_Some, get_or_from_slice_get, slice_get-get_or, slice_get_within}
 use Rattle.wl_module.specs.Imports.{Imported}
 use Rattle.wl_module.specs.Types.{FunctionType}
 use Rattle.wl_module.specs.declared.types.ValType.{ValType}
@@ -19,25 +19,28 @@ use Rattle.wl_symbols.specs.declared.linker_symbol.WasmLinkerSymbol.TheVariants.
 use Rattle.wl_symbols.specs.ImportSlots.{ImportSlot, numbered_slots, slot_imports, object_slots, import_slots}
 use Rattle.wl_symbols.specs.Left.{HostImport, same_field, is_stub, stub_slots, first_imports, first_slot}
 use Rattle.wl_symbols.specs.SlotTargets.{slot_target}
-use Rattle.wl_bind.specs.EntryTypes.{type_of_slot, type_of_entry, HasOutputType}
+use Rattle.wl_bind.specs.EntryTypes.{type_of_slot, type_of_entry, HasOutputType, HasTypeIndex}
 use Rattle.wl_bind.specs.FunctionBinding.{left_functions, link_stubs, host_functions}
 use Rattle.wl_bind.specs.FunctionSpace.{FunctionEntry, FunctionOf, InitMemory, host_function_part, made_function_part, init_memory_part, stub_part, kept_functions, functions_of, object_functions, function_parts, function_space}
 use Rattle.wl_bind.specs.FunctionTypes.{slot_type, stub_types}
 use Rattle.wl_symbols.specs.Input.{Input, keeps}
 use Rattle.wl_symbols.specs.KeptSlots.{slots_from, is_kept_slot, kept_slots, left_slots}
 use Rattle.wl_bind.specs.Made.{is_made, has_init_memory}
+use Rattle.wl_bind.specs.IndexMaps.{IsIndexMap, AreIndexMaps}
 use Rattle.wl_bind.specs.MadeIndices.{IsMadeIndex}
-use Rattle.wl_bind.specs.OutputTypes.{output_types}
+use Rattle.wl_index.specs.declared.index_map.WasmObjectIndexMap.{WasmObjectIndexMap}
+use Rattle.wl_bind.specs.OutputTypes.{output_types, AreTypeIndices}
+use Rattle.wl_bind.specs.References.{IsSettled}
 use Rattle.wl_bind.specs.Parts.{joined, by_object}
 use Rattle.wl_bind.specs.declared.binding.FunctionTarget.TheVariants.{Defined, Made, Host, Stub}
-use Rattle.wl_plan.specs.FunctionSteps.{AddsFunction, AddsFunctions, own_function_part}
+use Rattle.wl_plan.specs.FunctionSteps.{AddsFunctions, own_function_part}
 use Rattle.wl_plan.specs.Functions.{own_functions, origin_of, IsOutputFunction}
-use Rattle.wl_plan.specs.Origins.{Origin, OfStub, PlannedFunction}
+use Rattle.wl_plan.specs.Origins.{Origin, OfObject, OfStub, PlannedFunction}
 use Rattle.wl_lists.proofs.Beside.{zip_joined}
 use Rattle.wl_lists.proofs.Firsts.{in_firsts}
 use Rattle.wl_lists.proofs.In.{filter_in, IsIn, in_at, in_list, in_split, in_front, in_back, in_filter, in_map, map_in, in_if, all_mapped}
 use Rattle.wl_lists.proofs.Places.{there_is, mapped_at, all_at}
-use Rattle.wl_lists.proofs.Rows.{object_in, by_object_more}
+use Rattle.wl_lists.proofs.Rows.{object_in, by_object_more, row_found, row_within}
 use Rattle.wl_plan.proofs.ListLaws.{drop_front}
 
 -- ---- what stands at a place
@@ -223,6 +226,12 @@ contains_in types more ty same has = subst (λ (ts : List FunctionType). Contain
 pub ok_then : {T E : Type 0} (r : Result T E) (A B : Type 0) → (A → B) → OnOk r A → OnOk r B
 ok_then (Ok x) A B f h = f h
 ok_then (Err e) A B f h = tt
+
+-- the list grows by a function of that origin, with the number of its type among these
+pub record AddsFunction (types : List FunctionType) (ty : FunctionType) (origin : Origin) (old new : List PlannedFunction) : Type 0 where
+  pub number : ℕ
+  pub typed : slice_get types number ≡ Some ty
+  pub grown : new ≡ old ++ record { type_index = number; origin = origin } ∷ []
 
 -- a type that an entry has is one of the output's
 pub has_type : (input : Input) (entry : FunctionEntry) (ty : FunctionType) → HasOutputType input entry
@@ -543,37 +552,49 @@ stubs_done input k first new le so_far =
 
 -- ---- a function that an object defines
 
--- it has a type, which is one of the output's
-pub record OwnIs (input : Input) (object function : ℕ) (ty : FunctionType) : Type 0 where
-  pub typed : type_of_entry input (FunctionOf (Defined object function)) ≡ Some ty
-  pub one : Contains (output_types input) ty
+-- a kept function has a type, and the map of its object leads to it
+abbrev pub LeadsToType : Input → ℕ → Object → List ℕ → ℕ → Type 0
+LeadsToType input object o indices function =
+    (number : ℕ) × (slice_get o.functions function ≡ Some number) × HasTypeIndex input (FunctionOf (Defined object function)) indices number
 
-pub own_type : (input : Input) (object : ℕ) (o : Object) (function d : ℕ) (ty : FunctionType)
-    (numbers : List ℕ) (types : List FunctionType) → HaveTypes input
-    → ((o : Object) (i t : ℕ) → IsWhole o → slice_get o.functions i ≡ Some t → t < length o.types)
-    → AllByRecursion IsWhole input.link.objects → slice_get input.link.objects object ≡ Some o
-    → function < length o.functions → keeps input object (DefinedFunction function) ≡ true
-    → numbers ≡ o.functions → types ≡ o.types → ty ≡ get_or types (get_or numbers function d) ty
-    → OwnIs input object function ty
-own_type input object o function d ty numbers types typed fits whole at lt keep numbers-are types-are type-at =
-    let z : FunctionEntry = FunctionOf (Defined object function) in
-    let number : ℕ = get_or o.functions function d in
-    let n : slice_get o.functions function ≡ Some number = slice_get-get_or o.functions function d lt in
-    let within : number < length o.types =
-    fits o function number (all_at IsWhole input.link.objects object o whole at) n in
-    let there : ty ≡ get_or o.types number ty =
-    type-at ∙ (ap (λ (ts : List FunctionType). get_or ts (get_or numbers function d) ty) types-are
-    ∙ ap (λ (ns : List ℕ). get_or o.types (get_or ns function d) ty) numbers-are) in
-    let t : slice_get o.types number ≡ Some ty =
-    slice_get-get_or o.types number ty within ∙ ap (λ (u : FunctionType). Some u) (sym there) in
-    let is : type_of_entry input z ≡ Some ty =
-    ap (λ (found : Option Object). option_and_then
-    (λ (p : Object). option_and_then (slice_get p.types) (slice_get p.functions function)) found) at
-    ∙ (ap (λ (m : Option ℕ). option_and_then (slice_get o.types) m) n ∙ t) in
-    record {
-      typed = is;
-      one = has_type input z ty (typed z (in_list (function_space input) z (kept_stands input object o function at lt keep))) is;
-    }
+abbrev pub HaveTypeIndices : Input → Type 0
+HaveTypeIndices input = (object : ℕ) (o : Object) (indices : List ℕ) (function : ℕ) → IsSettled input → slice_get input.link.objects object ≡ Some o
+    → AreTypeIndices input object o indices → Contains (kept_functions input object o) function → LeadsToType input object o indices function
+
+pub own_leads : (input : Input) (object : ℕ) (o : Object) (indices : List ℕ) (function : ℕ) → HaveTypeIndices input → IsSettled input
+    → slice_get input.link.objects object ≡ Some o → AreTypeIndices input object o indices → function < length o.functions
+    → keeps input object (DefinedFunction function) ≡ true → LeadsToType input object o indices function
+own_leads input object o indices function have settled at are lt keep =
+    have object o indices function settled at are (in_list (kept_functions input object o) function
+    (filter_in (λ (k : ℕ). keeps input object (DefinedFunction k)) (range_with_len 0 (length o.functions)) function keep
+    (range_in 0 (length o.functions) function (omega arith) (omega (arith, lt)))))
+
+-- the number of its type is one of those of the map
+pub own_within : (input : Input) (object : ℕ) (o : Object) (indices numbers : List ℕ) (function d : ℕ) → numbers ≡ o.functions
+    → LeadsToType input object o indices function → get_or numbers function d < length indices
+own_within input object o indices numbers function d same led =
+    let number : get_or numbers function d ≡ led.0 = ap (λ (ns : List ℕ). get_or ns function d) same ∙ get_or_from_slice_get o.functions function led.0 d led.1 in
+    let within = slice_get_within indices led.0 led.2.index led.2.at in
+    omega (arith, number, within)
+
+-- and there stands the place of its type
+pub own_pushed : (input : Input) (object : ℕ) (o : Object) (indices numbers : List ℕ) (function d e index : ℕ) (old new : List PlannedFunction) → numbers ≡ o.functions
+    → index ≡ get_or indices (get_or numbers function d) e → LeadsToType input object o indices function
+    → new ≡ old ++ record { type_index = index; origin = OfObject object function } ∷ [] → AddsFunctions input (FunctionOf (Defined object function) ∷ []) old new
+own_pushed input object o indices numbers function d e index old new same is led grown =
+    let number : get_or numbers function d ≡ led.0 = ap (λ (ns : List ℕ). get_or ns function d) same ∙ get_or_from_slice_get o.functions function led.0 d led.1 in
+    let there : index ≡ led.2.index = is ∙ (ap (λ (n : ℕ). get_or indices n e) number ∙ get_or_from_slice_get indices led.0 led.2.index e led.2.at) in
+    let typed : slice_get (output_types input) index ≡ Some led.2.ty = ap (slice_get (output_types input)) there ∙ led.2.typed in
+    adds_one input (FunctionOf (Defined object function)) led.2.ty (OfObject object function) old new (record { number = index; typed = typed; grown = grown }) led.2.has refl
+
+-- the indices of the types of an object, by its map
+pub types_in_row : (input : Input) (maps : List WasmObjectIndexMap) (k : ℕ) (o : Object) (m : WasmObjectIndexMap) (indices : List ℕ) → AreIndexMaps input maps
+    → slice_get input.link.objects k ≡ Some o → m ≡ get_or maps k m → indices ≡ m.type_indices → AreTypeIndices input k o indices
+types_in_row input maps k o m indices are at is same =
+    let within = row_within (IsIndexMap input) input.link.objects maps k o are at in
+    let here : slice_get maps k ≡ Some m = slice_get-get_or maps k m within ∙ ap (λ (n : WasmObjectIndexMap). Some n) (sym is) in
+    let row : IsIndexMap input k o m = row_found (IsIndexMap input) input.link.objects maps k o m are at here in
+    subst (λ (ns : List ℕ). AreTypeIndices input k o ns) (sym same) row.types
 
 -- what one more object adds
 pub objects_more : (input : Input) (k : ℕ) (o : Object) (front : List FunctionEntry)

@@ -1,36 +1,44 @@
 -- Imports of the output, by the slots that they are.
-use Rattle.std.proofs.Common.{◌≡◌, ◌∙◌, ℕ, zero, suc, ◌+◌, ◌<◌, ◌≤◌, Bool, List, [], ◌∷◌, ◌++◌, length, filter, if◌then◌else◌, refl, sym, ap, subst, arith, Option, Some, slice_get, get_or, filter_map, map, take}
+use Rattle.std.proofs.Common.{◌≡◌, ◌∙◌, ℕ, zero, suc, ◌+◌, ◌<◌, ◌≤◌, Bool, List, [], ◌∷◌, ◌++◌, length, filter, if◌then◌else◌, refl, sym, ap, subst, arith, Option, Some, slice_get, get_or, filter_map, map, not, take, Contains}
 use Rattle.std.specs.List.{AllZip}
-use Rattle.std.specs.Option.{option_and_then, is_none}
+use Rattle.std.specs.Option.{option_and_then, is_none, unwrap_or}
 use Rattle.std.proofs.lemmas.List.{append-nil, append_assoc, take_all}
 use Rattle.std.proofs.lemmas.Option.{same_Some, get_or_from_slice_get, slice_get_within}
 use Rattle.wl_module.specs.Imports.{Imported}
 use Rattle.wl_module.specs.Types.{FunctionType}
+use Rattle.wl_index.specs.declared.index.TheConstants.{WASM_DEAD_INDEX}
+use Rattle.wl_index.specs.declared.index_map.WasmObjectIndexMap.{WasmObjectIndexMap}
 use Rattle.wl_module.specs.declared.globals.GlobalType.{GlobalType}
 use Rattle.wl_module.specs.declared.imports.ImportEntity.{ImportEntity}
 use Rattle.wl_module.specs.declared.imports.ImportEntity.TheVariants as imported
 use Rattle.wl_linking.specs.Object.{Object}
 use Rattle.wl_custom.specs.Symbols.{Symbol}
-use Rattle.wl_custom.specs.declared.symbols.WasmSymbolKind.TheVariants.{Global as GlobalKind}
+use Rattle.wl_custom.specs.declared.symbols.WasmSymbolKind.TheVariants.{Func, Global as GlobalKind}
 use Rattle.wl_symbols.specs.ImportSlots.{ImportSlot, is_slot_of, slot_at, numbered_slots, slot_imports}
-use Rattle.wl_symbols.specs.Left.{HostImport, same_import, first_imports, first_slot}
-use Rattle.wl_bind.specs.FunctionBinding.{host_functions}
-use Rattle.wl_bind.specs.FunctionSpace.{FunctionEntry, FunctionOf, function_space}
+use Rattle.wl_symbols.specs.Left.{HostImport, is_stub, same_import, first_imports, first_slot}
+use Rattle.wl_bind.specs.BindingSteps.{slot_numbers, number_at}
+use Rattle.wl_bind.specs.EntryTypes.{HasTypeIndex}
+use Rattle.wl_bind.specs.FunctionBinding.{left_functions, host_functions}
+use Rattle.wl_bind.specs.FunctionSpace.{FunctionOf}
 use Rattle.wl_bind.specs.GlobalBinding.{left_globals, by_got, host_globals}
 use Rattle.wl_symbols.specs.Input.{Input}
-use Rattle.wl_bind.specs.OutputTypes.{output_types}
+use Rattle.wl_bind.specs.OutputTypes.{output_types, AreTypeIndices}
+use Rattle.wl_bind.specs.Parts.{AreRows}
+use Rattle.wl_bind.specs.References.{IsSettled}
 use Rattle.wl_bind.specs.Shared.{function_imports, global_imports}
 use Rattle.wl_bind.specs.declared.binding.FunctionTarget.TheVariants.{Host}
-use Rattle.wl_plan.specs.ImportSteps.{AddsImports, HasTypeAmong, HasRowType, global_types_in, type_in_row}
+use Rattle.wl_plan.specs.ImportSteps.{AddsImports, HasTypeIndexIn, HasRowType, global_types_in, type_in_row, index_of_type}
 use Rattle.wl_plan.specs.Imports.{IsFunctionImport, IsGlobalImport, global_type_in, global_type_of_slot, memory_imports, AreImports}
+use Rattle.wl_plan.specs.IndexedMaps.{IsWholeMap, HaveTypeIndices}
 use Rattle.wl_plan.specs.PlannedImports.{PlannedImport}
-use Rattle.wl_plan.specs.declared.layout.OutputImportEntity.TheVariants.{Global}
+use Rattle.wl_plan.specs.declared.layout.OutputImportEntity.TheVariants.{Function, Global}
 use Rattle.wl_plan.specs.declared.placing.Placing.{Placing}
 use Rattle.wl_lists.proofs.Beside.{zip_joined}
 use Rattle.wl_lists.proofs.Firsts.{in_firsts}
-use Rattle.wl_lists.proofs.In.{IsIn, in_at, in_list, in_filter, map_in}
+use Rattle.wl_lists.proofs.In.{IsIn, at_is_in, in_at, in_filter}
 use Rattle.wl_lists.proofs.Places.{mapped_at, came_at}
-use Rattle.wl_plan.proofs.FunctionLaws.{IsLocated, HaveTypes, host_stands, left_located, slot_here, slot_object, take_next}
+use Rattle.wl_lists.proofs.Rows.{row_of_object}
+use Rattle.wl_plan.proofs.FunctionLaws.{IsLocated, left_located, slot_here, slot_object, take_next}
 
 -- ---- imports that are added
 
@@ -59,24 +67,58 @@ imports_done R hosts k first new le so_far =
 
 -- ---- functions
 
--- a host import of a function has a type, which is one of the output's
-pub host_typed : (input : Input) (k : ℕ) (h : HostImport) → HaveTypes input
-    → slice_get (function_imports input) k ≡ Some h → HasTypeAmong input.link.objects (output_types input) h
-host_typed input k h typed at =
+abbrev pub HaveHostIndices : Input → Type 0
+HaveHostIndices input = (h : HostImport) (o : Object) (indices : List ℕ) → IsSettled input → Contains (function_imports input) h
+    → slice_get input.link.objects h.object ≡ Some o → AreTypeIndices input h.object o indices
+    → (number : ℕ) × (number_at (slot_numbers input.link.objects) h.object h.slot ≡ Some number) × HasTypeIndex input (FunctionOf (Host h.object h.slot)) indices number
+
+-- the object of a host import of a function
+host_object : (input : Input) (k : ℕ) (h : HostImport) → slice_get (function_imports input) k ≡ Some h → (o : Object) × (slice_get input.link.objects h.object ≡ Some o)
+host_object input k h at =
     let hosts : List ImportSlot = first_imports (host_functions input) in
     let c = came_at first_slot hosts k h at in
     let t : ImportSlot = c.0 in
-    let z : FunctionEntry = FunctionOf (Host t.object t.number) in
-    let has = typed z (in_list (function_space input) z (host_stands input z
-    (map_in (λ (s : ImportSlot). FunctionOf (Host s.object s.number)) hosts t (in_at hosts k t c.1)))) in
-    let P : HostImport → Type 0 = λ g. HasTypeAmong input.link.objects (output_types input) g in
-    subst P c.2 (record { ty = has.ty; has = has.has; one = has.one })
+    let is : IsLocated Func input.link.objects 0 t =
+    left_located input Func t
+    (in_filter (λ (s : ImportSlot). not (is_stub input.link.objects (left_functions input) s)) (left_functions input) t
+    (in_firsts same_import (host_functions input) t (in_at hosts k t c.1))) in
+    let P : HostImport → Type 0 = λ g. (o : Object) × (slice_get input.link.objects g.object ≡ Some o) in
+    subst P c.2 (is.object, slot_object Func input.link.objects t is)
 
--- its import, with its type by its number among these
-pub typed_among : (input : Input) (types : List FunctionType) (h : HostImport) (i : PlannedImport)
-    → types ≡ output_types input → IsFunctionImport input types h i → IsFunctionImport input (output_types input) h i
-typed_among input types h i same is =
-    subst (λ (ts : List FunctionType). IsFunctionImport input ts h i) same is
+-- it has a type, and the map of its object leads to it
+pub host_typed : (input : Input) (k : ℕ) (h : HostImport) (slots : List (List ℕ)) (maps : List WasmObjectIndexMap) → HaveHostIndices input → IsSettled input
+    → slots ≡ slot_numbers input.link.objects → HaveTypeIndices input maps → slice_get (function_imports input) k ≡ Some h → HasTypeIndexIn input slots maps h
+host_typed input k h slots maps have settled same are at =
+    let o = host_object input k h at in
+    let row = row_of_object (λ object o (m : WasmObjectIndexMap). AreTypeIndices input object o m.type_indices) 0 input.link.objects maps h.object h.object o.0 are o.1 (omega arith) in
+    let led = have h o.0 row.row.type_indices settled (at_is_in (function_imports input) k h at) o.1 row.is in
+    let number : number_at slots h.object h.slot ≡ Some led.0 = ap (λ (rows : List (List ℕ)). number_at rows h.object h.slot) same ∙ led.1 in
+    record {
+      index = led.2.index;
+      there = rw (number, row.here) led.2.at;
+      typed = (led.2.ty, led.2.has, led.2.typed);
+    }
+
+-- an import under these names, with the number that was found
+pub imported_so : (input : Input) (slots : List (List ℕ)) (maps : List WasmObjectIndexMap) (h : HostImport) (i : PlannedImport) (index : Option ℕ) → HasTypeIndexIn input slots maps h
+    → (index ≡ index_of_type slots maps h) × (i.origin ≡ h.module_) × (i.name ≡ h.name) × (i.entity ≡ Function (unwrap_or index WASM_DEAD_INDEX)) → IsFunctionImport input (output_types input) h i
+imported_so input slots maps h i index is (same, origin, name, entity) =
+    let found : index ≡ Some is.index = same ∙ is.there in
+    record {
+      origin = origin;
+      name = name;
+      number = is.index;
+      entity = entity ∙ ap (λ (x : Option ℕ). Function (unwrap_or x WASM_DEAD_INDEX)) found;
+      typed = is.typed;
+    }
+
+-- maps that are whole have the indices of types
+pub whole_types : (input : Input) (g : Placing) (n : ℕ) (objects : List Object) (maps : List WasmObjectIndexMap) → AreRows (IsWholeMap input g) n objects maps
+    → AreRows (λ object o (m : WasmObjectIndexMap). AreTypeIndices input object o m.type_indices) n objects maps
+whole_types input g n [] [] are = tt
+whole_types input g n [] (m ∷ maps) are = absurd are
+whole_types input g n (o ∷ objects) [] are = absurd are
+whole_types input g n (o ∷ objects) (m ∷ maps) are = (are.0.types, whole_types input g (n + 1) objects maps are.1)
 
 -- ---- globals
 

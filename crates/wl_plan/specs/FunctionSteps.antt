@@ -1,21 +1,13 @@
 -- How functions of the output come to be.
-use Rattle.std.specs.Prelude.{◌≡◌, ℕ, List, [], ◌∷◌, ◌++◌, Some, if◌then◌else◌, slice_get}
+use Rattle.std.specs.Prelude.{◌≡◌, ℕ, List, [], ◌∷◌, ◌++◌, if◌then◌else◌}
 use Rattle.std.specs.List.{AllZip}
-use Rattle.wl_module.specs.Types.{FunctionType}
 use Rattle.wl_symbols.specs.declared.units.WasmGcUnit.TheVariants.{DefinedFunction}
 use Rattle.wl_bind.specs.FunctionSpace.{FunctionEntry, FunctionOf}
 use Rattle.wl_symbols.specs.Input.{Input, keeps}
 use Rattle.wl_bind.specs.OutputTypes.{output_types}
 use Rattle.wl_bind.specs.declared.binding.FunctionTarget.TheVariants.{Defined}
 use Rattle.wl_plan.specs.Functions.{IsOutputFunction}
-use Rattle.wl_plan.specs.Origins.{Origin, PlannedFunction}
-
--- the list grows by a function of that origin, with the number of its type among these
-pub record AddsFunction (types : List FunctionType) (ty : FunctionType) (origin : Origin)
-    (old new : List PlannedFunction) : Type 0 where
-  pub number : ℕ
-  pub typed : slice_get types number ≡ Some ty
-  pub grown : new ≡ old ++ record { type_index = number; origin = origin } ∷ []
+use Rattle.wl_plan.specs.Origins.{PlannedFunction}
 
 -- the list grows by functions that are these entries
 pub record AddsFunctions (input : Input) (entries : List FunctionEntry)

@@ -1,15 +1,17 @@
 -- How imports of the output come to be.
-use Rattle.std.specs.Prelude.{◌≡◌, ℕ, List, ◌++◌, Contains, Option, Some, slice_get}
+use Rattle.std.specs.Prelude.{◌≡◌, ℕ, List, ◌++◌, Option, Some, slice_get}
 use Rattle.std.specs.List.{AllZip, filter_map}
 use Rattle.std.specs.Option.{option_and_then}
 use Rattle.wl_module.specs.Imports.{Imported}
-use Rattle.wl_module.specs.Types.{FunctionType}
 use Rattle.wl_module.specs.declared.globals.GlobalType.{GlobalType}
 use Rattle.wl_linking.specs.Object.{Object}
-use Rattle.wl_custom.specs.declared.symbols.WasmSymbolKind.TheVariants.{Func}
-use Rattle.wl_symbols.specs.ImportSlots.{import_slots}
+use Rattle.wl_index.specs.declared.index_map.WasmObjectIndexMap.{WasmObjectIndexMap}
+use Rattle.wl_symbols.specs.Input.{Input}
 use Rattle.wl_symbols.specs.Left.{HostImport}
-use Rattle.wl_bind.specs.FunctionTypes.{slot_type}
+use Rattle.wl_bind.specs.BindingSteps.{number_at}
+use Rattle.wl_bind.specs.EntryTypes.{type_of_slot}
+use Rattle.wl_bind.specs.OutputTypes.{output_types}
+use Rattle.wl_plan.specs.Functions.{IsTypeNumber}
 use Rattle.wl_plan.specs.Imports.{global_type_in}
 use Rattle.wl_plan.specs.PlannedImports.{PlannedImport}
 
@@ -20,13 +22,21 @@ pub record AddsImports (IsImport : HostImport → PlannedImport → Type 0) (hos
   pub are : AllZip IsImport hosts more
   pub grown : new ≡ old ++ more
 
--- the slot of a host import has a type, which is one of these
-pub record HasTypeAmong (objects : List Object) (types : List FunctionType) (h : HostImport)
-    : Type 0 where
-  pub ty : FunctionType
-  pub has : option_and_then (slot_type objects)
-      (slice_get (import_slots objects h.object Func) h.slot) ≡ Some ty
-  pub one : Contains types ty
+-- where the type of the slot of a host import went, by the numbers of the types of slots and by the
+-- maps of objects
+abbrev pub index_of_type : List (List ℕ) → List WasmObjectIndexMap → HostImport → Option ℕ
+index_of_type slots maps h =
+    option_and_then
+    (λ number. option_and_then (λ (m : WasmObjectIndexMap). slice_get m.type_indices number)
+    (slice_get maps h.object))
+    (number_at slots h.object h.slot)
+
+-- there it has its type
+pub record HasTypeIndexIn (input : Input) (slots : List (List ℕ)) (maps : List WasmObjectIndexMap)
+    (h : HostImport) : Type 0 where
+  pub index : ℕ
+  pub there : index_of_type slots maps h ≡ Some index
+  pub typed : IsTypeNumber (output_types input) (type_of_slot input h.object h.slot) index
 
 -- the types of the globals that an object imports
 abbrev pub global_types_in : Object → List GlobalType

@@ -31,3 +31,9 @@ pub record IsWholeMap (input : Input) (g : Placing) (object : ℕ) (o : Object)
 -- those of all objects
 abbrev pub AreWholeMaps : Input → Placing → List WasmObjectIndexMap → Type 0
 AreWholeMaps input g maps = AreRows (IsWholeMap input g) 0 input.link.objects maps
+
+-- they have the indices of types
+abbrev pub HaveTypeIndices : Input → List WasmObjectIndexMap → Type 0
+HaveTypeIndices input maps =
+    AreRows (λ object o (m : WasmObjectIndexMap). AreTypeIndices input object o m.type_indices) 0
+    input.link.objects maps

@@ -1,20 +1,21 @@
 //! The functions of the output that aren't imported, each with its type.
 
-ghost use Rattle.std.specs.Prelude.{◌≡◌, ◌<◌, false, length, Some, Contains, IfOk, OnOk, slice_get};
+ghost use Rattle.std.specs.Prelude.{◌≡◌, ◌<◌, ◌∷◌, ◌++◌, [], false, length, Some, Contains, IfOk, OnOk, slice_get};
 ghost use Rattle.wl_symbols.specs.declared.linker_symbol.WasmLinkerSymbol.TheVariants.{CallCtors};
 ghost use Rattle.wl_bind.specs.FunctionSpace.{made_function_part, stub_part, functions_of};
-ghost use Rattle.wl_bind.specs.OutputTypes.{output_types};
+ghost use Rattle.wl_bind.specs.IndexMaps.{AreIndexMaps};
+ghost use Rattle.wl_bind.specs.OutputTypes.{output_types, AreTypeIndices};
 ghost use Rattle.wl_bind.specs.References.{IsSettled};
 ghost use Rattle.wl_plan.specs.Functions.{AreOwnFunctions};
 ghost use Rattle.wl_plan.specs.Bound.{AreBindings};
-ghost use Rattle.wl_plan.specs.FunctionSteps.{AddsFunction, AddsFunctions, own_function_part};
+ghost use Rattle.wl_plan.specs.FunctionSteps.{AddsFunctions, own_function_part};
 ghost use Rattle.wl_plan.specs.OriginsSeen.{origin_seen};
 
 use crate::bindings::Bindings;
 use crate::layout::{FunctionOrigin, OutputFunction};
 use std::alloc::{AllocError, Global};
-use wl_bind::{TypeMerger, entries_have_types, stub_imports};
-use wl_index::WASM_DEAD_INDEX;
+use wl_bind::{TypeMerger, entries_have_types, stub_imports, types_have_indices};
+use wl_index::{WASM_DEAD_INDEX, WasmObjectIndexMap};
 use wl_linking::{File, whole_objects};
 use wl_module::FuncType;
 use wl_symbols::{LinkInput, WasmGcUnit, WasmLinkerSymbol};
@@ -33,21 +34,16 @@ pub(crate) fn type_number(types: &TypeMerger, ty: &FuncType) -> u32
     }
 }
 
-/// Adds a function of that type.
+/// Adds a function of the type of that number.
 fn push_function<'a>(
     functions: &mut Vec<OutputFunction<'a>>,
-    types: &TypeMerger,
-    ty: &FuncType,
+    type_index: u32,
     origin: FunctionOrigin<'a>,
 ) -> Result<(), AllocError>
-    requires { Contains types.now ty.now }
-    ensures { OnOk result (AddsFunction types.now ty.now (origin_seen origin.entry)
-        functions.old.items functions.new.items) }
+    ensures { OnOk result (functions.new.items ≡ functions.old.items
+        ++ record { type_index = type_index; origin = origin_seen origin.entry } ∷ []) }
 {
-    functions.push(OutputFunction {
-        type_index: type_number(types, ty),
-        origin,
-    })?;
+    functions.push(OutputFunction { type_index, origin })?;
     Ok(())
 }
 
@@ -71,8 +67,9 @@ fn push_call_ctors<'a>(
         return Ok(());
     }
     let ty = FuncType::new(Vec::new(alloc), Vec::new(alloc));
+    let type_index = type_number(&bindings.types, &ty);
     let origin = FunctionOrigin::Made(WasmLinkerSymbol::CallCtors);
-    push_function(functions, &bindings.types, &ty, origin)
+    push_function(functions, type_index, origin)
 }
 
 /// Adds the stubs.
@@ -91,29 +88,30 @@ fn push_stubs<'a>(
     let stubs = stub_imports(alloc, input)?;
     let types = bindings.stubs.as_slice();
     for (place, stub) in stubs.as_slice().iter().enumerate() {
+        let type_index = type_number(&bindings.types, &types[place]);
         let origin = FunctionOrigin::Stub { name: stub.name };
-        push_function(functions, &bindings.types, &types[place], origin)?;
+        push_function(functions, type_index, origin)?;
     }
     Ok(())
 }
 
-/// Adds a function of an object, where it is kept.
+/// Adds a function of an object, where it is kept. Its type is where that of the object went.
 fn push_kept<'a>(
     functions: &mut Vec<OutputFunction<'a>>,
     input: &LinkInput<'_, 'a>,
-    types: &TypeMerger,
+    types: &[u32],
     object: usize,
     file: &File<'a>,
     function: usize,
 ) -> Result<(), AllocError>
     requires settled { IsSettled input.now }
-    requires types { types.now ≡ output_types input.now }
+    requires types { AreTypeIndices input.now object file.now types.now }
     requires here { slice_get input.now.link.objects object ≡ Some file.now }
     requires within { function < length file.now.functions }
     ensures { OnOk result (AddsFunctions input.now (own_function_part input.now object function)
         functions.old.items functions.new.items) }
 {
-    entries_have_types();
+    types_have_indices();
     whole_objects();
     let unit = function as u32;
     if !input
@@ -122,11 +120,10 @@ fn push_kept<'a>(
     {
         return Ok(());
     }
-    let ty = &file.types()[file.functions()[function] as usize];
+    let type_index = types[file.functions()[function] as usize];
     push_function(
         functions,
-        types,
-        ty,
+        type_index,
         FunctionOrigin::Object { object, unit },
     )
 }
@@ -135,12 +132,12 @@ fn push_kept<'a>(
 fn push_functions<'a>(
     functions: &mut Vec<OutputFunction<'a>>,
     input: &LinkInput<'_, 'a>,
-    types: &TypeMerger,
+    types: &[u32],
     object: usize,
     file: &File<'a>,
 ) -> Result<(), AllocError>
     requires settled { IsSettled input.now }
-    requires types { types.now ≡ output_types input.now }
+    requires types { AreTypeIndices input.now object file.now types.now }
     requires here { slice_get input.now.link.objects object ≡ Some file.now }
     ensures { OnOk result (AddsFunctions input.now (functions_of input.now object file.now)
         functions.old.items functions.new.items) }
@@ -160,8 +157,10 @@ pub(crate) fn own_functions<'a>(
     alloc: Global,
     input: &LinkInput<'_, 'a>,
     bindings: &Bindings<'a>,
+    maps: &[WasmObjectIndexMap],
 ) -> Result<Vec<OutputFunction<'a>>, AllocError>
     requires bindings { AreBindings input.now bindings.now }
+    requires maps { AreIndexMaps input.now maps.now }
     requires alone { input.now.link.args.shared_memory ≡ false }
     ensures { IfOk result
         (λ functions. AreOwnFunctions input.now (output_types input.now) functions.items) }
@@ -170,7 +169,8 @@ pub(crate) fn own_functions<'a>(
     push_call_ctors(alloc, &mut functions, input, bindings)?;
     push_stubs(alloc, &mut functions, input, bindings)?;
     for (object, file) in input.files().as_slice().iter().enumerate() {
-        push_functions(&mut functions, input, &bindings.types, object, file)?;
+        let types = maps[object].type_indices.as_slice();
+        push_functions(&mut functions, input, types, object, file)?;
     }
     Ok(functions)
 }

@@ -2,20 +2,20 @@
 
 ghost use Rattle.std.specs.Prelude.{◌≡◌, ◌++◌, map, Some, IfOk, OnOk};
 ghost use Rattle.std.specs.Option.{option_to_list};
-ghost use Rattle.wl_bind.specs.BindingSteps.{slot_numbers};
+ghost use Rattle.wl_symbols.specs.Input.{Input as Linked};
 ghost use Rattle.wl_bind.specs.OutputTypes.{output_types};
 ghost use Rattle.wl_bind.specs.Shared.{function_imports, global_imports};
 ghost use Rattle.wl_plan.specs.Bound.{AreBindings};
-ghost use Rattle.wl_plan.specs.ImportSteps.{AddsImports, HasTypeAmong, HasRowType, global_types_in, type_in_row};
+ghost use Rattle.wl_plan.specs.ImportSteps.{AddsImports, HasTypeIndexIn, HasRowType, global_types_in, type_in_row, index_of_type};
+ghost use Rattle.wl_plan.specs.IndexedMaps.{AreWholeMaps, HaveTypeIndices};
 ghost use Rattle.wl_plan.specs.Imports.{IsFunctionImport, IsGlobalImport, global_type_in, memory_imports, AreImports};
 
 use crate::bindings::Bindings;
-use crate::functions::type_number;
 use crate::layout::{OutputImport, OutputImportEntity};
 use crate::placing::Placing;
 use std::alloc::{AllocError, Global};
-use wl_bind::{SlotTypes, TypeMerger, entries_have_types, type_of_slot};
-use wl_index::WASM_DEAD_INDEX;
+use wl_bind::{SlotTypes, types_have_indices};
+use wl_index::{WASM_DEAD_INDEX, WasmObjectIndexMap};
 use wl_linking::{File, FileList};
 use wl_lists::ItemList;
 use wl_module::{GlobalType, ImportEntity};
@@ -24,21 +24,29 @@ use wl_words::WasmArgs;
 
 // ---- functions
 
-/// A function that the host is asked for.
-fn function_import<'a>(
-    input: &LinkInput<'_, '_>,
+/// Where the type went under which a function is imported.
+fn index_of_type(
     slots: &SlotTypes,
-    types: &TypeMerger,
+    maps: &[WasmObjectIndexMap],
+    host: &HostImport<'_>,
+) -> Option<u32>
+    ensures { result ≡ index_of_type slots.now maps.now host.now }
+{
+    let number = slots.number(host.object, host.slot)?;
+    let map = maps.get(host.object)?;
+    map.type_indices.as_slice().get(number as usize).copied()
+}
+
+/// A function that the host is asked for. Its type is where that of the object went.
+fn function_import<'a>(
+    slots: &SlotTypes,
+    maps: &[WasmObjectIndexMap],
     host: &HostImport<'a>,
 ) -> OutputImport<'a>
-    requires slots { slots.now ≡ slot_numbers input.now.link.objects }
-    requires typed { HasTypeAmong input.now.link.objects types.now host.now }
-    ensures { IsFunctionImport input.now types.now host.now result }
+    ensures { (input : Linked) → HasTypeIndexIn input slots.now maps.now host.now
+        → IsFunctionImport input (output_types input) host.now result }
 {
-    let type_index = match type_of_slot(input.files(), slots, host.object, host.slot) {
-        Some(ty) => type_number(types, ty),
-        None => WASM_DEAD_INDEX,
-    };
+    let type_index = index_of_type(slots, maps, host).unwrap_or(WASM_DEAD_INDEX);
     OutputImport {
         module: host.module,
         name: host.name,
@@ -52,16 +60,17 @@ fn push_functions<'a>(
     imports: &mut Vec<OutputImport<'a>>,
     input: &LinkInput<'_, 'a>,
     bindings: &Bindings<'a>,
+    maps: &[WasmObjectIndexMap],
 ) -> Result<(), AllocError>
     requires bindings { AreBindings input.now bindings.now }
+    requires maps { HaveTypeIndices input.now maps.now }
     ensures { OnOk result (AddsImports (IsFunctionImport input.now (output_types input.now))
         (function_imports input.now) imports.old.items imports.new.items) }
 {
-    entries_have_types();
+    types_have_indices();
     let slots = SlotTypes::new(alloc, input.files())?;
-    let types = &bindings.types;
     for host in bindings.shared.functions() {
-        imports.push(function_import(input, &slots, types, host))?;
+        imports.push(function_import(&slots, maps, host))?;
     }
     Ok(())
 }
@@ -171,14 +180,16 @@ pub(crate) fn output_imports<'a>(
     input: &LinkInput<'_, 'a>,
     args: &'a WasmArgs,
     bindings: &Bindings<'a>,
+    maps: &[WasmObjectIndexMap],
     placing: &Placing<'a>,
 ) -> Result<ItemList<OutputImport<'a>>, AllocError>
     requires args { args.now ≡ input.now.link.args }
     requires bindings { AreBindings input.now bindings.now }
+    requires maps { AreWholeMaps input.now placing.now maps.now }
     ensures { IfOk result (AreImports input.now (output_types input.now) placing.now) }
 {
     let mut imports = Vec::new(alloc);
-    push_functions(alloc, &mut imports, input, bindings)?;
+    push_functions(alloc, &mut imports, input, bindings, maps)?;
     push_globals(alloc, &mut imports, input, bindings)?;
     push_memory(&mut imports, input, args, placing)?;
     Ok(ItemList::new(imports))

@@ -116,7 +116,7 @@ fn seen_of<'a>(
     ensures clear { OnOk result (Clear (AreTooManyWrappers input.now)) }
     ensures err { IfErr result (Refuses (AreTooManyWrappers input.now)) }
 {
-    let own = own_functions(alloc, input, bindings)?;
+    let own = own_functions(alloc, input, bindings, sources.maps)?;
     let hosts = bindings.shared.functions().len();
     let interface = output_interface(alloc, sources, hosts, hosts + own.len())?;
     let functions = with_wrappers(own, input, hosts, interface.wrappers.as_slice())?;

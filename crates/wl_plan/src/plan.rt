@@ -188,8 +188,9 @@ fn output_names<'a>(
     ensures err { IfErr result (λ e. e ≡ OutOfMemory) }
 {
     let (input, placing, bindings) = (things.input, things.placing, things.bindings);
+    let maps = things.maps;
     Ok(OutputNames {
-        imports: output_imports(alloc, input, args, bindings, placing)?,
+        imports: output_imports(alloc, input, args, bindings, maps, placing)?,
         debug_sections: output_debug_sections(alloc, input.files(), args)?,
     })
 }

@@ -4,9 +4,11 @@ use Rattle.std.proofs.lemmas.Option.{slice_get-get_or}
 use Rattle.wl_linking.specs.Object.{Object}
 use Rattle.wl_symbols.specs.declared.linker_symbol.WasmLinkerSymbol.TheVariants.{CallCtors}
 use Rattle.wl_bind.specs.FunctionSpace.{FunctionEntry, made_function_part, stub_part}
+use Rattle.wl_bind.specs.IndexMaps.{IsIndexMap}
 use Rattle.wl_plan.specs.FunctionSteps.{AddsFunctions}
 use Rattle.wl_plan.specs.Origins.{PlannedFunction}
-use Rattle.wl_plan.proofs.FunctionLaws.{adds_more, adds_same, objects_done, objects_more}
+use Rattle.wl_plan.proofs.FunctionLaws.{adds_more, adds_same, objects_done, objects_more, types_in_row}
+use Rattle.wl_lists.proofs.Rows.{object_here, row_within}
 use Rattle.wl_plan.proofs.functions.own_functions.Goals as goal
 
 pub loop-object-init : goal.loop-object-init
@@ -22,6 +24,22 @@ loop-object-init c =
     adds_same input (ctors ++ stubs) ((ctors ++ stubs) ++ []) [] new (sym (append-nil (ctors ++ stubs)))
     (subst (λ (fs : List PlannedFunction). AddsFunctions input (ctors ++ stubs) fs new) c.new-functions.ensures.items
     both)
+
+pub bounds-maps-types : goal.bounds-maps-types
+bounds-maps-types c =
+    let objects = c.args.input.now.link.objects in
+    let k = c.loop-object.object in
+    let list : c.as_slice-file-items.result.now ≡ objects = c.as_slice-file-items.ensures.objects ∙ c.files.ensures.objects in
+    row_within (IsIndexMap c.args.input.now) objects c.args.maps.now k c.file-item.result c.requires.maps
+    (object_here objects c.as_slice-file-items.result.now k c.file-item.result list c.loop-object-test.true c.file-item.is)
+
+pub push_functions-requires-clause-types : goal.push_functions-requires-clause-types
+push_functions-requires-clause-types c =
+    let input = c.args.input.now in
+    let k = c.loop-object.object in
+    let list : c.as_slice-file-items.result.now ≡ input.link.objects = c.as_slice-file-items.ensures.objects ∙ c.files.ensures.objects in
+    let at = object_here input.link.objects c.as_slice-file-items.result.now k c.file-item.result list c.loop-object-test.true c.file-item.is in
+    types_in_row input c.args.maps.now k c.file-item.result c.index-maps-types.result c.as_slice-types.result.now c.requires.maps at c.index-maps-types.is c.as_slice-types.ensures
 
 pub loop-object-preserved : goal.loop-object-preserved
 loop-object-preserved c =

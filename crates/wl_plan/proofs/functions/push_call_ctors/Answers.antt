@@ -1,15 +1,15 @@
-use Rattle.std.proofs.Common.{◌∙◌, [], ◌∷◌, not, ap, sym, refl}
+use Rattle.std.proofs.Common.{◌≡◌, ◌∙◌, ◌++◌, [], ◌∷◌, not, ap, sym, refl}
 use Rattle.wl_symbols.specs.declared.linker_symbol.WasmLinkerSymbol.TheVariants.{CallCtors}
 use Rattle.wl_bind.specs.FunctionSpace.{FunctionOf, made_function_part}
 use Rattle.wl_bind.specs.OutputTypes.{output_types}
 use Rattle.wl_bind.specs.declared.binding.FunctionTarget.TheVariants.{Made}
-use Rattle.wl_plan.specs.FunctionSteps.{AddsFunction, AddsFunctions}
+use Rattle.wl_plan.specs.FunctionSteps.{AddsFunctions}
 use Rattle.wl_plan.specs.Origins.{OfLinker}
 use Rattle.wl_plan.proofs.FunctionLaws.{CtorsAre, adds_none, adds_same, contains_in, ctors_are, no_index, ok_then, pushed}
 use Rattle.wl_plan.proofs.functions.push_call_ctors.Goals as goal
 
-pub push_function-requires : goal.push_function-requires
-push_function-requires c =
+pub type_number-type_index-requires : goal.type_number-type_index-requires
+type_number-type_index-requires c =
     let input = c.args.input.now in
     let b = c.requires.bindings in
     let is : CtorsAre input c.new-ty.result =
@@ -40,9 +40,9 @@ returns c =
     (λ entry has. c.entries_have_types.ensures input entry b.settled has)
     (c.index.ensures input b.indices) (c.is_none.ensures ∙ ap not c.if-is_none.false) c.new-ty.ensures
     c.new.ensures.items c.new-2.ensures.items in
-    ok_then c.push_function.result (AddsFunction types ty (OfLinker CallCtors) old new)
+    ok_then c.push_function.result (new ≡ old ++ record { type_index = c.type_number-type_index.result; origin = OfLinker CallCtors } ∷ [])
     (AddsFunctions input (made_function_part input CallCtors) old new)
-    (λ adds. adds_same input (FunctionOf (Made CallCtors) ∷ []) (made_function_part input CallCtors) old new
+    (λ grown. adds_same input (FunctionOf (Made CallCtors) ∷ []) (made_function_part input CallCtors) old new
     (sym is.part)
     (pushed input types (FunctionOf (Made CallCtors)) ty (OfLinker CallCtors) old new b.types is.typed refl
-    adds)) c.push_function.ensures
+    (record { number = c.type_number-type_index.result; typed = c.type_number-type_index.ensures; grown = grown }))) c.push_function.ensures

@@ -23,8 +23,8 @@ bounds-types-place c =
 pub loop-place-init : goal.loop-place-init
 loop-place-init c = adds_none c.args.input.now c.args.functions.now.items
 
-pub push_function-requires : goal.push_function-requires
-push_function-requires c =
+pub type_number-type_index-requires : goal.type_number-type_index-requires
+type_number-type_index-requires c =
     let input = c.args.input.now in
     let k = c.loop-place.place in
     let b = c.requires.bindings in
@@ -57,7 +57,9 @@ loop-place-preserved c =
     (c.index-types-place.is ∙ ap (λ (ts : List FunctionType). get_or ts k ty) types) in
     stub_more input k ty c.args.bindings.now.types h.name c.stub.inside.name.now c.args.functions.now.items
     c.loop-place.functions.items c.push_function.new.functions.items b.types
-    (ap (λ (g : HostImport). g.name) c.stub.view_is) is c.in_ok-push_function.ensures c.loop-place.invariant
+    (ap (λ (g : HostImport). g.name) c.stub.view_is) is
+    (record { number = c.type_number-type_index.result; typed = c.type_number-type_index.ensures; grown = c.in_ok-push_function.ensures })
+    c.loop-place.invariant
 
 pub returns : goal.returns
 returns c =

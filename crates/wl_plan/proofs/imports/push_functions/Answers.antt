@@ -1,12 +1,11 @@
 use Rattle.std.proofs.Common.{◌≡◌, ◌∙◌, ◌<◌, ◌≤◌, List, length, get_or, ap, sym, subst, Some, slice_get}
 use Rattle.std.proofs.lemmas.Option.{slice_get-get_or}
-use Rattle.wl_module.specs.Types.{FunctionType}
 use Rattle.wl_symbols.specs.Left.{HostImport}
 use Rattle.wl_bind.specs.OutputTypes.{output_types}
 use Rattle.wl_bind.specs.Shared.{Shared, function_imports}
-use Rattle.wl_plan.specs.ImportSteps.{HasTypeAmong}
+use Rattle.wl_plan.specs.ImportSteps.{HasTypeIndexIn}
 use Rattle.wl_plan.specs.Imports.{IsFunctionImport}
-use Rattle.wl_plan.proofs.ImportLaws.{adds_nothing, host_typed, import_more, imports_done, typed_among}
+use Rattle.wl_plan.proofs.ImportLaws.{adds_nothing, host_typed, import_more, imports_done}
 use Rattle.wl_plan.proofs.imports.push_functions.Goals as goal
 
 pub loop-host-init : goal.loop-host-init
@@ -14,8 +13,8 @@ loop-host-init c =
     let input = c.args.input.now in
     adds_nothing (IsFunctionImport input (output_types input)) c.args.imports.now.items
 
-pub function_import-requires-clause-typed : goal.function_import-requires-clause-typed
-function_import-requires-clause-typed c =
+pub loop-host-preserved : goal.loop-host-preserved
+loop-host-preserved c =
     let input = c.args.input.now in
     let b = c.requires.bindings in
     let k = c.loop-host.host-index in
@@ -28,26 +27,12 @@ function_import-requires-clause-typed c =
     c.host-item.is ∙ ap (λ (hs : List HostImport). get_or hs k h) hosts in
     let at : slice_get (function_imports input) k ≡ Some h =
     slice_get-get_or (function_imports input) k h lt ∙ ap (λ (g : HostImport). Some g) (sym is) in
-    subst (λ (ts : List FunctionType). HasTypeAmong input.link.objects ts h) (sym b.types)
-    (host_typed input k h (λ entry has. c.entries_have_types.ensures input entry b.settled has) at)
-
-pub loop-host-preserved : goal.loop-host-preserved
-loop-host-preserved c =
-    let input = c.args.input.now in
-    let k = c.loop-host.host-index in
-    let h = c.host-item.result in
-    let hosts : c.functions-host-items.result.now ≡ function_imports input =
-    c.functions-host-items.ensures ∙ ap (λ (s : Shared). s.functions) c.requires.bindings.shared in
-    let lt : k < length (function_imports input) =
-    subst (λ (hs : List HostImport). k < length hs) hosts c.loop-host-test.true in
-    let is : h ≡ get_or (function_imports input) k h =
-    c.host-item.is ∙ ap (λ (hs : List HostImport). get_or hs k h) hosts in
-    let at : slice_get (function_imports input) k ≡ Some h =
-    slice_get-get_or (function_imports input) k h lt ∙ ap (λ (g : HostImport). Some g) (sym is) in
+    let typed : HasTypeIndexIn input c.in_ok-slots.slots c.args.maps.now h =
+    host_typed input k h c.in_ok-slots.slots c.args.maps.now (λ host o. c.types_have_indices.ensures.hosts input host o)
+    b.settled c.in_ok-slots.ensures c.requires.maps at in
     import_more (IsFunctionImport input (output_types input)) (function_imports input) k h c.function_import.result
     c.args.imports.now.items c.loop-host.imports.items c.push.new.self.items at
-    (typed_among input c.args.bindings.now.types h c.function_import.result c.requires.bindings.types
-    c.function_import.ensures) c.in_ok-push.ensures.items c.loop-host.invariant
+    (c.function_import.ensures input typed) c.in_ok-push.ensures.items c.loop-host.invariant
 
 pub returns : goal.returns
 returns c =
