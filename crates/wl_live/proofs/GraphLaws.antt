@@ -5,9 +5,8 @@ use Rattle.wl_symbols.specs.Units.{units_of, exists, unit_number, unit_number_if
 use Rattle.wl_symbols.specs.References.{Refers}
 use Rattle.wl_symbols.specs.Roots.{IsRoot}
 use Rattle.wl_live.specs.Facts.{Facts, AreAllFacts}
-use Rattle.wl_live.specs.Table.{found, edge_of, references, roots}
+use Rattle.wl_live.specs.Table.{Reference, found, edge_of, references, roots}
 use Rattle.wl_live.specs.UnitGraph.{Graph, edge_between, IsGraphOf}
-use Rattle.wl_live.specs.declared.references.Reference.{Reference}
 use Rattle.wl_symbols.specs.declared.units.LinkUnit.{LinkUnit}
 use Rattle.wl_symbols.specs.declared.units.UnitCounts.{UnitCounts}
 use Rattle.wl_symbols.proofs.NumberingLaws.{number_if_found, number_if_parts, unit_number-injective}

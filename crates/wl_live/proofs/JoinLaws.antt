@@ -1,5 +1,5 @@
 -- Lists that are joined end to end, and what stands in them.
-use Rattle.std.proofs.Common.{◌≡◌, ℕ, zero, suc, ◌+◌, List, [], ◌∷◌, ◌++◌, map, inl, inr, refl, ap, sym, ◌∙◌, subst, arith, Option, Some, None, slice_get, Contains, length, get_or, drop, drop-cons, append_assoc, ◌<◌}
+use Rattle.std.proofs.Common.{◌≡◌, ℕ, zero, suc, ◌+◌, List, [], ◌∷◌, ◌++◌, map, inl, inr, refl, sym, subst, arith, Option, Some, None, slice_get, Contains}
 use Rattle.std.specs.List.{flat_map}
 use Rattle.std.specs.Option.{option_map, option_to_list}
 use Rattle.std.proofs.lemmas.List.Elements.{Contains-append_left, Contains-append_right, Contains-append_cases}
@@ -58,17 +58,6 @@ in_map f (x ∷ xs) y m =
       | inl e ↦ (x, Contains-here x xs, e)
       | inr there ↦ let r = in_map f xs y there in (r.0, Contains-there x r.0 xs r.1, r.2)
     ]
-
-pub flat_map_drop : {X Y : Type 0} (f : X → List Y) (xs : List X) (k : ℕ) (d : X) → k < length xs → flat_map f (drop k xs) ≡ f (get_or xs k d) ++ flat_map f (drop (k + 1) xs)
-flat_map_drop {X = X} f xs k d lt =
-    let one : suc k ≡ k + 1 = omega arith in
-    ap (λ (l : List X). flat_map f l) (drop-cons xs k d lt) ∙ ap (λ (n : ℕ). f (get_or xs k d) ++ flat_map f (drop n xs)) one
-
--- one more part of a list that is joined
-pub joined_more : {X Y : Type 0} (f : X → List Y) (xs : List X) (k : ℕ) (d : X) (old new all : List Y) → k < length xs → new ≡ old ++ f (get_or xs k d) → old ++ flat_map f (drop k xs) ≡ all → new ++ flat_map f (drop (k + 1) xs) ≡ all
-joined_more {Y = Y} f xs k d old new all lt e so_far =
-    ap (λ (l : List Y). l ++ flat_map f (drop (k + 1) xs)) e
-    ∙ (append_assoc old (f (get_or xs k d)) (flat_map f (drop (k + 1) xs)) ∙ (ap (λ (l : List Y). old ++ l) (sym (flat_map_drop f xs k d lt)) ∙ so_far))
 
 -- ---- what there is
 

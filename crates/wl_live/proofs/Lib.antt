@@ -1,4 +1,6 @@
 pub mod ReachLaws
+pub mod TableLaws
+pub mod FollowedLaws
 pub mod JoinLaws
 pub mod RootLaws
 pub mod ReferenceLaws

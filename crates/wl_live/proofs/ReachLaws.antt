@@ -8,11 +8,10 @@ use Rattle.wl_reach.specs.Graph.{HasEdge, HasEdges}
 use Rattle.wl_reach.specs.declared.graph.Edge.{Edge}
 use Rattle.wl_lists.proofs.In.{Contains-here, Contains-there, Contains-cons_cases}
 use Rattle.wl_reach.proofs.ChainLaws.{IsReached-root, IsReached-step, IsReached-closed}
-use Rattle.wl_live.specs.declared.references.Reference.{Reference}
 use Rattle.wl_symbols.specs.declared.units.LinkUnit.{LinkUnit}
 use Rattle.wl_symbols.specs.declared.units.UnitCounts.{UnitCounts}
 use Rattle.wl_symbols.specs.Units.{exists, unit_number, unit_number_if, total_of}
-use Rattle.wl_live.specs.Table.{found, edge_of, Leads, Begins}
+use Rattle.wl_live.specs.Table.{Reference, found, edge_of, Leads, Begins}
 use Rattle.wl_live.specs.Marking.{UnitsReached}
 use Rattle.wl_symbols.proofs.NumberingLaws.{number_if_found, number_if_parts, unit_number-injective, unit_number-lt}
 

@@ -24,10 +24,9 @@ use Rattle.wl_symbols.specs.DefinedUnits.{unit_at, replacing_unit, other_unit}
 use Rattle.wl_symbols.specs.References.{HasRelocation, RefersBySymbol, RefersByNumber, RefersBySlot, Refers}
 use Rattle.wl_symbols.specs.Roots.{IsRoot}
 use Rattle.wl_live.specs.Facts.{Facts, use_of, section_uses, uses_of, slot_unit, slot_use, slot_uses_from, slot_uses, segment_uses, AreSegmentUses, AreFacts, AreAllFacts}
-use Rattle.wl_live.specs.Table.{reference, symbol_references, user_of, use_references, slot_references, segment_reference, object_references, references_from, references, Leads, Begins, roots}
+use Rattle.wl_live.specs.Table.{Reference, reference, symbol_references, user_of, use_references, slot_references, segment_reference, object_references, references_from, references, Leads, Begins, roots}
 use Rattle.wl_live.specs.declared.object_facts.SymbolUse.{SymbolUse}
 use Rattle.wl_live.specs.declared.object_facts.SegmentUse.{SegmentUse}
-use Rattle.wl_live.specs.declared.references.Reference.{Reference}
 use Rattle.wl_symbols.specs.declared.units.LinkUnit.{LinkUnit}
 use Rattle.wl_symbols.specs.declared.units.UnitCounts.{UnitCounts}
 use Rattle.wl_symbols.specs.declared.units.WasmGcUnit.{WasmGcUnit}
@@ -343,46 +342,57 @@ object_in link facts k f x at m =
     let number : k ≡ 0 + k = omega arith in
     joined_in (object_references link ns) (references_from link ns) (λ i x xs. refl) 0 facts k f x at (subst (λ (n : ℕ). Contains (object_references link ns n f) x) number m)
 
-pub use_in : (link : Link) (facts : List Facts) (u v : LinkUnit) → AreAllFacts link.objects facts → RefersBySymbol link u v → Contains (references link (units_of link.objects) facts) (refers_to u v)
-use_in link facts u v all b =
+-- what an object says is that of the objects before
+facts_here : (link : Link) (k : ℕ) (o object : Object) (f : Facts) → slice_get link.objects k ≡ Some o → slice_get link.objects k ≡ Some object → AreFacts o f → AreFacts object f
+facts_here link k o object f here there a = subst (λ (x : Object). AreFacts x f) (same_Some o object (sym here ∙ there)) a
+
+use_in : (link : Link) (f : Facts) (u v : LinkUnit) (b : RefersBySymbol link u v) → AreFacts b.object f → Contains (object_references link (units_of link.objects) u.object f) (refers_to u v)
+use_in link f u v b a =
     let ns = units_of link.objects in
-    let z = zip_right AreFacts link.objects facts u.object b.object all b.here in
     let used : SymbolUse = record { unit = u.unit; symbol = b.relocation.index } in
-    let listed : Contains z.0.uses used = subst (λ (l : List SymbolUse). Contains l used) (sym z.2.uses) (uses_in b.object u.unit b.relocation b.holds b.other) in
-    object_in link facts u.object z.0 (refers_to u v) z.1
-    (Contains-append_left (flat_map (use_references link ns u.object) z.0.uses) _ (refers_to u v)
-    (flat_in (use_references link ns u.object) z.0.uses used (refers_to u v) listed
-    (named_symbol_in link u v b.relocation.index (symbol_in link.objects u.object b.relocation.index) b.symbol (symbol_found link.objects u.object b.relocation.index b.object b.symbol b.here b.names) b.leads)))
+    let listed : Contains f.uses used = subst (λ (l : List SymbolUse). Contains l used) (sym a.uses) (uses_in b.object u.unit b.relocation b.holds b.other) in
+    Contains-append_left (flat_map (use_references link ns u.object) f.uses) _ (refers_to u v)
+    (flat_in (use_references link ns u.object) f.uses used (refers_to u v) listed
+    (named_symbol_in link u v b.relocation.index (symbol_in link.objects u.object b.relocation.index) b.symbol (symbol_found link.objects u.object b.relocation.index b.object b.symbol b.here b.names) b.leads))
 
-pub slot_in : (link : Link) (facts : List Facts) (u v : LinkUnit) → AreAllFacts link.objects facts → RefersBySlot link u v → Contains (references link (units_of link.objects) facts) (refers_to u v)
-slot_in link facts u v all b =
+slot_in : (link : Link) (f : Facts) (u v : LinkUnit) (b : RefersBySlot link u v) → AreFacts b.object f → Contains (object_references link (units_of link.objects) u.object f) (refers_to u v)
+slot_in link f u v b a =
     let ns = units_of link.objects in
-    let z = zip_right AreFacts link.objects facts u.object b.object all b.here in
     let used : SymbolUse = record { unit = u.unit; symbol = b.number } in
-    let listed : Contains z.0.slots used = subst (λ (l : List SymbolUse). Contains l used) (sym z.2.slots) (slots_in b.object b.number b.symbol u.unit b.at b.undefined b.slot) in
-    object_in link facts u.object z.0 (refers_to u v) z.1
-    (Contains-append_right (flat_map (use_references link ns u.object) z.0.uses) _ (refers_to u v)
-    (Contains-append_left (flat_map (slot_references link ns u.object) z.0.slots) (map (segment_reference u.object) z.0.segments) (refers_to u v)
-    (flat_in (slot_references link ns u.object) z.0.slots used (refers_to u v) listed (reference_in u v (other_unit link ns u.object b.number) b.leads))))
+    let listed : Contains f.slots used = subst (λ (l : List SymbolUse). Contains l used) (sym a.slots) (slots_in b.object b.number b.symbol u.unit b.at b.undefined b.slot) in
+    Contains-append_right (flat_map (use_references link ns u.object) f.uses) _ (refers_to u v)
+    (Contains-append_left (flat_map (slot_references link ns u.object) f.slots) (map (segment_reference u.object) f.segments) (refers_to u v)
+    (flat_in (slot_references link ns u.object) f.slots used (refers_to u v) listed (reference_in u v (other_unit link ns u.object b.number) b.leads)))
 
-pub number_in : OneNumbers → (link : Link) (facts : List Facts) (u v : LinkUnit) → AreAllFacts link.objects facts → RefersByNumber link u v → Contains (references link (units_of link.objects) facts) (refers_to u v)
-number_in only link facts u v all b =
+number_in : OneNumbers → (link : Link) (f : Facts) (u v : LinkUnit) (b : RefersByNumber link u v) → AreFacts b.object f → Contains (object_references link (units_of link.objects) u.object f) (refers_to u v)
+number_in only link f u v b a =
     let ns = units_of link.objects in
-    let z = zip_right AreFacts link.objects facts u.object b.object all b.here in
     let used : SegmentUse = record { function = 0 + b.function; segment = b.number.index } in
-    let listed : Contains z.0.segments used = segments_in only 0 b.object.bodies z.0.segments b.function b.body b.numbers b.number z.2.segments b.has b.are b.one in
+    let listed : Contains f.segments used = segments_in only 0 b.object.bodies f.segments b.function b.body b.numbers b.number a.segments b.has b.are b.one in
     let number : 0 + b.function ≡ b.function = omega arith in
     let from : at_object u.object (DefinedFunction (0 + b.function)) ≡ u = ap (λ (n : ℕ). at_object u.object (DefinedFunction n)) number ∙ ap (λ (x : WasmGcUnit). at_object u.object x) (sym b.from) in
     let same : segment_reference u.object used ≡ refers_to u v = ap (λ (x : LinkUnit). refers_to x (at_object u.object (DataSegment b.number.index))) from ∙ ap (λ (x : LinkUnit). refers_to u x) (sym b.to) in
-    object_in link facts u.object z.0 (refers_to u v) z.1
-    (Contains-append_right (flat_map (use_references link ns u.object) z.0.uses) _ (refers_to u v)
-    (Contains-append_right (flat_map (slot_references link ns u.object) z.0.slots) (map (segment_reference u.object) z.0.segments) (refers_to u v)
-    (subst (λ (x : Reference). Contains (map (segment_reference u.object) z.0.segments) x) same (Contains-map (segment_reference u.object) z.0.segments used listed))))
+    Contains-append_right (flat_map (use_references link ns u.object) f.uses) _ (refers_to u v)
+    (Contains-append_right (flat_map (slot_references link ns u.object) f.slots) (map (segment_reference u.object) f.segments) (refers_to u v)
+    (subst (λ (x : Reference). Contains (map (segment_reference u.object) f.segments) x) same (Contains-map (segment_reference u.object) f.segments used listed)))
+
+-- the object of the unit says it
+pub how_in_object : OneNumbers → (link : Link) (o : Object) (f : Facts) (u v : LinkUnit) → slice_get link.objects u.object ≡ Some o → AreFacts o f → How link u v → Contains (object_references link (units_of link.objects) u.object f) (refers_to u v)
+how_in_object only link o f u v here a (inl b) = use_in link f u v b (facts_here link u.object o b.object f here b.here a)
+how_in_object only link o f u v here a (inr (inl b)) = number_in only link f u v b (facts_here link u.object o b.object f here b.here a)
+how_in_object only link o f u v here a (inr (inr b)) = slot_in link f u v b (facts_here link u.object o b.object f here b.here a)
+
+-- the object of a unit that refers to another
+pub object_of_how : (link : Link) (u v : LinkUnit) → How link u v → (o : Object) × (slice_get link.objects u.object ≡ Some o)
+object_of_how link u v (inl b) = (b.object, b.here)
+object_of_how link u v (inr (inl b)) = (b.object, b.here)
+object_of_how link u v (inr (inr b)) = (b.object, b.here)
 
 pub references_in : OneNumbers → (link : Link) (facts : List Facts) (u v : LinkUnit) → AreAllFacts link.objects facts → How link u v → Contains (references link (units_of link.objects) facts) (refers_to u v)
-references_in only link facts u v all (inl b) = use_in link facts u v all b
-references_in only link facts u v all (inr (inl b)) = number_in only link facts u v all b
-references_in only link facts u v all (inr (inr b)) = slot_in link facts u v all b
+references_in only link facts u v all how =
+    let o = object_of_how link u v how in
+    let z = zip_right AreFacts link.objects facts u.object o.0 all o.1 in
+    object_in link facts u.object z.0 (refers_to u v) z.1 (how_in_object only link o.0 z.0 u v o.1 z.2 how)
 
 -- ---- chains
 

@@ -8,9 +8,8 @@ use Rattle.wl_reach.specs.Marks.{count_set}
 use Rattle.wl_reach.specs.Search.{steps_of}
 use Rattle.wl_reach.proofs.StepLaws.{steps_by_edges}
 use Rattle.wl_symbols.specs.Units.{exists, unit_number, total_of}
-use Rattle.wl_live.specs.Table.{found, edge_of}
+use Rattle.wl_live.specs.Table.{Reference, found, edge_of}
 use Rattle.wl_live.specs.Marking.{is_followed, search_steps}
-use Rattle.wl_live.specs.declared.references.Reference.{Reference}
 use Rattle.wl_symbols.specs.declared.units.UnitCounts.{UnitCounts}
 use Rattle.wl_live.proofs.ReachLaws.{edge_between, edges_from-lt}
 

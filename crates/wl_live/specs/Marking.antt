@@ -6,9 +6,8 @@ use Rattle.wl_reach.specs.Search.{IsReached}
 use Rattle.wl_symbols.specs.Link.{Link}
 use Rattle.wl_symbols.specs.Units.{exists, unit_number}
 use Rattle.wl_live.specs.Facts.{Facts}
-use Rattle.wl_live.specs.Table.{Begins, Leads, references}
+use Rattle.wl_live.specs.Table.{Reference, Begins, Leads, references}
 use Rattle.wl_live.specs.declared.object_facts.UnitFault.{UnitFault}
-use Rattle.wl_live.specs.declared.references.Reference.{Reference}
 use Rattle.wl_symbols.specs.declared.units.LinkUnit.{LinkUnit}
 use Rattle.wl_symbols.specs.declared.units.UnitCounts.{UnitCounts}
 use Rattle.wl_symbols.specs.Live.{Live, is_live}

@@ -15,13 +15,17 @@ use Rattle.wl_symbols.specs.Roots.{export_unit, is_root_symbol}
 use Rattle.wl_live.specs.Facts.{Facts}
 use Rattle.wl_live.specs.declared.object_facts.SymbolUse.{SymbolUse}
 use Rattle.wl_live.specs.declared.object_facts.SegmentUse.{SegmentUse}
-use Rattle.wl_live.specs.declared.references.Reference.{Reference}
 use Rattle.wl_symbols.specs.declared.units.LinkUnit.{LinkUnit}
 use Rattle.wl_symbols.specs.declared.units.UnitCounts.{UnitCounts}
 use Rattle.wl_symbols.specs.declared.units.WasmGcUnit.{WasmGcUnit}
 use Rattle.wl_symbols.specs.declared.units.WasmGcUnit.TheVariants.{DefinedFunction, DataSegment}
 
 -- ---- references
+
+-- a unit refers to another
+pub record Reference : Type 0 where
+  pub from : LinkUnit
+  pub to : LinkUnit
 
 -- a reference to a unit, if there is one
 abbrev pub reference : LinkUnit → Option LinkUnit → List Reference

@@ -14,16 +14,18 @@ mod faults;
 mod graphing;
 mod laws;
 mod marking;
+mod mentions;
 mod object_facts;
 mod references;
 mod refusals;
 mod roots;
+mod table;
 
 pub use collecting::{collect_live, collect_live_counted, collect_live_from};
 pub use entry::check_entry;
-pub use graphing::{UnitGraph, unit_graph};
+pub use graphing::{UnitGraph, references_of, roots_of, unit_graph};
 pub use laws::{facts_exist, references_are_listed};
-pub use object_facts::{ObjectFacts, facts};
+pub use object_facts::{ObjectFacts, all_facts, facts};
 pub use wl_symbols::{
     LinkUnit, LiveSet, UnitNumbers, WasmGcUnit, sibling_of, unit_index, wasm_gc_unit_for_symbol,
 };

@@ -4,54 +4,21 @@ ghost use Rattle.std.specs.Prelude.{◌≡◌, ◌≤◌, ◌+◌, ◌++◌, len
 ghost use Rattle.std.specs.Option.{option_to_list};
 ghost use Rattle.wl_symbols.specs.Units.{units_of, unit_number_if, total_of};
 ghost use Rattle.wl_live.specs.Facts.{AreAllFacts};
-ghost use Rattle.wl_live.specs.Table.{edge_of, found, most_steps};
+ghost use Rattle.wl_live.specs.Laying.{all_edges};
+ghost use Rattle.wl_live.specs.Table.{found, most_steps, references, roots};
 ghost use Rattle.wl_symbols.specs.Live.{IsLiveOf};
 ghost use Rattle.wl_live.specs.Marking.{UnitsReached, search_steps, steps_to};
 
 use crate::object_facts::ObjectFacts;
-use crate::references::{Reference, collect_references};
 use crate::roots::collect_roots;
+use crate::table::lay_table;
 use std::alloc::{AllocError, Global};
 use std::sync::ledger::Ledger;
 use wl_ops::numbers_are_one;
-use wl_reach::{Edge, Graph, Marks, reach_counted};
+use wl_reach::{Marks, reach_counted};
 use wl_steps::Steps;
 use wl_symbols::{LinkUnit, SymbolTable, UnitNumbers};
 use wl_words::WasmArgs;
-
-/// The edge of a reference, where both units exist.
-fn edge_of(numbers: &UnitNumbers, reference: Reference) -> Option<Edge>
-    ensures { result ≡ edge_of numbers.now reference }
-{
-    let from = numbers.number(reference.from)?;
-    let to = numbers.number(reference.to)?;
-    Some(Edge { from, to })
-}
-
-/// Adds an edge, if there is one.
-fn push_edge(edges: &mut Vec<Edge>, edge: Option<Edge>) -> Result<(), AllocError>
-    ensures { OnOk result (edges.new.items ≡ edges.old.items ++ option_to_list edge) }
-{
-    if let Some(edge) = edge {
-        edges.push(edge)?;
-    }
-    Ok(())
-}
-
-/// The edges of the references.
-pub(crate) fn collect_edges(
-    alloc: Global,
-    numbers: &UnitNumbers,
-    references: &[Reference],
-) -> Result<Vec<Edge>, AllocError>
-    ensures { IfOk result (λ v. v.items ≡ found (edge_of numbers.now) references.now) }
-{
-    let mut edges = Vec::new(alloc);
-    for reference in references {
-        push_edge(&mut edges, edge_of(numbers, *reference))?;
-    }
-    Ok(edges)
-}
 
 /// Adds a number, if there is one.
 fn push_number(list: &mut Vec<usize>, number: Option<usize>) -> Result<(), AllocError>
@@ -78,25 +45,27 @@ pub(crate) fn collect_numbers(
     Ok(list)
 }
 
-/// Marks the units that a chain of references leads to from a root.
+/// Marks the units that a chain of references leads to from one that is kept by itself.
 fn reach_units<L: Ledger>(
     alloc: Global,
+    symbols: &SymbolTable<'_, '_>,
     numbers: &UnitNumbers,
-    references: &[Reference],
-    roots: &[LinkUnit],
+    facts: &[ObjectFacts],
     steps: &mut Steps<L>,
 ) -> Result<Marks, AllocError>
     ensures each { IfOk result (λ m. length m ≡ total_of numbers.now) }
-    ensures marks { IfOk result (UnitsReached numbers.now references.now roots.now) }
+    ensures marks { IfOk result (UnitsReached numbers.now
+        (references symbols.now numbers.now facts.now) (roots symbols.now numbers.now)) }
     ensures steps { IfOk result (λ m. steps.new ≡ steps.old
-        + search_steps (record { units = numbers.now; marks = m }) references.now) }
+        + search_steps (record { units = numbers.now; marks = m })
+        (references symbols.now numbers.now facts.now)) }
     ensures cost { steps.new ≤ steps.old + (total_of numbers.now
-        + length (found (edge_of numbers.now) references.now)) }
+        + length (all_edges symbols.now numbers.now facts.now)) }
 {
-    let edges = collect_edges(alloc, numbers, references)?;
-    let graph = Graph::new(alloc, numbers.total(), &edges)?;
-    let starts = collect_numbers(alloc, numbers, roots)?;
-    let marks = reach_counted(alloc, &graph, &starts, steps)?;
+    let table = lay_table(alloc, symbols, numbers, facts)?;
+    let roots = collect_roots(alloc, symbols, numbers)?;
+    let starts = collect_numbers(alloc, numbers, &roots)?;
+    let marks = reach_counted(alloc, &table, &starts, steps)?;
     Ok(marks)
 }
 
@@ -124,8 +93,6 @@ pub(crate) fn mark_units<L: Ledger>(
         let marks = Marks::filled(alloc, numbers.total())?;
         return Ok(marks);
     }
-    let references = collect_references(alloc, symbols, numbers, facts)?;
-    let roots = collect_roots(alloc, symbols, numbers)?;
-    let marks = reach_units(alloc, numbers, &references, &roots, steps)?;
+    let marks = reach_units(alloc, symbols, numbers, facts, steps)?;
     Ok(marks)
 }

@@ -203,7 +203,7 @@ pub fn facts(alloc: Global, file: &File<'_>) -> Result<ObjectFacts, AllocError>
 ///
 /// # Errors
 /// `AllocError` where memory runs out.
-pub(crate) fn all_facts(alloc: Global, files: &FileList<'_>) -> Result<Vec<ObjectFacts>, AllocError>
+pub fn all_facts(alloc: Global, files: &FileList<'_>) -> Result<Vec<ObjectFacts>, AllocError>
     ensures { IfOk result (λ v. AreAllFacts files.now v.items) }
 {
     let mut list = Vec::new(alloc);

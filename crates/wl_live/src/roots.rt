@@ -20,7 +20,7 @@ use wl_symbols::{
 };
 
 /// Adds a unit, if there is one.
-fn push_unit(list: &mut Vec<LinkUnit>, unit: Option<LinkUnit>) -> Result<(), AllocError>
+pub(crate) fn push_unit(list: &mut Vec<LinkUnit>, unit: Option<LinkUnit>) -> Result<(), AllocError>
     ensures { OnOk result (list.new.items ≡ list.old.items ++ option_to_list unit) }
 {
     if let Some(unit) = unit {

@@ -6,5 +6,5 @@ pub returns : goal.returns
 returns c =
     let all : AreAllFacts c.args.symbols.now.objects c.in_ok-facts.facts.items = rw c.files.ensures at c.in_ok-facts.ensures in
     graph_is c.numbers_are_one.ensures.one c.args.symbols.now c.args.numbers.now c.in_ok-facts.facts.items _ c.requires all
-    (rw (c.deref-2.ensures.value, c.in_ok-references.ensures, c.deref.ensures.value) at c.in_ok-edges.ensures)
-    (rw (c.deref-3.ensures.value, c.in_ok-roots.ensures) at c.in_ok-roots-2.ensures)
+    (rw c.deref.ensures.value at c.in_ok-edges.ensures)
+    (rw (c.deref-2.ensures.value, c.in_ok-roots.ensures) at c.in_ok-roots-2.ensures)

@@ -10,8 +10,7 @@ returns-then-not-args-clause-marks g c =
 pub returns-clause-marks : goal.returns-clause-marks
 returns-clause-marks g c =
     let on : c.args.args.now.gc_sections ≡ true = search rules in
-    live_reached c.numbers_are_one.ensures.one c.args.symbols.now c.args.numbers.now c.args.facts.now c.in_ok-marks-2.marks c.requires.units c.requires.facts (rw c.requires.args at on) c.in_ok-marks-2.ensures.each
-    (rw (c.deref.ensures.value, c.in_ok-references.ensures, c.deref-2.ensures.value, c.in_ok-roots.ensures) at c.in_ok-marks-2.ensures.marks)
+    live_reached c.numbers_are_one.ensures.one c.args.symbols.now c.args.numbers.now c.args.facts.now c.in_ok-marks-2.marks c.requires.units c.requires.facts (rw c.requires.args at on) c.in_ok-marks-2.ensures.each c.in_ok-marks-2.ensures.marks
 
 pub returns-then-not-args-clause-steps : goal.returns-then-not-args-clause-steps
 returns-then-not-args-clause-steps g c =
@@ -23,4 +22,4 @@ pub returns-clause-steps : goal.returns-clause-steps
 returns-clause-steps g c =
     let on : c.args.args.now.gc_sections ≡ true = search rules in
     let here : c.args.symbols.now.args.gc_sections ≡ true = rw c.requires.args at on in
-    rw here (rw (c.deref.ensures.value, c.in_ok-references.ensures) at c.in_ok-marks-2.ensures.steps)
+    rw here c.in_ok-marks-2.ensures.steps
