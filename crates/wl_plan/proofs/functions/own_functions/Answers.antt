@@ -5,6 +5,7 @@ use Rattle.wl_linking.specs.Object.{Object}
 use Rattle.wl_symbols.specs.declared.linker_symbol.WasmLinkerSymbol.TheVariants.{CallCtors}
 use Rattle.wl_bind.specs.FunctionSpace.{FunctionEntry, made_function_part, stub_part}
 use Rattle.wl_bind.specs.IndexMaps.{IsIndexMap}
+use Rattle.wl_index.specs.declared.index_map.WasmObjectIndexMap.{WasmObjectIndexMap}
 use Rattle.wl_plan.specs.FunctionSteps.{AddsFunctions}
 use Rattle.wl_plan.specs.Origins.{PlannedFunction}
 use Rattle.wl_plan.proofs.FunctionLaws.{adds_more, adds_same, objects_done, objects_more, types_in_row}
@@ -25,13 +26,19 @@ loop-object-init c =
     (subst (λ (fs : List PlannedFunction). AddsFunctions input (ctors ++ stubs) fs new) c.new-functions.ensures.items
     both)
 
-pub bounds-maps-types : goal.bounds-maps-types
-bounds-maps-types c =
+pub bounds-maps-object : goal.bounds-maps-object
+bounds-maps-object c =
     let objects = c.args.input.now.link.objects in
     let k = c.loop-object.object in
     let list : c.as_slice-file-items.result.now ≡ objects = c.as_slice-file-items.ensures.objects ∙ c.files.ensures.objects in
     row_within (IsIndexMap c.args.input.now) objects c.args.maps.now k c.file-item.result c.requires.maps
     (object_here objects c.as_slice-file-items.result.now k c.file-item.result list c.loop-object-test.true c.file-item.is)
+
+pub push_functions-requires-clause-here : goal.push_functions-requires-clause-here
+push_functions-requires-clause-here c =
+    let objects = c.args.input.now.link.objects in
+    let list : c.as_slice-file-items.result.now ≡ objects = c.as_slice-file-items.ensures.objects ∙ c.files.ensures.objects in
+    object_here objects c.as_slice-file-items.result.now c.loop-object.object c.file-item.result list c.loop-object-test.true c.file-item.is
 
 pub push_functions-requires-clause-types : goal.push_functions-requires-clause-types
 push_functions-requires-clause-types c =
@@ -39,7 +46,8 @@ push_functions-requires-clause-types c =
     let k = c.loop-object.object in
     let list : c.as_slice-file-items.result.now ≡ input.link.objects = c.as_slice-file-items.ensures.objects ∙ c.files.ensures.objects in
     let at = object_here input.link.objects c.as_slice-file-items.result.now k c.file-item.result list c.loop-object-test.true c.file-item.is in
-    types_in_row input c.args.maps.now k c.file-item.result c.index-maps-types.result c.as_slice-types.result.now c.requires.maps at c.index-maps-types.is c.as_slice-types.ensures
+    types_in_row input c.args.maps.now k c.file-item.result c.index-maps-object.result c.as_slice-types.result.now c.requires.maps at c.index-maps-object.is
+    (c.as_slice-types.ensures ∙ ap (λ (m : WasmObjectIndexMap). m.type_indices) (sym c.index-maps-object.is))
 
 pub loop-object-preserved : goal.loop-object-preserved
 loop-object-preserved c =

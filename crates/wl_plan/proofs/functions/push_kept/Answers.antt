@@ -1,4 +1,4 @@
-use Rattle.std.proofs.Common.{◌≡◌, ◌∙◌, ◌++◌, [], ◌∷◌, true, false, ap, sym}
+use Rattle.std.proofs.Common.{◌≡◌, ◌∙◌, ◌++◌, [], ◌∷◌, ℕ, true, false, get_or, ap, refl, sym}
 use Rattle.wl_symbols.specs.Live.{Live, is_live}
 use Rattle.wl_symbols.specs.declared.units.WasmGcUnit.TheVariants.{DefinedFunction}
 use Rattle.wl_bind.specs.FunctionSpace.{FunctionOf}
@@ -9,8 +9,8 @@ use Rattle.wl_plan.specs.Origins.{OfObject}
 use Rattle.wl_plan.proofs.FunctionLaws.{LeadsToType, adds_none, adds_same, no_own, ok_then, one_own, own_leads, own_pushed, own_within}
 use Rattle.wl_plan.proofs.functions.push_kept.Goals as goal
 
-pub bounds-types-type_index : goal.bounds-types-type_index
-bounds-types-type_index c =
+pub bounds-types-functions : goal.bounds-types-functions
+bounds-types-functions c =
     let input = c.args.input.now in
     let i = c.args.object in
     let k = c.args.function in
@@ -38,7 +38,7 @@ returns c =
     let input = c.args.input.now in
     let i = c.args.object in
     let k = c.args.function in
-    let index = c.index-types-type_index.result in
+    let index : ℕ = get_or c.args.types.now (get_or c.functions.result.now k 0) 0 in
     let old = c.args.functions.now.items in
     let new = c.push_function.new.functions.items in
     let keep : keeps input i (DefinedFunction k) ≡ true =
@@ -51,5 +51,5 @@ returns c =
     (AddsFunctions input (own_function_part input i k) old new)
     (λ grown. adds_same input (FunctionOf (Defined i k) ∷ []) (own_function_part input i k) old new
     (sym (one_own input i k keep))
-    (own_pushed input i c.args.file.now c.args.types.now c.functions.result.now k 0 0 index old new c.functions.ensures c.index-types-type_index.is led
+    (own_pushed input i c.args.file.now c.args.types.now c.functions.result.now k 0 0 index old new c.functions.ensures refl led
     grown)) c.push_function.ensures

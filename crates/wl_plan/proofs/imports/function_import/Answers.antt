@@ -1,6 +1,7 @@
-use Rattle.std.proofs.Common.{◌∙◌, ap, refl, sym}
+use Rattle.std.proofs.Common.{rules, ap}
+use Rattle.wl_plan.specs.declared.layout.OutputImportEntity.TheVariants.{Function}
 use Rattle.wl_plan.proofs.ImportLaws.{imported_so}
 use Rattle.wl_plan.proofs.imports.function_import.Goals as goal
 
 pub returns : goal.returns
-returns c = λ input is. imported_so input _ _ c.args.host.now c.return.result _ is (search rules)
+returns c = λ input is. imported_so input _ _ _ _ c.index_of_type.result is (c.index_of_type.ensures, search rules, search rules, ap Function c.unwrap_or-type_index.ensures)

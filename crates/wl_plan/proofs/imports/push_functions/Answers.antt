@@ -1,6 +1,7 @@
 use Rattle.std.proofs.Common.{◌≡◌, ◌∙◌, ◌<◌, ◌≤◌, List, length, get_or, ap, sym, subst, Some, slice_get}
 use Rattle.std.proofs.lemmas.Option.{slice_get-get_or}
 use Rattle.wl_symbols.specs.Left.{HostImport}
+use Rattle.wl_bind.specs.BindingSteps.{slot_numbers}
 use Rattle.wl_bind.specs.OutputTypes.{output_types}
 use Rattle.wl_bind.specs.Shared.{Shared, function_imports}
 use Rattle.wl_plan.specs.ImportSteps.{HasTypeIndexIn}
@@ -29,7 +30,7 @@ loop-host-preserved c =
     slice_get-get_or (function_imports input) k h lt ∙ ap (λ (g : HostImport). Some g) (sym is) in
     let typed : HasTypeIndexIn input c.in_ok-slots.slots c.args.maps.now h =
     host_typed input k h c.in_ok-slots.slots c.args.maps.now (λ host o. c.types_have_indices.ensures.hosts input host o)
-    b.settled c.in_ok-slots.ensures c.requires.maps at in
+    b.settled (c.in_ok-slots.ensures ∙ ap slot_numbers c.files.ensures.objects) c.requires.maps at in
     import_more (IsFunctionImport input (output_types input)) (function_imports input) k h c.function_import.result
     c.args.imports.now.items c.loop-host.imports.items c.push.new.self.items at
     (c.function_import.ensures input typed) c.in_ok-push.ensures.items c.loop-host.invariant
