@@ -230,7 +230,7 @@ shown_candidate roots input object number o s live dynamic here at has passes =
           }));
       data_shown = λ defined data_kind. in_list (exported_data input) (record { object = object; symbol = number })
           (in_front (dynamic_data input) (forced_data input) (record { object = object; symbol = number })
-          (dynamic_there input object number o s dynamic here at (rw (data_kind, has, passes) refl)));
+          (dynamic_there input object number o s dynamic here at (rw (passes, data_kind, has) refl)));
     }
 
 -- ---- what symbols define
