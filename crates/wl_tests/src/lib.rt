@@ -15,6 +15,8 @@ mod files;
 #[cfg(test)]
 mod lists;
 #[cfg(test)]
+mod live;
+#[cfg(test)]
 mod module;
 #[cfg(test)]
 mod numeric;
