@@ -7,6 +7,8 @@
 #[cfg(test)]
 mod bytes;
 #[cfg(test)]
+mod check;
+#[cfg(test)]
 mod custom;
 #[cfg(test)]
 mod data;
