@@ -33,7 +33,6 @@ use Rattle.wl_bind.specs.Resolutions.{kept_number, resolved_global, as_global, g
 use Rattle.wl_bind.specs.Shared.{global_imports, import_place, places_from, place_in, place_at, shared_of, Shared}
 use Rattle.wl_bind.specs.Undefined.{is_host_slot, is_host_global}
 use Rattle.wl_bind.specs.declared.binding.FunctionTarget.{FunctionTarget}
-use Rattle.wl_bind.specs.declared.binding.FunctionTarget.TheVariants as function
 use Rattle.wl_bind.specs.declared.binding.GlobalTarget.{GlobalTarget}
 use Rattle.wl_bind.specs.declared.binding.GlobalTarget.TheVariants as global
 use Rattle.wl_bind.specs.declared.numbering.Numbering.{Numbering}

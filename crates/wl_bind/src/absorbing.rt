@@ -3,14 +3,14 @@
 ghost use Rattle.std.specs.Prelude.{◌≡◌};
 ghost use Rattle.wl_bind.specs.Stepped.{stepped, step_at};
 ghost use Rattle.wl_bind.specs.Scan.{scan_of};
-ghost use Rattle.wl_bind.specs.Later.{globals_walked, functions_walked};
+ghost use Rattle.wl_bind.specs.Later.{globals_walked};
 ghost use Rattle.wl_bind.specs.Resolutions.{resolutions, by_names, by_names_and_got};
 
 use crate::later::Walk;
 use crate::resolution::ObjectImportResolutions;
 use crate::scan::RelocScan;
 use wl_linking::{File, WasmSymbolKind};
-use wl_symbols::{LinkInput, Stubs};
+use wl_symbols::LinkInput;
 
 /// The global slots of an object with the entries of the GOT lists.
 fn absorb_globals_at(

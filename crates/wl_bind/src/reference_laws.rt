@@ -77,8 +77,8 @@ pub fn entries_have_types()
     same_types_are_one();
 }
 
-/// The map of an object leads from the type of each function that is kept, and of each that the host
-/// is asked for, to that type among those of the output.
+/// The map of an object leads from the type of each function that is kept, and of each that the
+/// host is asked for, to that type among those of the output.
 pub fn types_have_indices()
     ensures functions { (input : Input) (object : ℕ) (o : SpecObject) (indices : List ℕ)
         (function : ℕ) → IsSettled input → slice_get input.link.objects object ≡ Some o

@@ -1,12 +1,8 @@
 //! What callers may count on: functions with an empty body, each of which states a law of spaces.
 
-ghost use Rattle.std.specs.Prelude.{◌≡◌, ◌<◌, ℕ, List, Option, Some, true, length, slice_get, Contains};
-ghost use Rattle.wl_linking.specs.Fitting.{IsWhole};
-ghost use Rattle.wl_custom.specs.RelocationTypes.{names_a_type};
-ghost use Rattle.wl_symbols.specs.Live.{IsLiveOf};
 ghost use Rattle.wl_symbols.specs.Input.{Input};
-ghost use Rattle.wl_bind.specs.FunctionSpace.{FunctionEntry, function_space};
-ghost use Rattle.wl_bind.specs.GlobalSpace.{GlobalEntry, global_space};
+ghost use Rattle.wl_bind.specs.FunctionSpace.{function_space};
+ghost use Rattle.wl_bind.specs.GlobalSpace.{global_space};
 ghost use Rattle.wl_bind.specs.OutputTypes.{output_types};
 ghost use Rattle.wl_bind.specs.Parts.{StandOnce};
 

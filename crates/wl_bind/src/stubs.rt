@@ -1,6 +1,6 @@
 //! Stubs: functions that are named weakly, and that nothing defines.
 
-ghost use Rattle.std.specs.Prelude.{◌≡◌, ◌++◌, map, option_map, IfOk, OnOk, OnErr, IfErr, filter_map};
+ghost use Rattle.std.specs.Prelude.{◌≡◌, ◌++◌, option_map, IfOk, OnOk, OnErr, IfErr, filter_map};
 ghost use Rattle.std.specs.Option.{option_to_list};
 ghost use Rattle.wl_linking.specs.Steps.{Clear, Refuses};
 ghost use Rattle.wl_bind.specs.Stepped.{stepped, step_at};

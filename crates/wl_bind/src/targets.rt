@@ -1,6 +1,6 @@
 //! The functions that function slots are bound to, and that function symbols lead to.
 
-ghost use Rattle.std.specs.Prelude.{◌≡◌, find, map, option_map, IfOk, IsSome, Some, Contains, slice_get};
+ghost use Rattle.std.specs.Prelude.{◌≡◌, map, option_map, IfOk, IsSome, Some, Contains};
 ghost use Rattle.wl_custom.specs.declared.symbols.WasmSymbolKind.TheVariants.{Func};
 ghost use Rattle.wl_symbols.specs.Entries.{symbol_in};
 ghost use Rattle.wl_symbols.specs.ImportSlots.{import_slots};

@@ -1,6 +1,6 @@
 //! What is called at the start.
 
-ghost use Rattle.std.specs.Prelude.{◌≡◌, ◌++◌, ℕ, Some, Contains, OnOk, IfOk, slice_get};
+ghost use Rattle.std.specs.Prelude.{◌≡◌, ℕ, Some, Contains, OnOk, IfOk, slice_get};
 ghost use Rattle.wl_linking.specs.Steps.{Clear};
 ghost use Rattle.wl_bind.specs.IndexMaps.{IsIndexMap, AreIndexMaps};
 ghost use Rattle.wl_bind.specs.References.{IsSettled, there};

@@ -1,6 +1,5 @@
 //! The flags of symbols (object file linking, version 2, "Symbol Table Subsection").
 
-ghost use Rattle.std.specs.Prelude.{◌≡◌};
 
 use bitflags::{Flag, Flags, bitflag_items};
 

@@ -4,7 +4,7 @@ ghost use Rattle.std.specs.Prelude.{◌≡◌, ◌+◌, ◌<◌, ◌≤◌, ◌^
 ghost use Rattle.wl_bytes.specs.declared.reader.TheConstants.{MAX_LEN};
 ghost use Rattle.wl_bytes.specs.Cursor.{end_of};
 ghost use Rattle.wl_bytes.specs.Outcome.{Yields, Gives, HasCause};
-ghost use Rattle.wl_custom.specs.Linking.{subsection_kind, subsection_verdict, held_of, subsection_at, version_at, nothing_seen, seen_after, linking_of, with_subsection, HaveSubsections, SubsectionsFault, IsLinking, LinkingFault};
+ghost use Rattle.wl_custom.specs.Linking.{subsection_kind, subsection_verdict, held_of, subsection_at, version_at, seen_after, linking_of, with_subsection, HaveSubsections, SubsectionsFault, IsLinking, LinkingFault};
 
 use crate::infos::{WasmInitFunc, WasmSegmentInfo};
 use crate::symbols::{WasmSymbol, read_symbols};

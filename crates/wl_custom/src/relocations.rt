@@ -8,7 +8,6 @@ use crate::relocation_type::{LAST_TYPE, RelocationType};
 use std::alloc::Global;
 use std::marker::Model;
 use wl_bytes::{Form, Item, ReadError, Reader, Why, expect_end, read_list};
-use wl_lists::ItemList;
 
 /// A place in a section's payload that takes the value of a symbol or a type (object file linking,
 /// version 2, "Relocation Sections").

@@ -1,8 +1,8 @@
 //! How many bytes the output takes for data and code.
 
-ghost use Rattle.std.specs.Prelude.{◌≡◌, ◌≤◌, ◌<◌, ℕ, ◌+◌, ◌^◌, List, length, IfOk, IfErr, OnOk, IsTrue, ◌↔◌, min, false};
+ghost use Rattle.std.specs.Prelude.{◌≡◌, ◌≤◌, ◌<◌, ℕ, ◌+◌, ◌^◌, List, length, IfOk, IfErr, OnOk, IsTrue, ◌↔◌, min};
 ghost use Rattle.std.specs.Int.{w32, cast_signed};
-ghost use Rattle.wl_bytes.specs.Leb.{IsShortest, IsShortestSleb};
+ghost use Rattle.wl_bytes.specs.Leb.{IsShortestSleb};
 ghost use Rattle.wl_index.specs.declared.index.TheConstants.{MAX_ENTRIES};
 ghost use Rattle.wl_linking.specs.Steps.{Clear};
 ghost use Rattle.wl_data.specs.Sizes.{IsMemoryName, Destination, IsDestination, HasSegmentSize, IsHugeSegment, HasSectionSize, AreBodiesText, segment_count, any_is_passive, has_passive, encoded_bytes, all_encoded_bytes, HasEntrySize, body_bytes};

@@ -1,6 +1,6 @@
 //! Where the stack and the heap lie.
 
-ghost use Rattle.std.specs.Prelude.{◌≡◌, ◌%◌, ◌*◌, OnOk, IfOk, IfErr, ◌<◌, ◌^◌};
+ghost use Rattle.std.specs.Prelude.{◌≡◌, ◌%◌, ◌*◌, OnOk, IfOk, IfErr, ◌<◌};
 ghost use Rattle.wl_linking.specs.declared.error.Quantity.TheVariants.{Address, HeapEnd};
 ghost use Rattle.wl_linking.specs.Steps.{Clear, Step, NoStep};
 ghost use Rattle.wl_index.specs.Memory.{behind_data, stack_top, stack_start, heap_start};

@@ -20,7 +20,6 @@ use Rattle.wl_bind.specs.ExportedData.{is_made_name}
 use Rattle.wl_bind.specs.FunctionSpace.{FunctionEntry, FunctionOf}
 use Rattle.wl_symbols.specs.Input.{Input}
 use Rattle.wl_bind.specs.declared.binding.FunctionTarget.TheVariants as function
-use Rattle.wl_bind.specs.declared.binding.GlobalTarget.TheVariants as global
 use Rattle.wl_symbols.specs.SlotTargets.{own_number}
 use Rattle.wl_exports.specs.Exports.{ExportEntry, Entity, OfFunction, export_of, by_names, object_entity, defined_entity, defined_of_kind, named_entity, only_function, named_function, unless_made, candidate, by_symbol, candidates, is_code, stack_pointer_export, dynamic_exports}
 use Rattle.wl_exports.specs.ExportSteps.{IsPlainIf, AddsExports, takes}

@@ -1,6 +1,6 @@
 //! Lists of exports that grow.
 
-ghost use Rattle.std.specs.Prelude.{◌≡◌, ◌++◌, Option, OnOk};
+ghost use Rattle.std.specs.Prelude.{Option, OnOk};
 ghost use Rattle.std.specs.Option.{option_to_list};
 ghost use Rattle.wl_symbols.specs.Input.{Input as Linked};
 ghost use Rattle.wl_exports.specs.Exports.{ExportEntry};

@@ -1,6 +1,6 @@
 //! What objects export, and the memory.
 
-ghost use Rattle.std.specs.Prelude.{◌≡◌, ◌++◌, Some, slice_get, OnOk};
+ghost use Rattle.std.specs.Prelude.{◌≡◌, Some, slice_get, OnOk};
 ghost use Rattle.std.specs.Option.{option_map};
 ghost use Rattle.wl_linking.specs.Object.{Object};
 ghost use Rattle.wl_exports.specs.Exports.{export_of, own_entity, object_exports, inherited_exports, first_exports};

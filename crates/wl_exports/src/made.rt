@@ -3,9 +3,8 @@
 ghost use Rattle.std.specs.Prelude.{◌≡◌, bytes_eq, OnOk, if◌then◌else◌, Some, None};
 ghost use Rattle.std.specs.List.{list_any};
 ghost use Rattle.std.specs.Option.{option_map};
-ghost use Rattle.wl_symbols.specs.LinkerNames.{name_of};
 ghost use Rattle.wl_bind.specs.ExportedData.{is_made_name};
-ghost use Rattle.wl_bind.specs.Made.{is_made, has_shared_tls};
+ghost use Rattle.wl_bind.specs.Made.{is_made};
 ghost use Rattle.wl_exports.specs.Exports.{export_of, made_entity, made_under, thread_exports, made_exports, stack_pointer_export};
 ghost use Rattle.wl_exports.specs.ExportSteps.{IsPlainIf, AddsExports, kind_of_made, uses_mutable_globals};
 ghost use Rattle.wl_exports.specs.Sources.{AreSources};

@@ -53,7 +53,8 @@ fn is_ctors_name(name: &str) -> bool
 
 /// Whether it is the import of a function that calls the constructors.
 fn is_ctors_import(import: &Import<'_>) -> bool
-    ensures { result ≡ (is_of_kind external.Func import.now.entity && is_ctors_name import.now.name) }
+    ensures { result
+        ≡ (is_of_kind external.Func import.now.entity && is_ctors_name import.now.name) }
 {
     matches!(import.entity, ImportEntity::Func(_)) && is_ctors_name(import.name)
 }

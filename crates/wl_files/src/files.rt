@@ -1,5 +1,5 @@
 //! Files by name that are read one after another.
-ghost use Rattle.std.specs.Prelude.{◌≡◌, ◌+◌, ◌<◌, ◌≤◌, ◌||◌, ℕ, List, Bool, true, false, None, Some, length, is_err, IfOk, IsOk, IsErr, OnOk, Option};
+ghost use Rattle.std.specs.Prelude.{◌≡◌, ◌+◌, ◌<◌, ◌≤◌, ◌||◌, false, None, Some, length, is_err, IfOk, IsOk, IsErr, OnOk};
 ghost use Rattle.std.specs.Io.KnownBytes.{ReadConsumes};
 ghost use Rattle.wl_files.specs.Causes.{CountsFaults};
 ghost use Rattle.wl_files.specs.Files.{FilesState, BeginsAt, IsKnown, HasNoFile, count_of};

@@ -1,5 +1,5 @@
 //! Files in memory.
-ghost use Rattle.std.specs.Prelude.{◌≡◌, ◌≤◌, ◌<◌, ◌+◌, ◌||◌, ◌++◌, ◌∷◌, [], false, true, ℕ, List, length, drop, take, min, None, Some, OnOk, OnErr, IfOk, IsOk, IsErr, IsNone, is_err};
+ghost use Rattle.std.specs.Prelude.{◌≡◌, ◌≤◌, ◌<◌, ◌+◌, ◌||◌, ◌++◌, ◌∷◌, [], false, true, length, take, min, None, Some, OnOk, OnErr, IfOk, IsOk, IsErr, IsNone, is_err};
 ghost use Rattle.std.specs.Io.KnownBytes.{ReadConsumes};
 ghost use Rattle.std.specs.Option.{ForSome};
 ghost use Rattle.wl_files.specs.Held.{opened, left_of, FindsFile};

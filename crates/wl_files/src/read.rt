@@ -6,7 +6,7 @@ ghost use Rattle.wl_files.specs.Unread.{StopsFor, IsUnreadFor, IsNoFault};
 ghost use Rattle.wl_files.specs.declared.read.ReadObject.TheVariants.{OutOfMemory, Fault};
 
 use crate::files::{Failed, Files};
-use std::alloc::{AllocError, AllocFailed, Global};
+use std::alloc::{AllocError, Global};
 
 /// How many bytes a read asks for: enough that the calls cost little beside the bytes.
 const PIECE: usize = 65536;

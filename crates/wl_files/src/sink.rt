@@ -1,5 +1,5 @@
 //! A place that takes bytes, and one in memory.
-ghost use Rattle.std.specs.Prelude.{◌≡◌, ◌<◌, ◌≤◌, ◌+◌, ◌-◌, ◌++◌, ◌∷◌, [], ℕ, List, true, false, Some, Ok, length, take, vec_capacity, IfOk, IsOkAnd, OnOk, OnErr, IsErr};
+ghost use Rattle.std.specs.Prelude.{◌≡◌, ◌<◌, ◌≤◌, ◌+◌, ◌-◌, ◌++◌, ◌∷◌, [], ℕ, true, false, Ok, length, take, vec_capacity, IfOk, IsOkAnd, OnOk, OnErr, IsErr};
 ghost use Rattle.std.specs.Io.KnownBytes.{WriteAppends};
 ghost use Rattle.wl_files.specs.Sink.{SinkState, IsCalmWrite};
 ghost use Rattle.wl_files.specs.Causes.{CountsFaults, Rose};

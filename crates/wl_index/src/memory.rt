@@ -1,6 +1,5 @@
 //! Where stack and heap lie behind the data, and what stays free in front of it.
 
-ghost use Rattle.std.specs.Prelude.{◌^◌};
 ghost use Rattle.wl_index.specs.Memory.{behind_data, stack_top, heap_start, IsAddress};
 
 /// The stack begins and ends at multiples of this many bytes.

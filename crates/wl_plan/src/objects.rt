@@ -1,6 +1,6 @@
 //! The objects as they were read.
 
-ghost use Rattle.std.specs.Prelude.{◌≡◌, [], ◌∷◌, ◌++◌, ◌<◌, length, IfOk, IfErr, OnOk, OnErr, IfSome, IsNone, ◌↔◌, ◌≤◌, Some, slice_get, MatchOption, None};
+ghost use Rattle.std.specs.Prelude.{◌≡◌, [], ◌∷◌, ◌++◌, ◌<◌, length, IfErr, OnOk, OnErr, IfSome, ◌≤◌, Some, slice_get, MatchOption, None};
 ghost use Rattle.wl_plan.specs.Contents.{HandsBack};
 ghost use Rattle.wl_plan.specs.declared.objects.TheConstants.{MAX_OBJECT};
 

@@ -287,9 +287,7 @@ fn plan_of<'a>(
     let Placing {
         places,
         memory_base,
-        stack_pointer: _,
-        memory: _,
-        heap_end: _,
+        ..
     } = placing;
     LinkPlan {
         layout: WasmLayout {

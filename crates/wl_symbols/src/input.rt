@@ -2,8 +2,7 @@
 
 ghost use Rattle.std.specs.Prelude.{◌≡◌};
 ghost use Rattle.wl_symbols.specs.Live.{IsLiveOf};
-ghost use Rattle.wl_symbols.specs.Link.{link_of};
-ghost use Rattle.wl_symbols.specs.Input.{IsFit, keeps, keeps_slot};
+ghost use Rattle.wl_symbols.specs.Input.{IsFit, keeps_slot};
 
 use crate::live_set::LiveSet;
 use crate::table::SymbolTable;

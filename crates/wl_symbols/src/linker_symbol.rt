@@ -1,6 +1,6 @@
 //! The names that the linker makes.
 
-ghost use Rattle.std.specs.Prelude.{◌≡◌, ◌≤◌, ◌^◌, IfOk, IfErr, OnErr, IfSome, IfNone};
+ghost use Rattle.std.specs.Prelude.{◌≡◌, IfOk, IfErr, OnErr};
 ghost use Rattle.wl_symbols.specs.LinkerNames.{row_of, name_of, symbol_named, exists_under, made_of, materializes_on_export, is_exported_as_data, is_imported_as, matches_kind};
 ghost use Rattle.wl_symbols.specs.LinkerAddresses.{data_places, address_of, IsTooHigh};
 ghost use Rattle.wl_linking.specs.declared.error.Quantity.TheVariants.{Address};

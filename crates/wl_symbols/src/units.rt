@@ -1,6 +1,6 @@
 //! The units of an object: what can be kept or left out by itself.
 
-ghost use Rattle.std.specs.Prelude.{◌≡◌, ◌≤◌, ◌^◌, ◌<◌};
+ghost use Rattle.std.specs.Prelude.{◌≡◌, ◌<◌};
 ghost use Rattle.wl_custom.specs.declared.symbols.WasmSymbolKind.TheVariants as WasmSymbolKind;
 ghost use Rattle.wl_symbols.specs.Units.{defined_number, number_below, counts_of, unit_index, count_of_kind, has_unit, number_in_object, unit_count, unit_in, unit_by, unit_of, sibling_of, IsSmall};
 

@@ -1,7 +1,7 @@
 //! What callers may count on: functions that do nothing, each of which states a law of made bodies,
 //! or of what bodies do when the machine runs them.
 
-ghost use Rattle.std.specs.Prelude.{◌≡◌, ℕ, true, List, [], Some, length};
+ghost use Rattle.std.specs.Prelude.{◌≡◌, ℕ, true, List, Some, length};
 ghost use Rattle.std.specs.List.{AllByRecursion};
 ghost use Rattle.wl_module.specs.Types.{FunctionType};
 ghost use Rattle.wl_synth.specs.declared.parts.PassiveSegmentCopy.{PassiveSegmentCopy};

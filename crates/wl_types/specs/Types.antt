@@ -1,5 +1,5 @@
 -- The types of the output: each type once, by first occurrence.
-use Rattle.std.specs.Prelude.{◌≡◌, ◌<◌, ℕ, List, [], length, ⊤}
+use Rattle.std.specs.Prelude.{◌≡◌, ◌<◌, List, [], length, ⊤}
 use Rattle.indexmap.specs.IndexSet.{insert_key, insert_all}
 use Rattle.wl_index.specs.declared.index.TheConstants.{MAX_ENTRIES}
 use Rattle.wl_module.specs.Types.{FunctionType, same_type}

@@ -1,6 +1,6 @@
 //! What the values of options say.
 
-ghost use Rattle.std.specs.Prelude.{◌≡◌, ◌≢◌, IfOk, OnOk, IfErr, Some, None, option_map, MatchOption};
+ghost use Rattle.std.specs.Prelude.{◌≡◌, IfOk, IfErr, Some, None, option_map, MatchOption};
 ghost use Rattle.wl_words.specs.Values.{number_of, stack_size_text, stack_size, names_in, memory_name};
 ghost use Rattle.wl_words.specs.Faults.{RefusesValue};
 ghost use Rattle.wl_words.specs.declared.options.Setting.TheVariants.{Keyword};

@@ -1,4 +1,4 @@
-use Rattle.std.proofs.Common.{◌∙◌, ap, sym, subst, rules, arith, List, Option, None, length, replicate, ℕ}
+use Rattle.std.proofs.Common.{◌∙◌, ap, sym, subst, rules, arith, List, None, length, replicate}
 use Rattle.wl_bind.specs.GlobalSpace.{global_space}
 use Rattle.wl_bind.specs.GlobalSteps.{func_global_if}
 use Rattle.wl_custom.specs.Symbols.{Symbol}
