@@ -9,4 +9,5 @@ pub mod FaultLaws
 pub mod RefusalLaws
 pub mod GraphLaws
 pub mod StepLaws
+pub mod NumberingLaws
 pub mod WitnessLaws

@@ -18,7 +18,7 @@ use Rattle.wl_symbols.specs.Entries.{symbol_in}
 use Rattle.wl_reach.specs.Search.{IsReached}
 use Rattle.wl_reach.proofs.ChainLaws.{IsReached-root, IsReached-step, IsReached-closed}
 use Rattle.wl_symbols.specs.Units.{counts_of, units_of, unit_in, sibling_of, exists, unit_number, total_of}
-use Rattle.wl_symbols.specs.Live.{IsLiveOf}
+use Rattle.wl_symbols.specs.Live.{IsLiveOf, IsNumberingOf}
 use Rattle.wl_live.specs.Marking.{UnitsReached}
 use Rattle.wl_symbols.specs.DefinedUnits.{unit_at, replacing_unit, other_unit}
 use Rattle.wl_symbols.specs.References.{HasRelocation, RefersBySymbol, RefersByNumber, RefersBySlot, Refers}
@@ -364,17 +364,20 @@ slot_in link f u v b a =
     (Contains-append_left (flat_map (slot_references link ns u.object) f.slots) (map (segment_reference u.object) f.segments) (refers_to u v)
     (flat_in (slot_references link ns u.object) f.slots used (refers_to u v) listed (reference_in u v (other_unit link ns u.object b.number) b.leads)))
 
-number_in : OneNumbers → (link : Link) (f : Facts) (u v : LinkUnit) (b : RefersByNumber link u v) → AreFacts b.object f → Contains (object_references link (units_of link.objects) u.object f) (refers_to u v)
-number_in only link f u v b a =
-    let ns = units_of link.objects in
+pub number_listed : OneNumbers → (link : Link) (f : Facts) (u v : LinkUnit) (b : RefersByNumber link u v) → AreFacts b.object f → Contains (map (segment_reference u.object) f.segments) (refers_to u v)
+number_listed only link f u v b a =
     let used : SegmentUse = record { function = 0 + b.function; segment = b.number.index } in
     let listed : Contains f.segments used = segments_in only 0 b.object.bodies f.segments b.function b.body b.numbers b.number a.segments b.has b.are b.one in
     let number : 0 + b.function ≡ b.function = omega arith in
     let from : at_object u.object (DefinedFunction (0 + b.function)) ≡ u = ap (λ (n : ℕ). at_object u.object (DefinedFunction n)) number ∙ ap (λ (x : WasmGcUnit). at_object u.object x) (sym b.from) in
     let same : segment_reference u.object used ≡ refers_to u v = ap (λ (x : LinkUnit). refers_to x (at_object u.object (DataSegment b.number.index))) from ∙ ap (λ (x : LinkUnit). refers_to u x) (sym b.to) in
+    subst (λ (x : Reference). Contains (map (segment_reference u.object) f.segments) x) same (Contains-map (segment_reference u.object) f.segments used listed)
+
+number_in : OneNumbers → (link : Link) (f : Facts) (u v : LinkUnit) (b : RefersByNumber link u v) → AreFacts b.object f → Contains (object_references link (units_of link.objects) u.object f) (refers_to u v)
+number_in only link f u v b a =
+    let ns = units_of link.objects in
     Contains-append_right (flat_map (use_references link ns u.object) f.uses) _ (refers_to u v)
-    (Contains-append_right (flat_map (slot_references link ns u.object) f.slots) (map (segment_reference u.object) f.segments) (refers_to u v)
-    (subst (λ (x : Reference). Contains (map (segment_reference u.object) f.segments) x) same (Contains-map (segment_reference u.object) f.segments used listed)))
+    (Contains-append_right (flat_map (slot_references link ns u.object) f.slots) (map (segment_reference u.object) f.segments) (refers_to u v) (number_listed only link f u v b a))
 
 -- the object of the unit says it
 pub how_in_object : OneNumbers → (link : Link) (o : Object) (f : Facts) (u v : LinkUnit) → slice_get link.objects u.object ≡ Some o → AreFacts o f → How link u v → Contains (object_references link (units_of link.objects) u.object f) (refers_to u v)
@@ -421,8 +424,8 @@ reached_to only link facts all u r =
 -- ---- what is kept
 
 -- all units are kept, and all are marked
-pub live_all : (link : Link) (ns : List UnitCounts) (marks : List Bool) → ns ≡ units_of link.objects → link.args.gc_sections ≡ false → marks ≡ replicate (total_of ns) true → IsLiveOf link (record { units = ns; marks = marks })
-live_all link ns marks units off all = record {
+pub live_all : (link : Link) (ns : List UnitCounts) (marks numbering : List Bool) → ns ≡ units_of link.objects → link.args.gc_sections ≡ false → marks ≡ replicate (total_of ns) true → IsNumberingOf link ns numbering → IsLiveOf link (record { units = ns; marks = marks; numbering = numbering })
+live_all link ns marks numbering units off all are = record {
   units = units;
   sized = ap length all ∙ length-replicate (total_of ns) true;
   only = λ u on. inl off;
@@ -430,11 +433,12 @@ live_all link ns marks units off all = record {
       let has : exists ns u ≡ true = rw units there in
       and_from (exists ns u) (get_or marks (unit_number ns u) false) has
       (ap (λ (m : List Bool). get_or m (unit_number ns u) false) all ∙ get_or-replicate (total_of ns) (unit_number ns u) true false (unit_number-lt ns u has));
+  numbering = are;
 }
 
 -- the units to which references of the table lead are marked
-pub live_reached : OneNumbers → (link : Link) (ns : List UnitCounts) (facts : List Facts) (marks : List Bool) → ns ≡ units_of link.objects → AreAllFacts link.objects facts → link.args.gc_sections ≡ true → length marks ≡ total_of ns → UnitsReached ns (references link ns facts) (roots link ns) marks → IsLiveOf link (record { units = ns; marks = marks })
-live_reached only link ns facts marks units all on sized reached =
+pub live_reached : OneNumbers → (link : Link) (ns : List UnitCounts) (facts : List Facts) (marks numbering : List Bool) → ns ≡ units_of link.objects → AreAllFacts link.objects facts → link.args.gc_sections ≡ true → length marks ≡ total_of ns → UnitsReached ns (references link ns facts) (roots link ns) marks → IsNumberingOf link ns numbering → IsLiveOf link (record { units = ns; marks = marks; numbering = numbering })
+live_reached only link ns facts marks numbering units all on sized reached are =
     let here : UnitsReached (units_of link.objects) (references link (units_of link.objects) facts) (roots link (units_of link.objects)) marks =
     subst (λ (n : List UnitCounts). UnitsReached n (references link n facts) (roots link n) marks) units reached in
     record {
@@ -453,4 +457,5 @@ live_reached only link ns facts marks units all on sized reached =
             | inr chain ↦ here.every u there (reached_to only link facts all u chain)
           ] in
           and_from (exists ns u) (get_or marks (unit_number ns u) false) has (rw units mark);
+      numbering = are;
     }

@@ -24,19 +24,19 @@ edge_followed marks true false a b = refl
 edge_followed marks false true a b = refl
 edge_followed marks false false a b = refl
 
-edges_followed : (ns : List UnitCounts) (marks : List Bool) (refs : List Reference) → followed marks (found (edge_of ns) refs) ≡ count_by (is_followed (record { units = ns; marks = marks })) refs
-edges_followed ns marks [] = refl
-edges_followed ns marks (r ∷ refs) =
+edges_followed : (ns : List UnitCounts) (marks numbering : List Bool) (refs : List Reference) → followed marks (found (edge_of ns) refs) ≡ count_by (is_followed (record { units = ns; marks = marks; numbering = numbering })) refs
+edges_followed ns marks numbering [] = refl
+edges_followed ns marks numbering (r ∷ refs) =
     let f : Edge → ℕ = λ e. cond (get_or marks e.from false) 1 0 in
     let one = edge_followed marks (exists ns r.from) (exists ns r.to) (unit_number ns r.from) (unit_number ns r.to) in
-    let rest = edges_followed ns marks refs in
+    let rest = edges_followed ns marks numbering refs in
     let joined = sum_by-append f (option_to_list (edge_of ns r)) (found (edge_of ns) refs) in
-    let more = sum_by-cons (λ (x : Reference). cond (is_followed (record { units = ns; marks = marks }) x) 1 0) r refs in
+    let more = sum_by-cons (λ (x : Reference). cond (is_followed (record { units = ns; marks = marks; numbering = numbering }) x) 1 0) r refs in
     omega (arith, one, rest, joined, more)
 
-pub steps_reached : (ns : List UnitCounts) (refs : List Reference) (marks : List Bool) → length marks ≡ total_of ns → steps_of marks (graph_of (total_of ns) (found (edge_of ns) refs)) ≡ search_steps (record { units = ns; marks = marks }) refs
-steps_reached ns refs marks size =
+pub steps_reached : (ns : List UnitCounts) (refs : List Reference) (marks numbering : List Bool) → length marks ≡ total_of ns → steps_of marks (graph_of (total_of ns) (found (edge_of ns) refs)) ≡ search_steps (record { units = ns; marks = marks; numbering = numbering }) refs
+steps_reached ns refs marks numbering size =
     let edges = found (edge_of ns) refs in
     let from : All (λ (e : Edge). e.from < length marks) edges = subst (λ (n : ℕ). All (λ (e : Edge). e.from < n) edges) (sym size) (edges_from-lt ns refs) in
     ap (λ (n : ℕ). steps_of marks (graph_of n edges)) (sym size)
-    ∙ (steps_by_edges marks edges from ∙ ap (λ (n : ℕ). count_set marks + n) (edges_followed ns marks refs))
+    ∙ (steps_by_edges marks edges from ∙ ap (λ (n : ℕ). count_set marks + n) (edges_followed ns marks numbering refs))

@@ -6,3 +6,4 @@ pub mod Mentions
 pub mod Laying
 pub mod UnitGraph
 pub mod Marking
+pub mod Numbering

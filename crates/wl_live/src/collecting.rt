@@ -10,6 +10,7 @@ ghost use Rattle.wl_symbols.specs.Live.{IsLiveOf};
 ghost use Rattle.wl_live.specs.Marking.{steps_to};
 
 use crate::marking::mark_units;
+use crate::numbering::mark_numbering;
 use crate::object_facts::{ObjectFacts, all_facts};
 use crate::refusals::check_faults;
 use std::alloc::Global;
@@ -43,7 +44,8 @@ fn collect_from_counted<L: Ledger>(
     let numbers = UnitNumbers::new(alloc, files)?;
     let marks = mark_units(alloc, symbols, args, &numbers, facts, steps)?;
     let marks = RankedMarks::new(alloc, marks)?;
-    let live = LiveSet::new(numbers, marks);
+    let numbering = mark_numbering(alloc, symbols, &numbers, facts)?;
+    let live = LiveSet::new(numbers, marks, numbering);
     check_faults(&live, symbols, facts)?;
     Ok(live)
 }

@@ -2,11 +2,11 @@
 
 ghost use Rattle.std.specs.Prelude.{◌≡◌, OnOk, IfErr};
 ghost use Rattle.wl_linking.specs.Steps.{Clear, Refuses};
-ghost use Rattle.wl_custom.specs.Symbols.{is_defined_function, is_function};
+ghost use Rattle.wl_custom.specs.Symbols.{is_defined_function};
 ghost use Rattle.wl_live.specs.Entry.{gives_function, IsEntryFault};
 
 use std::alloc::Global;
-use wl_linking::{LinkError, WasmSymbol, WasmSymbolKind};
+use wl_linking::LinkError;
 use wl_lists::Text;
 use wl_symbols::{Definition, SymbolTable};
 

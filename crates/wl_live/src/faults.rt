@@ -1,7 +1,6 @@
 //! Which segments bodies number, and why units can't be kept.
 
-ghost use Rattle.std.specs.Prelude.{◌≡◌, ◌↔◌, ℕ, ◌+◌, ◌<◌, ◌≤◌, ◌++◌, ◌∷◌, [], nat_le, length, Contains, MatchOption, IfOk, OnOk, IsTrue, option_map};
-ghost use Rattle.std.specs.Option.{option_to_list};
+ghost use Rattle.std.specs.Prelude.{◌≡◌, ◌↔◌, ◌+◌, ◌<◌, ◌≤◌, ◌++◌, nat_le, length, Contains, MatchOption, IfOk, OnOk, IsTrue};
 ghost use Rattle.wl_bytes.specs.declared.reader.TheConstants.{MAX_LEN};
 ghost use Rattle.wl_bytes.specs.declared.read_error.ReadError.{ReadError as ErrorRecord};
 ghost use Rattle.wl_custom.specs.RelocationTypes.{field_form};

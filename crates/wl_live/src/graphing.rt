@@ -85,7 +85,8 @@ pub fn roots_of(
     numbers: &UnitNumbers,
 ) -> Result<Vec<LinkUnit>, AllocError>
     requires { numbers.now ≡ units_of symbols.now.objects }
-    ensures { IfOk result (λ list. (u : UnitRecord) → Contains list.items u ↔ IsRoot symbols.now u) }
+    ensures { IfOk result
+        (λ list. (u : UnitRecord) → Contains list.items u ↔ IsRoot symbols.now u) }
 {
     collect_roots(alloc, symbols, numbers)
 }

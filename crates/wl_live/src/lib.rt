@@ -4,7 +4,7 @@
 //! [`collect_live`] keeps what a chain of references leads to from what is kept by itself, and the
 //! [`LiveSet`] tells it. [`facts`] gathers what an object says of its units, whatever names stand
 //! for; [`collect_live_from`] goes on from there. [`unit_graph`] hands out what the search goes by,
-//! for those that tell why a unit is kept.
+//! [`roots_of`] and [`references_of`] parts of it, for those that tell why a unit is kept.
 #![tactic(auto)]
 
 mod collecting;
@@ -15,6 +15,7 @@ mod graphing;
 mod laws;
 mod marking;
 mod mentions;
+mod numbering;
 mod object_facts;
 mod references;
 mod refusals;

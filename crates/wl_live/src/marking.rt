@@ -1,12 +1,12 @@
 //! Marks for the units that are kept.
 
-ghost use Rattle.std.specs.Prelude.{◌≡◌, ◌≤◌, ◌+◌, ◌++◌, length, IfOk, OnOk};
+ghost use Rattle.std.specs.Prelude.{◌≡◌, ◌≤◌, ◌+◌, ◌++◌, Bool, List, length, IfOk, OnOk};
 ghost use Rattle.std.specs.Option.{option_to_list};
 ghost use Rattle.wl_symbols.specs.Units.{units_of, unit_number_if, total_of};
 ghost use Rattle.wl_live.specs.Facts.{AreAllFacts};
 ghost use Rattle.wl_live.specs.Laying.{all_edges};
 ghost use Rattle.wl_live.specs.Table.{found, most_steps, references, roots};
-ghost use Rattle.wl_symbols.specs.Live.{IsLiveOf};
+ghost use Rattle.wl_symbols.specs.Live.{IsLiveOf, IsNumberingOf};
 ghost use Rattle.wl_live.specs.Marking.{UnitsReached, search_steps, steps_to};
 
 use crate::object_facts::ObjectFacts;
@@ -56,8 +56,8 @@ fn reach_units<L: Ledger>(
     ensures each { IfOk result (λ m. length m ≡ total_of numbers.now) }
     ensures marks { IfOk result (UnitsReached numbers.now
         (references symbols.now numbers.now facts.now) (roots symbols.now numbers.now)) }
-    ensures steps { IfOk result (λ m. steps.new ≡ steps.old
-        + search_steps (record { units = numbers.now; marks = m })
+    ensures steps { IfOk result (λ m. (numbering : List Bool) → steps.new ≡ steps.old
+        + search_steps (record { units = numbers.now; marks = m; numbering = numbering })
         (references symbols.now numbers.now facts.now)) }
     ensures cost { steps.new ≤ steps.old + (total_of numbers.now
         + length (all_edges symbols.now numbers.now facts.now)) }
@@ -82,10 +82,13 @@ pub(crate) fn mark_units<L: Ledger>(
     requires units { numbers.now ≡ units_of symbols.now.objects }
     requires facts { AreAllFacts symbols.now.objects facts.now }
     ensures each { IfOk result (λ m. length m ≡ total_of numbers.now) }
-    ensures marks { IfOk result
-        (λ m. IsLiveOf symbols.now (record { units = numbers.now; marks = m })) }
-    ensures steps { IfOk result (λ m. steps.new ≡ steps.old
-        + steps_to symbols.now facts.now (record { units = numbers.now; marks = m })) }
+    ensures marks { IfOk result (λ m. (numbering : List Bool)
+        → IsNumberingOf symbols.now numbers.now numbering
+        → IsLiveOf symbols.now
+        (record { units = numbers.now; marks = m; numbering = numbering })) }
+    ensures steps { IfOk result (λ m. (numbering : List Bool) → steps.new ≡ steps.old
+        + steps_to symbols.now facts.now
+        (record { units = numbers.now; marks = m; numbering = numbering })) }
     ensures cost { steps.new ≤ steps.old + most_steps symbols.now facts.now }
 {
     numbers_are_one();

@@ -1,22 +1,22 @@
 //! Which units are kept by themselves.
 
-ghost use Rattle.std.specs.Prelude.{◌≡◌, ◌<◌, ◌^◌, ◌++◌, length, IfOk, OnOk, if◌then◌else◌, [], None, flat_map};
+ghost use Rattle.std.specs.Prelude.{◌≡◌, ◌<◌, ◌++◌, IfOk, OnOk, if◌then◌else◌, [], None};
 ghost use Rattle.std.specs.Option.{option_to_list};
 ghost use Rattle.wl_custom.specs.Symbols.{is_weak};
 ghost use Rattle.wl_module.specs.declared.imports.ExternalKind.TheVariants as ExternalKind;
 ghost use Rattle.wl_symbols.specs.Entries.{symbol_in};
 ghost use Rattle.wl_words.specs.Texts.{texts};
 ghost use Rattle.wl_symbols.specs.DefinedUnits.{unit_at, other_unit};
-ghost use Rattle.wl_symbols.specs.Roots.{export_unit, is_kept_symbol, is_itself, is_exportable, is_candidate, is_root_symbol};
+ghost use Rattle.wl_symbols.specs.Roots.{export_unit, is_kept_symbol, is_candidate, is_root_symbol};
 ghost use Rattle.wl_live.specs.Table.{placed, export_roots, symbol_roots, init_root, init_roots, object_roots, roots_from, forced_roots, entry_unit, roots};
 
 use crate::definitions::{named_unit, other_unit, unit_at};
 use std::alloc::{AllocError, Global};
-use wl_linking::{File, WasmInitFunc, WasmSymbol, WasmSymbolKind};
+use wl_linking::{File, WasmInitFunc, WasmSymbol};
 use wl_module::{ExternalKind, OutputExport};
 use wl_symbols::{
-    Definition, LinkUnit, SymbolTable, UnitCounts, UnitNumbers, WasmGcUnit, defined_number,
-    definition_at, is_candidate, number_below,
+    LinkUnit, SymbolTable, UnitCounts, UnitNumbers, WasmGcUnit, defined_number, is_candidate,
+    number_below,
 };
 
 /// Adds a unit, if there is one.

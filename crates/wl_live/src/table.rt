@@ -6,7 +6,7 @@ ghost use Rattle.std.specs.Option.{option_to_list};
 ghost use Rattle.wl_reach.specs.Graph.{HasRoom, graph_of};
 ghost use Rattle.wl_reach.specs.declared.graph.Edge.{Edge as SpecEdge};
 ghost use Rattle.wl_symbols.specs.Link.{Link};
-ghost use Rattle.wl_symbols.specs.Units.{total_of, unit_number_if};
+ghost use Rattle.wl_symbols.specs.Units.{total_of};
 ghost use Rattle.wl_live.specs.Laying.{all_edges, edge_to, edges, mention_edges, IsLaying};
 
 use crate::mentions::{Mention, all_mentions};

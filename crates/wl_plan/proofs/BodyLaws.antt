@@ -1,6 +1,7 @@
 -- What becomes of the bodies of kept functions.
 use Rattle.std.proofs.Common.{◌≡◌, ◌∙◌, ◌<◌, ℕ, ◌+◌, Bool, true, false, not, ◌||◌, ◌==◌, List, [], ◌∷◌, length, refl, sym, ap, subst, arith, inl, inr, Option, Some, None, slice_get, if◌then◌else◌, eqb-true, lt-ltb}
 use Rattle.std.specs.Option.{option_and_then}
+use Rattle.std.proofs.Math.Bool.{or-false}
 use Rattle.std.proofs.lemmas.Bool.{cases_lt}
 use Rattle.wl_module.specs.Bodies.{Body}
 use Rattle.wl_bytes.specs.Outcome.{HasCause}
@@ -11,17 +12,17 @@ use Rattle.wl_linking.specs.Object.{Object}
 use Rattle.wl_linking.specs.declared.error.LinkError.TheVariants.{OutOfMemory}
 use Rattle.wl_symbols.specs.Link.{Link}
 use Rattle.wl_live.specs.Faults.{HasBodyFault, object_refusal}
-use Rattle.wl_symbols.specs.Live.{Live, is_live, IsLiveOf}
+use Rattle.wl_symbols.specs.Live.{Live, is_live, numbers_segments, IsLiveOf}
 use Rattle.wl_symbols.specs.References.{RefersByNumber}
 use Rattle.wl_symbols.specs.Units.{units_of, exists}
 use Rattle.wl_symbols.specs.declared.units.LinkUnit.{LinkUnit}
 use Rattle.wl_symbols.specs.declared.units.WasmGcUnit.TheVariants.{DefinedFunction, DataSegment}
-use Rattle.wl_ops.specs.Numbers.{AreTold}
+use Rattle.wl_ops.specs.Numbers.{HasNumbers, AreTold}
 use Rattle.wl_ops.specs.Rewriting.{new_index, Rewrites, LacksIndex, RemapFault, IsRemapped}
 use Rattle.wl_ops.specs.declared.op.DataIndexImm.{DataIndexImm}
 use Rattle.wl_symbols.specs.Input.{Input, keeps}
 use Rattle.wl_plan.specs.Bodies.{body_in, new_number}
-use Rattle.wl_plan.specs.BodySteps.{AreNewNumbers, HasSoundBody, IsBodyFrom}
+use Rattle.wl_plan.specs.BodySteps.{AreNewNumbers, AreSoundBodies, HasSoundBody, IsBodyFrom}
 use Rattle.wl_plan.specs.Parsing.{link_error_of}
 use Rattle.wl_plan.specs.declared.placing.Placing.{Placing}
 use Rattle.wl_plan.proofs.NumberLaws.{counts_at}
@@ -33,6 +34,15 @@ abbrev pub SegmentsAreClosed : Type 0
 SegmentsAreClosed = (link : Link) (live : Live) (u v : LinkUnit) → IsLiveOf link live
     → is_live live u ≡ true → RefersByNumber link u v → exists (units_of link.objects) v ≡ true
     → is_live live v ≡ true
+
+-- a live body that isn't marked numbers no segment
+abbrev pub UnmarkedNumberNone : Type 0
+UnmarkedNumberNone = (link : Link) (live : Live) (object function : ℕ) (o : Object) (body : Body)
+    → IsLiveOf link live → slice_get link.objects object ≡ Some o
+    → slice_get o.bodies function ≡ Some body
+    → is_live live (record { object = object; unit = DefinedFunction function }) ≡ true
+    → numbers_segments live (record { object = object; unit = DefinedFunction function }) ≡ false
+    → HasNumbers [] body.bytes
 
 -- ---- where a body is from
 
@@ -127,6 +137,20 @@ no_remap_fault law input g object b numbers h new e (inl fault) =
 no_remap_fault law input g object b numbers h new e (inr lacks) =
     none_lacks law input g object b numbers h new lacks.0 lacks.1 lacks.2
 
+-- no numbers are told of a sound body that isn't marked
+pub none_told : UnmarkedNumberNone → (input : Input) (object function : ℕ) (b : Body)
+    → AreSoundBodies input → body_in input object function ≡ Some b
+    → keeps input object (DefinedFunction function) ≡ true
+    → numbers_segments input.live (record { object = object; unit = DefinedFunction function })
+    ≡ false → AreTold [] b.bytes
+none_told law input object function b sound here kept off =
+    let f : IsFound input object function b = found input object function b here in
+    let h : HasSoundBody input object b =
+    record { sound = sound; function = function; here = here; is_kept = kept } in (
+      law input.link input.live object function f.o b sound.kept f.here f.there kept off,
+      λ e fault. sound_body input object b h f.o f.here f.there e (inl fault),
+    )
+
 pub told_memory : (cause : ReadError → Type 0) (object : ℕ) (e : ReadError) → HasCause cause e
     → ((d : ReadError) → cause d → ⊥) → link_error_of object e ≡ OutOfMemory
 told_memory cause object read.OutOfMemory h none = refl
@@ -192,3 +216,13 @@ renumbered_is input g object own b numbers fields after copy old changed new sam
       code_offset = offset;
       object_index = index;
     }
+
+-- what becomes of one that numbers no segment
+pub copied_is : (input : Input) (g : Placing) (object : ℕ) (own b : Body)
+    (numbers : List (Option ℕ)) → AreNewNumbers input g object numbers → AreTold [] own.bytes
+    → b.bytes ≡ own.bytes → b.owned ≡ own.owned → b.code_offset ≡ own.code_offset
+    → b.object_index ≡ object → IsBodyFrom input g object own b
+copied_is input g object own b numbers new told bytes owned offset index =
+    renumbered_is input g object own b numbers [] [] own.bytes own.bytes false new refl
+    (record { numbers = []; theirs = told; some = refl; bytes = refl; places = tt }) bytes
+    (owned ∙ sym (or-false own.owned)) offset index

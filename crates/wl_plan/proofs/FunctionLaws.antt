@@ -1,6 +1,6 @@
 -- Entries of the function space, their types, and the functions of the output that they are.
 use Rattle.std.proofs.Common.{◌≡◌, ◌∙◌, ℕ, zero, suc, ◌+◌, ◌<◌, ◌≤◌, Bool, true, false, List, [], ◌∷◌, ◌++◌, length, refl, sym, ap, subst, arith, inl, inr, Option, Some, None, slice_get, filter, filter_map, map, take, get_or, is_some, if◌then◌else◌, Contains, Result, Ok, Err, OnOk}
-use Rattle.std.specs.List.{AllByRecursion, AllZip, range_with_len}
+use Rattle.std.specs.List.{AllZip, range_with_len}
 use Rattle.std.specs.Option.{option_map, option_map_or, option_and_then, is_none}
 use Rattle.std.proofs.lemmas.Bool.{cases_Bool, cases_eq}
 use Rattle.std.proofs.lemmas.List.{append-nil, append_assoc, take_all, length-map}
@@ -8,7 +8,6 @@ use Rattle.std.proofs.lemmas.Option.{same_Some, get_or_from_slice_get, slice_get
 use Rattle.wl_module.specs.Imports.{Imported}
 use Rattle.wl_module.specs.Types.{FunctionType}
 use Rattle.wl_module.specs.declared.types.ValType.{ValType}
-use Rattle.wl_linking.specs.Fitting.{IsWhole}
 use Rattle.wl_linking.specs.Object.{Object}
 use Rattle.wl_custom.specs.Symbols.{Symbol}
 use Rattle.wl_custom.specs.declared.symbols.WasmSymbolKind.{WasmSymbolKind}
@@ -39,7 +38,7 @@ use Rattle.wl_plan.specs.Origins.{Origin, OfObject, OfStub, PlannedFunction}
 use Rattle.wl_lists.proofs.Beside.{zip_joined}
 use Rattle.wl_lists.proofs.Firsts.{in_firsts}
 use Rattle.wl_lists.proofs.In.{filter_in, IsIn, in_at, in_list, in_split, in_front, in_back, in_filter, in_map, map_in, in_if, all_mapped}
-use Rattle.wl_lists.proofs.Places.{there_is, mapped_at, all_at}
+use Rattle.wl_lists.proofs.Places.{there_is, mapped_at}
 use Rattle.wl_lists.proofs.Rows.{object_in, by_object_more, row_found, row_within}
 use Rattle.wl_plan.proofs.ListLaws.{drop_front}
 

@@ -14,7 +14,7 @@ use Rattle.wl_custom.specs.declared.relocation_type.FieldForm.{FieldForm}
 use Rattle.wl_custom.specs.declared.relocation_type.FieldForm.TheVariants.{PaddedUnsigned, PaddedSigned, Word}
 use Rattle.wl_custom.specs.declared.relocations.WasmRelocation.{WasmRelocation}
 use Rattle.wl_linking.specs.declared.sites.Site.{Site}
-use Rattle.wl_symbols.specs.Live.{Live}
+use Rattle.wl_symbols.specs.Live.{Live, numbers_segments}
 use Rattle.wl_symbols.specs.declared.units.WasmGcUnit.TheVariants.{DefinedFunction}
 use Rattle.wl_ops.specs.Numbers.{AreTold}
 use Rattle.wl_ops.specs.Rewriting.{new_index, before, NewBytes, Moves, AllMove}
@@ -31,7 +31,7 @@ use Rattle.wl_plan.specs.PositionSteps.{is_code, share_body, goes_on, AreOfOneBo
 use Rattle.wl_plan.specs.declared.placing.Placing.{Placing}
 use Rattle.wl_lists.proofs.In.{at_is_in}
 use Rattle.wl_lists.proofs.Places.{came_at, all_at, append_split}
-use Rattle.wl_plan.proofs.BodyLaws.{body_at}
+use Rattle.wl_plan.proofs.BodyLaws.{UnmarkedNumberNone, body_at, none_told}
 use Rattle.wl_plan.proofs.FixupListLaws.{all_more}
 
 -- ---- where a kept relocation is from
@@ -509,6 +509,32 @@ first_sound law input first run o body sound kept at code here there =
       here = body_at input first.object first.site.unit o body here there;
       is_kept = b.is_kept;
     }
+
+-- ---- bodies that number no segment
+
+-- without numbers all stay
+all_stay : (new : ℕ → Option ℕ) (ps : List ℕ) → AllMove new [] ps ps
+all_stay new [] = tt
+all_stay new (p ∷ ps) = ((0, refl, omega arith), all_stay new ps)
+
+-- the fields of one body that isn't marked
+pub unmoved : WholeFit → UnmarkedNumberNone → (input : Input) (g : Placing) (first : Relocated)
+    (run : List Relocated) (numbers : List (Option ℕ)) → AreSoundBodies input
+    → AreNewNumbers input g first.object numbers → AreKept input run
+    → slice_get run 0 ≡ Some first → first.place ≡ Code → AreOfOneBody run
+    → numbers_segments input.live
+    (record { object = first.object; unit = DefinedFunction first.site.unit }) ≡ false
+    → AllZip (IsMovedIn input g) run (map position_of run)
+unmoved fit law input g first run numbers sound new kept at code one off =
+    let b : IsInBody input first = first_there fit input first run sound kept at code in
+    let here = body_at input first.object first.site.unit b.o b.body b.here b.there in
+    let told : AreTold [] (b.body).bytes =
+    none_told law input first.object first.site.unit b.body sound here b.is_kept off in
+    all_moved input g first.object b.body numbers [] run (map position_of run) new told
+    (all_there fit input first b.body run sound kept at code here one)
+    (all_stay (new_index numbers) (map position_of run))
+
+-- ---- vectors
 
 -- the positions of one run, moved on in a vector
 pub vector_is : {X : Type 0} (new old : List X) (n : ℕ) → length new ≡ length old

@@ -1,11 +1,13 @@
 //! The bodies of the functions, and the debug sections beside them.
 
-ghost use Rattle.std.specs.Prelude.{◌≡◌, ◌≤◌, ◌<◌, ◌^◌, ◌++◌, ◌||◌, length, map, false, if◌then◌else◌, Some, OnOk, IfOk, IfErr, slice_get};
+ghost use Rattle.std.specs.Prelude.{◌≡◌, ◌≤◌, ◌<◌, ◌^◌, ◌++◌, ◌||◌, length, map, true, false, if◌then◌else◌, Some, OnOk, IfOk, IfErr, slice_get};
 ghost use Rattle.std.specs.Cow.{cow_slice_items};
 ghost use Rattle.wl_module.specs.Slices.{is_owned};
 ghost use Rattle.wl_linking.specs.declared.error.LinkError.TheVariants.{OutOfMemory};
 ghost use Rattle.wl_index.specs.declared.index.TheConstants.{MAX_ENTRIES};
+ghost use Rattle.wl_symbols.specs.Input.{keeps};
 ghost use Rattle.wl_symbols.specs.declared.linker_symbol.WasmLinkerSymbol.TheVariants.{CallCtors};
+ghost use Rattle.wl_symbols.specs.declared.units.WasmGcUnit.TheVariants.{DefinedFunction};
 ghost use Rattle.wl_bind.specs.FunctionSpace.{made_function_part, stub_part, functions_of};
 ghost use Rattle.wl_synth.specs.Bodies.{call_sequence_ops};
 ghost use Rattle.wl_synth.specs.Encoding.{IsEncoded};
@@ -22,7 +24,7 @@ use crate::parsing::link_error;
 use crate::placing::Placing;
 use std::alloc::{AllocError, Global};
 use std::borrow::CowSlice;
-use wl_bind::stub_imports;
+use wl_bind::{entries_have_types, stub_imports};
 use wl_ctors::InitCall;
 use wl_data::segments_have_layouts;
 use wl_index::{WASM_DEAD_INDEX, WasmObjectIndexMap};
@@ -30,7 +32,9 @@ use wl_linking::{DebugSectionInput, File, LinkError, parts_of_objects_stand, who
 use wl_lists::ItemList;
 use wl_module::{WasmFunctionBody, copy_bytes};
 use wl_ops::remap_body_data_indices;
-use wl_symbols::{LinkInput, WasmGcUnit, WasmLinkerSymbol, live_units_are_closed};
+use wl_symbols::{
+    LinkInput, WasmGcUnit, WasmLinkerSymbol, live_units_are_closed, unmarked_bodies_number_none,
+};
 use wl_synth::{UNREACHABLE_FUNCTION_BODY, encode_call_sequence_body};
 
 // ---- numbers of segments
@@ -130,6 +134,53 @@ fn renumbered<'a>(
     })
 }
 
+/// The body of a function of an object as it is there.
+fn copied<'a>(
+    alloc: Global,
+    body: &WasmFunctionBody<'a>,
+    object: usize,
+) -> Result<WasmFunctionBody<'a>, AllocError>
+    ensures bytes { IfOk result (λ b. b.bytes ≡ body.now.bytes) }
+    ensures owned { IfOk result (λ b. b.owned ≡ body.now.owned) }
+    ensures code_offset { IfOk result (λ b. b.code_offset ≡ body.now.code_offset) }
+    ensures object { IfOk result (λ b. b.object_index ≡ object) }
+{
+    Ok(WasmFunctionBody {
+        bytes: copy_bytes(alloc, &body.bytes)?,
+        code_offset: body.code_offset,
+        object_index: object,
+    })
+}
+
+/// The body of a kept function of an object in the output. One that numbers no segments is copied:
+/// which do was found where it was told what is kept.
+///
+/// # Errors
+/// Want of memory alone.
+fn output_body<'a>(
+    alloc: Global,
+    input: &LinkInput<'_, '_>,
+    placing: &Placing<'_>,
+    site: (usize, u32),
+    body: &WasmFunctionBody<'a>,
+    numbers: &[Option<u32>],
+) -> Result<WasmFunctionBody<'a>, LinkError>
+    requires sound { AreSoundBodies input.now }
+    requires here { body_in input.now site.0 site.1 ≡ Some body.now }
+    requires kept { keeps input.now site.0 (DefinedFunction site.1) ≡ true }
+    requires numbers { AreNewNumbers input.now placing.now site.0 numbers.now }
+    ensures ok { IfOk result (IsBodyFrom input.now placing.now site.0 body.now) }
+    ensures err { IfErr result (λ e. e ≡ OutOfMemory) }
+{
+    unmarked_bodies_number_none();
+    let (object, function) = site;
+    if input.live().numbers_segments(object, function) {
+        renumbered(alloc, input, placing, body, object, numbers)
+    } else {
+        Ok(copied(alloc, body, object)?)
+    }
+}
+
 // ---- bodies
 
 /// Adds a body that the linker makes.
@@ -197,10 +248,17 @@ fn push_stubs<'a>(
     bodies: &mut Vec<WasmFunctionBody<'a>>,
     input: &LinkInput<'_, 'a>,
     placing: &Placing<'a>,
+    bindings: &Bindings<'a>,
 ) -> Result<(), AllocError>
+    requires { AreBindings input.now bindings.now }
     ensures { OnOk result (AddsBodies input.now placing.now (stub_part input.now)
         bodies.old.items bodies.new.items) }
 {
+    entries_have_types();
+    whole_objects();
+    if bindings.stubs.as_slice().is_empty() {
+        return Ok(());
+    }
     let stubs = stub_imports(alloc, input)?;
     let list = stubs.as_slice();
     let mut made = 0;
@@ -229,12 +287,13 @@ fn push_kept<'a>(
         (own_function_part input.now site.0 site.1) bodies.old.items bodies.new.items) }
     ensures err { IfErr result (λ e. e ≡ OutOfMemory) }
 {
-    let (object, function) = site;
-    let unit = WasmGcUnit::DefinedFunction(function as u32);
+    let (object, function) = (site.0, site.1 as u32);
+    let unit = WasmGcUnit::DefinedFunction(function);
     if !input.live().is_live(object, unit) {
         return Ok(());
     }
-    bodies.push(renumbered(alloc, input, placing, body, object, numbers)?)?;
+    let kept = output_body(alloc, input, placing, (object, function), body, numbers)?;
+    bodies.push(kept)?;
     Ok(())
 }
 
@@ -291,7 +350,7 @@ pub(crate) fn own_bodies<'a>(
 {
     let mut bodies = Vec::new(alloc);
     push_call_ctors(alloc, &mut bodies, input, placing, bindings)?;
-    push_stubs(alloc, &mut bodies, input, placing)?;
+    push_stubs(alloc, &mut bodies, input, placing, bindings)?;
     for (object, file) in input.files().as_slice().iter().enumerate() {
         let row = numbers[object].as_slice();
         push_bodies(alloc, &mut bodies, input, placing, object, file, row)?;

@@ -19,7 +19,10 @@ use wl_linking::{File, LinkError, parts_of_objects_stand, whole_objects};
 use wl_lists::ItemList;
 use wl_module::WasmFunctionBody;
 use wl_ops::remap_body_data_indices;
-use wl_symbols::{FixupPlace, LinkInput, Relocated, kept_relocations, live_units_are_closed};
+use wl_symbols::{
+    FixupPlace, LinkInput, Relocated, kept_relocations, live_units_are_closed,
+    unmarked_bodies_number_none,
+};
 
 /// The two fields lie in one body.
 fn share_body(first: &Relocated, other: &Relocated) -> bool
@@ -104,7 +107,8 @@ fn moved_data(
     own_positions(alloc, run)
 }
 
-/// Where these fields of a body of the object stand in what the output has.
+/// Where these fields of a body of the object stand in what the output has: where they stood, if
+/// the body numbers no segments.
 fn moved_file(
     alloc: Global,
     input: &LinkInput<'_, '_>,
@@ -127,6 +131,10 @@ fn moved_file(
     ensures err { IfErr result (λ e. e ≡ OutOfMemory) }
 {
     whole_objects();
+    unmarked_bodies_number_none();
+    if !input.live().numbers_segments(first.object, first.site.unit) {
+        return Ok(own_positions(alloc, run)?);
+    }
     let unit = first.site.unit as usize;
     let body = &file.bodies()[unit];
     moved_in(alloc, input, placing, first.object, body, row, run)

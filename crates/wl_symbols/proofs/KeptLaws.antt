@@ -1,6 +1,11 @@
 -- What follows from kept units: what they refer to is kept, and live sets of a link say the same.
-use Rattle.std.proofs.Common.{◌≡◌, ◌⊎◌, ℕ, zero, suc, true, List, [], inl, inr, refl, sym, ◌∙◌}
+use Rattle.std.proofs.Common.{◌≡◌, ◌⊎◌, ℕ, zero, suc, true, false, List, [], ◌∷◌, Some, inl, inr, refl, sym, ◌∙◌}
+use Rattle.std.specs.Prelude.{slice_get}
 use Rattle.std.proofs.lemmas.Bool.{cases_Bool, and_parts, true≢false}
+use Rattle.wl_bytes.specs.declared.read_error.ReadError.{ReadError}
+use Rattle.wl_bytes.specs.Outcome.{AreAlternatives}
+use Rattle.wl_module.specs.Bodies.{Body}
+use Rattle.wl_linking.specs.Object.{Object}
 use Rattle.wl_ops.specs.Decoding.{AreTaken}
 use Rattle.wl_ops.specs.declared.op.Op.{Op}
 use Rattle.wl_reach.specs.Search.{IsReached}
@@ -10,11 +15,13 @@ use Rattle.wl_symbols.specs.Units.{units_of, exists, unit_index, sibling_of}
 use Rattle.wl_symbols.specs.References.{RefersBySymbol, RefersByNumber, RefersBySlot, Refers}
 use Rattle.wl_symbols.specs.Roots.{IsRoot}
 use Rattle.wl_symbols.specs.Kept.{IsKept}
-use Rattle.wl_symbols.specs.Live.{Live, is_live, IsLiveOf, live_below, ordinal_of}
+use Rattle.wl_symbols.specs.Live.{Live, is_live, numbers_segments, IsLiveOf, live_below, ordinal_of}
 use Rattle.wl_symbols.specs.declared.units.LinkUnit.{LinkUnit}
+use Rattle.wl_symbols.specs.declared.units.WasmGcUnit.TheVariants.{DefinedFunction, DataSegment}
 use Rattle.wl_symbols.proofs.ExistLaws.{unit_at_exists, other_unit_exists, replacing_unit_exists, root_exists}
-use Rattle.wl_lists.proofs.In.{Contains-none}
-use Rattle.wl_ops.specs.Numbers.{HasNumbers}
+use Rattle.wl_symbols.proofs.OrdinalLaws.{numbers_segments-mark}
+use Rattle.wl_lists.proofs.In.{Contains-none, Contains-here}
+use Rattle.wl_ops.specs.Numbers.{HasNumbers, AreTold, NumbersFault}
 use Rattle.wl_ops.specs.declared.op.DataIndexImm.{DataIndexImm}
 
 -- a body has one list of numbers
@@ -106,3 +113,36 @@ pub undecoded_refers : OneNumbers → (link : Link) (u v : LinkUnit) (b : Refers
 undecoded_refers only link u v b none =
     let same : b.numbers ≡ [] = only b.body.bytes b.numbers [] b.are (inr (none, refl)) in
     Contains-none b.number (rw same at b.one)
+
+-- ---- bodies that aren't marked
+
+-- a body that doesn't number segments has no numbers, whatever is told of it
+pub unnumbered : AreAlternatives AreTold NumbersFault → ((body : List ℕ) (e : ReadError) → NumbersFault e body → HasNumbers [] body) → (link : Link) (live : Live) (object function : ℕ) (o : Object) (body : Body) → IsLiveOf link live → slice_get link.objects object ≡ Some o → slice_get o.bodies function ≡ Some body → is_live live (record { object = object; unit = DefinedFunction function }) ≡ true → numbers_segments live (record { object = object; unit = DefinedFunction function }) ≡ false → HasNumbers [] body.bytes
+unnumbered told none link live object function o body is here has on off =
+    elim (told.some body.bytes) [
+      | inl n ↦ empty n.0 n.1.0
+      | inr e ↦ none body.bytes e.0 e.1
+    ]
+  where
+    u : LinkUnit
+    u = record { object = object; unit = DefinedFunction function }
+    empty : (ns : List DataIndexImm) → HasNumbers ns body.bytes → HasNumbers [] body.bytes
+    empty [] h = h
+    empty (n ∷ ns) h =
+        let there : exists live.units u ≡ true = (and_parts (exists live.units u) _ on).0 in
+        let v : LinkUnit = record { object = object; unit = DataSegment n.index } in
+        let refers : RefersByNumber link u v = record {
+          object = o;
+          here = here;
+          function = function;
+          from = refl;
+          body = body;
+          has = has;
+          numbers = n ∷ ns;
+          are = h;
+          number = n;
+          one = Contains-here n ns;
+          to = refl;
+        } in
+        let mark : numbers_segments live u ≡ true = numbers_segments-mark live u there ∙ is.numbering.every u there (v, refers) in
+        absurd (true≢false (sym mark ∙ off))

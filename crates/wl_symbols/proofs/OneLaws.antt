@@ -4,7 +4,7 @@ use Rattle.std.proofs.lemmas.Bool.{cases_lt, lt-ltb}
 use Rattle.std.proofs.lemmas.List.{take_all}
 use Rattle.wl_symbols.specs.Link.{Link}
 use Rattle.wl_symbols.specs.Units.{unit_index, count_of_kind, has_unit, number_in_object, unit_count, units_at, exists, units_before, total_of, unit_number}
-use Rattle.wl_symbols.specs.Live.{Live, is_live, IsLiveOf}
+use Rattle.wl_symbols.specs.Live.{Live, is_live, IsNumberingOf, IsLiveOf}
 use Rattle.wl_symbols.specs.declared.units.WasmGcUnit.{WasmGcUnit}
 use Rattle.wl_symbols.specs.declared.units.WasmGcUnit.TheVariants.{DefinedFunction, DefinedGlobal, DataSegment, FunctionImport, GlobalImport}
 use Rattle.wl_symbols.specs.declared.units.LinkUnit.{LinkUnit}
@@ -75,11 +75,29 @@ same_marks (x ∷ xs) (y ∷ ys) len each =
     let rest = same_marks xs ys (omega (arith, len)) (λ k lt. each (suc k) (omega (arith, lt))) in
     ap (λ (z : Bool). z ∷ xs) first ∙ ap (λ (zs : List Bool). y ∷ zs) rest
 
+same_Bool : (a b : Bool) → (a ≡ true → b ≡ true) → (b ≡ true → a ≡ true) → a ≡ b
+same_Bool true b f g = sym (f refl)
+same_Bool false true f g = absurd (let no = g refl in cc)
+same_Bool false false f g = refl
+
+-- marks that are set at the same units are the same
+numbering_one : (link : Link) (ns : List UnitCounts) (xs ys : List Bool) → IsNumberingOf link ns xs → IsNumberingOf link ns ys → xs ≡ ys
+numbering_one link ns xs ys a b = same_marks xs ys (a.sized ∙ sym b.sized) same_at
+  where
+    same_at : (k : ℕ) → k < length xs → get_or xs k false ≡ get_or ys k false
+    same_at k lt =
+        let n = unit_numbered ns k (omega (arith, lt, a.sized)) in
+        let to : (zs ws : List Bool) → IsNumberingOf link ns zs → IsNumberingOf link ns ws → get_or zs k false ≡ true → get_or ws k false ≡ true =
+        λ zs ws z w on.
+        let here : get_or zs (unit_number ns n.unit) false ≡ true = ap (λ (j : ℕ). get_or zs j false) n.number ∙ on in
+        ap (λ (j : ℕ). get_or ws j false) (sym n.number) ∙ w.every n.unit n.there (z.only n.unit n.there here) in
+        same_Bool (get_or xs k false) (get_or ys k false) (to xs ys a b) (to ys xs b a)
+
 mark_of : (live : Live) (u : LinkUnit) → exists live.units u ≡ true → is_live live u ≡ get_or live.marks (unit_number live.units u) false
 mark_of live u there = rw there refl
 
-make_live : List UnitCounts → List Bool → Live
-make_live units marks = record { units = units; marks = marks }
+make_live : List UnitCounts → List Bool → List Bool → Live
+make_live units marks numbering = record { units = units; marks = marks; numbering = numbering }
 
 pub live_sets_one : (link : Link) (a b : Live) → IsLiveOf link a → IsLiveOf link b → a ≡ b
 unfolding make_live
@@ -87,7 +105,10 @@ live_sets_one link a b la lb =
     let units : a.units ≡ b.units = la.units ∙ sym lb.units in
     let len : length a.marks ≡ length b.marks = la.sized ∙ ap total_of units ∙ sym lb.sized in
     let marks : a.marks ≡ b.marks = same_marks a.marks b.marks len (λ k lt. same_at k lt units) in
-    let h : make_live a.units a.marks ≡ make_live b.units b.marks = ap (λ (us : List UnitCounts). make_live us a.marks) units ∙ ap (make_live b.units) marks in h
+    let numbering : a.numbering ≡ b.numbering =
+    numbering_one link b.units a.numbering b.numbering (subst (λ (us : List UnitCounts). IsNumberingOf link us a.numbering) units la.numbering) lb.numbering in
+    let h : make_live a.units a.marks a.numbering ≡ make_live b.units b.marks b.numbering =
+    ap (λ (us : List UnitCounts). make_live us a.marks a.numbering) units ∙ (ap (λ (ms : List Bool). make_live b.units ms a.numbering) marks ∙ ap (make_live b.units b.marks) numbering) in h
   where
     same_at : (k : ℕ) → k < length a.marks → a.units ≡ b.units → get_or a.marks k false ≡ get_or b.marks k false
     same_at k lt units =

@@ -8,7 +8,7 @@ use Rattle.wl_symbols.specs.declared.units.UnitCounts.{UnitCounts}
 use Rattle.wl_symbols.specs.declared.units.WasmGcUnit.{WasmGcUnit}
 use Rattle.wl_symbols.specs.declared.units.WasmGcUnit.TheVariants.{DefinedFunction, DefinedGlobal, DataSegment, FunctionImport, GlobalImport}
 use Rattle.wl_symbols.specs.Units.{exists, has_unit, unit_number, unit_number_if, total_of, unit_index, sibling_of, number_in_object, units_at}
-use Rattle.wl_symbols.specs.Live.{Live, is_live, live_below}
+use Rattle.wl_symbols.specs.Live.{Live, is_live, numbers_segments, live_below}
 use Rattle.wl_symbols.proofs.NumberingLaws.{number_if_parts, unit_number-lt}
 
 pub count_set_more : (marks : List Bool) (k : ℕ) → k < length marks → count_set (take (k + 1) marks) ≡ count_set (take k marks) + cond (get_or marks k false) 1 0
@@ -52,6 +52,9 @@ sibling-has n (GlobalImport k) j h lt = lt-ltb j n.global_imports (omega (arith,
 
 pub is_live-mark : (live : Live) (u : LinkUnit) → exists live.units u ≡ true → is_live live u ≡ get_or live.marks (unit_number live.units u) false
 is_live-mark live u there = rw there refl
+
+pub numbers_segments-mark : (live : Live) (u : LinkUnit) → exists live.units u ≡ true → numbers_segments live u ≡ get_or live.numbering (unit_number live.units u) false
+numbers_segments-mark live u there = rw there refl
 
 pub below_counts : (live : Live) (u : LinkUnit) (first : ℕ) → exists live.units u ≡ true → first + unit_index u.unit ≡ unit_number live.units u → unit_number live.units u < length live.marks → (k : ℕ) → k ≤ unit_index u.unit → live_below live u k + count_set (take first live.marks) ≡ count_set (take (first + k) live.marks)
 below_counts live u first there e lt zero le = let same : first + 0 ≡ first = omega arith in rw same (omega arith)

@@ -56,6 +56,10 @@ pub record RefersByNumber (link : Link) (u v : LinkUnit) : Type 0 where
   pub one : Contains numbers number
   pub to : v ≡ record { object = u.object; unit = DataSegment number.index }
 
+-- the number of a segment stands in the body u
+abbrev pub NumbersSegments : Link → LinkUnit → Type 0
+NumbersSegments link u = (v : LinkUnit) × RefersByNumber link u v
+
 -- u is an import slot with an undefined symbol, and v is the unit of what the symbol stands for and
 -- an object defines
 pub record RefersBySlot (link : Link) (u v : LinkUnit) : Type 0 where

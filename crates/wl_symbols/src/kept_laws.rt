@@ -1,20 +1,23 @@
 //! What callers may count on: functions with an empty body, each of which states a law of what is
 //! kept.
 
-ghost use Rattle.std.specs.Prelude.{◌≡◌, ◌↔◌, ◌⊎◌, ℕ, ◌<◌, List, Some, Contains, true};
+ghost use Rattle.std.specs.Prelude.{◌≡◌, ℕ, ◌<◌, List, [], Some, true, false, slice_get};
 ghost use Rattle.wl_ops.specs.declared.op.Op.{Op as OpRecord};
-ghost use Rattle.wl_ops.specs.Decoding.{AreTaken};
+ghost use Rattle.wl_module.specs.Bodies.{Body};
 ghost use Rattle.wl_linking.specs.Object.{Object};
+ghost use Rattle.wl_ops.specs.Decoding.{AreTaken};
+ghost use Rattle.wl_ops.specs.Numbers.{HasNumbers};
 ghost use Rattle.wl_symbols.specs.Link.{Link};
 ghost use Rattle.wl_symbols.specs.Units.{units_of, exists, unit_number, total_of};
 ghost use Rattle.wl_symbols.specs.Roots.{IsRoot};
-ghost use Rattle.wl_symbols.specs.References.{RefersBySymbol, RefersByNumber, RefersBySlot, Refers};
+ghost use Rattle.wl_symbols.specs.References.{RefersBySymbol, RefersByNumber, RefersBySlot};
 ghost use Rattle.wl_symbols.specs.Kept.{IsKept};
-ghost use Rattle.wl_symbols.specs.Live.{Live, is_live, ordinal_of, IsLiveOf, AreOfOneKind};
+ghost use Rattle.wl_symbols.specs.Live.{Live, is_live, numbers_segments, ordinal_of, IsLiveOf, AreOfOneKind};
 ghost use Rattle.wl_symbols.specs.declared.units.LinkUnit.{LinkUnit as UnitRecord};
+ghost use Rattle.wl_symbols.specs.declared.units.WasmGcUnit.TheVariants.{DefinedFunction};
 ghost use Rattle.wl_symbols.specs.declared.units.UnitCounts.{UnitCounts as Counts};
 
-use wl_ops::numbers_are_one;
+use wl_ops::{numbers_are_one, numbers_or_fault};
 
 /// A root is kept, and so is what a kept unit refers to: the unit of a symbol that a relocation in
 /// it names, and of what stands in its place; a segment of its object that its body numbers; what
@@ -82,4 +85,18 @@ pub fn undecoded_bodies_refer_to_none()
         → ((ops : List OpRecord) → AreTaken ops by.body.bytes → ⊥) → ⊥ }
 {
     numbers_are_one();
+}
+
+/// The body of a kept function numbers no segment where the live set doesn't mark it as one that
+/// does.
+pub fn unmarked_bodies_number_none()
+    ensures { (link : Link) (live : Live) (object function : ℕ) (o : Object) (body : Body)
+        → IsLiveOf link live → slice_get link.objects object ≡ Some o
+        → slice_get o.bodies function ≡ Some body
+        → is_live live (record { object = object; unit = DefinedFunction function }) ≡ true
+        → numbers_segments live (record { object = object; unit = DefinedFunction function })
+        ≡ false → HasNumbers [] body.bytes }
+{
+    numbers_are_one();
+    numbers_or_fault();
 }

@@ -10,8 +10,8 @@ use std::sync::ledger::{Blank, Ledger};
 use std::test::Fail;
 use wl_linking::{FileList, LinkError, parse_wasm_module};
 use wl_live::{
-    LinkUnit, LiveSet, UnitNumbers, WasmGcUnit, all_facts, collect_live_counted, collect_live_from,
-    references_of, roots_of, unit_graph,
+    LinkUnit, LiveSet, UnitNumbers, WasmGcUnit, all_facts, collect_live, collect_live_counted,
+    collect_live_from, references_of, roots_of, unit_graph,
 };
 use wl_reach::Edge;
 use wl_steps::Steps;
@@ -25,6 +25,15 @@ const OBJECT: &[u8; 76] = b"\0asm\x01\0\0\0\
     \x0a\x0d\x02\x08\0\x10\x81\x80\x80\x80\0\x0b\x02\0\x0b\
     \0\x16\x07linking\x02\x08\x0b\x02\0\0\0\x01a\0\0\x01\x01b\
     \0\x10\x0areloc.CODE\x02\x01\0\x04\x01";
+
+/// The same, but that `a` drops a segment, the one that there is, and calls nothing.
+const DROPPING: &[u8; 64] = b"\0asm\x01\0\0\0\
+    \x01\x04\x01\x60\0\0\
+    \x03\x03\x02\0\0\
+    \x0c\x01\x01\
+    \x0a\x0a\x02\x05\0\xfc\x09\0\x0b\x02\0\x0b\
+    \x0b\x04\x01\x01\x01a\
+    \0\x16\x07linking\x02\x08\x0b\x02\0\0\0\x01a\0\0\x01\x01b";
 
 /// The function of that number.
 fn function(number: u32) -> LinkUnit {
@@ -124,26 +133,45 @@ fn answers_on(alloc: Global, files: &FileList<'_>, args: &WasmArgs) -> Result<Fo
     })
 }
 
-/// What the calls answer of the object.
-fn answers(alloc: Global, args: &WasmArgs) -> Result<Found, LinkError> {
+/// The link of one object.
+fn one_file(alloc: Global, bytes: &[u8]) -> Result<FileList<'_>, LinkError> {
     let mut files = FileList::new(alloc);
-    let Ok(file) = parse_wasm_module(alloc, OBJECT) else {
+    let Ok(file) = parse_wasm_module(alloc, bytes) else {
         return Err(LinkError::OutOfMemory);
     };
     match files.push(file) {
-        Ok(()) => answers_on(alloc, &files, args),
+        Ok(()) => Ok(files),
         Err(_) => Err(LinkError::OutOfMemory),
     }
+}
+
+/// What the calls answer of the object.
+fn answers(alloc: Global, args: &WasmArgs) -> Result<Found, LinkError> {
+    let files = one_file(alloc, OBJECT)?;
+    answers_on(alloc, &files, args)
+}
+
+/// Whether the first function of the other object numbers segments, and whether the second does.
+fn numbering(alloc: Global, args: &WasmArgs) -> Result<[bool; 2], LinkError> {
+    let files = one_file(alloc, DROPPING)?;
+    let symbols = SymbolTable::build(alloc, &files, args)?;
+    let live = collect_live(alloc, &files, &symbols, args)?;
+    Ok([0, 1].map(|function| live.numbers_segments(0, function)))
+}
+
+/// The options of a link that begins at `a`.
+fn options(alloc: Global) -> Result<WasmArgs, Fail> {
+    let mut words = Vec::new(alloc);
+    for text in ["--entry=a", "a.o"] {
+        words.push(String::from_str(alloc, text)?)?;
+    }
+    Ok(WasmArgs::parse(alloc, &words)?)
 }
 
 #[test]
 fn a_function_that_is_called_is_kept(rt: HostRuntime) -> Result<(), Fail> {
     let alloc = rt.alloc();
-    let mut words = Vec::new(alloc);
-    for text in ["--entry=a", "a.o"] {
-        words.push(String::from_str(alloc, text)?)?;
-    }
-    let args = WasmArgs::parse(alloc, &words)?;
+    let args = options(alloc)?;
     let want = Found {
         in_steps: [true, true],
         from_facts: [true, true],
@@ -151,5 +179,13 @@ fn a_function_that_is_called_is_kept(rt: HostRuntime) -> Result<(), Fail> {
         units: true,
     };
     assert_eq!(rt; answers(alloc, &args).ok(), Some(want));
+    Ok(())
+}
+
+#[test]
+fn a_function_that_drops_a_segment_numbers_it(rt: HostRuntime) -> Result<(), Fail> {
+    let alloc = rt.alloc();
+    let args = options(alloc)?;
+    assert_eq!(rt; numbering(alloc, &args).ok(), Some([true, false]));
     Ok(())
 }

@@ -33,7 +33,8 @@ returns-clause-steps g c =
     let refs = references c.args.symbols.now ns c.args.facts.now in
     let edges = all_edges c.args.symbols.now ns c.args.facts.now in
     let size : length c.in_ok-marks.marks ≡ total_of ns = c.in_ok-marks.ensures.marked.each ∙ (ap (λ (g : List (List ℕ)). length g) c.in_ok-table.ensures ∙ length-graph_of (total_of ns) edges) in
-    omega (arith, c.in_ok-marks.ensures.steps, ap (steps_of c.in_ok-marks.marks) c.in_ok-table.ensures, steps_reached ns refs c.in_ok-marks.marks size)
+    λ numbering.
+    omega (arith, c.in_ok-marks.ensures.steps, ap (steps_of c.in_ok-marks.marks) c.in_ok-table.ensures, steps_reached ns refs c.in_ok-marks.marks numbering size)
 
 pub returns-in_err-marks-clause-cost : goal.returns-in_err-marks-clause-cost
 returns-in_err-marks-clause-cost g c =

@@ -1,4 +1,4 @@
-use Rattle.std.proofs.Common.{◌≡◌, ◌∙◌, ℕ, List, true, false, sym, ap, length, vec_len, is_some, rules}
+use Rattle.std.proofs.Common.{◌≡◌, ◌∙◌, true, false, sym, ap, length, vec_len, is_some, rules}
 use Rattle.std.proofs.lemmas.Map.Text.{hash_map_updates_str}
 use Rattle.wl_symbols.specs.Left.{place_of_name}
 use Rattle.wl_symbols.proofs.TellingLaws.{kept_name, added_name, told_name}
