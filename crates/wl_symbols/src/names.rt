@@ -1,6 +1,6 @@
 //! The map from names to the first symbols that have them.
 
-ghost use Rattle.std.specs.Prelude.{◌≡◌, ℕ, ◌+◌, List, OnOk, if◌then◌else◌, bytes_eq};
+ghost use Rattle.std.specs.Prelude.{◌≡◌, ℕ, ◌+◌, List, OnOk, if◌then◌else◌, bytes_eq, IfOk};
 ghost use Rattle.wl_symbols.specs.Adding.{no_firsts, firsts_in};
 
 use crate::entry::Firsts;
@@ -32,15 +32,16 @@ pub(crate) struct CountedNames<'a> {
 }
 
 impl<'a> CountedNames<'a> {
-    /// No names.
-    pub(crate) fn new(alloc: Global) -> Self
-        ensures { (name : List ℕ) → firsts_in result.names.firsts name ≡ no_firsts }
+    /// No names, with room for so many.
+    pub(crate) fn with_room(alloc: Global, room: usize) -> Result<Self, AllocError>
+        ensures { IfOk result
+            (λ n. (name : List ℕ) → firsts_in n.names.firsts name ≡ no_firsts) }
     {
-        CountedNames {
+        Ok(CountedNames {
             names: NameMap {
-                firsts: HashMap::new(alloc),
+                firsts: HashMap::with_capacity(alloc, room)?,
             },
-        }
+        })
     }
 
     /// The first symbols of a name, in a step.

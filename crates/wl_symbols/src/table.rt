@@ -10,12 +10,12 @@ ghost use Rattle.wl_symbols.specs.Repeats.{HasOneStrong, refusal_of, IsDuplicate
 
 use crate::adding::{Repeat, add_files};
 use crate::definitions::DefinitionRows;
-use crate::entry::Definition;
+use crate::entry::{Definition, is_private};
 use crate::names::{CountedNames, NameMap};
 use std::alloc::{AllocError, Global};
 use std::marker::{Brand, Model};
 use std::sync::ledger::{Blank, Ledger};
-use wl_linking::{FileList, LinkError, WasmSymbol};
+use wl_linking::{File, FileList, LinkError, WasmSymbol};
 use wl_lists::Text;
 use wl_steps::Steps;
 use wl_words::WasmArgs;
@@ -41,6 +41,27 @@ impl<'f, 'a> Model for SymbolTable<'f, 'a> {
 
     ghost invariant = { λ t. IsTable (link_of t.files.now t.args.now) (firsts_in t.names.firsts)
         t.definitions.rows.items };
+}
+
+/// How many of these symbols other objects know by a name.
+fn count_public(symbols: &[WasmSymbol<'_>]) -> usize {
+    let mut count: usize = 0;
+    for symbol in symbols {
+        if !is_private(symbol) {
+            count = count.saturating_add(1);
+        }
+    }
+    count
+}
+
+/// How many symbols of these objects others know by a name: as many names there are at most. It
+/// tells how much room to take, and nothing else rests on it.
+fn name_count(files: &[File<'_>]) -> usize {
+    let mut count: usize = 0;
+    for file in files {
+        count = count.saturating_add(count_public(file.symbols()));
+    }
+    count
 }
 
 /// The refusal of two strong symbols of one name.
@@ -119,7 +140,7 @@ impl<'f, 'a> SymbolTable<'f, 'a> {
             (steps.new ≡ steps.old + 3 * length (entries_of 0 files.now)) }
         ensures cost { steps.new ≤ steps.old + 3 * symbol_count files.now }
     {
-        let mut names = CountedNames::new(alloc);
+        let mut names = CountedNames::with_room(alloc, name_count(files.as_slice()))?;
         if let Some(repeat) = add_files(&mut names, files.as_slice(), steps)? {
             return Err(duplicate(alloc, &repeat)?);
         }
