@@ -1,8 +1,8 @@
 -- Symbols that lead to functions of another type.
-use Rattle.std.proofs.Common.{◌≡◌, ◌∙◌, ◌⊎◌, ℕ, zero, suc, ◌+◌, ◌<◌, Bool, true, false, not, ◌&&◌, List, [], ◌∷◌, length, refl, sym, ap, subst, arith, inl, inr, Option, Some, None, find, slice_get, slice_index_or}
+use Rattle.std.proofs.Common.{◌≡◌, ◌∙◌, ◌⊎◌, ℕ, zero, suc, ◌+◌, ◌<◌, ◌≤◌, Bool, true, false, not, ◌&&◌, List, [], ◌∷◌, length, refl, sym, ap, subst, arith, inl, inr, Option, Some, None, find, slice_get, slice_index_or}
 use Rattle.std.specs.Option.{option_map_or}
 use Rattle.std.proofs.lemmas.Bool.{cases_Bool, and_parts, not-true}
-use Rattle.std.proofs.lemmas.Option.{slice_get_within}
+use Rattle.std.proofs.lemmas.Option.{slice_get_past, slice_get_within}
 use Rattle.wl_module.specs.Types.{FunctionType, same_type}
 use Rattle.wl_linking.specs.Object.{Object}
 use Rattle.wl_custom.specs.RelocationTypes.{names_a_type}
@@ -18,7 +18,7 @@ use Rattle.wl_bind.specs.FunctionSymbols.{fun}
 use Rattle.wl_bind.specs.FunctionTypes.{declared_type, target_type}
 use Rattle.wl_symbols.specs.Relocations.{relocations}
 use Rattle.wl_bind.specs.Signatures.{NamedByRelocation, OnKeptSlot, IsLookedAt, IsMismatch}
-use Rattle.wl_bind.specs.BindingSteps.{is_other_type, differs, is_mismatch, names_mismatch, TellsMismatch}
+use Rattle.wl_bind.specs.BindingSteps.{AreOwnClear, is_other_type, differs, is_mismatch, names_mismatch, TellsMismatch}
 use Rattle.wl_bind.specs.declared.binding.FunctionTarget.{FunctionTarget}
 use Rattle.wl_symbols.specs.declared.relocated.Relocated.{Relocated}
 use Rattle.wl_bind.proofs.FindLaws.{find_none, find_some}
@@ -77,6 +77,15 @@ pub stands_there : {X : Type 0} (xs : List X) (k : ℕ) (d : X) → k < length x
 stands_there [] k d lt = absurd (omega (arith, lt))
 stands_there (x ∷ xs) zero d lt = refl
 stands_there (x ∷ xs) (suc k) d lt = stands_there xs k d (omega (arith, lt))
+
+-- where there is no object, no symbol of it is one
+pub past_clear : (input : Input) (object : ℕ) → length input.link.objects ≤ object → AreOwnClear input object
+past_clear input object le number (inl slot) =
+    let none : slice_get input.link.objects object ≡ None = slice_get_past input.link.objects object le in
+    absurd (let there = slot.is in cc)
+past_clear input object le number (inr init) =
+    let none : slice_get input.link.objects object ≡ None = slice_get_past input.link.objects object le in
+    absurd (let there = init.here in cc)
 
 -- ---- the passes
 

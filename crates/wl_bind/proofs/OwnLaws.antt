@@ -47,6 +47,14 @@ abbrev pub passing : (ℕ → Bool) → ℕ → ℕ
 passing p zero = 0
 passing p (suc n) = passing p n + (if p n then 1 else 0)
 
+-- one more
+pub passing_more : (p : ℕ → Bool) (n kept next : ℕ) (b : Bool) → p n ≡ b → kept ≡ passing p n
+    → next ≡ kept + (if b then 1 else 0) → next ≡ passing p (n + 1)
+passing_more p n kept next b is so_far more =
+    let one : suc n ≡ n + 1 = omega arith in
+    more ∙ (ap (λ (k : ℕ). k + (if b then 1 else 0)) so_far
+    ∙ (ap (λ (c : Bool). passing p n + (if c then 1 else 0)) (sym is) ∙ ap (passing p) one))
+
 one_length : (p : ℕ → Bool) (n : ℕ) → length (filter p (n ∷ [])) ≡ (if p n then 1 else 0)
 one_length p n = elim (cases_Bool (p n)) [ inl t ↦ rw t refl | inr f ↦ rw f refl ]
 
