@@ -1,10 +1,11 @@
 //! What kept relocations ask for.
 
-ghost use Rattle.std.specs.Prelude.{◌≡◌, map, OnOk, IfOk};
+ghost use Rattle.std.specs.Prelude.{◌≡◌, ◌||◌, map, OnOk, IfOk};
+ghost use Rattle.wl_custom.specs.RelocationTypes.{is_memory_relative, is_table_relative};
 ghost use Rattle.wl_bind.specs.FunctionSymbols.{function_bindings};
 ghost use Rattle.wl_bind.specs.GotSteps.{mem_entry, func_entry, insert_some, with_mem, with_func, ArePlaces};
 ghost use Rattle.wl_bind.specs.Sameness.{same_target};
-ghost use Rattle.wl_bind.specs.Scan.{names_data, names_function, got_mem_of, got_func_of, unless_stub, table_function_of, asks_for_table, definition_name, got_mem_entry, got_func_entry, got_mem, got_func, table_functions, needs_of, scan_of};
+ghost use Rattle.wl_bind.specs.Scan.{names_data, names_function, got_mem_of, got_func_of, unless_stub, table_function_of, asks_for_table, definition_name, scan_of};
 
 use crate::binding::FunctionTarget;
 use crate::got::{GotFunc, GotMem, NamedKeys, TableFunctions};
@@ -212,49 +213,6 @@ fn add_table_function(
     }
 }
 
-/// The GOT list of data, in order of first occurrence.
-fn got_mem<'a>(alloc: Global, input: &LinkInput<'_, 'a>) -> Result<GotMem<'a>, AllocError>
-    ensures { IfOk result (λ g. g ≡ map (got_mem_entry input.now) (got_mem input.now)) }
-{
-    let mut list = NamedKeys::new(alloc);
-    for relocated in kept_relocations(input) {
-        add_mem(&mut list, input, &relocated)?;
-    }
-    Ok(GotMem::of(list))
-}
-
-/// The GOT list of functions, in order of first occurrence.
-fn got_func<'a>(
-    alloc: Global,
-    input: &LinkInput<'_, 'a>,
-    bindings: &FunctionBindings,
-) -> Result<GotFunc<'a>, AllocError>
-    requires { bindings.now ≡ function_bindings input.now }
-    ensures { IfOk result (λ g. g ≡ map (got_func_entry input.now) (got_func input.now)) }
-{
-    let mut list = NamedKeys::new(alloc);
-    for relocated in kept_relocations(input) {
-        add_func(&mut list, input, bindings, &relocated)?;
-    }
-    Ok(GotFunc::of(list))
-}
-
-/// The functions of the table, in order of first occurrence.
-fn table_functions(
-    alloc: Global,
-    input: &LinkInput<'_, '_>,
-    bindings: &FunctionBindings,
-) -> Result<TableFunctions, AllocError>
-    requires { bindings.now ≡ function_bindings input.now }
-    ensures { IfOk result (λ t. t ≡ table_functions input.now) }
-{
-    let mut list = TableFunctions::new(alloc);
-    for relocated in kept_relocations(input) {
-        add_table_function(&mut list, input, bindings, &relocated)?;
-    }
-    Ok(list)
-}
-
 /// Whether a relocation asks for the table: by the slot of a function, by the table's number, or by
 /// the number of a global, if it names a function.
 fn asks_for_table(input: &LinkInput<'_, '_>, relocated: &Relocated) -> bool
@@ -266,25 +224,21 @@ fn asks_for_table(input: &LinkInput<'_, '_>, relocated: &Relocated) -> bool
         || (ty.is_global_index() && names_function(input, relocated))
 }
 
-/// What kept relocations ask the linker for.
-pub(crate) fn needs(input: &LinkInput<'_, '_>) -> RelocNeeds
-    ensures { result ≡ needs_of input.now }
+/// What is asked for with one more relocation.
+fn add_needs(needs: &mut RelocNeeds, input: &LinkInput<'_, '_>, relocated: &Relocated)
+    ensures memory_base { needs.new.memory_base
+        ≡ (needs.old.memory_base || is_memory_relative relocated.now.relocation.ty) }
+    ensures table_base { needs.new.table_base
+        ≡ (needs.old.table_base || is_table_relative relocated.now.relocation.ty) }
+    ensures table { needs.new.table ≡ (needs.old.table || asks_for_table input.now relocated.now) }
 {
-    let mut needs = RelocNeeds {
-        memory_base: false,
-        table_base: false,
-        table: false,
-    };
-    for relocated in kept_relocations(input) {
-        needs.memory_base |= relocated.relocation.ty.is_memory_relative();
-        needs.table_base |= relocated.relocation.ty.is_table_relative();
-        needs.table |= asks_for_table(input, &relocated);
-    }
-    needs
+    needs.memory_base |= relocated.relocation.ty.is_memory_relative();
+    needs.table_base |= relocated.relocation.ty.is_table_relative();
+    needs.table |= asks_for_table(input, relocated);
 }
 
-/// What kept relocations ask for: the entries of both GOT lists, the functions of the table, and
-/// things that the linker makes.
+/// What kept relocations ask for: the entries of both GOT lists and the functions of the table, all
+/// in order of first occurrence, and things that the linker makes.
 ///
 /// # Errors
 /// `AllocError` where memory runs out.
@@ -296,10 +250,24 @@ pub(crate) fn gather<'a>(
     requires { bindings.now ≡ function_bindings input.now }
     ensures { IfOk result (λ s. s ≡ scan_of input.now) }
 {
+    let mut got_mem = NamedKeys::new(alloc);
+    let mut got_func = NamedKeys::new(alloc);
+    let mut table_functions = TableFunctions::new(alloc);
+    let mut needs = RelocNeeds {
+        memory_base: false,
+        table_base: false,
+        table: false,
+    };
+    for relocated in kept_relocations(input) {
+        add_mem(&mut got_mem, input, &relocated)?;
+        add_func(&mut got_func, input, bindings, &relocated)?;
+        add_table_function(&mut table_functions, input, bindings, &relocated)?;
+        add_needs(&mut needs, input, &relocated);
+    }
     Ok(RelocScan {
-        got_mem: got_mem(alloc, input)?,
-        got_func: got_func(alloc, input, bindings)?,
-        table_functions: table_functions(alloc, input, bindings)?,
-        needs: needs(input),
+        got_mem: GotMem::of(got_mem),
+        got_func: GotFunc::of(got_func),
+        table_functions,
+        needs,
     })
 }
