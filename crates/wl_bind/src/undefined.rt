@@ -1,17 +1,18 @@
 //! Names that nothing defines.
 
 ghost use Rattle.std.specs.Prelude.{◌≡◌, ◌↔◌, [], Some, option_map, map, filter_map, IfOk, OnOk, OnErr, IfErr, IsTrue};
+ghost use Rattle.std.specs.List.{list_any};
 ghost use Rattle.indexmap.specs.IndexSet.{insert_key, insert_all};
 ghost use Rattle.wl_linking.specs.Steps.{Clear, Refuses};
 ghost use Rattle.wl_bind.specs.Undefined.{wants_definition, same_undefined, is_undefined_definition, undefined_data_of, IsUndefinedData};
-ghost use Rattle.wl_bind.specs.UndefinedSteps.{named_in, as_undefined, insert_some, is_undefined_data};
+ghost use Rattle.wl_bind.specs.UndefinedSteps.{named_in, as_undefined, insert_some, is_undefined_data, is_wanted_data, has_wanted_data};
 ghost use Rattle.wl_bind.specs.Scan.{symbol_of};
 ghost use Rattle.wl_symbols.specs.Relocations.{relocations};
 
 use indexmap::IndexSet;
 use std::alloc::{AllocError, Global};
 use std::marker::Model;
-use wl_linking::{LinkError, UndefinedSymbol, WasmSymbol};
+use wl_linking::{File, LinkError, UndefinedSymbol, WasmSymbol};
 use wl_lists::{ItemList, Text};
 use wl_symbols::{Definition, LinkInput, Relocated, kept_relocations};
 
@@ -110,6 +111,37 @@ pub(crate) fn wants_definition(symbol: &WasmSymbol<'_>) -> bool
     symbol.is_undefined() && !symbol.is_weak() && !symbol.is_explicit_name()
 }
 
+/// Whether a symbol is data that has to be defined.
+fn is_wanted_data(symbol: &WasmSymbol<'_>) -> bool
+    ensures { result ≡ is_wanted_data symbol.now }
+{
+    symbol.kind.is_data() && wants_definition(symbol)
+}
+
+/// Whether any of these symbols is such data.
+fn any_wanted_data(symbols: &[WasmSymbol<'_>]) -> bool
+    ensures { result ≡ list_any is_wanted_data symbols.now }
+{
+    for symbol in symbols {
+        if is_wanted_data(symbol) {
+            return true;
+        }
+    }
+    false
+}
+
+/// Whether an object has such a symbol.
+fn has_wanted_data(files: &[File<'_>]) -> bool
+    ensures { result ≡ has_wanted_data files.now }
+{
+    for file in files {
+        if any_wanted_data(file.symbols()) {
+            return true;
+        }
+    }
+    false
+}
+
 /// Whether what a symbol stands for is a symbol that its object doesn't define.
 fn is_undefined_definition(input: &LinkInput<'_, '_>, definition: Definition) -> bool
     ensures { result ≡ is_undefined_definition input.now definition }
@@ -186,7 +218,7 @@ pub(crate) fn check_undefined_data(
     ensures clear { OnOk result (Clear (IsUndefinedData input.now)) }
     ensures err { IfErr result (Refuses (IsUndefinedData input.now)) }
 {
-    if input.args().allow_undefined {
+    if input.args().allow_undefined || !has_wanted_data(input.files().as_slice()) {
         return Ok(());
     }
     let names = collect_undefined_data(alloc, input)?;
