@@ -1,26 +1,33 @@
 -- Symbols that lead to functions of another type.
-use Rattle.std.proofs.Common.{◌≡◌, ◌∙◌, ◌⊎◌, ℕ, zero, suc, ◌+◌, ◌<◌, ◌≤◌, Bool, true, false, not, ◌&&◌, List, [], ◌∷◌, length, refl, sym, ap, subst, arith, inl, inr, Option, Some, None, find, slice_get, slice_index_or}
-use Rattle.std.specs.Option.{option_map_or}
+use Rattle.std.proofs.Common.{◌≡◌, ◌∙◌, ◌⊎◌, ℕ, zero, suc, ◌+◌, ◌<◌, ◌≤◌, Bool, true, false, not, ◌&&◌, List, [], ◌∷◌, length, refl, sym, ap, subst, arith, inl, inr, Option, Some, None, find, slice_get, slice_index_or, if◌then◌else◌}
+use Rattle.std.specs.Option.{option_or, option_map, option_map_or, option_and_then}
 use Rattle.std.proofs.lemmas.Bool.{cases_Bool, and_parts, not-true}
-use Rattle.std.proofs.lemmas.Option.{slice_get_past, slice_get_within}
+use Rattle.std.proofs.lemmas.Option.{slice_get_within}
+use Rattle.wl_module.specs.SameType.{types_equiv}
 use Rattle.wl_module.specs.Types.{FunctionType, same_type}
 use Rattle.wl_linking.specs.Object.{Object}
 use Rattle.wl_custom.specs.RelocationTypes.{names_a_type}
 use Rattle.wl_linking.specs.Steps.{Clear}
-use Rattle.wl_custom.specs.Symbols.{Symbol, is_undefined, is_function}
+use Rattle.wl_custom.specs.Symbols.{Symbol, is_undefined, is_weak, is_function}
 use Rattle.wl_linking.specs.declared.error.LinkError.{LinkError}
 use Rattle.wl_linking.specs.declared.error.LinkError.TheVariants.{SignatureMismatch}
 use Rattle.wl_custom.specs.declared.infos.WasmInitFunc.{WasmInitFunc}
 use Rattle.wl_custom.specs.declared.symbols.WasmSymbolKind.TheVariants.{Func}
 use Rattle.wl_symbols.specs.Entries.{symbol_in}
+use Rattle.wl_symbols.specs.ImportSlots.{import_slots}
 use Rattle.wl_symbols.specs.Input.{Input, keeps_slot}
-use Rattle.wl_bind.specs.FunctionSymbols.{fun}
-use Rattle.wl_bind.specs.FunctionTypes.{declared_type, target_type}
+use Rattle.wl_symbols.specs.SlotTargets.{own_number, is_definition_of}
+use Rattle.wl_symbols.specs.declared.targets.SlotTarget.TheVariants as slot
+use Rattle.wl_bind.specs.FunctionBinding.{named_function}
+use Rattle.wl_bind.specs.FunctionSymbols.{binding_at, defined_function, own_function, function_of, fun}
+use Rattle.wl_bind.specs.FunctionTypes.{type_of_defined, slot_type, declared_type, target_type}
 use Rattle.wl_symbols.specs.Relocations.{relocations}
-use Rattle.wl_bind.specs.Signatures.{NamedByRelocation, OnKeptSlot, IsLookedAt, IsMismatch}
-use Rattle.wl_bind.specs.BindingSteps.{AreOwnClear, is_other_type, differs, is_mismatch, names_mismatch, TellsMismatch}
+use Rattle.wl_bind.specs.Signatures.{NamedByRelocation, OnKeptSlot, NamedByInit, IsLookedAt, IsMismatch}
+use Rattle.wl_bind.specs.BindingSteps.{is_other_type, differs, is_mismatch, names_mismatch, TellsMismatch, AreOwnClear}
 use Rattle.wl_bind.specs.declared.binding.FunctionTarget.{FunctionTarget}
+use Rattle.wl_bind.specs.declared.binding.FunctionTarget.TheVariants.{Defined}
 use Rattle.wl_symbols.specs.declared.relocated.Relocated.{Relocated}
+use Rattle.wl_lists.proofs.Found.{and_then_some}
 use Rattle.wl_bind.proofs.FindLaws.{find_none, find_some}
 
 -- ---- what differs
@@ -60,6 +67,59 @@ mismatch input object number e looked h =
       told = h.told;
     }
 
+-- a symbol of another kind leads to no function
+pub no_function : (input : Input) (object number : ℕ) (s : Symbol) → symbol_in input.link.objects object number ≡ Some s
+    → is_function s.kind ≡ false → is_mismatch input object number ≡ false
+no_function input object number s is other =
+    ap (λ (x : Option Symbol). option_map_or (λ (t : Symbol). is_function t.kind && option_map_or (differs input object t) (fun input object number) false) x false) is
+    ∙ ap (λ (b : Bool). b && option_map_or (differs input object s) (fun input object number) false) other
+
+-- ---- what its object defines
+
+-- a type is no other than itself
+no_other : (t : Option FunctionType) → option_map_or (λ declared. option_map_or (λ actual. not (same_type declared actual)) t false) t false ≡ false
+no_other None = refl
+no_other (Some t) = ap not (types_equiv.refl t)
+
+-- the function of that number of the symbol's own object has the type under which the object knows it
+own_agrees : (input : Input) (object : ℕ) (s : Symbol) (there_is : Bool) (number : Option ℕ)
+    → declared_type input.link.objects object s ≡ option_and_then (type_of_defined input.link.objects object) number
+    → option_map_or (differs input object s) (option_map named_function (if there_is then option_map (λ n. slot.Defined object n) number else None)) false ≡ false
+own_agrees input object s false number is = refl
+own_agrees input object s true None is = refl
+own_agrees input object s true (Some n) is =
+    ap (λ (t : Option FunctionType). option_map_or (λ declared. is_other_type input.link.objects declared (Defined object n)) t false) is
+    ∙ no_other (type_of_defined input.link.objects object n)
+
+-- what a symbol leads to is tested where it is a function's, and is none where it is not
+of_function : (b : Bool) (test : FunctionTarget → Bool) (f : Option FunctionTarget) → option_map_or test f false ≡ false
+    → (b && option_map_or test (if b then f else None) false) ≡ false
+of_function true test f e = e
+of_function false test f e = refl
+
+-- a symbol that is defined and isn't weak leads to what its object defines, which has its type
+pub own_fits : (input : Input) (object number : ℕ) (s : Symbol) → symbol_in input.link.objects object number ≡ Some s
+    → is_undefined s ≡ false → is_weak s ≡ false → is_mismatch input object number ≡ false
+own_fits input object number s is defined strong =
+    let objects : List Object = input.link.objects in
+    let found = and_then_some (λ (o : Object). slice_get o.symbols number) (slice_get objects object) s is in
+    let o : Object = found.0 in
+    let own : Option FunctionTarget = own_function object o s in
+    let leads : fun input object number ≡ (if is_function s.kind then own else None) =
+    ap (λ (x : Option Object). option_and_then (λ (p : Object). option_and_then (λ (t : Symbol). if is_function t.kind then function_of input object number p t else None)
+    (slice_get p.symbols number)) x) found.1
+    ∙ (ap (λ (x : Option Symbol). option_and_then (λ (t : Symbol). if is_function t.kind then function_of input object number o t else None) x) found.2
+    ∙ (ap (λ (b : Bool). if is_function s.kind then (if b then binding_at input object s.index else if is_weak s then option_or (defined_function input object number) own else own) else None) defined
+    ∙ ap (λ (b : Bool). if is_function s.kind then (if b then option_or (defined_function input object number) own else own) else None) strong)) in
+    let declared : declared_type objects object s ≡ option_and_then (type_of_defined objects object) (own_number Func o s.index) =
+    ap (λ (b : Bool). if b then option_and_then (slot_type objects) (slice_get (import_slots objects object Func) s.index)
+    else option_and_then (λ (p : Object). option_and_then (type_of_defined objects object) (own_number Func p s.index)) (slice_get objects object)) defined
+    ∙ ap (λ (x : Option Object). option_and_then (λ (p : Object). option_and_then (type_of_defined objects object) (own_number Func p s.index)) x) found.1 in
+    ap (λ (x : Option Symbol). option_map_or (λ (t : Symbol). is_function t.kind && option_map_or (differs input object t) (fun input object number) false) x false) is
+    ∙ (ap (λ (f : Option FunctionTarget). is_function s.kind && option_map_or (differs input object s) f false) leads
+    ∙ of_function (is_function s.kind) (differs input object s) own
+    (own_agrees input object s (is_definition_of Func s) (own_number Func o s.index) declared))
+
 -- ---- lists
 
 -- a number below the next is below, or the same
@@ -77,15 +137,6 @@ pub stands_there : {X : Type 0} (xs : List X) (k : ℕ) (d : X) → k < length x
 stands_there [] k d lt = absurd (omega (arith, lt))
 stands_there (x ∷ xs) zero d lt = refl
 stands_there (x ∷ xs) (suc k) d lt = stands_there xs k d (omega (arith, lt))
-
--- where there is no object, no symbol of it is one
-pub past_clear : (input : Input) (object : ℕ) → length input.link.objects ≤ object → AreOwnClear input object
-past_clear input object le number (inl slot) =
-    let none : slice_get input.link.objects object ≡ None = slice_get_past input.link.objects object le in
-    absurd (let there = slot.is in cc)
-past_clear input object le number (inr init) =
-    let none : slice_get input.link.objects object ≡ None = slice_get_past input.link.objects object le in
-    absurd (let there = init.here in cc)
 
 -- ---- the passes
 
@@ -153,6 +204,31 @@ init_at input object o k d list e here same lt h =
     let f : WasmInitFunc = slice_index_or o.init_funcs k d in
     let e_is : TellsMismatch input object f.symbol_index e = subst (λ (l : List WasmInitFunc). TellsMismatch input object (slice_index_or l k d).symbol_index e) same h in
     init_told input object o k f e here there_is (stands_there o.init_funcs k d there_is) e_is
+
+-- ---- all objects
+
+-- one more object
+pub own_more : (input : Input) (n : ℕ) → AreOwnClear input n → ((j : ℕ) → j < n → AreOwnClear input j)
+    → (j : ℕ) → j < n + 1 → AreOwnClear input j
+own_more input n this before j below = elim (below_or_at j n below) [
+  | inl less ↦ before j less
+  | inr same ↦ subst (λ (i : ℕ). AreOwnClear input i) (sym same) this
+]
+
+-- a symbol that is looked at is one of an object
+own_within : (input : Input) (object number : ℕ) → OnKeptSlot input object number ⊎ NamedByInit input object number
+    → object < length input.link.objects
+own_within input object number (inl on_slot) =
+    let found = and_then_some (λ (o : Object). slice_get o.symbols number) (slice_get input.link.objects object) on_slot.symbol on_slot.is in
+    slice_get_within input.link.objects object found.0 found.1
+own_within input object number (inr named) = slice_get_within input.link.objects object named.o named.here
+
+-- where those of each object are clear, those of any number are
+pub own_all : (input : Input) (n : ℕ) → length input.link.objects ≤ n → ((j : ℕ) → j < n → AreOwnClear input j)
+    → (j : ℕ) → AreOwnClear input j
+own_all input n all before j number looked =
+    let lt = own_within input j number looked in
+    before j (omega (arith, lt, all)) number looked
 
 -- ---- the law
 

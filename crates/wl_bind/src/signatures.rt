@@ -44,7 +44,8 @@ impl<'c, 'i, 'a> TypeCheck<'c, 'i, 'a> {
         let Some(symbol) = self.input.symbols().symbol(object, number) else {
             return false;
         };
-        if !symbol.kind.is_function() {
+        // One that is defined and isn't weak leads to what its object defines, of that type.
+        if !symbol.kind.is_function() || (symbol.is_defined() && !symbol.is_weak()) {
             return false;
         }
         match self.bindings.function(self.input, object, number) {
