@@ -1,5 +1,5 @@
 -- While the maps of objects are made.
-use Rattle.std.specs.Prelude.{◌≡◌}
+use Rattle.std.specs.Prelude.{◌≡◌, ◌==◌, false, length}
 use Rattle.wl_bind.specs.FunctionSpace.{function_space, local_functions}
 use Rattle.wl_bind.specs.FunctionSymbols.{function_bindings}
 use Rattle.wl_bind.specs.GlobalSpace.{global_space, local_globals}
@@ -9,10 +9,11 @@ use Rattle.wl_bind.specs.OutputTypes.{AreTypeIndices}
 use Rattle.wl_bind.specs.Parts.{AreIndicesOf, AreRows}
 use Rattle.wl_bind.specs.declared.index_maps.MapSources.{MapSources}
 
--- all of it is that of the link
+-- all of it is that of the link; bindings are needed where the GOT list of functions has entries
 pub record AreMapSources (input : Input) (s : MapSources) : Type 0 where
   pub numbering : IsNumbering input s.numbering.now
-  pub bindings : s.bindings.now ≡ function_bindings input
+  pub bindings : (length s.numbering.now.scan.now.got_func == 0) ≡ false
+      → s.bindings.now ≡ function_bindings input
   pub types : AreRows (AreTypeIndices input) 0 input.link.objects s.types.now
   pub functions : AreRows
       (λ object o. AreIndicesOf (function_space input) (local_functions input object o))

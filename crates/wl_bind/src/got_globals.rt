@@ -1,6 +1,6 @@
 //! The globals that hold the addresses and slots of the symbols of an object.
 
-ghost use Rattle.std.specs.Prelude.{◌≡◌, map, length, replicate, IfOk, IsSome, Some, None, slice_get};
+ghost use Rattle.std.specs.Prelude.{◌≡◌, ◌==◌, false, map, length, replicate, IfOk, IsSome, Some, None, slice_get};
 ghost use Rattle.std.specs.List.{range_with_len};
 ghost use Rattle.wl_symbols.specs.Entries.{symbol_in};
 ghost use Rattle.wl_bind.specs.FunctionSymbols.{function_bindings};
@@ -215,7 +215,8 @@ pub(crate) fn got_func_globals(
     file: &File<'_>,
 ) -> Result<ItemList<Option<u32>>, AllocError>
     requires numbering { IsNumbering numbering.now.input.now numbering.now }
-    requires bindings { bindings.now ≡ function_bindings numbering.now.input.now }
+    requires bindings { (length numbering.now.scan.now.got_func == 0) ≡ false
+        → bindings.now ≡ function_bindings numbering.now.input.now }
     requires here { slice_get numbering.now.input.now.link.objects object ≡ Some file.now }
     ensures { let input = numbering.now.input.now in IfOk result
         (ArePlacesOf (global_space input) (got_func_globals input object file.now)) }

@@ -1,6 +1,7 @@
 //! Where the things of each object stand in the output.
 
-ghost use Rattle.std.specs.Prelude.{◌≡◌, ◌<◌, length, slice_get, IfOk, Some};
+ghost use Rattle.std.specs.Prelude.{◌≡◌, ◌==◌, ◌<◌, false, length, slice_get, IfOk, Some};
+ghost use Rattle.wl_bind.specs.FunctionSymbols.{function_bindings};
 ghost use Rattle.wl_bind.specs.IndexMapSteps.{AreMapSources};
 ghost use Rattle.wl_bind.specs.IndexMaps.{IsIndexMap, AreIndexMaps};
 ghost use Rattle.wl_bind.specs.Numbering.{IsNumbering};
@@ -93,6 +94,21 @@ fn maps_from(
     Ok(maps)
 }
 
+/// The functions that function slots are bound to, where the GOT list of functions asks for any.
+fn asked_bindings(
+    alloc: Global,
+    numbering: &Numbering<'_, '_, '_>,
+) -> Result<FunctionBindings, AllocError>
+    ensures { IfOk result (λ b. (length numbering.now.scan.now.got_func == 0) ≡ false
+        → b ≡ function_bindings numbering.now.input.now) }
+{
+    let scan = numbering.scan;
+    if scan.got_func.is_empty() {
+        return Ok(FunctionBindings::none(alloc));
+    }
+    FunctionBindings::new(alloc, numbering.input)
+}
+
 /// The maps of all objects.
 ///
 /// # Errors
@@ -106,7 +122,7 @@ pub(crate) fn index_maps_of(
     requires types { IsMerged numbering.now.input.now types.now }
     ensures { IfOk result (AreIndexMaps numbering.now.input.now) }
 {
-    let bindings = FunctionBindings::new(alloc, numbering.input)?;
+    let bindings = asked_bindings(alloc, numbering)?;
     let functions = numbering.function_rows(alloc)?;
     let globals = numbering.global_rows(alloc)?;
     let sources = MapSources {

@@ -1,6 +1,6 @@
 //! The functions that function slots are bound to, and that function symbols lead to.
 
-ghost use Rattle.std.specs.Prelude.{◌≡◌, map, option_map, IfOk, IsSome, Some, Contains};
+ghost use Rattle.std.specs.Prelude.{◌≡◌, [], map, option_map, IfOk, IsSome, Some, Contains};
 ghost use Rattle.wl_custom.specs.declared.symbols.WasmSymbolKind.TheVariants.{Func};
 ghost use Rattle.wl_symbols.specs.Entries.{symbol_in};
 ghost use Rattle.wl_symbols.specs.ImportSlots.{import_slots};
@@ -213,6 +213,15 @@ fn defined_target(
 }
 
 impl FunctionBindings {
+    /// Rows of no object.
+    pub(crate) fn none(alloc: Global) -> Self
+        ensures { result ≡ [] }
+    {
+        FunctionBindings {
+            rows: Vec::new(alloc),
+        }
+    }
+
     /// What the function slots of all objects are bound to.
     ///
     /// # Errors
