@@ -11,5 +11,5 @@ returns-clause-ok c =
     (record { object = c.args.site.0; unit = DefinedFunction c.args.site.1 })
     c.is_live.result c.is_live.ensures c.if-not-is_live.false c.live.ensures.live in
     adds_kept c.args.input.now c.args.placing.now c.args.site.0 c.args.site.1 c.args.body.now
-    c.in_ok-renumbered.field-0 c.args.bodies.now.items c.push.new.self.items kept c.requires.here
-    c.in_ok-renumbered.ensures.ok c.in_ok-push.ensures.items
+    c.in_ok-kept.kept c.args.bodies.now.items c.push.new.self.items kept c.requires.here
+    c.in_ok-kept.ensures.ok c.in_ok-push.ensures.items
