@@ -142,7 +142,7 @@ answers_as input g r taking left result other is h =
 
 -- ---- what is left to be added
 
-left_zero : (a : WasmDataAddress) (r : WasmRelocation) → is_absolute r.ty ≡ false
+pub left_zero : (a : WasmDataAddress) (r : WasmRelocation) → is_absolute r.ty ≡ false
     → left_of a r ≡ pos 0
 left_zero address.Missing r e = refl
 left_zero (address.Placed place) r e = rw e refl

@@ -122,6 +122,9 @@ impl<'s, 'i, 'a> FixupSources<'s, 'i, 'a> {
         ensures { result ≡ left_of (address_named self.now.input.now self.now.placing.now
             relocated.now) relocated.now.relocation }
     {
+        if !relocated.relocation.ty.is_absolute() {
+            return 0;
+        }
         let addend = self.addend(relocated);
         left_of(self.address(relocated), relocated.relocation.ty, addend)
     }
