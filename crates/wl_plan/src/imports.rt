@@ -68,8 +68,12 @@ fn push_functions<'a>(
         (function_imports input.now) imports.old.items imports.new.items) }
 {
     types_have_indices();
+    let hosts = bindings.shared.functions();
+    if hosts.is_empty() {
+        return Ok(());
+    }
     let slots = SlotTypes::new(alloc, input.files())?;
-    for host in bindings.shared.functions() {
+    for host in hosts {
         imports.push(function_import(&slots, maps, host))?;
     }
     Ok(())
@@ -132,9 +136,13 @@ fn push_globals<'a>(
     ensures { OnOk result (AddsImports (IsGlobalImport input.now)
         (global_imports input.now) imports.old.items imports.new.items) }
 {
+    let hosts = bindings.shared.globals();
+    if hosts.is_empty() {
+        return Ok(());
+    }
     let types = global_types(alloc, input.files())?;
     let types = types.as_slice();
-    for host in bindings.shared.globals() {
+    for host in hosts {
         let ty = type_in_row(types, host.object, host.slot);
         imports.push(OutputImport {
             module: host.module,

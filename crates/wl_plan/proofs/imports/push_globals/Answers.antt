@@ -1,4 +1,4 @@
-use Rattle.std.proofs.Common.{◌≡◌, ◌∙◌, ◌<◌, ◌≤◌, List, length, map, get_or, ap, sym, subst, refl, Some, slice_get}
+use Rattle.std.proofs.Common.{◌≡◌, ◌∙◌, ◌<◌, ◌≤◌, List, length, map, get_or, ap, sym, subst, arith, eqb-true, refl, Some, slice_get}
 use Rattle.std.proofs.lemmas.Option.{slice_get-get_or}
 use Rattle.wl_linking.specs.Object.{Object}
 use Rattle.wl_symbols.specs.Left.{HostImport}
@@ -8,6 +8,17 @@ use Rattle.wl_plan.specs.Imports.{IsGlobalImport}
 use Rattle.wl_plan.proofs.ImportLaws.{adds_nothing, global_imported, global_is, has_row, import_more, imports_done}
 use Rattle.wl_plan.proofs.imports.push_globals.Goals as goal
 
+pub returns-then-is_empty : goal.returns-then-is_empty
+returns-then-is_empty c =
+    let input = c.args.input.now in
+    let hosts : c.globals-hosts.result.now ≡ global_imports input =
+    c.globals-hosts.ensures ∙ ap (λ (s : Shared). s.globals) c.requires.shared in
+    let none : length c.globals-hosts.result.now ≡ 0 =
+    eqb-true (length c.globals-hosts.result.now) 0 (sym c.is_empty.ensures ∙ c.if-is_empty.true) in
+    imports_done (IsGlobalImport input) (global_imports input) 0 c.args.imports.now.items c.args.imports.now.items
+    (subst (λ (hs : List HostImport). length hs ≤ 0) hosts (omega (arith, none)))
+    (adds_nothing (IsGlobalImport input) c.args.imports.now.items)
+
 pub loop-host-init : goal.loop-host-init
 loop-host-init c = adds_nothing (IsGlobalImport c.args.input.now) c.args.imports.now.items
 
@@ -16,8 +27,8 @@ type_in_row-ty-requires c =
     let input = c.args.input.now in
     let k = c.loop-host.host-index in
     let h = c.host-item.result in
-    let hosts : c.globals-host-items.result.now ≡ global_imports input =
-    c.globals-host-items.ensures ∙ ap (λ (s : Shared). s.globals) c.requires.shared in
+    let hosts : c.globals-hosts.result.now ≡ global_imports input =
+    c.globals-hosts.ensures ∙ ap (λ (s : Shared). s.globals) c.requires.shared in
     let lt : k < length (global_imports input) =
     subst (λ (hs : List HostImport). k < length hs) hosts c.loop-host-test.true in
     let is : h ≡ get_or (global_imports input) k h =
@@ -36,8 +47,8 @@ loop-host-preserved c =
     let input = c.args.input.now in
     let k = c.loop-host.host-index in
     let h = c.host-item.result in
-    let hosts : c.globals-host-items.result.now ≡ global_imports input =
-    c.globals-host-items.ensures ∙ ap (λ (s : Shared). s.globals) c.requires.shared in
+    let hosts : c.globals-hosts.result.now ≡ global_imports input =
+    c.globals-hosts.ensures ∙ ap (λ (s : Shared). s.globals) c.requires.shared in
     let lt : k < length (global_imports input) =
     subst (λ (hs : List HostImport). k < length hs) hosts c.loop-host-test.true in
     let is : h ≡ get_or (global_imports input) k h =
@@ -59,8 +70,8 @@ pub returns : goal.returns
 returns c =
     let input = c.args.input.now in
     let k = c.loop-host.host-index in
-    let hosts : c.globals-host-items.result.now ≡ global_imports input =
-    c.globals-host-items.ensures ∙ ap (λ (s : Shared). s.globals) c.requires.shared in
+    let hosts : c.globals-hosts.result.now ≡ global_imports input =
+    c.globals-hosts.ensures ∙ ap (λ (s : Shared). s.globals) c.requires.shared in
     imports_done (IsGlobalImport input) (global_imports input) k
     c.args.imports.now.items c.loop-host.imports.items
     (subst (λ (hs : List HostImport). length hs ≤ k) hosts c.loop-host-test.false) c.loop-host.invariant
