@@ -549,6 +549,14 @@ stubs_done input k first new le so_far =
     let all : length (stub_part input) ≤ k = omega (arith, a, b, le) in
     adds_same input (take k (stub_part input)) (stub_part input) first new (take_all k (stub_part input) all) so_far
 
+-- without types of stubs there are no stubs
+pub no_stubs : (input : Input) (old : List PlannedFunction) → HaveTypes input → length (stub_types input) ≡ 0
+    → AddsFunctions input (stub_part input) old old
+no_stubs input old typed none =
+    let a = length-map (link_stubs input) first_slot in
+    let b = stubs_length input typed in
+    stubs_done input 0 old old (omega (arith, a, b, none)) (adds_none input old)
+
 -- ---- a function that an object defines
 
 -- a kept function has a type, and the map of its object leads to it

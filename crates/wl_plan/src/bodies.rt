@@ -24,7 +24,7 @@ use crate::parsing::link_error;
 use crate::placing::Placing;
 use std::alloc::{AllocError, Global};
 use std::borrow::CowSlice;
-use wl_bind::{entries_have_types, stub_imports};
+use wl_bind::entries_have_types;
 use wl_ctors::InitCall;
 use wl_data::segments_have_layouts;
 use wl_index::{WASM_DEAD_INDEX, WasmObjectIndexMap};
@@ -242,7 +242,7 @@ fn push_call_ctors<'a>(
     }
 }
 
-/// Adds the bodies of the stubs.
+/// Adds the bodies of the stubs, one for each of their types.
 fn push_stubs<'a>(
     alloc: Global,
     bodies: &mut Vec<WasmFunctionBody<'a>>,
@@ -255,14 +255,9 @@ fn push_stubs<'a>(
         bodies.old.items bodies.new.items) }
 {
     entries_have_types();
-    whole_objects();
-    if bindings.stubs.as_slice().is_empty() {
-        return Ok(());
-    }
-    let stubs = stub_imports(alloc, input)?;
-    let list = stubs.as_slice();
+    let types = bindings.stubs.as_slice();
     let mut made = 0;
-    while made < list.len() {
+    while made < types.len() {
         push_made(bodies, Vec::from_slice(alloc, &UNREACHABLE_FUNCTION_BODY)?)?;
         made += 1;
     }

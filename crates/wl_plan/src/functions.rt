@@ -85,8 +85,11 @@ fn push_stubs<'a>(
 {
     entries_have_types();
     whole_objects();
-    let stubs = stub_imports(alloc, input)?;
     let types = bindings.stubs.as_slice();
+    if types.is_empty() {
+        return Ok(());
+    }
+    let stubs = stub_imports(alloc, input)?;
     for (place, stub) in stubs.as_slice().iter().enumerate() {
         let type_index = type_number(&bindings.types, &types[place]);
         let origin = FunctionOrigin::Stub { name: stub.name };

@@ -1,11 +1,21 @@
-use Rattle.std.proofs.Common.{◌≡◌, ◌∙◌, ◌<◌, ◌≤◌, List, length, map, get_or, ap, sym, subst}
+use Rattle.std.proofs.Common.{◌≡◌, ◌∙◌, ◌<◌, ◌≤◌, List, length, map, get_or, ap, sym, subst, eqb-true}
 use Rattle.wl_module.specs.Types.{FunctionType}
 use Rattle.wl_symbols.specs.Left.{HostImport, first_slot}
 use Rattle.wl_bind.specs.FunctionBinding.{link_stubs}
 use Rattle.wl_bind.specs.FunctionTypes.{stub_types}
 use Rattle.wl_bind.specs.OutputTypes.{output_types}
-use Rattle.wl_plan.proofs.FunctionLaws.{StubIs, adds_none, contains_in, stub_is, stub_more, stub_place, stubs_done}
+use Rattle.wl_plan.proofs.FunctionLaws.{StubIs, adds_none, contains_in, no_stubs, stub_is, stub_more, stub_place, stubs_done}
 use Rattle.wl_plan.proofs.functions.push_stubs.Goals as goal
+
+pub returns-then-is_empty : goal.returns-then-is_empty
+returns-then-is_empty c =
+    let input = c.args.input.now in
+    let b = c.requires.bindings in
+    let types : c.as_slice-types.result.now ≡ stub_types input = c.as_slice-types.ensures ∙ b.stubs in
+    let none : length c.as_slice-types.result.now ≡ 0 =
+    eqb-true (length c.as_slice-types.result.now) 0 (sym c.is_empty.ensures ∙ c.if-is_empty.true) in
+    no_stubs input c.args.functions.now.items (λ entry has. c.entries_have_types.ensures input entry b.settled has)
+    (ap (λ (ts : List FunctionType). length ts) (sym types) ∙ none)
 
 pub bounds-types-place : goal.bounds-types-place
 bounds-types-place c =
