@@ -1,6 +1,5 @@
 //! The flags of symbols (object file linking, version 2, "Symbol Table Subsection").
 
-
 use bitflags::{Flag, Flags, bitflag_items};
 
 /// The flags of a symbol (object file linking, version 2, "Symbol Table Subsection"). Bits without

@@ -126,6 +126,7 @@ unnumbered told none link live object function o body is here has on off =
   where
     u : LinkUnit
     u = record { object = object; unit = DefinedFunction function }
+
     empty : (ns : List DataIndexImm) → HasNumbers ns body.bytes → HasNumbers [] body.bytes
     empty [] h = h
     empty (n ∷ ns) h =

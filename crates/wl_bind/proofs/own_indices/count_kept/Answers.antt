@@ -19,13 +19,13 @@ loop-number-preserved c =
     λ kept b is more. passing_more p number c.loop-number.kept kept b is c.loop-number.invariant.0 more in
     elim c.if-is_live.branch [
       | then-is_live w ↦ (
-          counted c.if-is_live.kept true (sym asked ∙ w.if-is_live.true) w.kept-is,
-          omega (arith, w.kept-is, c.loop-number.invariant.1),
-        )
+        counted c.if-is_live.kept true (sym asked ∙ w.if-is_live.true) w.kept-is,
+        omega (arith, w.kept-is, c.loop-number.invariant.1),
+      )
       | else-is_live w ↦ (
-          counted c.if-is_live.kept false (sym asked ∙ w.if-is_live.false) (omega (arith, w.kept-is)),
-          omega (arith, w.kept-is, c.loop-number.invariant.1),
-        )
+        counted c.if-is_live.kept false (sym asked ∙ w.if-is_live.false) (omega (arith, w.kept-is)),
+        omega (arith, w.kept-is, c.loop-number.invariant.1),
+      )
     ]
 
 pub returns : goal.returns

@@ -70,29 +70,29 @@ loop-relocated-preserved c =
         c.in_ok-add_mem.ensures.places,
         ap (λ es. with_all_mem input es (filter_map (got_mem_of input) behind))
             c.in_ok-add_mem.ensures.entries
-        ∙ (sym (first_as same_definition mem_key (got_mem_entry input) mems (got_mem_of input r)
+            ∙ (sym (first_as same_definition mem_key (got_mem_entry input) mems (got_mem_of input r)
             (filter_map (got_mem_of input) behind))
-        ∙ (ap (λ (rs : List Relocated). with_all_mem input mems (filter_map (got_mem_of input) rs))
+            ∙ (ap (λ (rs : List Relocated). with_all_mem input mems (filter_map (got_mem_of input) rs))
             (sym steps)
-        ∙ at.invariant.mem.1)),
+            ∙ at.invariant.mem.1)),
       );
       func = (
         c.in_ok-add_func.ensures.places,
         ap (λ es. with_all_func input es (filter_map (got_func_of input) behind))
             c.in_ok-add_func.ensures.entries
-        ∙ (sym (first_as same_pair func_key (got_func_entry input) funcs (got_func_of input r)
+            ∙ (sym (first_as same_pair func_key (got_func_entry input) funcs (got_func_of input r)
             (filter_map (got_func_of input) behind))
-        ∙ (ap (λ (rs : List Relocated). with_all_func input funcs (filter_map (got_func_of input) rs))
+            ∙ (ap (λ (rs : List Relocated). with_all_func input funcs (filter_map (got_func_of input) rs))
             (sym steps)
-        ∙ at.invariant.func.1)),
+            ∙ at.invariant.func.1)),
       );
       table =
           ap (λ ks. insert_all same_target ks (filter_map (table_function_of input) behind))
-              c.in_ok-add_table_function.ensures
+          c.in_ok-add_table_function.ensures
           ∙ (sym (first_key same_target at.table_functions (table_function_of input r)
-              (filter_map (table_function_of input) behind))
+          (filter_map (table_function_of input) behind))
           ∙ (ap (λ (rs : List Relocated). insert_all same_target at.table_functions
-              (filter_map (table_function_of input) rs)) (sym steps)
+          (filter_map (table_function_of input) rs)) (sym steps)
           ∙ at.invariant.table));
       needs = (
         any_more (λ q. is_memory_relative q.relocation.ty) at.needs.memory_base
@@ -132,12 +132,12 @@ returns c =
     let mems = filter_map (got_mem_of input) (relocations input) in
     let funcs = filter_map (got_func_of input) (relocations input) in
     let all_mem : with_all_mem input (map mem_entry at.got_mem.entries.entries) []
-        ≡ with_all_mem input [] mems = rw none at at.invariant.mem.1 in
+    ≡ with_all_mem input [] mems = rw none at at.invariant.mem.1 in
     let all_func : with_all_func input (map func_entry at.got_func.entries.entries) []
-        ≡ with_all_func input [] funcs = rw none at at.invariant.func.1 in
+    ≡ with_all_func input [] funcs = rw none at at.invariant.func.1 in
     let table : at.table_functions
-        ≡ insert_all same_target [] (filter_map (table_function_of input) (relocations input)) =
-        rw none at at.invariant.table in
+    ≡ insert_all same_target [] (filter_map (table_function_of input) (relocations input)) =
+    rw none at at.invariant.table in
     let scan = scan_of input in
     scan_is c.of.result scan.got_mem c.of-2.result scan.got_func at.table_functions
     scan.table_functions at.needs scan.needs
@@ -149,8 +149,8 @@ returns c =
     (needs_are at.needs (asks_for input is_memory_relative) (asks_for input is_table_relative)
     (list_any (asks_for_table input) (relocations input))
     (any_seen (λ q. is_memory_relative q.relocation.ty) at.needs.memory_base
-        (asks_for input is_memory_relative) left none at.invariant.needs.0)
+    (asks_for input is_memory_relative) left none at.invariant.needs.0)
     (any_seen (λ q. is_table_relative q.relocation.ty) at.needs.table_base
-        (asks_for input is_table_relative) left none at.invariant.needs.1)
+    (asks_for input is_table_relative) left none at.invariant.needs.1)
     (any_seen (asks_for_table input) at.needs.table
-        (list_any (asks_for_table input) (relocations input)) left none at.invariant.needs.2))
+    (list_any (asks_for_table input) (relocations input)) left none at.invariant.needs.2))

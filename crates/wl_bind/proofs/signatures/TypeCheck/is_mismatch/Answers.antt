@@ -18,13 +18,13 @@ returns-then-not-is_function c =
     let is : symbol_in input.link.objects object number ≡ Some s = search rules in
     elim c.then-not-is_function.branch [
       | then-not-is_function-via-then-not-is_function w ↦
-        sym (no_function input object number s is
-        (ap (λ (t : Symbol). is_function t.kind) (sym c.symbol-2.view_is) ∙ (sym c.is_function.ensures ∙ w.if-not-is_function.true)))
+          sym (no_function input object number s is
+          (ap (λ (t : Symbol). is_function t.kind) (sym c.symbol-2.view_is) ∙ (sym c.is_function.ensures ∙ w.if-not-is_function.true)))
       | then-not-is_function-via-else-not-is_function+then-not-is_weak w ↦ elim w.if-is_defined.branch [
         | then-is_defined w' ↦
-          sym (own_fits input object number s is
-          (not-true (is_undefined s) (sym w.is_defined.ensures ∙ w'.if-is_defined.true))
-          (not-true (is_weak s) (ap not (sym w'.is_weak.ensures) ∙ (sym w'.value-is ∙ w.if-not-is_weak.true))))
+            sym (own_fits input object number s is
+            (not-true (is_undefined s) (sym w.is_defined.ensures ∙ w'.if-is_defined.true))
+            (not-true (is_weak s) (ap not (sym w'.is_weak.ensures) ∙ (sym w'.value-is ∙ w.if-not-is_weak.true))))
         | else-is_defined w' ↦ never (sym w'.if-is_defined.false ∙ (sym w'.value-is ∙ w.if-not-is_weak.true))
       ]
     ]
