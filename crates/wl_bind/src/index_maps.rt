@@ -22,7 +22,7 @@ use wl_lists::ItemList;
 struct MapSources<'m, 'n, 'i, 'a> {
     /// What the things of objects are numbered by.
     numbering: &'m Numbering<'n, 'i, 'a>,
-    /// The functions that function slots are bound to.
+    /// The functions that function slots are bound to; rows of no object where no map asks for any.
     bindings: &'m FunctionBindings,
     /// The output types of the types of each object.
     types: &'m [ItemList<u32>],
