@@ -1,6 +1,7 @@
 //! What is kept of a small object, by each of the calls that find it.
 
-ghost use Rattle.std.specs.Prelude.{◌≡◌, ◌<◌};
+ghost use Rattle.std.specs.Prelude.{◌≡◌, ◌<◌, ◌≤◌, length};
+ghost use Rattle.wl_bytes.specs.declared.reader.TheConstants.{MAX_LEN};
 ghost use Rattle.wl_symbols.specs.Link.{link_of};
 ghost use Rattle.wl_symbols.specs.Units.{units_of};
 
@@ -134,7 +135,9 @@ fn answers_on(alloc: Global, files: &FileList<'_>, args: &WasmArgs) -> Result<Fo
 }
 
 /// The link of one object.
-fn one_file(alloc: Global, bytes: &[u8]) -> Result<FileList<'_>, LinkError> {
+fn one_file(alloc: Global, bytes: &[u8]) -> Result<FileList<'_>, LinkError>
+    requires { length bytes.now ≤ MAX_LEN }
+{
     let mut files = FileList::new(alloc);
     let Ok(file) = parse_wasm_module(alloc, bytes) else {
         return Err(LinkError::OutOfMemory);
