@@ -152,8 +152,8 @@ fn copied<'a>(
     })
 }
 
-/// The body of a kept function of an object in the output. One that numbers no segments is copied:
-/// which do was found where it was told what is kept.
+/// The body of a kept function of an object in the output. One that numbers no segments is copied;
+/// the live set knows which do.
 ///
 /// # Errors
 /// Want of memory alone.
