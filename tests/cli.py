@@ -20,6 +20,7 @@ OPTIONS = ROOT / "docs" / "OPTIONS.md"
 ERRORS = ROOT / "docs" / "ERRORS.md"
 README = ROOT / "README.md"
 FLAGS = ["--no-gc-sections", "--no-entry"]
+SHARED = ["--shared-memory", "--export=begin_thread", "--export=advance"]
 LARGEST = 1 << 30
 
 # Constants that code and definitions cite by name, each with the file that is its home, and what stands for it.
@@ -377,7 +378,7 @@ def documented_refusals():
     wanted = {name for text in [refusals, faults] for name in re.findall(r"^    (\w+)", text, re.M)} - {"OutOfMemory"}
     told = re.findall(r"^\|.*", ERRORS.read_text(), re.M)
     lines = {words[-1] for row in told for words in re.findall(r"`error: (BadWords )?(\w+)", row.split("|")[1])}
-    explained = (lines | {"SharedMemoryFeature"}) - {"ReadFault", "NotUtf8"}
+    explained = lines - {"ReadFault", "NotUtf8"}
     note(f"the refusals of {ERRORS.name}: {explained ^ wanted}", explained == wanted)
 
 
@@ -449,6 +450,9 @@ def compiled(folder):
     for words, listing in [(FLAGS, "planned_whole.plan"), ([], "planned_kept.plan")]:
         wanted = (OBJECTS / listing).read_bytes()
         check(listing, run([*words, *planned]), 0, wanted)
+    threads = sorted(OBJECTS.glob("threads_*.o"))
+    wanted = (OBJECTS / "threads.plan").read_bytes()
+    check("threads.plan", run([*SHARED, *threads]), 0, wanted)
     check("the function at which it begins alone", run(planned[1:2]), 1, err=b'error: UndefinedSymbols 0 "apply"\n')
     undefined = [("globals.o", b'"fill"'), ("weak_and_external.o", b'"external_data"')]
     for name, symbol in undefined:

@@ -18,8 +18,9 @@ ROOT = pathlib.Path(__file__).resolve().parent.parent
 PROGRAM = ROOT / "crates" / "wildplan" / "out" / "wildplan"
 EXAMPLES = ROOT / "examples"
 OBJECTS = ROOT / "tests" / "objects"
-REFUSER = ROOT / "tests" / "refuse_allocations.c"
+REFUSER = ROOT / "tests" / "refuse_calls.c"
 WHOLE = ["--no-gc-sections", "--no-entry"]
+SHARED = ["--shared-memory", "--export=begin_thread", "--export=advance"]
 NO_MEMORY = (5, b"", b"")
 
 
@@ -34,6 +35,8 @@ def cases(folder):
     together = sorted(OBJECTS.glob("planned_*.o"))
     yield "several, whole", [*WHOLE, *together], 0, (OBJECTS / "planned_whole.plan").read_bytes()
     yield "several, what is kept", together, 0, (OBJECTS / "planned_kept.plan").read_bytes()
+    threads = sorted(OBJECTS.glob("threads_*.o"))
+    yield "threads", [*SHARED, *threads], 0, (OBJECTS / "threads.plan").read_bytes()
     for made in sorted(set(OBJECTS.glob("*.o")) - set(together)):
         yield made.name, [*WHOLE, "--allow-undefined", made], 0, made.with_suffix(".plan").read_bytes()
     cut, odd = folder / "cut.o", folder / "odd.o"
@@ -52,10 +55,18 @@ def usual(status, text):
     return (status, text, b"") if status == 0 else (status, b"", text)
 
 
-def ended(program, refuser, words, number):
-    """How the program ends where the allocation of that number is refused, and how many it asked for."""
+def made_refuser(folder):
+    """What is loaded in front of the C library, built in this folder."""
+    refuser = pathlib.Path(folder) / "refuse.so"
+    subprocess.run(["cc", "-O2", "-shared", "-fPIC", "-o", refuser, REFUSER, "-ldl"], check=True)
+    return refuser
+
+
+def ended(program, refuser, words, number, calls="memory"):
+    """How the program ends where the call of that kind and number is refused, and how many calls it made."""
     reader, writer = os.pipe()
-    given = {**os.environ, "LD_PRELOAD": str(refuser), "REFUSED": str(number), "COUNTED": str(writer)}
+    refusal = {"LD_PRELOAD": str(refuser), "CALLS": calls, "REFUSED": str(number), "COUNTED": str(writer)}
+    given = {**os.environ, **refusal}
     streams = {"stdin": subprocess.DEVNULL, "capture_output": True, "pass_fds": [writer]}
     run = subprocess.run([program, *words], env=given, timeout=120, **streams)
     os.close(writer)
@@ -82,8 +93,9 @@ def refuse_each(program, refuser, words, answer):
     return count, wrong
 
 
-def main():
-    parser = argparse.ArgumentParser(description="Refuses each allocation of the program in turn.")
+def tried(description, try_case):
+    """The status of a script that tries each case, by a call that answers what it saw and what is wrong."""
+    parser = argparse.ArgumentParser(description=description)
     parser.add_argument("--program", type=pathlib.Path, default=PROGRAM)
     program = parser.parse_args().program
     if not program.exists():
@@ -91,14 +103,21 @@ def main():
     passed = failed = 0
     with tempfile.TemporaryDirectory() as name:
         folder = pathlib.Path(name)
-        refuser = folder / "refuse.so"
-        subprocess.run(["cc", "-O2", "-shared", "-fPIC", "-o", refuser, REFUSER, "-ldl"], check=True)
+        refuser = made_refuser(folder)
         for title, words, status, text in cases(folder):
-            count, wrong = refuse_each(program, refuser, words, usual(status, text))
-            print(f"{title}: {count} allocations, {len(wrong)} wrong", *wrong, sep="\n    ")
+            seen, wrong = try_case(program, refuser, words, usual(status, text))
+            print(f"{title}: {seen}, {len(wrong)} wrong", *wrong, sep="\n    ")
             passed, failed = passed + (not wrong), failed + bool(wrong)
     print(f"{passed} passed, {failed} failed")
     return 1 if failed else 0
+
+
+def main():
+    def each(*case):
+        count, wrong = refuse_each(*case)
+        return f"{count} allocations", wrong
+
+    return tried("Refuses each allocation of the program in turn.", each)
 
 
 if __name__ == "__main__":

@@ -9,6 +9,8 @@ for source in *.c; do
     debug_info.c) options=-g ;;
     memory.c) options=-mbulk-memory ;;
     planned_*.c) options=-mcpu=mvp ;;
+    threads_shared_library.c) options='--target=wasm32-emscripten -pthread -fPIC' ;;
+    threads_*.c) options='-pthread -ftls-model=local-exec' ;;
     thread_local.c) options='-mthread-model posix -matomics -mbulk-memory -ftls-model=local-exec' ;;
     *) options= ;;
     esac

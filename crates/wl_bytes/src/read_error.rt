@@ -93,8 +93,6 @@ pub enum Form {
     PassiveAddress,
     /// The address of something thread-local.
     TlsAddress,
-    /// A form that this program has no plan for yet.
-    NotYet,
 }
 
 /// Why bytes could not be read.

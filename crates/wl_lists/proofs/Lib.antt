@@ -2,6 +2,7 @@ pub mod In
 pub mod Once
 pub mod Beside
 pub mod Places
+pub mod Later
 pub mod Found
 pub mod Firsts
 pub mod Rows

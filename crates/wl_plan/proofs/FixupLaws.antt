@@ -8,17 +8,20 @@ use Rattle.std.proofs.lemmas.Int.{ints}
 use Rattle.std.proofs.lemmas.List.FromFn.{length-map-range_with_len}
 use Rattle.std.proofs.lemmas.Option.{slice_get-map, slice_get_past, slice_get_within, same_Some}
 use Rattle.wl_linking.specs.Object.{Object}
-use Rattle.wl_custom.specs.Takings.{is_type, is_slot, is_global, is_in_memory, is_taken_of}
-use Rattle.wl_custom.specs.RelocationTypes.{taking_of, is_absolute, names_a_type, takes_kind, is_table_index, is_global_index}
+use Rattle.wl_custom.specs.Takings.{is_type, is_slot, is_global, is_taken_of}
+use Rattle.wl_custom.specs.RelocationTypes.{taking_of, field_form, has_addend, is_absolute, names_a_type, takes_kind, is_table_index, is_global_index}
 use Rattle.wl_linking.specs.Steps.{Clear}
 use Rattle.wl_custom.specs.Symbols.{Symbol as LinkedSymbol, is_data, is_function, is_table}
+use Rattle.wl_custom.specs.declared.relocation_type.RelocationType.{RelocationType}
 use Rattle.wl_custom.specs.declared.relocations.WasmRelocation.{WasmRelocation}
 use Rattle.wl_custom.specs.declared.symbols.WasmSymbolKind.{WasmSymbolKind}
 use Rattle.wl_custom.specs.declared.symbols.WasmSymbolKind.TheVariants as kind
+use Rattle.wl_custom.specs.declared.relocation_type.FieldForm.{FieldForm}
+use Rattle.wl_custom.specs.declared.relocation_type.FieldForm.TheVariants.{PaddedUnsigned, PaddedSigned, Word}
 use Rattle.wl_index.specs.declared.data_address.WasmDataAddress.{WasmDataAddress}
 use Rattle.wl_index.specs.declared.data_address.WasmDataAddress.TheVariants as address
 use Rattle.wl_index.specs.declared.index.TheConstants.{WASM_DEAD_INDEX, MAX_ENTRIES}
-use Rattle.wl_reloc.specs.Addresses.{address_value, as_word, is_s32, s32_or_range}
+use Rattle.wl_reloc.specs.Addresses.{address_value, as_some, as_word, deferred_at, is_s32, s32_or_range, stored_by_thread}
 use Rattle.wl_reloc.specs.Resolving.{Resolver, kept_index, redirect, got_global, slot_in, function_index, slot_of as resolved_slot, behind_first, global_index, table_number, address_in, address_of, taken_of, taken, resolved}
 use Rattle.wl_reloc.specs.declared.addresses.AddressBases.{AddressBases}
 use Rattle.wl_reloc.specs.declared.error.RelocError.{RelocError}
@@ -43,11 +46,12 @@ use Rattle.wl_bind.specs.declared.binding.FunctionTarget.{FunctionTarget}
 use Rattle.wl_bind.specs.declared.binding.FunctionTarget.TheVariants as function
 use Rattle.wl_symbols.specs.declared.relocated.Relocated.{Relocated}
 use Rattle.wl_plan.specs.Addresses.{symbol_address}
-use Rattle.wl_plan.specs.FixupSteps.{AreFixupSources, Answers, AnswersFrom, HasRoom, left_of, with_left, counted_base, number_by, IsRefusedAt}
-use Rattle.wl_plan.specs.Fixups.{type_named, global_named, slot_named, address_named, bases_of, address_taken, addend_left, number_taken, IsTaken, IsAddressReason}
+use Rattle.wl_plan.specs.FixupSteps.{AreFixupSources, AnswersValue, AnswersFrom, HasRoom, counted_base, number_by, left_of, IsRefusedAt}
+use Rattle.wl_plan.specs.Fixups.{type_named, global_named, slot_named, address_taken, addend_left, value_or_pointer, field_taken, number_taken, IsTaken, IsAddressReason}
 use Rattle.wl_plan.specs.IndexedMaps.{IsWholeMap, AreWholeMaps}
 use Rattle.wl_plan.specs.Table.{slot_of, slot_of_entry, space_slots}
-use Rattle.wl_plan.specs.declared.layout.FixupTo.TheVariants.{Value}
+use Rattle.wl_plan.specs.Threads.{address_named, bases_of, template_start, pointer_named}
+use Rattle.wl_plan.specs.declared.layout.FixupTo.{FixupTo}
 use Rattle.wl_plan.specs.declared.fixups.FixupSources.{FixupSources}
 use Rattle.wl_plan.specs.declared.placing.Placing.{Placing}
 use Rattle.wl_lists.proofs.Rows.{rows_length, row_found}
@@ -134,11 +138,11 @@ resolver_of input g o m = record {
   bases = bases_of g;
 }
 
-pub answers_as : (input : Input) (g : Placing) (r : Relocated) (taking : Taking) (left : ℤ)
-    (result other : Result ℕ RelocError) → result ≡ other → Answers input g r taking (with_left left other)
-    → Answers input g r taking (with_left left result)
-answers_as input g r taking left result other is h =
-    subst (λ (x : Result ℕ RelocError). Answers input g r taking (with_left left x)) (sym is) h
+pub answers_as : (input : Input) (g : Placing) (r : Relocated) (taking : Taking)
+    (result other : Result ℕ RelocError) → result ≡ other → AnswersValue input g r taking other
+    → AnswersValue input g r taking result
+answers_as input g r taking result other is h =
+    subst (λ (x : Result ℕ RelocError). AnswersValue input g r taking x) (sym is) h
 
 -- ---- what is left to be added
 
@@ -149,7 +153,7 @@ left_zero (address.Placed place) r e = rw e refl
 left_zero address.Passive r e = refl
 left_zero (address.TlsOffset place) r e = refl
 
-left_addend : (a : WasmDataAddress) (r : WasmRelocation) → is_absolute r.ty ≡ true
+pub left_addend : (a : WasmDataAddress) (r : WasmRelocation) → is_absolute r.ty ≡ true
     → left_of a r ≡ addend_left Memory a r.addend
 left_addend address.Missing r e = refl
 left_addend (address.Placed place) r e = rw e refl
@@ -233,9 +237,9 @@ module _ (input : Input) (g : Placing) (r : Relocated) (o : Object) (m : WasmObj
   same_object : (p : Object) → slice_get input.link.objects r.object ≡ Some p → p ≡ o
   same_object p here = same_Some p o (sym here ∙ known.here)
 
-  type_answers : (left : ℤ) → left ≡ pos 0 → names_a_type r.relocation.ty ≡ true
-      → Answers input g r TypeIndex (with_left left (taken (resolver_of input g o m) r.relocation TypeIndex))
-  type_answers left no_rest names =
+  type_answers : names_a_type r.relocation.ty ≡ true
+      → AnswersValue input g r TypeIndex (taken (resolver_of input g o m) r.relocation TypeIndex)
+  type_answers names =
       let h = known.laws.types input r known.settled known.kept names in
       let live : live_type input r.object o r.relocation.index ≡ Some h.ty =
       subst (λ (p : Object). live_type input r.object p r.relocation.index ≡ Some h.ty)
@@ -245,10 +249,10 @@ module _ (input : Input) (g : Placing) (r : Relocated) (o : Object) (m : WasmObj
       let named : type_named input r ≡ Some h.ty =
       ap (option_and_then (λ (p : Object). live_type input r.object p r.relocation.index)) known.here
       ∙ live in
-      answers_as input g r TypeIndex left (kept_index (slice_get m.type_indices r.relocation.index))
+      answers_as input g r TypeIndex (kept_index (slice_get m.type_indices r.relocation.index))
       (Ok at.0) (ap kept_index at.1
       ∙ index_kept (output_types input) at.0 h.ty known.room.types at.2)
-      (no_rest, (h.ty, named, at.2))
+      (refl, (h.ty, named, at.2))
 
   -- ---- symbols
 
@@ -340,18 +344,17 @@ module _ (input : Input) (g : Placing) (r : Relocated) (o : Object) (m : WasmObj
       (function_kind n.symbol.kind is)
       ∙ l.index
 
-  function_answers : (left : ℤ) → left ≡ pos 0 → names_a_type r.relocation.ty ≡ false
+  function_answers : names_a_type r.relocation.ty ≡ false
       → (n : Names) → is_function n.symbol.kind ≡ true
-      → Answers input g r FunctionIndex (with_left left
-      (taken (resolver_of input g o m) r.relocation FunctionIndex))
-  function_answers left no_rest none n is =
+      → AnswersValue input g r FunctionIndex (taken (resolver_of input g o m) r.relocation FunctionIndex)
+  function_answers none n is =
       let l = leads_to n none is in
-      answers_as input g r FunctionIndex left
+      answers_as input g r FunctionIndex
       (taken (resolver_of input g o m) r.relocation FunctionIndex) (Ok l.place)
       (of_symbol
       (λ s. function_index (resolver_of input g o m) s.kind r.relocation.index) n.symbol n.at
       ∙ index_of n is l)
-      (no_rest, (FunctionOf l.target, l.entry, l.stands))
+      (refl, (FunctionOf l.target, l.entry, l.stands))
 
   -- ---- slots
 
@@ -387,35 +390,33 @@ module _ (input : Input) (g : Placing) (r : Relocated) (o : Object) (m : WasmObj
             ∙ (ap slot_in at ∙ live));
       }
 
-  slot_answers : (left : ℤ) → left ≡ pos 0 → names_a_type r.relocation.ty ≡ false
+  slot_answers : names_a_type r.relocation.ty ≡ false
       → (n : Names) → is_function n.symbol.kind ≡ true
       → (is_table_index r.relocation.ty || is_global_index r.relocation.ty) ≡ true
-      → Answers input g r Slot (with_left left
-      (taken (resolver_of input g o m) r.relocation Slot))
-  slot_answers left no_rest none n is asks =
+      → AnswersValue input g r Slot (taken (resolver_of input g o m) r.relocation Slot)
+  slot_answers none n is asks =
       let s = slotted n none is asks in
-      answers_as input g r Slot left
+      answers_as input g r Slot
       (taken (resolver_of input g o m) r.relocation Slot) (Ok s.slot)
       (of_symbol
       (λ t. resolved_slot (resolver_of input g o m)
       (function_index (resolver_of input g o m) t.kind r.relocation.index)) n.symbol n.at
       ∙ s.resolves n.symbol n.at is)
-      (no_rest, s.named_slot)
+      (refl, s.named_slot)
 
-  relative_answers : (left : ℤ) → left ≡ pos 0 → names_a_type r.relocation.ty ≡ false
+  relative_answers : names_a_type r.relocation.ty ≡ false
       → (n : Names) → is_function n.symbol.kind ≡ true
       → (is_table_index r.relocation.ty || is_global_index r.relocation.ty) ≡ true
-      → Answers input g r SlotBehindBase (with_left left
-      (taken (resolver_of input g o m) r.relocation SlotBehindBase))
-  relative_answers left no_rest none n is asks =
+      → AnswersValue input g r SlotBehindBase (taken (resolver_of input g o m) r.relocation SlotBehindBase)
+  relative_answers none n is asks =
       let s = slotted n none is asks in
-      answers_as input g r SlotBehindBase left
+      answers_as input g r SlotBehindBase
       (taken (resolver_of input g o m) r.relocation SlotBehindBase) (Ok (s.slot - 1))
       (of_symbol
       (λ t. behind_first (resolved_slot (resolver_of input g o m)
       (function_index (resolver_of input g o m) t.kind r.relocation.index))) n.symbol n.at
       ∙ ap behind_first (s.resolves n.symbol n.at is))
-      (no_rest, ap (option_map (λ (slot : ℕ). slot - 1)) s.named_slot)
+      (refl, ap (option_map (λ (slot : ℕ). slot - 1)) s.named_slot)
 
   -- ---- globals
 
@@ -454,10 +455,9 @@ module _ (input : Input) (g : Placing) (r : Relocated) (o : Object) (m : WasmObj
   global_resolves kind.Event index x within e = absurd cc
   global_resolves kind.Table index x within e = absurd cc
 
-  global_answers : (left : ℤ) → left ≡ pos 0 → is_global_index r.relocation.ty ≡ true
-      → Answers input g r GlobalIndex (with_left left
-      (taken (resolver_of input g o m) r.relocation GlobalIndex))
-  global_answers left no_rest is =
+  global_answers : is_global_index r.relocation.ty ≡ true
+      → AnswersValue input g r GlobalIndex (taken (resolver_of input g o m) r.relocation GlobalIndex)
+  global_answers is =
       let h = known.laws.globals input r known.settled known.kept is in
       let same = same_object h.named.object h.named.here in
       let s = h.named.symbol in
@@ -475,12 +475,12 @@ module _ (input : Input) (g : Placing) (r : Relocated) (o : Object) (m : WasmObj
       ∙ (ap (option_and_then
       (λ (t : LinkedSymbol). symbol_global input r o t.kind t.index)) at
       ∙ stands) in
-      answers_as input g r GlobalIndex left
+      answers_as input g r GlobalIndex
       (taken (resolver_of input g o m) r.relocation GlobalIndex) (Ok found.place)
       (of_symbol
       (λ t. global_index (resolver_of input g o m) t.kind r.relocation.index t.index) s at
       ∙ found.is)
-      (no_rest, (h.global, named_one, found.stands))
+      (refl, (h.global, named_one, found.stands))
 
   -- ---- tables
 
@@ -492,14 +492,13 @@ module _ (input : Input) (g : Placing) (r : Relocated) (o : Object) (m : WasmObj
   table_kind kind.Section e = absurd cc
   table_kind kind.Event e = absurd cc
 
-  table_answers : (left : ℤ) → left ≡ pos 0 → (n : Names) → is_table n.symbol.kind ≡ true
-      → Answers input g r TableNumber (with_left left
-      (taken (resolver_of input g o m) r.relocation TableNumber))
-  table_answers left no_rest n is =
-      answers_as input g r TableNumber left
+  table_answers : (n : Names) → is_table n.symbol.kind ≡ true
+      → AnswersValue input g r TableNumber (taken (resolver_of input g o m) r.relocation TableNumber)
+  table_answers n is =
+      answers_as input g r TableNumber
       (taken (resolver_of input g o m) r.relocation TableNumber) (Ok 0)
       (of_symbol (λ s. table_number s.kind) n.symbol n.at ∙ table_kind n.symbol.kind is)
-      (no_rest, refl)
+      (refl, refl)
 
   -- ---- addresses
 
@@ -511,40 +510,33 @@ module _ (input : Input) (g : Placing) (r : Relocated) (o : Object) (m : WasmObj
   data_kind kind.Event e = absurd cc
   data_kind kind.Table e = absurd cc
 
-  value_answers : (base : AddressBase) (left : ℤ) (value : Result ℤ RelocError)
-      → left ≡ addend_left base (address_named input g r) r.relocation.addend
+  value_answers : (base : AddressBase) (value : Result ℤ RelocError)
       → address_taken input g r base ≡ value
-      → Answers input g r (Address base) (with_left left (as_word value))
-  value_answers base left (Ok z) is at = (is, (z, at, refl))
-  value_answers base left (Err why) is at = (base, refl, at)
+      → AnswersValue input g r (Address base) (as_word value)
+  value_answers base (Ok z) at = (z, at, refl)
+  value_answers base (Err why) at = (base, refl, at)
 
-  address_answers : (base : AddressBase) (left : ℤ)
-      → left ≡ addend_left base (address_named input g r) r.relocation.addend
-      → (n : Names) → is_data n.symbol.kind ≡ true
-      → Answers input g r (Address base) (with_left left
-      (taken (resolver_of input g o m) r.relocation (Address base)))
-  address_answers base left is n data_is =
+  address_answers : (base : AddressBase) → (n : Names) → is_data n.symbol.kind ≡ true
+      → AnswersValue input g r (Address base)
+      (taken (resolver_of input g o m) r.relocation (Address base))
+  address_answers base n data_is =
       let by = resolver_of input g o m in
       let listed : slice_get m.data_addresses r.relocation.index ≡ Some (address_named input g r) =
       ap (λ (xs : List WasmDataAddress). slice_get xs r.relocation.index) known.map.addresses
       ∙ of_range (symbol_address input g r.object) (length o.symbols) r.relocation.index n.within in
-      answers_as input g r (Address base) left
+      answers_as input g r (Address base)
       (taken by r.relocation (Address base)) (as_word (address_taken input g r base))
       (of_symbol (λ s. address_of by base r.relocation.addend s.kind r.relocation.index) n.symbol n.at
       ∙ (ap (λ (k : WasmSymbolKind). address_of by base r.relocation.addend k r.relocation.index)
       (data_kind n.symbol.kind data_is)
       ∙ ap (address_in by base r.relocation.addend) listed))
-      (value_answers base left (address_taken input g r base) is refl)
+      (value_answers base (address_taken input g r base) refl)
 
   -- ---- all types
 
-  abbrev left_here : ℤ
-  left_here = left_of (address_named input g r) r.relocation
-
   by_taking : (taking : Taking) → taking_of r.relocation.ty ≡ taking
-      → Answers input g r taking (with_left left_here
-      (taken (resolver_of input g o m) r.relocation taking))
-  by_taking taking is = by taking is (left_zero (address_named input g r) r.relocation)
+      → AnswersValue input g r taking (taken (resolver_of input g o m) r.relocation taking)
+  by_taking taking is = by taking is
     where
       takes_at : (taking : Taking) → taking_of r.relocation.ty ≡ taking → (n : Names)
           → is_taken_of taking n.symbol.kind ≡ true
@@ -560,51 +552,32 @@ module _ (input : Input) (g : Placing) (r : Relocated) (o : Object) (m : WasmObj
           → (is_table_index r.relocation.ty || is_global_index r.relocation.ty) ≡ true
       asks taking is e = ap (λ (t : Taking). is_slot t || is_global t) is ∙ e
 
-      by_address : (base : AddressBase) → taking_of r.relocation.ty ≡ Address base
-          → left_here ≡ addend_left base (address_named input g r) r.relocation.addend
-          → Answers input g r (Address base) (with_left left_here
-          (taken (resolver_of input g o m) r.relocation (Address base)))
-      by_address base is left =
-          let n = named (symbols (Address base) is refl) in
-          address_answers base left_here left n (takes_at (Address base) is n)
-
       by : (taking : Taking) → taking_of r.relocation.ty ≡ taking
-          → (is_absolute r.relocation.ty ≡ false → left_here ≡ pos 0)
-          → Answers input g r taking (with_left left_here
-          (taken (resolver_of input g o m) r.relocation taking))
-      by FunctionIndex is no_rest =
+          → AnswersValue input g r taking (taken (resolver_of input g o m) r.relocation taking)
+      by FunctionIndex is =
           let none = symbols FunctionIndex is refl in
-          function_answers left_here (no_rest (ap is_in_memory is)) none (named none)
-          (takes_at FunctionIndex is (named none))
-      by Slot is no_rest =
+          function_answers none (named none) (takes_at FunctionIndex is (named none))
+      by Slot is =
           let none = symbols Slot is refl in
-          slot_answers left_here (no_rest (ap is_in_memory is)) none (named none)
-          (takes_at Slot is (named none)) (asks Slot is refl)
-      by SlotBehindBase is no_rest =
+          slot_answers none (named none) (takes_at Slot is (named none)) (asks Slot is refl)
+      by SlotBehindBase is =
           let none = symbols SlotBehindBase is refl in
-          relative_answers left_here (no_rest (ap is_in_memory is)) none (named none)
+          relative_answers none (named none)
           (takes_at SlotBehindBase is (named none)) (asks SlotBehindBase is refl)
-      by TypeIndex is no_rest =
-          type_answers left_here (no_rest (ap is_in_memory is)) (ap is_type is)
-      by GlobalIndex is no_rest =
-          global_answers left_here (no_rest (ap is_in_memory is)) (ap is_global is)
-      by TableNumber is no_rest =
+      by TypeIndex is = type_answers (ap is_type is)
+      by GlobalIndex is = global_answers (ap is_global is)
+      by TableNumber is =
           let none = symbols TableNumber is refl in
-          table_answers left_here (no_rest (ap is_in_memory is)) (named none)
-          (takes_at TableNumber is (named none))
-      by (Address Memory) is no_rest =
-          by_address Memory is
-          (left_addend (address_named input g r) r.relocation (ap is_in_memory is))
-      by (Address MemoryBase) is no_rest =
-          by_address MemoryBase is (no_rest (ap is_in_memory is))
-      by (Address ThreadData) is no_rest =
-          by_address ThreadData is (no_rest (ap is_in_memory is))
+          table_answers (named none) (takes_at TableNumber is (named none))
+      by (Address base) is =
+          let n = named (symbols (Address base) is refl) in
+          address_answers base n (takes_at (Address base) is n)
 
 -- what a kept relocation takes, or why it can't take its address
 pub resolves_as : (input : Input) (g : Placing) (r : Relocated) (o : Object)
     (m : WasmObjectIndexMap) → IsKnown input g r o m
-    → Answers input g r (taking_of r.relocation.ty) (with_left (left_of (address_named input g r) r.relocation)
-    (resolved (resolver_of input g o m) r.relocation))
+    → AnswersValue input g r (taking_of r.relocation.ty)
+    (resolved (resolver_of input g o m) r.relocation)
 resolves_as input g r o m known = by_taking input g r o m known (taking_of r.relocation.ty) refl
 
 -- ---- why an address isn't taken
@@ -648,15 +621,68 @@ pub reason_of : (input : Input) (g : Placing) (r : Relocated) (base : AddressBas
 reason_of input g r base why e =
     value_reason base (bases_of g) (address_named input g r) r.relocation.addend why e
 
+some_place : (b : Bool) (z : ℤ) (why : RelocError) → ◌≡◌ {A = Result (Option ℤ) RelocError}
+    (as_some (if b then Ok z else Err reloc.Range)) (Err why) → IsAddressReason why
+some_place true z why e = absurd cc
+some_place false z why e = inr (let same : why ≡ reloc.Range = cc in same)
+
+stored_reason : (form : FieldForm) (z : ℤ) (why : RelocError) → stored_by_thread form z ≡ Err why
+    → IsAddressReason why
+stored_reason Word z why e = some_place (is_s32 z) z why e
+stored_reason PaddedUnsigned z why e = inl (let same : why ≡ reloc.Unsupported = cc in same)
+stored_reason PaddedSigned z why e = inl (let same : why ≡ reloc.Unsupported = cc in same)
+
+deferred_reason : (has : Bool) (form : FieldForm) (z : ℤ) (why : RelocError)
+    → ◌≡◌ {A = Result (Option ℤ) RelocError} (if has then stored_by_thread form z else Ok None) (Err why)
+    → IsAddressReason why
+deferred_reason true form z why e = stored_reason form z why e
+deferred_reason false form z why e = absurd cc
+
+place_reason : (ty : RelocationType) (addend : ℤ) (a : WasmDataAddress) (why : RelocError)
+    → deferred_at ty addend (Some a) ≡ Err why → IsAddressReason why
+place_reason ty addend address.Missing why e = absurd cc
+place_reason ty addend (address.Placed place) why e = absurd cc
+place_reason ty addend address.Passive why e = absurd cc
+place_reason ty addend (address.TlsOffset place) why e =
+    deferred_reason (has_addend ty) (field_form ty) (pos place +ℤ addend) why e
+
+start_reason : (input : Input) (g : Placing) (r : Relocated) (start : Option ℕ) (why : RelocError)
+    → option_map_or (λ (n : ℕ). deferred_at r.relocation.ty r.relocation.addend
+    (Some (address_named input g r))) start (Ok None) ≡ Err why → IsAddressReason why
+start_reason input g r None why e = absurd cc
+start_reason input g r (Some n) why e =
+    place_reason r.relocation.ty r.relocation.addend (address_named input g r) why e
+
+field_reason_by : (input : Input) (g : Placing) (r : Relocated) (base : AddressBase)
+    (pointer : Result (Option ℤ) RelocError) (left : ℤ) (value : Result ℤ RelocError)
+    (why : RelocError) → pointer_named input g r ≡ pointer → address_taken input g r base ≡ value
+    → value_or_pointer pointer left value ≡ Err why → IsAddressReason why
+field_reason_by input g r base (Err other) left value why p v e =
+    let same : other ≡ why = cc in
+    start_reason input g r (template_start g r) why
+    (p ∙ ap (λ (x : RelocError). Err x) same)
+field_reason_by input g r base (Ok (Some offset)) left value why p v e = absurd cc
+field_reason_by input g r base (Ok None) left (Err other) why p v e =
+    let same : other ≡ why = cc in
+    reason_of input g r base why (v ∙ ap (λ (x : RelocError). Err x) same)
+field_reason_by input g r base (Ok None) left (Ok z) why p v e = absurd cc
+
+-- the same of what the field takes
+pub field_reason : (input : Input) (g : Placing) (r : Relocated) (base : AddressBase)
+    (why : RelocError) → field_taken input g r base ≡ Err why → IsAddressReason why
+field_reason input g r base why e =
+    field_reason_by input g r base (pointer_named input g r)
+    (addend_left base (address_named input g r) r.relocation.addend) (address_taken input g r base)
+    why refl refl e
+
 -- what takes an address isn't refused one
-pub not_refused : (input : Input) (g : Placing) (r : Relocated) (value : ℕ) (left : ℤ)
-    (base : AddressBase) (why : RelocError) → IsTaken input g r (taking_of r.relocation.ty) (Value value left)
-    → taking_of r.relocation.ty ≡ Address base → address_taken input g r base ≡ Err why → ⊥
-not_refused input g r value left base why h takes fault =
-    let t : IsTaken input g r (Address base) (Value value left) =
-    subst (λ (x : Taking). IsTaken input g r x (Value value left)) takes h in
-    let is : address_taken input g r base ≡ Ok t.1.0 = t.1.1 in
-    absurd (let e : ◌≡◌ {A = Result ℤ RelocError} (Ok t.1.0) (Err why) = sym is ∙ fault in cc)
+pub not_refused : (input : Input) (g : Placing) (r : Relocated) (to : FixupTo)
+    (base : AddressBase) (why : RelocError) → IsTaken input g r (taking_of r.relocation.ty) to
+    → taking_of r.relocation.ty ≡ Address base → field_taken input g r base ≡ Err why → ⊥
+not_refused input g r to base why h takes fault =
+    let is : field_taken input g r base ≡ Ok to =
+    subst (λ (x : Taking). IsTaken input g r x to) takes h in
+    absurd (let e : ◌≡◌ {A = Result FixupTo RelocError} (Ok to) (Err why) = sym is ∙ fault in cc)
 
 -- the same, with what is known given one by one
 abbrev pub given : WasmObjectIndexMap → List LinkedSymbol → List ℕ → Placing → Resolver
@@ -666,11 +692,10 @@ given m symbols slots g =
 pub answers_by : (input : Input) (g : Placing) (r : Relocated) (o : Object)
     (m : WasmObjectIndexMap) (symbols : List LinkedSymbol) (slots : List ℕ)
     → IsKnown input g r o m → symbols ≡ o.symbols → slots ≡ space_slots input
-    → Answers input g r (taking_of r.relocation.ty) (with_left (left_of (address_named input g r) r.relocation)
-    (resolved (given m symbols slots g) r.relocation))
+    → AnswersValue input g r (taking_of r.relocation.ty)
+    (resolved (given m symbols slots g) r.relocation)
 answers_by input g r o m symbols slots known symbols_are slots_are =
     answers_as input g r (taking_of r.relocation.ty)
-    (left_of (address_named input g r) r.relocation)
     (resolved (given m symbols slots g) r.relocation)
     (resolved (resolver_of input g o m) r.relocation)
     (ap (λ (xs : List LinkedSymbol). resolved (given m xs slots g) r.relocation) symbols_are
@@ -680,9 +705,9 @@ answers_by input g r o m symbols slots known symbols_are slots_are =
 -- ---- by what fixups are made from
 
 pub known_by : (s : FixupSources) (r : Relocated) (o : Object) (m : WasmObjectIndexMap) → Laws
-    → TableLaws → AreFixupSources s → Contains (relocations s.input.now) r
-    → slice_get s.input.now.link.objects r.object ≡ Some o → slice_get s.maps.now r.object ≡ Some m
-    → IsKnown s.input.now s.placing.now r o m
+    → TableLaws → AreFixupSources s → Contains (relocations s.book.now.input.now) r
+    → slice_get s.book.now.input.now.link.objects r.object ≡ Some o → slice_get s.maps.now r.object ≡ Some m
+    → IsKnown s.book.now.input.now s.book.now.placing.now r o m
 known_by s r o m laws table sources kept here at = record {
   laws = laws;
   table = table;
@@ -690,28 +715,27 @@ known_by s r o m laws table sources kept here at = record {
   room = sources.room;
   kept = kept;
   here = here;
-  map = map_of s.input.now s.placing.now s.maps.now r.object o m sources.maps here at;
+  map = map_of s.book.now.input.now s.book.now.placing.now s.maps.now r.object o m sources.maps here at;
 }
 
 -- what a relocation is resolved to, as an answer
 pub answers_of : (s : FixupSources) (r : Relocated) (o : Object) (m : WasmObjectIndexMap)
     (symbols : List LinkedSymbol) (result : Result ℕ RelocError) → Laws
-    → TableLaws → AreFixupSources s → Contains (relocations s.input.now) r
-    → slice_get s.input.now.link.objects r.object ≡ Some o → slice_get s.maps.now r.object ≡ Some m
+    → TableLaws → AreFixupSources s → Contains (relocations s.book.now.input.now) r
+    → slice_get s.book.now.input.now.link.objects r.object ≡ Some o → slice_get s.maps.now r.object ≡ Some m
     → symbols ≡ o.symbols
-    → result ≡ resolved (given m symbols s.slots.now s.placing.now) r.relocation
+    → result ≡ resolved (given m symbols s.slots.now s.book.now.placing.now) r.relocation
     → AnswersFrom s r result
 answers_of s r o m symbols result laws table sources kept here at symbols_are is =
-    answers_as s.input.now s.placing.now r (taking_of r.relocation.ty)
-    (left_of (address_named s.input.now s.placing.now r) r.relocation) result
-    (resolved (given m symbols s.slots.now s.placing.now) r.relocation) is
-    (answers_by s.input.now s.placing.now r o m symbols s.slots.now
+    answers_as s.book.now.input.now s.book.now.placing.now r (taking_of r.relocation.ty) result
+    (resolved (given m symbols s.slots.now s.book.now.placing.now) r.relocation) is
+    (answers_by s.book.now.input.now s.book.now.placing.now r o m symbols s.slots.now
     (known_by s r o m laws table sources kept here at) symbols_are sources.slots)
 
 -- what takes an address isn't refused
-pub clear_of : (s : FixupSources) (r : Relocated) (value : ℕ) (left : ℤ)
-    → IsTaken s.input.now s.placing.now r (taking_of r.relocation.ty) (Value value left)
+pub clear_of : (s : FixupSources) (r : Relocated) (to : FixupTo)
+    → IsTaken s.book.now.input.now s.book.now.placing.now r (taking_of r.relocation.ty) to
     → Clear (IsRefusedAt s r)
-clear_of s r value left h = record {
-  none = λ e f. not_refused s.input.now s.placing.now r value left f.base f.why h f.takes f.fault;
+clear_of s r to h = record {
+  none = λ e f. not_refused s.book.now.input.now s.book.now.placing.now r to f.base f.why h f.takes f.fault;
 }

@@ -10,7 +10,7 @@ use Rattle.wl_plan.specs.FixupSteps.{IsRefusedAt, NoneRefused}
 use Rattle.wl_plan.specs.Fixups.{IsFixupFault}
 use Rattle.wl_plan.specs.declared.fixups.FixupSources.{FixupSources}
 use Rattle.wl_lists.proofs.Beside.{zip_joined}
-use Rattle.wl_plan.proofs.FixupLaws.{reason_of}
+use Rattle.wl_plan.proofs.FixupLaws.{field_reason}
 
 -- ---- the relocation at hand
 
@@ -86,8 +86,8 @@ one_from P (z ∷ xs) x (suc k) lt is h = one_from P xs x k (omega (arith, lt)) 
 -- ---- refusals
 
 pub one_refused : (s : FixupSources) (r : Relocated) (e : LinkError)
-    → Contains (relocations s.input.now) r → IsRefusedAt s r e
-    → Refuses (IsFixupFault s.input.now s.placing.now) e
+    → Contains (relocations s.book.now.input.now) r → IsRefusedAt s r e
+    → Refuses (IsFixupFault s.book.now.input.now s.book.now.placing.now) e
 one_refused s r e kept h = record {
   cause_is = λ other. record {
     relocated = r;
@@ -96,18 +96,18 @@ one_refused s r e kept h = record {
     takes = h.takes;
     why = h.why;
     fault = h.fault;
-    reason = reason_of s.input.now s.placing.now r h.base h.why h.fault;
+    reason = field_reason s.book.now.input.now s.book.now.placing.now r h.base h.why h.fault;
     told = h.told;
   };
 }
 
-refused_of : (s : FixupSources) (e : LinkError) (h : IsFixupFault s.input.now s.placing.now e)
+refused_of : (s : FixupSources) (e : LinkError) (h : IsFixupFault s.book.now.input.now s.book.now.placing.now e)
     → IsRefusedAt s h.relocated e
 refused_of s e h =
     record { base = h.base; takes = h.takes; why = h.why; fault = h.fault; told = h.told }
 
-pub none_refused : (s : FixupSources) (rs : List Relocated) → rs ≡ relocations s.input.now
-    → NoneRefused s rs → Clear (IsFixupFault s.input.now s.placing.now)
+pub none_refused : (s : FixupSources) (rs : List Relocated) → rs ≡ relocations s.book.now.input.now
+    → NoneRefused s rs → Clear (IsFixupFault s.book.now.input.now s.book.now.placing.now)
 none_refused s rs is all = record {
   none = λ e h. (let among = subst (λ (xs : List Relocated). Contains xs h.relocated) (sym is) h.kept in
       (one_from (λ (r : Relocated). Clear (IsRefusedAt s r)) rs h.relocated among.0 among.1 among.2

@@ -1,4 +1,5 @@
 -- Entries of the function space, their types, and the functions of the output that they are.
+use Rattle.std.specs.Prelude.{MatchOption}
 use Rattle.std.proofs.Common.{◌≡◌, ◌∙◌, ℕ, zero, suc, ◌+◌, ◌<◌, ◌≤◌, Bool, true, false, List, [], ◌∷◌, ◌++◌, length, refl, sym, ap, subst, arith, inl, inr, Option, Some, None, slice_get, filter, filter_map, map, take, get_or, is_some, if◌then◌else◌, Contains, Result, Ok, Err, OnOk}
 use Rattle.std.specs.List.{AllZip, range_with_len}
 use Rattle.std.specs.Option.{option_map, option_map_or, option_and_then, is_none}
@@ -7,10 +8,10 @@ use Rattle.std.proofs.lemmas.List.{append-nil, append_assoc, take_all, length-ma
 use Rattle.std.proofs.lemmas.Option.{same_Some, get_or_from_slice_get, slice_get-get_or, slice_get_within}
 use Rattle.wl_module.specs.Imports.{Imported}
 use Rattle.wl_module.specs.Types.{FunctionType}
-use Rattle.wl_module.specs.declared.types.ValType.{ValType}
 use Rattle.wl_linking.specs.Object.{Object}
 use Rattle.wl_custom.specs.Symbols.{Symbol}
 use Rattle.wl_custom.specs.declared.symbols.WasmSymbolKind.{WasmSymbolKind}
+use Rattle.wl_symbols.specs.LinkerNames.{row_of}
 use Rattle.wl_custom.specs.declared.symbols.WasmSymbolKind.TheVariants.{Func}
 use Rattle.wl_symbols.specs.declared.units.WasmGcUnit.TheVariants.{DefinedFunction}
 use Rattle.wl_symbols.specs.declared.linker_symbol.WasmLinkerSymbol.{WasmLinkerSymbol}
@@ -21,18 +22,18 @@ use Rattle.wl_symbols.specs.SlotTargets.{slot_target}
 use Rattle.wl_bind.specs.EntryTypes.{type_of_slot, type_of_entry, HasOutputType, HasTypeIndex}
 use Rattle.wl_bind.specs.FunctionBinding.{left_functions, link_stubs, host_functions}
 use Rattle.wl_bind.specs.FunctionSpace.{FunctionEntry, FunctionOf, InitMemory, host_function_part, made_function_part, init_memory_part, stub_part, kept_functions, functions_of, object_functions, function_parts, function_space}
-use Rattle.wl_bind.specs.FunctionTypes.{slot_type, stub_types}
+use Rattle.wl_bind.specs.FunctionTypes.{slot_type, stub_types, type_of_made}
 use Rattle.wl_symbols.specs.Input.{Input, keeps}
 use Rattle.wl_symbols.specs.KeptSlots.{slots_from, is_kept_slot, kept_slots, left_slots}
 use Rattle.wl_bind.specs.Made.{is_made, has_init_memory}
 use Rattle.wl_bind.specs.IndexMaps.{IsIndexMap, AreIndexMaps}
-use Rattle.wl_bind.specs.MadeIndices.{IsMadeIndex}
+use Rattle.wl_bind.specs.MadeIndices.{IsMadeIndex, StandsAt}
 use Rattle.wl_index.specs.declared.index_map.WasmObjectIndexMap.{WasmObjectIndexMap}
 use Rattle.wl_bind.specs.OutputTypes.{output_types, AreTypeIndices}
 use Rattle.wl_bind.specs.References.{IsSettled}
 use Rattle.wl_bind.specs.Parts.{joined, by_object}
 use Rattle.wl_bind.specs.declared.binding.FunctionTarget.TheVariants.{Defined, Made, Host, Stub}
-use Rattle.wl_plan.specs.FunctionSteps.{AddsFunctions, own_function_part}
+use Rattle.wl_plan.specs.FunctionSteps.{AddsFunction, AddsFunctions, linker_functions, own_function_part, plain_type}
 use Rattle.wl_plan.specs.Functions.{own_functions, origin_of, IsOutputFunction}
 use Rattle.wl_plan.specs.Origins.{Origin, OfObject, OfStub, PlannedFunction}
 use Rattle.wl_lists.proofs.Beside.{zip_joined}
@@ -201,20 +202,28 @@ made_is input m h =
       ]
     ]
 
--- the part of what calls the constructors, by its index
-pub no_ctors : (input : Input) → is_made input CallCtors ≡ false → made_function_part input CallCtors ≡ []
-no_ctors input none = ap (λ (b : Bool). if b then FunctionOf (Made CallCtors) ∷ [] else []) none
+-- the part of a function that the linker makes, by its index
+pub no_made : (input : Input) (m : WasmLinkerSymbol) → is_made input m ≡ false → made_function_part input m ≡ []
+no_made input m none = ap (λ (b : Bool). if b then FunctionOf (Made m) ∷ [] else []) none
 
-pub no_index : (input : Input) (index : Option ℕ) → IsMadeIndex input CallCtors index → is_some index ≡ false
-    → made_function_part input CallCtors ≡ []
-no_index input None is none = no_ctors input is
-no_index input (Some i) is none = absurd cc
+pub no_index : (input : Input) (m : WasmLinkerSymbol) (index : Option ℕ) → IsMadeIndex input m index
+    → is_some index ≡ false → made_function_part input m ≡ []
+no_index input m None is none = no_made input m is
+no_index input m (Some i) is none = absurd cc
 
-pub one_ctors : (input : Input) (index : ℕ) → slice_get (function_space input) index ≡ Some (FunctionOf (Made CallCtors))
-    → made_function_part input CallCtors ≡ FunctionOf (Made CallCtors) ∷ []
-one_ctors input index at =
-    ap (λ (b : Bool). if b then FunctionOf (Made CallCtors) ∷ [] else [])
-    (made_is input CallCtors (in_at (function_space input) index (FunctionOf (Made CallCtors)) at))
+pub one_made : (input : Input) (m : WasmLinkerSymbol) (index : ℕ)
+    → slice_get (function_space input) index ≡ Some (FunctionOf (Made m))
+    → made_function_part input m ≡ FunctionOf (Made m) ∷ []
+one_made input m index at =
+    ap (λ (b : Bool). if b then FunctionOf (Made m) ∷ [] else [])
+    (made_is input m (in_at (function_space input) index (FunctionOf (Made m)) at))
+
+-- that of what copies data for all threads
+pub no_init : (input : Input) (index : Option ℕ) → MatchOption index (has_init_memory input ≡ false)
+    (λ (i : ℕ). slice_get (function_space input) i ≡ Some InitMemory) → is_some index ≡ false
+    → init_memory_part input ≡ []
+no_init input None is none = ap (λ (b : Bool). if b then InitMemory ∷ [] else []) is
+no_init input (Some i) is none = absurd cc
 
 -- ---- types
 
@@ -226,12 +235,6 @@ pub ok_then : {T E : Type 0} (r : Result T E) (A B : Type 0) → (A → B) → O
 ok_then (Ok x) A B f h = f h
 ok_then (Err e) A B f h = tt
 
--- the list grows by a function of that origin, with the number of its type among these
-pub record AddsFunction (types : List FunctionType) (ty : FunctionType) (origin : Origin) (old new : List PlannedFunction) : Type 0 where
-  pub number : ℕ
-  pub typed : slice_get types number ≡ Some ty
-  pub grown : new ≡ old ++ record { type_index = number; origin = origin } ∷ []
-
 -- a type that an entry has is one of the output's
 pub has_type : (input : Input) (entry : FunctionEntry) (ty : FunctionType) → HasOutputType input entry
     → type_of_entry input entry ≡ Some ty → Contains (output_types input) ty
@@ -239,28 +242,78 @@ has_type input entry ty has is =
     let same : has.ty ≡ ty = same_Some has.ty ty (sym has.has ∙ is) in
     subst (λ (t : FunctionType). Contains (output_types input) t) same has.one
 
--- what calls the constructors, where there is an index of it
-pub record CtorsAre (input : Input) (ty : FunctionType) : Type 0 where
-  pub part : made_function_part input CallCtors ≡ FunctionOf (Made CallCtors) ∷ []
-  pub typed : type_of_entry input (FunctionOf (Made CallCtors)) ≡ Some ty
+-- a function that the linker makes, where there is an index of it
+pub record IsMadeHere (input : Input) (part : List FunctionEntry) (entry : FunctionEntry)
+    (ty : FunctionType) : Type 0 where
+  pub part_is : part ≡ entry ∷ []
+  pub typed : type_of_entry input entry ≡ Some ty
   pub one : Contains (output_types input) ty
 
-pub ctors_are : (input : Input) (index : Option ℕ) (ty : FunctionType) (ps rs : List ValType)
+pub made_here : (input : Input) (m : WasmLinkerSymbol) (index : Option ℕ) (ty : FunctionType)
     → ((entry : FunctionEntry) → Contains (function_space input) entry → HasOutputType input entry)
-    → IsMadeIndex input CallCtors index → is_some index ≡ true
-    → ty ≡ record { params = ps; results = rs } → ps ≡ [] → rs ≡ [] → CtorsAre input ty
-ctors_are input None ty ps rs types is some made p r = absurd cc
-ctors_are input (Some i) ty ps rs types is some made p r =
-    let z : FunctionEntry = FunctionOf (Made CallCtors) in
-    let none : List ValType = [] in
-    let plain : ty ≡ record { params = []; results = [] } =
-    made ∙ (ap (λ (vs : List ValType). record { params = vs; results = rs }) p
-    ∙ ap (λ (vs : List ValType). record { params = none; results = vs }) r) in
-    let typed : type_of_entry input z ≡ Some ty = ap (λ (t : FunctionType). Some t) (sym plain) in
+    → (row_of m).kind ≡ Func → type_of_made m ≡ Some ty → IsMadeIndex input m index
+    → is_some index ≡ true → IsMadeHere input (made_function_part input m) (FunctionOf (Made m)) ty
+made_here input m None ty types kind typed is some = absurd cc
+made_here input m (Some i) ty types kind typed is some =
+    let z : FunctionEntry = FunctionOf (Made m) in
+    let at : slice_get (function_space input) i ≡ Some z =
+    subst (λ (k : WasmSymbolKind). StandsAt input m k i) kind is in
     record {
-      part = one_ctors input i is;
+      part_is = one_made input m i at;
       typed = typed;
-      one = has_type input z ty (types z (in_list (function_space input) z (in_at (function_space input) i z is))) typed;
+      one = has_type input z ty (types z (in_list (function_space input) z (in_at (function_space input) i z at))) typed;
+    }
+
+no_stub_init : (input : Input) → IsIn (stub_part input) InitMemory → ⊥
+no_stub_init input h =
+    let c = in_map (λ (t : ImportSlot). FunctionOf (Stub t.object t.number)) (link_stubs input) InitMemory h in
+    let e = c.to in absurd cc
+
+no_own_init : (input : Input) → IsIn (object_functions input) InitMemory → ⊥
+no_own_init input h =
+    let g = in_object (functions_of input) 0 input.link.objects InitMemory h in
+    let c = in_map (λ (k : ℕ). FunctionOf (Defined g.number k)) (kept_functions input g.number g.object) InitMemory g.there in
+    let e = c.to in absurd cc
+
+-- what copies data for all threads stands in the space only where there is some
+pub init_is : (input : Input) → IsIn (function_space input) InitMemory → has_init_memory input ≡ true
+init_is input h =
+    let z : FunctionEntry = InitMemory in
+    elim (in_split (joined (function_parts input)) (object_functions input) z h) [
+      | inr own ↦ absurd (no_own_init input own)
+      | inl parts ↦ elim (in_split (host_function_part input) (behind_hosts input) z parts) [
+        | inl host ↦ absurd (let c = in_map (λ (t : ImportSlot). FunctionOf (Host t.object t.number)) (first_imports (host_functions input)) z host in let e = c.to in cc)
+        | inr behind ↦ elim (in_split (made_function_part input CallCtors)
+            (made_function_part input InitTls ++ (init_memory_part input ++ (stub_part input ++ []))) z behind) [
+              | inl ctors ↦ absurd (let c = in_if (is_made input CallCtors) (FunctionOf (Made CallCtors)) z ctors in let e = c.1 in cc)
+              | inr others ↦ elim (in_split (made_function_part input InitTls)
+                  (init_memory_part input ++ (stub_part input ++ [])) z others) [
+                    | inl tls ↦ absurd (let c = in_if (is_made input InitTls) (FunctionOf (Made InitTls)) z tls in let e = c.1 in cc)
+                    | inr rest ↦ elim (in_split (init_memory_part input) (stub_part input ++ []) z rest) [
+                      | inl init ↦ (in_if (has_init_memory input) InitMemory z init).0
+                      | inr stubs ↦ elim (in_split (stub_part input) [] z stubs) [
+                        | inl stub ↦ absurd (no_stub_init input stub)
+                        | inr none ↦ absurd none
+                      ]
+                    ]
+                  ]
+            ]
+      ]
+    ]
+
+pub init_here : (input : Input) (index : Option ℕ) (ty : FunctionType)
+    → ((entry : FunctionEntry) → Contains (function_space input) entry → HasOutputType input entry)
+    → ty ≡ plain_type → MatchOption index (has_init_memory input ≡ false)
+    (λ (i : ℕ). slice_get (function_space input) i ≡ Some InitMemory) → is_some index ≡ true
+    → IsMadeHere input (init_memory_part input) InitMemory ty
+init_here input None ty types plain is some = absurd cc
+init_here input (Some i) ty types plain is some =
+    let typed : type_of_entry input InitMemory ≡ Some ty = ap (λ (t : FunctionType). Some t) (sym plain) in
+    let in_space = in_at (function_space input) i InitMemory is in
+    record {
+      part_is = ap (λ (b : Bool). if b then InitMemory ∷ [] else []) (init_is input in_space);
+      typed = typed;
+      one = has_type input InitMemory ty (types InitMemory (in_list (function_space input) InitMemory in_space)) typed;
     }
 
 -- ---- functions that are added
@@ -344,28 +397,21 @@ one_own input object n is = ap (λ (b : Bool). if b then FunctionOf (Defined obj
 
 -- ---- what isn't imported
 
-no_tls : (input : Input) → input.link.args.shared_memory ≡ false → made_function_part input InitTls ≡ []
-no_tls input alone = rw alone refl
-
-no_init : (input : Input) → input.link.args.shared_memory ≡ false → init_memory_part input ≡ []
-no_init input alone = rw alone refl
-
--- where memory isn't shared: what calls the constructors, the stubs, and what objects define
-pub own_is : (input : Input) → input.link.args.shared_memory ≡ false
-    → (made_function_part input CallCtors ++ stub_part input) ++ object_functions input ≡ own_functions input
-own_is input alone =
+-- what the linker makes, the stubs, and what objects define
+pub own_is : (input : Input)
+    → (linker_functions input ++ stub_part input) ++ object_functions input ≡ own_functions input
+own_is input =
     let hosts : List FunctionEntry = host_function_part input in
     let ctors : List FunctionEntry = made_function_part input CallCtors in
-    let stubs : List FunctionEntry = stub_part input in
-    let own : List FunctionEntry = object_functions input in
     let tls : List FunctionEntry = made_function_part input InitTls in
     let init : List FunctionEntry = init_memory_part input in
+    let stubs : List FunctionEntry = stub_part input in
+    let own : List FunctionEntry = object_functions input in
     let whole = drop_front hosts (behind_hosts input) own in
-    let short : behind_hosts input ≡ ctors ++ stubs =
-    ap (λ (es : List FunctionEntry). ctors ++ (es ++ (init ++ (stubs ++ [])))) (no_tls input alone)
-    ∙ (ap (λ (es : List FunctionEntry). ctors ++ (es ++ (stubs ++ []))) (no_init input alone)
-    ∙ ap (λ (es : List FunctionEntry). ctors ++ es) (append-nil stubs)) in
-    sym (whole ∙ ap (λ (es : List FunctionEntry). es ++ own) short)
+    let row : behind_hosts input ≡ ((ctors ++ tls) ++ init) ++ stubs =
+    ap (λ (es : List FunctionEntry). ctors ++ (tls ++ (init ++ es))) (append-nil stubs)
+    ∙ sym (append_assoc (ctors ++ tls) init stubs ∙ append_assoc ctors tls (init ++ stubs)) in
+    sym (whole ∙ ap (λ (es : List FunctionEntry). es ++ own) row)
 
 -- ---- where a slot stands
 
@@ -629,14 +675,14 @@ adds_all input entries new adds =
     (sym adds.grown) adds.are
 
 pub objects_done : (input : Input) (k : ℕ) (new : List PlannedFunction)
-    → input.link.args.shared_memory ≡ false → length input.link.objects ≤ k
-    → AddsFunctions input ((made_function_part input CallCtors ++ stub_part input)
+    → length input.link.objects ≤ k
+    → AddsFunctions input ((linker_functions input ++ stub_part input)
     ++ by_object (functions_of input) 0 (take k input.link.objects)) [] new
     → AllZip (IsOutputFunction input (output_types input)) (own_functions input) new
-objects_done input k new alone le so_far =
-    let front : List FunctionEntry = made_function_part input CallCtors ++ stub_part input in
+objects_done input k new le so_far =
+    let front : List FunctionEntry = linker_functions input ++ stub_part input in
     let all : front ++ by_object (functions_of input) 0 (take k input.link.objects) ≡ own_functions input =
     ap (λ (os : List Object). front ++ by_object (functions_of input) 0 os) (take_all k input.link.objects le)
-    ∙ own_is input alone in
+    ∙ own_is input in
     adds_all input (own_functions input) new
     (adds_same input (front ++ by_object (functions_of input) 0 (take k input.link.objects)) (own_functions input) [] new all so_far)

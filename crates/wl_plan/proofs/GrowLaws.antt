@@ -1,33 +1,33 @@
 -- Lists of bodies that grow, and the function space behind the imports.
-use Rattle.std.proofs.Common.{◌≡◌, ◌∙◌, ◌<◌, ℕ, zero, suc, ◌+◌, Bool, true, List, [], ◌∷◌, ◌++◌, length, map, take, refl, sym, ap, subst, arith, Some, slice_get, append_assoc}
+use Rattle.std.proofs.Common.{◌≡◌, ◌∙◌, ◌<◌, ℕ, zero, suc, ◌+◌, Bool, true, List, [], ◌∷◌, ◌++◌, length, map, take, sym, ap, subst, arith, Some, slice_get, append-nil, append_assoc}
 use Rattle.wl_linking.specs.Object.{Object}
 use Rattle.wl_symbols.specs.Live.{Live, is_live}
 use Rattle.wl_symbols.specs.declared.units.LinkUnit.{LinkUnit}
 use Rattle.wl_symbols.specs.declared.units.WasmGcUnit.TheVariants.{DefinedFunction}
 use Rattle.wl_module.specs.Bodies.{Body}
 use Rattle.wl_symbols.specs.ImportSlots.{ImportSlot}
-use Rattle.wl_symbols.specs.declared.linker_symbol.WasmLinkerSymbol.TheVariants.{CallCtors}
-use Rattle.wl_ctors.specs.InitCalls.{AreInitCalls}
 use Rattle.wl_ctors.specs.declared.calls.InitCall.{InitCall}
+use Rattle.wl_ops.specs.declared.op.Op.{Op}
 use Rattle.wl_synth.specs.Bodies.{call_sequence_ops}
 use Rattle.wl_synth.specs.Encoding.{IsEncoded}
 use Rattle.wl_synth.specs.declared.calls.TheConstants.{UNREACHABLE_FUNCTION_BODY}
-use Rattle.wl_bind.specs.FunctionSpace.{FunctionEntry, FunctionOf, made_function_part, stub_part, functions_of, function_space}
+use Rattle.wl_bind.specs.FunctionSpace.{FunctionEntry, FunctionOf, stub_part, functions_of}
 use Rattle.wl_symbols.specs.Input.{Input, keeps}
-use Rattle.wl_bind.specs.Made.{is_made}
 use Rattle.wl_bind.specs.Parts.{by_object}
-use Rattle.wl_bind.specs.declared.binding.FunctionTarget.TheVariants.{Defined, Made, Stub}
-use Rattle.wl_plan.specs.Bodies.{IsBodyOf, IsBodyIn, body_in, called}
+use Rattle.wl_bind.specs.declared.binding.FunctionTarget.TheVariants.{Defined, Stub}
+use Rattle.wl_plan.specs.Bodies.{AreMadeOps, IsBodyOf, IsBodyIn, IsEncodedBody, body_in, called}
 use Rattle.wl_plan.specs.BodySteps.{IsBodyFrom, AddsMadeBody, AddsBodies}
-use Rattle.wl_plan.specs.FunctionSteps.{own_function_part}
+use Rattle.wl_plan.specs.FunctionSteps.{linker_functions, own_function_part}
 use Rattle.wl_plan.specs.declared.placing.Placing.{Placing}
 use Rattle.wl_lists.proofs.Beside.{zip_joined}
-use Rattle.wl_lists.proofs.In.{in_at}
 use Rattle.wl_lists.proofs.Places.{there_is}
 use Rattle.wl_lists.proofs.Rows.{by_object_more}
-use Rattle.wl_plan.proofs.FunctionLaws.{one_own, made_is}
+use Rattle.wl_plan.proofs.FunctionLaws.{one_own}
 
 -- ---- lists that grow
+
+pub adds_none : (input : Input) (g : Placing) (old : List Body) → AddsBodies input g [] old old
+adds_none input g old = record { more = []; are = tt; grown = sym (append-nil old) }
 
 pub adds_one : (input : Input) (g : Placing) (entry : FunctionEntry) (old new : List Body) (b : Body)
     → IsBodyOf input g entry b → new ≡ old ++ b ∷ [] → AddsBodies input g (entry ∷ []) old new
@@ -73,37 +73,20 @@ adds_kept input g object function own b old new kept here is grown =
 
 -- what the linker makes, the stubs, and what objects define
 abbrev pub linker_part : Input → List FunctionEntry
-linker_part input = made_function_part input CallCtors ++ stub_part input
+linker_part input = linker_functions input ++ stub_part input
 
 -- ---- what the linker makes
 
--- what stands in the space is made
-pub is_made_at : (input : Input) (place : ℕ)
-    → slice_get (function_space input) place ≡ Some (FunctionOf (Made CallCtors))
-    → is_made input CallCtors ≡ true
-is_made_at input place here =
-    made_is input CallCtors
-    (in_at (function_space input) place (FunctionOf (Made CallCtors)) here)
-
-ctors_are : (input : Input) → is_made input CallCtors ≡ true
-    → FunctionOf (Made CallCtors) ∷ [] ≡ made_function_part input CallCtors
-ctors_are input made = rw made refl
-
-pub adds_ctors : (input : Input) (g : Placing) (calls : List InitCall) (bytes : List ℕ)
-    (old new : List Body) → is_made input CallCtors ≡ true → AreInitCalls input calls
-    → IsEncoded (call_sequence_ops (map called calls)) bytes → AddsMadeBody bytes old new
-    → AddsBodies input g (made_function_part input CallCtors) old new
-adds_ctors input g calls bytes old new made are encoded a =
-    adds_same input g (FunctionOf (Made CallCtors) ∷ []) (made_function_part input CallCtors) old new
-    (ctors_are input made)
-    (adds_one input g (FunctionOf (Made CallCtors)) old new a.body
-    (record {
-      calls = calls;
-      are_calls = are;
-      bytes = bytes;
-      encoded = encoded;
-      made = a.is;
-    }) a.grown)
+-- a body that is made for an entry, which is all of its part
+pub adds_made : (input : Input) (g : Placing) (part : List FunctionEntry) (entry : FunctionEntry)
+    (ops : List Op) (bytes : List ℕ) (old new : List Body) → part ≡ entry ∷ []
+    → AreMadeOps input g entry ops → IsEncoded ops bytes
+    → ((b : Body) → IsEncodedBody input g entry b → IsBodyOf input g entry b)
+    → AddsMadeBody bytes old new → AddsBodies input g part old new
+adds_made input g part entry ops bytes old new is are encoded body a =
+    adds_same input g (entry ∷ []) part old new (sym is)
+    (adds_one input g entry old new a.body
+    (body a.body (record { ops = ops; are_ops = are; bytes = bytes; encoded = encoded; made = a.is })) a.grown)
 
 -- the same calls have the same body
 pub ctors_encoded : (shown calls : List InitCall) (bytes : List ℕ) → shown ≡ calls

@@ -1,14 +1,11 @@
--- From objects to a plan: bytes by their number, and what the options don't ask for.
-use Rattle.std.proofs.Common.{◌≡◌, ◌<◌, ◌≤◌, ℕ, zero, suc, false, List, [], ◌∷◌, length, get_or, None, Some, refl, sym, ap, subst, arith, inl, inr, slice_get, Vec, Global}
+-- From objects to a plan: bytes by their number, and the steps of a link.
+use Rattle.std.proofs.Common.{◌≡◌, ◌<◌, ◌≤◌, ℕ, zero, suc, List, [], ◌∷◌, length, get_or, None, Some, refl, sym, ap, subst, arith, inr, slice_get, Vec, Global}
 use Rattle.std.specs.List.{AllByRecursion}
 use Rattle.std.specs.Prelude.{IfErr, IfOk, OnOk, Result, Ok, Err}
-use Rattle.std.proofs.lemmas.Bool.{cases_Bool}
-use Rattle.wl_bytes.specs.declared.read_error.Form.TheVariants.{NotYet}
 use Rattle.wl_linking.specs.Fitting.{IsWhole}
 use Rattle.wl_linking.specs.Object.{Object}
 use Rattle.wl_linking.specs.Steps.{Clear, Refuses, NoStep}
 use Rattle.wl_linking.specs.declared.error.LinkError.{LinkError}
-use Rattle.wl_linking.specs.declared.error.LinkError.TheVariants.{Unsupported}
 use Rattle.wl_symbols.specs.Link.{Link, link_of}
 use Rattle.wl_symbols.specs.Repeats.{IsDuplicate}
 use Rattle.wl_words.specs.declared.args.WasmArgs.{WasmArgs}
@@ -24,7 +21,6 @@ use Rattle.wl_plan.specs.Faults.{IsLaterFault, input_of, kept_fault, link_fault}
 use Rattle.wl_plan.specs.LinkPlan.{HasLinkFault, IsLinkPlan, IsPlanOf}
 use Rattle.wl_plan.specs.Objects.{AreObjects}
 use Rattle.wl_plan.specs.Plan.{IsPlan}
-use Rattle.wl_plan.specs.Planned.{IsUnplannedOption}
 use Rattle.wl_plan.specs.declared.layout.LinkPlan.{LinkPlan}
 use Rattle.wl_plan.specs.declared.objects.TheConstants.{MAX_OBJECT}
 use Rattle.wl_linking.proofs.StepLaws.{IsRow, clear_end, clear_step, refuses_behind, refuses_here, row_behind, row_clear, row_end, row_more}
@@ -48,15 +44,6 @@ pub within_at : (objects : List (List ℕ)) (i : ℕ) (bytes : List ℕ) → All
 within_at [] i bytes h is = absurd cc
 within_at (b ∷ objects) zero bytes h is = let same : b ≡ bytes = grind arith in rw (← same) h.0
 within_at (b ∷ objects) (suc i) bytes h is = within_at objects i bytes h.1 is
-
--- ---- options
-
--- words that ask for nothing that can't be planned don't ask for shared memory
-pub alone_by : (args : WasmArgs) → Clear (IsUnplannedOption args) → args.shared_memory ≡ false
-alone_by args clear = elim (cases_Bool args.shared_memory) [
-  | inl asked ↦ absurd (clear.none (Unsupported 0 NotYet) (refl, asked))
-  | inr none ↦ none
-]
 
 -- ---- what is kept
 
@@ -90,7 +77,6 @@ feature_is_row link =
 -- the steps before the last have no cause
 pub record AreClear (link : Link) : Type 0 where
   pub names : Clear (IsDuplicate link.objects)
-  pub options : Clear (IsUnplannedOption link.args)
   pub features : Clear (feature_fault link)
   pub entry : Clear (IsEntryFault link)
   pub kept : Clear (IsKeptFault link)
@@ -100,20 +86,18 @@ last_refuses : (link : Link) (e : LinkError) → AreClear link → Refuses (IsLa
     → Refuses (link_fault link) e
 last_refuses link e clear h =
     refuses_behind (IsDuplicate link.objects) _ e clear.names
-    (refuses_behind (IsUnplannedOption link.args) _ e clear.options
     (row_behind (feature_row link) (feature_is_row link) _ e clear.features
     (refuses_behind (IsEntryFault link) _ e clear.entry
     (refuses_behind (IsKeptFault link) _ e clear.kept
-    (refuses_here (IsLaterFault link) NoStep e h)))))
+    (refuses_here (IsLaterFault link) NoStep e h))))
 
 all_clear : (link : Link) → AreClear link → Clear (IsLaterFault link) → Clear (link_fault link)
 all_clear link clear last =
     clear_step (IsDuplicate link.objects) _ clear.names
-    (clear_step (IsUnplannedOption link.args) _ clear.options
     (row_clear (feature_row link) (feature_is_row link) _ clear.features
     (clear_step (IsEntryFault link) _ clear.entry
     (clear_step (IsKeptFault link) _ clear.kept
-    (clear_step (IsLaterFault link) NoStep last clear_end)))))
+    (clear_step (IsLaterFault link) NoStep last clear_end))))
 
 -- ---- answers
 
@@ -156,11 +140,6 @@ pub taken_by : (link : Link) (objects : List Object) (args : WasmArgs) (names : 
 taken_by link objects args names same words taken =
     let h = rw (same, words) at taken in
     record { all = h.all; no_other = h.no_other; ascending = h.ascending }
-
-pub input_alone : (link : Link) (live : Live) (input : Input) → input ≡ input_of link live
-    → Clear (IsUnplannedOption link.args) → input.link.args.shared_memory ≡ false
-input_alone link live input same clear =
-    subst (λ (x : Input). x.link.args.shared_memory ≡ false) (sym same) (alone_by link.args clear)
 
 pub files_err : (link : Link) (live : Live) (input : Input) (r : Result LinkPlan LinkError)
     → input ≡ input_of link live → AreClear link → IsLiveOf link live

@@ -34,18 +34,19 @@ use Rattle.wl_bind.specs.declared.binding.FunctionTarget.TheVariants.{Host}
 use Rattle.wl_plan.specs.Addresses.{numbers_from, segment_space}
 use Rattle.wl_exports.specs.Wrapped.{WrapperEntry, IsWrapper, AreWrappers}
 use Rattle.wl_exports.specs.Wrappers.{wrapped}
-use Rattle.wl_plan.specs.Bodies.{IsBodyOf, IsWrapperBody, AreBodies}
+use Rattle.wl_plan.specs.Bodies.{IsBodyFault, IsBodyOf, IsWrapperBody, AreBodies}
 use Rattle.wl_plan.specs.BodySteps.{AreSoundBodies}
-use Rattle.wl_plan.specs.Faults.{HasLargeBodies, IsPlacedFault, IsSizeFault, placed_fault}
+use Rattle.wl_plan.specs.Faults.{HasLargeBodies, IsNumberFault, IsPlacedFault, IsSizeFault, IsValueFault, placed_fault}
 use Rattle.wl_plan.specs.Functions.{IsOutputFunction, AreOwnFunctions, IsWrapperFunction, AreOutputFunctions, own_functions}
 use Rattle.wl_plan.specs.Origins.{PlannedFunction}
 use Rattle.wl_plan.specs.Outline.{AreFew, HasWrapperRoom}
 use Rattle.wl_plan.specs.Placing.{IsPlacing, AreTooManySegments, IsMemoryFault, data_input, place_steps}
 use Rattle.wl_plan.specs.SizeSteps.{IsTooBig}
 use Rattle.wl_plan.specs.declared.placing.Placing.{Placing}
-use Rattle.wl_linking.proofs.StepLaws.{IsRow, row_end, row_more, first_clear, rest_clear}
+use Rattle.wl_linking.proofs.StepLaws.{IsRow, clear_both, refuses_for, refuses_memory, refuses_more, row_end, row_more, first_clear, rest_clear}
 use Rattle.wl_lists.proofs.Beside.{zip_length}
-use Rattle.wl_plan.proofs.UniqueBodies.{FormsAreOne, bodies_one}
+use Rattle.wl_plan.specs.ThreadSteps.{IsBodyRefusal}
+use Rattle.wl_plan.proofs.UniqueBodies.{FormsAreOne, NoneGreat, body_clear, bodies_one}
 
 -- ---- rows of steps
 
@@ -205,17 +206,38 @@ pub size_refuses : (input : Input) (g : Placing) (bodies : List Body) (e : LinkE
 size_refuses input g bodies e are h = (h.0, large_as input g bodies g.places.layouts are h.1)
 
 large_one : FormsAreOne → (input : Input) (g : Placing) (bodies : List Body)
-    (rows : List (List SegmentLayout)) → StandOnce (function_space input) → AreBodies input g bodies
+    (rows : List (List SegmentLayout)) → StandOnce (function_space input)
+    → StandOnce (global_space input) → AreBodies input g bodies
     → (HasLargeBodies input g ⊎ (2 ^ 62 ≤ all_encoded_bytes rows))
     → ((2 ^ 62 ≤ body_bytes bodies) ⊎ (2 ^ 62 ≤ all_encoded_bytes rows))
-large_one forms input g bodies rows once are (inl h) =
+large_one forms input g bodies rows once globals are (inl h) =
     inl (subst (λ (bs : List Body). 2 ^ 62 ≤ body_bytes bs)
-    (bodies_one forms input g once h.bodies bodies h.are_bodies are) h.large)
-large_one forms input g bodies rows once are (inr large) = inr large
+    (bodies_one forms input g once globals h.bodies bodies h.are_bodies are) h.large)
+large_one forms input g bodies rows once globals are (inr large) = inr large
 
 pub size_clear : FormsAreOne → (input : Input) (g : Placing) (bodies : List Body)
-    → StandOnce (function_space input) → AreBodies input g bodies
+    → StandOnce (function_space input) → StandOnce (global_space input) → AreBodies input g bodies
     → Clear (IsTooBig bodies g.places.layouts) → Clear (IsSizeFault input g)
-size_clear forms input g bodies once are clear = record {
-  none = λ e h. clear.none e (h.0, large_one forms input g bodies g.places.layouts once are h.1);
+size_clear forms input g bodies once globals are clear = record {
+  none = λ e h. clear.none e (h.0, large_one forms input g bodies g.places.layouts once globals are h.1);
 }
+
+-- ---- values and bodies
+
+pub first_of_both : (cause other : LinkError → Type 0) → Clear (λ (e : LinkError). cause e ⊎ other e) → Clear cause
+first_of_both cause other clear = record { none = λ e h. clear.none e (inl h) }
+
+-- no global, no field and no body refuses
+pub values_clear : FormsAreOne → NoneGreat → (input : Input) (g : Placing) → StandOnce (global_space input)
+    → (bodies : List Body) → AreBodies input g bodies → Clear (IsNumberFault input g) → Clear (IsValueFault input g)
+values_clear forms none input g once bodies are clear =
+    clear_both (IsNumberFault input g) (IsBodyFault input g) clear (body_clear forms none input g once are.own are.are_own)
+
+pub number_refuses : (input : Input) (g : Placing) (e : LinkError) → Refuses (IsNumberFault input g) e
+    → Refuses (IsValueFault input g) e
+number_refuses input g e h = refuses_more (IsNumberFault input g) (IsValueFault input g) e (λ x. inl x) h
+
+pub body_refuses : (input : Input) (g : Placing) (e : LinkError) → IsBodyRefusal input g e
+    → Refuses (IsValueFault input g) e
+body_refuses input g e (inl memory) = refuses_memory (IsValueFault input g) e memory
+body_refuses input g e (inr fault) = refuses_for (IsValueFault input g) e (inr fault)

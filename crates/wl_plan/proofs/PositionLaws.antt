@@ -153,7 +153,7 @@ of_object live n (o ∷ objects) k r here =
     ]
 
 -- what is in a list stands at a place
-stands : {X : Type 0} (xs : List X) (x : X) → Contains xs x → (k : ℕ) × (slice_get xs k ≡ Some x)
+pub stands : {X : Type 0} (xs : List X) (x : X) → Contains xs x → (k : ℕ) × (slice_get xs k ≡ Some x)
 stands [] x c = absurd (omega (arith, c.1))
 stands (y ∷ xs) x (zero, lt, is) = let same : y ≡ x = is in (zero, ap (λ z. Some z) same)
 stands (y ∷ xs) x (suc k, lt, is) = let rest = stands xs x (k, omega (arith, lt), is) in (suc rest.0, rest.1)
@@ -169,7 +169,7 @@ pub record IsInBody (input : Input) (r : Relocated) : Type 0 where
   pub is_kept : keeps input r.object (DefinedFunction r.site.unit) ≡ true
   pub within : r.site.position ≤ length body.bytes
 
-site_at : (pieces : List PieceOf) (rs : List WasmRelocation) (ss : List Site) (k : ℕ)
+pub site_at : (pieces : List PieceOf) (rs : List WasmRelocation) (ss : List Site) (k : ℕ)
     (r : WasmRelocation) (s : Site) → AreSites pieces rs ss → slice_get rs k ≡ Some r
     → slice_get ss k ≡ Some s → IsSite pieces r s
 site_at pieces [] ss k r s are at_r at_s = absurd cc

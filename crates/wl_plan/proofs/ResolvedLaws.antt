@@ -9,8 +9,7 @@ use Rattle.wl_symbols.specs.Input.{Input}
 use Rattle.wl_bind.specs.Kinds.{IsWrongKind}
 use Rattle.wl_bind.specs.References.{IsSettled}
 use Rattle.wl_symbols.specs.declared.relocated.Relocated.{Relocated}
-use Rattle.wl_plan.specs.FixupSteps.{Answers, HasRoom, left_of, with_left}
-use Rattle.wl_plan.specs.Fixups.{address_named}
+use Rattle.wl_plan.specs.FixupSteps.{AnswersValue, HasRoom}
 use Rattle.wl_plan.specs.IndexedMaps.{AreWholeMaps}
 use Rattle.wl_plan.specs.Resolved.{IsNumbered, IsOf, answer_for, HasNoAddress}
 use Rattle.wl_plan.specs.declared.placing.Placing.{Placing}
@@ -50,8 +49,8 @@ only_addresses laws table input is g maps r o m why h whole of fault =
       map = map_of input g maps r.object o m whole of.object of.map;
     } in
     let answer = subst
-    (λ (x : Result ℕ RelocError). Answers input g r (taking_of r.relocation.ty)
-    (with_left (left_of (address_named input g r) r.relocation) x)) fault (resolves_as input g r o m known) in
+    (λ (x : Result ℕ RelocError). AnswersValue input g r (taking_of r.relocation.ty) x) fault
+    (resolves_as input g r o m known) in
     record {
       base = answer.0;
       takes = answer.1;

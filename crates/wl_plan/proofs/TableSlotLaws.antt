@@ -334,7 +334,7 @@ next_start n (l ∷ ls) (suc k) len at =
     subst (λ (end : ℕ). unwrap_or (slice_get (starts_from (n + l) ls) (suc k)) end
     ≡ unwrap_or (slice_get (starts_from (n + l) ls) k) end + len) e (next_start (n + l) ls k len at)
 
-has_entry : {X : Type 0} (parts : List (List X)) (s : PartStarts) (k next place len : ℕ) → AreStarts parts s
+pub has_entry : {X : Type 0} (parts : List (List X)) (s : PartStarts) (k next place len : ℕ) → AreStarts parts s
     → suc k ≡ next → slice_get (lengths_of parts) k ≡ Some len → place < len
     → unwrap_or (slice_get s.starts k) s.end + place < unwrap_or (slice_get s.starts next) s.end
 has_entry parts s k next place len are is at lt =

@@ -10,38 +10,46 @@ use Rattle.wl_ops.specs.Numbers.{HasNumbers}
 use Rattle.wl_ops.specs.Rewriting.{IsShort, Rewrites, before, NewBytes, Moves}
 use Rattle.wl_ops.specs.declared.op.DataIndexImm.{DataIndexImm}
 use Rattle.wl_data.specs.Sizes.{HasSectionSize, AreBodiesText}
-use Rattle.wl_reloc.specs.Addresses.{word_of}
 use Rattle.wl_custom.specs.declared.takings.Taking.{Taking}
 use Rattle.wl_custom.specs.declared.takings.Taking.TheVariants.{FunctionIndex, Slot, SlotBehindBase, TypeIndex, GlobalIndex, TableNumber, Address}
 use Rattle.wl_ctors.specs.InitCalls.{AreInitCalls}
 use Rattle.wl_ctors.specs.declared.calls.InitCall.{InitCall}
 use Rattle.wl_ops.specs.declared.op.Op.{Op}
-use Rattle.wl_synth.specs.Bodies.{call_sequence_ops, wrapper_ops}
-use Rattle.wl_synth.specs.Encoding.{IsEncoded}
+use Rattle.wl_synth.specs.Bodies.{ThreadBlock, thread_block, call_sequence_ops, wrapper_ops, init_tls_ops, init_memory_ops}
+use Rattle.wl_synth.specs.Encoding.{IsEncoded, EncodeFault}
+use Rattle.wl_synth.specs.declared.error.SynthError.TheVariants.{Range}
+use Rattle.wl_synth.specs.declared.parts.PassiveSegmentCopy.{PassiveSegmentCopy}
+use Rattle.wl_synth.specs.declared.parts.TlsGotFixup.{TlsGotFixup}
+use Rattle.wl_synth.specs.declared.parts.TlsPointerFixup.{TlsPointerFixup}
 use Rattle.wl_synth.specs.declared.calls.TheConstants.{UNREACHABLE_FUNCTION_BODY}
-use Rattle.wl_symbols.specs.declared.linker_symbol.WasmLinkerSymbol.{WasmLinkerSymbol}
-use Rattle.wl_symbols.specs.declared.linker_symbol.WasmLinkerSymbol.TheVariants.{CallCtors}
+use Rattle.wl_symbols.specs.declared.linker_symbol.WasmLinkerSymbol.TheVariants.{CallCtors, InitTls, TlsBase}
 use Rattle.wl_bind.specs.EntryTypes.{type_of_entry}
 use Rattle.wl_bind.specs.FunctionSpace.{FunctionEntry, FunctionOf, InitMemory, function_space}
-use Rattle.wl_bind.specs.GlobalSpace.{global_space}
+use Rattle.wl_bind.specs.GlobalSpace.{GlobalOf, global_space}
 use Rattle.wl_bind.specs.IndexMaps.{symbol_function}
 use Rattle.wl_symbols.specs.Input.{Input}
 use Rattle.wl_bind.specs.OutputTypes.{output_types}
 use Rattle.wl_bind.specs.Parts.{StandOnce}
 use Rattle.wl_symbols.specs.Relocations.{relocations}
 use Rattle.wl_bind.specs.declared.binding.FunctionTarget.TheVariants.{Defined, Made, Host, Stub}
+use Rattle.wl_bind.specs.declared.binding.GlobalTarget.TheVariants as global
+use Rattle.wl_linking.specs.Steps.{Clear}
+use Rattle.wl_linking.specs.declared.error.LinkError.{LinkError}
 use Rattle.wl_symbols.specs.declared.relocated.FixupPlace.{FixupPlace}
 use Rattle.wl_symbols.specs.declared.relocated.FixupPlace.TheVariants.{Code, Segment}
 use Rattle.wl_symbols.specs.declared.relocated.Relocated.{Relocated}
 use Rattle.wl_exports.specs.Exports.{Entity, OfFunction}
 use Rattle.wl_exports.specs.Wrappers.{wrapped}
-use Rattle.wl_plan.specs.Bodies.{new_number, IsMovedBy, IsRenumbered, body_in, IsBodyIn, IsMadeBody, IsCtorsBody, IsLinkerBody, called, IsBodyOf, AreOwnBodies, IsWrapperBody, AreBodies, IsMovedAt}
-use Rattle.wl_plan.specs.Fixups.{StandsAt, type_named, global_named, address_taken, IsTaken, IsFieldOf, IsFixup, AreFixups}
+use Rattle.wl_plan.specs.Bodies.{new_number, IsMovedBy, IsRenumbered, body_in, IsBodyIn, IsMadeBody, AreMadeOps, IsEncodedBody, IsBodyFault, called, IsBodyOf, AreOwnBodies, IsWrapperBody, AreBodies, IsMovedAt}
+use Rattle.wl_plan.specs.Fixups.{StandsAt, type_named, global_named, field_taken, IsTaken, IsFieldOf, IsFixup, AreFixups}
 use Rattle.wl_plan.specs.Functions.{own_functions}
+use Rattle.wl_plan.specs.Threads.{got_places, shared_copies, IsGotFixup, IsThreadBlock}
 use Rattle.wl_plan.specs.declared.layout.Fixup.{Fixup}
 use Rattle.wl_plan.specs.declared.layout.FixupTo.{FixupTo}
 use Rattle.wl_plan.specs.declared.layout.FixupTo.TheVariants.{Value, Deferred}
 use Rattle.wl_plan.specs.declared.placing.Placing.{Placing}
+use Rattle.wl_lists.proofs.Beside.{zip_right}
+use Rattle.wl_plan.proofs.PositionLaws.{stands as contained}
 use Rattle.wl_plan.proofs.UniqueParts.{some_one, cut_one, GivesOne, zip_one, AreOnce}
 
 -- ---- what laws of lower crates say
@@ -150,34 +158,71 @@ defined_one forms input g object function x y p q =
     p.code_offset ∙ ap (λ (b : Body). b.code_offset) own ∙ sym q.code_offset in
     body_is x y bytes owned code_offset (p.object_index ∙ sym q.object_index)
 
-ctors_one : FormsAreOne → (input : Input) (x y : Body) → IsCtorsBody input x → IsCtorsBody input y
-    → x ≡ y
-ctors_one forms input x y p q =
+-- ---- operators of bodies that the linker makes
+
+make_got : ℕ → ℤ → TlsGotFixup
+make_got number offset = record { global = number; offset = offset }
+
+got_one : (input : Input) → StandOnce (global_space input) → GivesOne (IsGotFixup input)
+unfolding make_got
+got_one input once p x y a b =
+    let number = once x.global y.global (GlobalOf (global.GotMem p.0)) a.global b.global in
+    let offset : x.offset ≡ y.offset = a.offset ∙ sym b.offset in
+    let h : make_got x.global x.offset ≡ make_got y.global y.offset = rw (number, offset) refl in
+    h
+
+block_one : (input : Input) (g : Placing) → StandOnce (global_space input) → (x y : ThreadBlock)
+    → IsThreadBlock input g x → IsThreadBlock input g y → x ≡ y
+block_one input g once x y p q =
+    let base = once x.base_global y.base_global (GlobalOf (global.Made TlsBase)) p.base q.base in
+    let size : x.size ≡ y.size = p.size ∙ sym q.size in
+    let templates : x.templates ≡ y.templates = p.templates ∙ sym q.templates in
+    let pointers : x.pointers ≡ y.pointers = p.pointers ∙ sym q.pointers in
+    let got = zip_one (IsGotFixup input) (got_one input once) (got_places input g) x.got y.got p.got q.got in
+    ap (λ (n : ℕ). thread_block n x.size x.templates x.pointers x.got) base
+    ∙ (ap (λ (n : ℕ). thread_block y.base_global n x.templates x.pointers x.got) size
+    ∙ (ap (λ (cs : List PassiveSegmentCopy). thread_block y.base_global y.size cs x.pointers x.got) templates
+    ∙ (ap (λ (fs : List TlsPointerFixup). thread_block y.base_global y.size y.templates fs x.got) pointers
+    ∙ ap (λ (fs : List TlsGotFixup). thread_block y.base_global y.size y.templates y.pointers fs) got)))
+
+ops_one : FormsAreOne → (input : Input) (g : Placing) → StandOnce (global_space input)
+    → (entry : FunctionEntry) (ops others : List Op) → AreMadeOps input g entry ops
+    → AreMadeOps input g entry others → ops ≡ others
+ops_one forms input g once (FunctionOf (Made CallCtors)) ops others p q =
     let calls = forms.calls input p.calls q.calls p.are_calls q.are_calls in
-    let encoded = subst (λ (cs : List InitCall). IsEncoded (call_sequence_ops (map called cs)) p.bytes)
-    calls p.encoded in
-    let bytes = forms.encoded (call_sequence_ops (map called q.calls)) p.bytes q.bytes encoded
-    q.encoded in
+    p.are ∙ (ap (λ (cs : List InitCall). call_sequence_ops (map called cs)) calls ∙ sym q.are)
+ops_one forms input g once (FunctionOf (Made InitTls)) ops others p q =
+    let block = block_one input g once p.block q.block p.is_block q.is_block in
+    p.are ∙ (ap init_tls_ops block ∙ sym q.are)
+ops_one forms input g once InitMemory ops others p q =
+    let flag = some_one g.places.flag p.flag q.flag p.flag_is q.flag_is in
+    p.are ∙ (ap (λ (n : ℕ). init_memory_ops n (shared_copies g)) flag ∙ sym q.are)
+ops_one forms input g once _ ops others p q = absurd p
+
+encoded_one : FormsAreOne → (input : Input) (g : Placing) → StandOnce (global_space input)
+    → (entry : FunctionEntry) (x y : Body) → IsEncodedBody input g entry x
+    → IsEncodedBody input g entry y → x ≡ y
+encoded_one forms input g once entry x y p q =
+    let ops = ops_one forms input g once entry p.ops q.ops p.are_ops q.are_ops in
+    let encoded = subst (λ (os : List Op). IsEncoded os p.bytes) ops p.encoded in
+    let bytes = forms.encoded q.ops p.bytes q.bytes encoded q.encoded in
     made_one q.bytes x y (subst (λ (t : List ℕ). IsMadeBody t x) bytes p.made) q.made
 
-linker_one : FormsAreOne → (input : Input) (m : WasmLinkerSymbol) (x y : Body)
-    → IsLinkerBody input m x → IsLinkerBody input m y → x ≡ y
-linker_one forms input CallCtors x y p q = ctors_one forms input x y p q
-linker_one forms input _ x y p q = absurd p
-
-body_one : FormsAreOne → (input : Input) (g : Placing) → GivesOne (IsBodyOf input g)
-body_one forms input g (FunctionOf (Defined object function)) x y p q =
+body_one : FormsAreOne → (input : Input) (g : Placing) → StandOnce (global_space input)
+    → GivesOne (IsBodyOf input g)
+body_one forms input g once (FunctionOf (Defined object function)) x y p q =
     defined_one forms input g object function x y p q
-body_one forms input g (FunctionOf (Made m)) x y p q = linker_one forms input m x y p q
-body_one forms input g (FunctionOf (Host object slot)) x y p q = absurd p
-body_one forms input g (FunctionOf (Stub object slot)) x y p q =
+body_one forms input g once (FunctionOf (Made m)) x y p q =
+    encoded_one forms input g once (FunctionOf (Made m)) x y p q
+body_one forms input g once (FunctionOf (Host object slot)) x y p q = absurd p
+body_one forms input g once (FunctionOf (Stub object slot)) x y p q =
     made_one UNREACHABLE_FUNCTION_BODY x y p q
-body_one forms input g InitMemory x y p q = absurd p
+body_one forms input g once InitMemory x y p q = encoded_one forms input g once InitMemory x y p q
 
-own_bodies_one : FormsAreOne → (input : Input) (g : Placing) (xs ys : List Body)
-    → AreOwnBodies input g xs → AreOwnBodies input g ys → xs ≡ ys
-own_bodies_one forms input g xs ys p q =
-    zip_one (IsBodyOf input g) (body_one forms input g) (own_functions input) xs ys p q
+own_bodies_one : FormsAreOne → (input : Input) (g : Placing) → StandOnce (global_space input)
+    → (xs ys : List Body) → AreOwnBodies input g xs → AreOwnBodies input g ys → xs ≡ ys
+own_bodies_one forms input g once xs ys p q =
+    zip_one (IsBodyOf input g) (body_one forms input g once) (own_functions input) xs ys p q
 
 pub exported_one : (entity : Entity) (f g : FunctionEntry) → entity ≡ OfFunction f
     → entity ≡ OfFunction g → f ≡ g
@@ -206,13 +251,45 @@ wrapper_one forms input once e x y p q =
     made_one q.bytes x y (subst (λ (t : List ℕ). IsMadeBody t x) bytes p.made) q.made
 
 pub bodies_one : FormsAreOne → (input : Input) (g : Placing) → StandOnce (function_space input)
-    → (xs ys : List Body) → AreBodies input g xs → AreBodies input g ys → xs ≡ ys
-bodies_one forms input g once xs ys p q =
-    let own = own_bodies_one forms input g p.own q.own p.are_own q.are_own in
+    → StandOnce (global_space input) → (xs ys : List Body) → AreBodies input g xs
+    → AreBodies input g ys → xs ≡ ys
+bodies_one forms input g once globals xs ys p q =
+    let own = own_bodies_one forms input g globals p.own q.own p.are_own q.are_own in
     let wrappers = zip_one (IsWrapperBody input) (wrapper_one forms input once) (wrapped input)
     p.wrappers q.wrappers p.are_wrappers q.are_wrappers in
     p.parts ∙ (ap (λ (bs : List Body). bs ++ p.wrappers) own
     ∙ (ap (λ (bs : List Body). q.own ++ bs) wrappers ∙ sym q.parts))
+
+-- ---- no constant is too great
+
+-- what is encoded has no constant that is too great
+abbrev pub NoneGreat : Type 0
+NoneGreat = (ops : List Op) (body : List ℕ) (number : ℕ) → IsEncoded ops body
+    → EncodeFault ops (Range number) → ⊥
+
+encoded_of : (input : Input) (g : Placing) (entry : FunctionEntry) (ops : List Op) (b : Body)
+    → AreMadeOps input g entry ops → IsBodyOf input g entry b → IsEncodedBody input g entry b
+encoded_of input g (FunctionOf (Defined object function)) ops b made is = absurd made
+encoded_of input g (FunctionOf (Made m)) ops b made is = is
+encoded_of input g (FunctionOf (Host object slot)) ops b made is = absurd made
+encoded_of input g (FunctionOf (Stub object slot)) ops b made is = absurd made
+encoded_of input g InitMemory ops b made is = is
+
+pub body_clear : FormsAreOne → NoneGreat → (input : Input) (g : Placing)
+    → StandOnce (global_space input) → (bodies : List Body) → AreOwnBodies input g bodies
+    → Clear (IsBodyFault input g)
+body_clear forms none input g once bodies are = record {
+  none = λ e h. contradicts e h;
+}
+  where
+    contradicts : (e : LinkError) → IsBodyFault input g e → ⊥
+    contradicts e h =
+        let at = contained (own_functions input) h.entry h.one in
+        let b = zip_right (IsBodyOf input g) (own_functions input) bodies at.0 h.entry are at.1 in
+        let body = encoded_of input g h.entry h.ops b.0 h.are_ops b.2 in
+        let ops = ops_one forms input g once h.entry h.ops body.ops h.are_ops body.are_ops in
+        none body.ops body.bytes h.number body.encoded
+        (subst (λ (os : List Op). EncodeFault os (Range h.number)) ops h.great)
 
 -- ---- sizes
 
@@ -259,31 +336,40 @@ value_is : (v w : ℕ) (x y : ℤ) → v ≡ w → x ≡ y → Value v x ≡ Val
 value_is v w x y e f = ap (λ (n : ℕ). Value n x) e ∙ ap (λ (z : ℤ). Value w z) f
 
 taken_one : (input : Input) (g : Placing) (r : Relocated) → AreOnce input g → (taking : Taking)
-    (v w : ℕ) (x y : ℤ) → IsTaken input g r taking (Value v x) → IsTaken input g r taking (Value w y)
-    → (v ≡ w) × (x ≡ y)
-taken_one input g r once TypeIndex v w x y p q =
-    (stands_one (output_types input) (type_named input r) v w once.types p.1 q.1, p.0 ∙ sym q.0)
-taken_one input g r once FunctionIndex v w x y p q = (
-  stands_one (function_space input) (symbol_function input r.object r.relocation.index) v w
-      once.functions p.1 q.1,
-  p.0 ∙ sym q.0,
-)
-taken_one input g r once Slot v w x y p q = (some_one _ v w p.1 q.1, p.0 ∙ sym q.0)
-taken_one input g r once SlotBehindBase v w x y p q = (some_one _ v w p.1 q.1, p.0 ∙ sym q.0)
-taken_one input g r once GlobalIndex v w x y p q =
-    (stands_one (global_space input) (global_named input r) v w once.globals p.1 q.1, p.0 ∙ sym q.0)
-taken_one input g r once TableNumber v w x y p q = (p.1 ∙ sym q.1, p.0 ∙ sym q.0)
-taken_one input g r once (Address base) v w x y p q =
-    let same = ok_one (address_taken input g r base) p.1.0 q.1.0 p.1.1 q.1.1 in
-    (p.1.2 ∙ ap word_of same ∙ sym q.1.2, p.0 ∙ sym q.0)
+    (a b : FixupTo) → IsTaken input g r taking a → IsTaken input g r taking b → a ≡ b
+taken_one input g r once (Address base) a b p q = ok_one (field_taken input g r base) a b p q
+taken_one input g r once TypeIndex (Value v x) (Value w y) p q =
+    value_is v w x y (stands_one (output_types input) (type_named input r) v w once.types p.1 q.1) (p.0 ∙ sym q.0)
+taken_one input g r once FunctionIndex (Value v x) (Value w y) p q =
+    value_is v w x y
+    (stands_one (function_space input) (symbol_function input r.object r.relocation.index) v w
+    once.functions p.1 q.1)
+    (p.0 ∙ sym q.0)
+taken_one input g r once Slot (Value v x) (Value w y) p q =
+    value_is v w x y (some_one _ v w p.1 q.1) (p.0 ∙ sym q.0)
+taken_one input g r once SlotBehindBase (Value v x) (Value w y) p q =
+    value_is v w x y (some_one _ v w p.1 q.1) (p.0 ∙ sym q.0)
+taken_one input g r once GlobalIndex (Value v x) (Value w y) p q =
+    value_is v w x y
+    (stands_one (global_space input) (global_named input r) v w once.globals p.1 q.1) (p.0 ∙ sym q.0)
+taken_one input g r once TableNumber (Value v x) (Value w y) p q =
+    value_is v w x y (p.1 ∙ sym q.1) (p.0 ∙ sym q.0)
+taken_one input g r once TypeIndex (Deferred offset) b p q = absurd p
+taken_one input g r once TypeIndex (Value v x) (Deferred offset) p q = absurd q
+taken_one input g r once FunctionIndex (Deferred offset) b p q = absurd p
+taken_one input g r once FunctionIndex (Value v x) (Deferred offset) p q = absurd q
+taken_one input g r once Slot (Deferred offset) b p q = absurd p
+taken_one input g r once Slot (Value v x) (Deferred offset) p q = absurd q
+taken_one input g r once SlotBehindBase (Deferred offset) b p q = absurd p
+taken_one input g r once SlotBehindBase (Value v x) (Deferred offset) p q = absurd q
+taken_one input g r once GlobalIndex (Deferred offset) b p q = absurd p
+taken_one input g r once GlobalIndex (Value v x) (Deferred offset) p q = absurd q
+taken_one input g r once TableNumber (Deferred offset) b p q = absurd p
+taken_one input g r once TableNumber (Value v x) (Deferred offset) p q = absurd q
 
 field_one : (input : Input) (g : Placing) (r : Relocated) → AreOnce input g → (a b : FixupTo)
     → IsFieldOf input g r a → IsFieldOf input g r b → a ≡ b
-field_one input g r once (Value v x) (Value w y) p q =
-    let same = taken_one input g r once (taking_of r.relocation.ty) v w x y p q in
-    value_is v w x y same.0 same.1
-field_one input g r once (Value v x) (Deferred offset) p q = absurd q
-field_one input g r once (Deferred offset) b p q = absurd p
+field_one input g r once a b p q = taken_one input g r once (taking_of r.relocation.ty) a b p q
 
 -- ---- fixups
 

@@ -144,7 +144,7 @@ layout_one forms named input g once a b p q =
     p.entities.imports q.entities.imports in
     let functions = functions_one input (output_types input) once.types a.function_type_indices
     b.function_type_indices p.spaces.functions q.spaces.functions in
-    let bodies = bodies_one forms input g once.functions a.function_bodies b.function_bodies p.bodies.bodies
+    let bodies = bodies_one forms input g once.functions once.globals a.function_bodies b.function_bodies p.bodies.bodies
     q.bodies.bodies in
     let globals = globals_one forms input g a.globals b.globals p.spaces.globals q.spaces.globals in
     let memory : a.memory ≡ b.memory = p.places.memory ∙ sym q.places.memory in

@@ -1,18 +1,21 @@
 -- The bodies of the functions, and where fields stand in them.
-use Rattle.std.specs.Prelude.{◌≡◌, ℕ, ◌+◌, ◌==◌, ◌&&◌, ◌||◌, Bool, true, not, length, List, [], ◌∷◌, ◌++◌, map, Option, Some, None, position, if◌then◌else◌, slice_get}
+use Rattle.std.specs.Prelude.{◌≡◌, ℕ, ◌+◌, ◌==◌, ◌&&◌, ◌||◌, Bool, true, not, length, List, [], ◌∷◌, ◌++◌, map, Contains, Option, Some, None, position, if◌then◌else◌, slice_get}
 use Rattle.std.specs.List.{AllZip}
 use Rattle.std.specs.Option.{option_and_then}
 use Rattle.wl_module.specs.Bodies.{Body}
 use Rattle.wl_module.specs.Types.{FunctionType}
 use Rattle.wl_custom.specs.Debug.{DebugInput}
 use Rattle.wl_linking.specs.Object.{Object}
-use Rattle.wl_symbols.specs.declared.linker_symbol.WasmLinkerSymbol.{WasmLinkerSymbol}
-use Rattle.wl_symbols.specs.declared.linker_symbol.WasmLinkerSymbol.TheVariants.{CallCtors}
+use Rattle.wl_symbols.specs.declared.linker_symbol.WasmLinkerSymbol.TheVariants.{CallCtors, InitTls}
 use Rattle.wl_ops.specs.Numbers.{AreTold}
 use Rattle.wl_ops.specs.Rewriting.{Rewrites, Moves}
+use Rattle.wl_linking.specs.declared.error.LinkError.{LinkError}
+use Rattle.wl_linking.specs.declared.error.LinkError.TheVariants.{ConstantRange}
 use Rattle.wl_ops.specs.declared.op.DataIndexImm.{DataIndexImm}
-use Rattle.wl_synth.specs.Bodies.{call_sequence_ops, wrapper_ops}
-use Rattle.wl_synth.specs.Encoding.{IsEncoded}
+use Rattle.wl_ops.specs.declared.op.Op.{Op}
+use Rattle.wl_synth.specs.Bodies.{call_sequence_ops, wrapper_ops, ThreadBlock, init_tls_ops, init_memory_ops}
+use Rattle.wl_synth.specs.Encoding.{IsEncoded, EncodeFault}
+use Rattle.wl_synth.specs.declared.error.SynthError.TheVariants.{Range}
 use Rattle.wl_synth.specs.declared.calls.TheConstants.{UNREACHABLE_FUNCTION_BODY}
 use Rattle.wl_symbols.specs.declared.units.WasmGcUnit.TheVariants.{DataSegment}
 use Rattle.wl_ctors.specs.InitCalls.{AreInitCalls}
@@ -28,6 +31,7 @@ use Rattle.wl_exports.specs.Exports.{ExportEntry, OfFunction}
 use Rattle.wl_exports.specs.Wrappers.{wrapped}
 use Rattle.wl_plan.specs.Addresses.{segment_space}
 use Rattle.wl_plan.specs.Functions.{own_functions}
+use Rattle.wl_plan.specs.Threads.{IsThreadBlock, shared_copies}
 use Rattle.wl_plan.specs.declared.placing.Placing.{Placing}
 
 -- ---- numbers of segments in bodies
@@ -83,26 +87,58 @@ pub record IsMadeBody (bytes : List ℕ) (b : Body) : Type 0 where
 abbrev pub called : InitCall → ℕ × ℕ
 called call = (call.index, call.results)
 
--- a body that calls the functions that run at the start, in order, and drops what they give
-pub record IsCtorsBody (input : Input) (b : Body) : Type 0 where
+-- the operators of a body that calls the functions that run at the start, in order, and drops what
+-- they give
+pub record AreCtorsOps (input : Input) (ops : List Op) : Type 0 where
   pub calls : List InitCall
   pub are_calls : AreInitCalls input calls
-  pub bytes : List ℕ
-  pub encoded : IsEncoded (call_sequence_ops (map called calls)) bytes
-  pub made : IsMadeBody bytes b
+  pub are : ops ≡ call_sequence_ops (map called calls)
 
--- what the linker makes under a name
-abbrev pub IsLinkerBody : Input → WasmLinkerSymbol → Body → Type 0
-IsLinkerBody input CallCtors b = IsCtorsBody input b
-IsLinkerBody input m b = ⊥
+-- those of the body that makes the block of a thread
+pub record AreInitTlsOps (input : Input) (g : Placing) (ops : List Op) : Type 0 where
+  pub block : ThreadBlock
+  pub is_block : IsThreadBlock input g block
+  pub are : ops ≡ init_tls_ops block
+
+-- those of the body that copies data for all threads
+pub record AreInitMemoryOps (g : Placing) (ops : List Op) : Type 0 where
+  pub flag : ℕ
+  pub flag_is : g.places.flag ≡ Some flag
+  pub are : ops ≡ init_memory_ops flag (shared_copies g)
+
+-- those of the body of a function that the linker makes
+abbrev pub AreMadeOps : Input → Placing → FunctionEntry → List Op → Type 0
+AreMadeOps input g (FunctionOf (Made CallCtors)) ops = AreCtorsOps input ops
+AreMadeOps input g (FunctionOf (Made InitTls)) ops = AreInitTlsOps input g ops
+AreMadeOps input g InitMemory ops = AreInitMemoryOps g ops
+AreMadeOps input g entry ops = ⊥
+
+-- the body spells them
+pub record IsEncodedBody (input : Input) (g : Placing) (entry : FunctionEntry) (b : Body)
+    : Type 0 where
+  pub ops : List Op
+  pub are_ops : AreMadeOps input g entry ops
+  pub bytes : List ℕ
+  pub encoded : IsEncoded ops bytes
+  pub made : IsMadeBody bytes b
 
 -- the body of a function of the output: a stub stops the program
 abbrev pub IsBodyOf : Input → Placing → FunctionEntry → Body → Type 0
 IsBodyOf input g (FunctionOf (Defined object function)) b = IsBodyIn input g object function b
-IsBodyOf input g (FunctionOf (Made m)) b = IsLinkerBody input m b
+IsBodyOf input g (FunctionOf (Made m)) b = IsEncodedBody input g (FunctionOf (Made m)) b
 IsBodyOf input g (FunctionOf (Host object slot)) b = ⊥
 IsBodyOf input g (FunctionOf (Stub object slot)) b = IsMadeBody UNREACHABLE_FUNCTION_BODY b
-IsBodyOf input g InitMemory b = ⊥
+IsBodyOf input g InitMemory b = IsEncodedBody input g InitMemory b
+
+-- a constant of a body that the linker makes is too great
+pub record IsBodyFault (input : Input) (g : Placing) (e : LinkError) : Type 0 where
+  pub entry : FunctionEntry
+  pub one : Contains (own_functions input) entry
+  pub ops : List Op
+  pub are_ops : AreMadeOps input g entry ops
+  pub number : ℕ
+  pub great : EncodeFault ops (Range number)
+  pub told : e ≡ ConstantRange number
 
 -- one for each function of the space that isn't imported, in order
 abbrev pub AreOwnBodies : Input → Placing → List Body → Type 0

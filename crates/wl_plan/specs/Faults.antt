@@ -18,18 +18,21 @@ use Rattle.wl_bind.specs.SpaceFaults.{IsSpaceTooLarge}
 use Rattle.wl_exports.specs.Faults.{IsExportFault}
 use Rattle.wl_exports.specs.Wrapped.{AreTooManyWrappers}
 use Rattle.wl_plan.specs.Addresses.{IsAddressTooHigh}
-use Rattle.wl_plan.specs.Bodies.{AreBodies}
+use Rattle.wl_plan.specs.Bodies.{AreBodies, IsBodyFault}
 use Rattle.wl_plan.specs.Fixups.{IsFixupFault}
 use Rattle.wl_plan.specs.Globals.{IsGlobalFault}
 use Rattle.wl_plan.specs.Placing.{IsPlacing, place_steps}
-use Rattle.wl_plan.specs.Planned.{IsUnplannedOption}
 use Rattle.wl_plan.specs.declared.placing.Placing.{Placing}
 
 -- ---- where it is known where things lie
 
 -- a global can't start, or a field can't take an address
+abbrev pub IsNumberFault : Input → Placing → LinkError → Type 0
+IsNumberFault input g e = IsGlobalFault input g e ⊎ IsFixupFault input g e
+
+-- that, or a constant of a body that the linker makes is too great
 abbrev pub IsValueFault : Input → Placing → LinkError → Type 0
-IsValueFault input g e = IsGlobalFault input g e ⊎ IsFixupFault input g e
+IsValueFault input g e = IsNumberFault input g e ⊎ IsBodyFault input g e
 
 -- bodies of so many bytes that the size of their section can't be told
 pub record HasLargeBodies (input : Input) (g : Placing) : Type 0 where
@@ -91,9 +94,8 @@ pub record IsLaterFault (link : Link) (e : LinkError) : Type 0 where
 abbrev pub link_fault : Link → LinkError → Type 0
 link_fault link =
     Step (IsDuplicate link.objects)
-    (Step (IsUnplannedOption link.args)
     (feature_steps link
     (Step (IsEntryFault link)
     (Step (IsKeptFault link)
     (Step (IsLaterFault link)
-    NoStep)))))
+    NoStep))))

@@ -8,6 +8,7 @@ use Rattle.wl_custom.specs.declared.relocations.WasmRelocation.{WasmRelocation}
 use Rattle.wl_index.specs.declared.data_address.WasmDataAddress.{WasmDataAddress}
 use Rattle.wl_index.specs.declared.data_address.WasmDataAddress.TheVariants.{Missing, Placed, Passive, TlsOffset}
 use Rattle.wl_index.specs.declared.index.TheConstants.{MAX_ENTRIES}
+use Rattle.wl_reloc.specs.Addresses.{word_of}
 use Rattle.wl_reloc.specs.declared.addresses.AddressBases.{AddressBases}
 use Rattle.wl_reloc.specs.declared.error.RelocError.{RelocError}
 use Rattle.wl_custom.specs.declared.takings.AddressBase.{AddressBase}
@@ -20,9 +21,11 @@ use Rattle.wl_bind.specs.OutputTypes.{output_types}
 use Rattle.wl_bind.specs.References.{IsSettled}
 use Rattle.wl_bind.specs.Scan.{table_functions}
 use Rattle.wl_symbols.specs.declared.relocated.Relocated.{Relocated}
-use Rattle.wl_plan.specs.Fixups.{address_named, address_taken, address_refusal, IsTaken}
+use Rattle.wl_plan.specs.AddressSteps.{IsBook}
+use Rattle.wl_plan.specs.Fixups.{address_taken, field_taken, address_refusal, IsTaken}
 use Rattle.wl_plan.specs.IndexedMaps.{AreWholeMaps}
 use Rattle.wl_plan.specs.Table.{space_slots}
+use Rattle.wl_plan.specs.Threads.{address_named}
 use Rattle.wl_plan.specs.declared.fixups.FixupSources.{FixupSources}
 use Rattle.wl_plan.specs.declared.layout.FixupTo.{FixupTo}
 use Rattle.wl_plan.specs.declared.layout.FixupTo.TheVariants.{Value}
@@ -36,10 +39,11 @@ pub record HasRoom (input : Input) : Type 0 where
 
 -- they are those of one link
 pub record AreFixupSources (s : FixupSources) : Type 0 where
-  pub settled : IsSettled s.input.now
-  pub room : HasRoom s.input.now
-  pub maps : AreWholeMaps s.input.now s.placing.now s.maps.now
-  pub slots : s.slots.now ≡ space_slots s.input.now
+  pub book : IsBook s.book.now
+  pub settled : IsSettled s.book.now.input.now
+  pub room : HasRoom s.book.now.input.now
+  pub maps : AreWholeMaps s.book.now.input.now s.book.now.placing.now s.maps.now
+  pub slots : s.slots.now ≡ space_slots s.book.now.input.now
 
 -- what is left to be added where a field takes that address, which counts from the start of the
 -- memory or not
@@ -72,32 +76,39 @@ number_by base (Placed place) addend = (pos place -ℤ pos base) +ℤ addend
 number_by base Passive addend = pos 0
 number_by base (TlsOffset place) addend = (pos place -ℤ pos 0) +ℤ addend
 
--- a field that takes the value, where so much is left to be added
-abbrev pub with_left : ℤ → Result ℕ RelocError → Result FixupTo RelocError
-with_left left (Ok value) = Ok (Value value left)
-with_left left (Err why) = Err why
-
 -- what the field of a kept relocation takes, or why it can't take the address of what it names
 abbrev pub Answers : Input → Placing → Relocated → Taking → Result FixupTo RelocError
     → Type 0
 Answers input g r taking (Ok to) = IsTaken input g r taking to
 Answers input g r taking (Err why) =
+    (base : AddressBase) × (taking ≡ Address base) × (field_taken input g r base ≡ Err why)
+
+-- the value of a kept relocation, wherever its field lies
+abbrev pub IsValueOf : Input → Placing → Relocated → Taking → ℕ → Type 0
+IsValueOf input g r (Address base) value =
+    (z : ℤ) × (address_taken input g r base ≡ Ok z) × (value ≡ word_of z)
+IsValueOf input g r taking value = IsTaken input g r taking (Value value (pos 0))
+
+-- that value, or why the address has none
+abbrev pub AnswersValue : Input → Placing → Relocated → Taking → Result ℕ RelocError → Type 0
+AnswersValue input g r taking (Ok value) = IsValueOf input g r taking value
+AnswersValue input g r taking (Err why) =
     (base : AddressBase) × (taking ≡ Address base) × (address_taken input g r base ≡ Err why)
 
 -- the same by what fixups are made from
 abbrev pub AnswersFrom : FixupSources → Relocated → Result ℕ RelocError → Type 0
 AnswersFrom s r answer =
-    Answers s.input.now s.placing.now r (taking_of r.relocation.ty)
-    (with_left (left_of (address_named s.input.now s.placing.now r) r.relocation) answer)
+    AnswersValue s.book.now.input.now s.book.now.placing.now r (taking_of r.relocation.ty) answer
 
 -- the kept relocation can't take its address
 pub record IsRefusedAt (s : FixupSources) (r : Relocated) (e : LinkError) : Type 0 where
   pub base : AddressBase
   pub takes : taking_of r.relocation.ty ≡ Address base
   pub why : RelocError
-  pub fault : address_taken s.input.now s.placing.now r base ≡ Err why
+  pub fault : field_taken s.book.now.input.now s.book.now.placing.now r base ≡ Err why
   pub told : e
-      ≡ address_refusal s.placing.now r base (address_named s.input.now s.placing.now r) why
+      ≡ address_refusal s.book.now.placing.now r base
+      (address_named s.book.now.input.now s.book.now.placing.now r) why
 
 -- each of these relocations can take its address, if it takes one
 abbrev pub NoneRefused : FixupSources → List Relocated → Type 0

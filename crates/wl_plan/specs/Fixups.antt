@@ -1,5 +1,5 @@
 -- What the kept relocations become (object file linking, version 2, "Relocation Sections").
-use Rattle.std.specs.Prelude.{◌≡◌, ◌⊎◌, ℕ, ℤ, pos, ◌+ℤ◌, ◌-ℤ◌, ◌-◌, List, option_map, Option, Some, Result, Ok, Err, Contains, slice_get}
+use Rattle.std.specs.Prelude.{◌≡◌, ◌⊎◌, ℕ, ℤ, pos, ◌+ℤ◌, ◌-ℤ◌, ◌-◌, List, option_map, Option, Some, None, Result, Ok, Err, Contains, slice_get}
 use Rattle.std.specs.List.{AllZip}
 use Rattle.std.specs.Option.{option_and_then}
 use Rattle.wl_index.specs.declared.index.TheConstants.{LINKER_TABLE_BASE}
@@ -29,9 +29,9 @@ use Rattle.wl_bind.specs.OutputTypes.{output_types}
 use Rattle.wl_bind.specs.References.{live_type, symbol_global}
 use Rattle.wl_symbols.specs.Relocations.{relocations}
 use Rattle.wl_symbols.specs.declared.relocated.Relocated.{Relocated}
-use Rattle.wl_plan.specs.Addresses.{symbol_address}
 use Rattle.wl_plan.specs.Bodies.{IsMovedIn}
 use Rattle.wl_plan.specs.Table.{slot_of}
+use Rattle.wl_plan.specs.Threads.{address_named, bases_of, pointer_named}
 use Rattle.wl_plan.specs.declared.layout.Fixup.{Fixup}
 use Rattle.wl_plan.specs.declared.layout.FixupTo.{FixupTo}
 use Rattle.wl_plan.specs.declared.layout.FixupTo.TheVariants.{Value, Deferred}
@@ -62,15 +62,7 @@ global_named input r =
 abbrev pub slot_named : Input → Relocated → Option ℕ
 slot_named input r = option_and_then (slot_of input) (fun input r.object r.relocation.index)
 
--- the address of the data symbol that it names
-abbrev pub address_named : Input → Placing → Relocated → WasmDataAddress
-address_named input g r = symbol_address input g r.object r.relocation.index
-
 -- ---- addresses
-
--- from where addresses are counted
-abbrev pub bases_of : Placing → AddressBases
-bases_of g = record { memory_base = g.memory_base; tls_base = g.places.tls_base }
 
 -- what a field takes of the address, counted from that base, or why it can't
 abbrev pub address_taken : Input → Placing → Relocated → AddressBase → Result ℤ RelocError
@@ -84,8 +76,24 @@ addend_left base address addend = pos 0
 
 -- ---- fields
 
+-- a place in the block of a thread, or the value, where so much is left to be added
+abbrev pub value_or_pointer : Result (Option ℤ) RelocError → ℤ → Result ℤ RelocError
+    → Result FixupTo RelocError
+value_or_pointer (Err why) left value = Err why
+value_or_pointer (Ok (Some offset)) left value = Ok (Deferred offset)
+value_or_pointer (Ok None) left (Err why) = Err why
+value_or_pointer (Ok None) left (Ok z) = Ok (Value (word_of z) left)
+
+-- what the field of a relocation takes of the address that it names, or why it can't
+abbrev pub field_taken : Input → Placing → Relocated → AddressBase → Result FixupTo RelocError
+field_taken input g r base =
+    value_or_pointer (pointer_named input g r)
+    (addend_left base (address_named input g r) r.relocation.addend)
+    (address_taken input g r base)
+
 -- what a field takes, and what is left to be added to it
 abbrev pub IsTaken : Input → Placing → Relocated → Taking → FixupTo → Type 0
+IsTaken input g r (Address base) to = field_taken input g r base ≡ Ok to
 IsTaken input g r taking (Deferred offset) = ⊥
 IsTaken input g r FunctionIndex (Value value left) =
     (left ≡ pos 0)
@@ -100,9 +108,6 @@ IsTaken input g r TypeIndex (Value value left) =
 IsTaken input g r GlobalIndex (Value value left) =
     (left ≡ pos 0) × StandsAt (global_space input) (global_named input r) value
 IsTaken input g r TableNumber (Value value left) = (left ≡ pos 0) × (value ≡ 0)
-IsTaken input g r (Address base) (Value value left) =
-    (left ≡ addend_left base (address_named input g r) r.relocation.addend)
-    × ((z : ℤ) × (address_taken input g r base ≡ Ok z) × (value ≡ word_of z))
 
 -- what the field of a relocation takes
 abbrev pub IsFieldOf : Input → Placing → Relocated → FixupTo → Type 0
@@ -161,6 +166,6 @@ pub record IsFixupFault (input : Input) (g : Placing) (e : LinkError) : Type 0 w
   pub base : AddressBase
   pub takes : taking_of relocated.relocation.ty ≡ Address base
   pub why : RelocError
-  pub fault : address_taken input g relocated base ≡ Err why
+  pub fault : field_taken input g relocated base ≡ Err why
   pub reason : IsAddressReason why
   pub told : e ≡ address_refusal g relocated base (address_named input g relocated) why

@@ -1,13 +1,22 @@
 -- How functions of the output come to be.
-use Rattle.std.specs.Prelude.{◌≡◌, ℕ, List, [], ◌∷◌, ◌++◌, if◌then◌else◌}
+use Rattle.std.specs.Prelude.{◌≡◌, ℕ, List, [], ◌∷◌, ◌++◌, Some, slice_get, if◌then◌else◌}
 use Rattle.std.specs.List.{AllZip}
+use Rattle.wl_module.specs.Types.{FunctionType}
+use Rattle.wl_symbols.specs.declared.linker_symbol.WasmLinkerSymbol.TheVariants.{CallCtors, InitTls}
 use Rattle.wl_symbols.specs.declared.units.WasmGcUnit.TheVariants.{DefinedFunction}
-use Rattle.wl_bind.specs.FunctionSpace.{FunctionEntry, FunctionOf}
+use Rattle.wl_bind.specs.FunctionSpace.{FunctionEntry, FunctionOf, init_memory_part, made_function_part}
 use Rattle.wl_symbols.specs.Input.{Input, keeps}
 use Rattle.wl_bind.specs.OutputTypes.{output_types}
 use Rattle.wl_bind.specs.declared.binding.FunctionTarget.TheVariants.{Defined}
 use Rattle.wl_plan.specs.Functions.{IsOutputFunction}
-use Rattle.wl_plan.specs.Origins.{PlannedFunction}
+use Rattle.wl_plan.specs.Origins.{Origin, PlannedFunction}
+
+-- the list grows by a function of that type, whose number is that of the type among these
+pub record AddsFunction (types : List FunctionType) (ty : FunctionType) (origin : Origin)
+    (old new : List PlannedFunction) : Type 0 where
+  pub number : ℕ
+  pub typed : slice_get types number ≡ Some ty
+  pub grown : new ≡ old ++ record { type_index = number; origin = origin } ∷ []
 
 -- the list grows by functions that are these entries
 pub record AddsFunctions (input : Input) (entries : List FunctionEntry)
@@ -21,3 +30,13 @@ abbrev pub own_function_part : Input → ℕ → ℕ → List FunctionEntry
 own_function_part input object function =
     if keeps input object (DefinedFunction function) then FunctionOf (Defined object function) ∷ []
     else []
+
+-- without parameters and results
+abbrev pub plain_type : FunctionType
+plain_type = record { params = []; results = [] }
+
+-- what the linker makes by itself: what calls the constructors, what fills the block of a thread,
+-- and what copies data for all threads
+abbrev pub linker_functions : Input → List FunctionEntry
+linker_functions input =
+    made_function_part input CallCtors ++ made_function_part input InitTls ++ init_memory_part input

@@ -66,7 +66,8 @@ abbrev pub got_address : ℕ → WasmDataAddress → Result ℕ LinkError
 got_address object Missing = Ok 0
 got_address object (Placed place) = Ok place
 got_address object Passive = Err (Unsupported object PassiveAddress)
-got_address object (TlsOffset place) = Ok 0
+got_address object (TlsOffset place) =
+    if nat_lt max_constant place then Err (ConstantRange place) else Ok 0
 
 -- a place in the data of a thread, unless it is in front of that or above the greatest number
 abbrev pub own_place : ℕ → ℕ → ℕ → Result ℕ LinkError

@@ -6,6 +6,7 @@ pub mod Placing
 pub mod PlacingSteps
 pub mod Addresses
 pub mod AddressSteps
+pub mod Threads
 pub mod IndexedMaps
 pub mod IndexSteps
 pub mod Functions
@@ -25,7 +26,6 @@ pub mod FixupSteps
 pub mod Resolved
 pub mod SizeSteps
 pub mod Extras
-pub mod Planned
 pub mod Outline
 pub mod Plan
 pub mod PlanSteps
@@ -33,4 +33,6 @@ pub mod Faults
 pub mod Objects
 pub mod LinkPlan
 pub mod Contents
+pub mod Running
+pub mod ThreadSteps
 pub mod Parsing

@@ -15,8 +15,9 @@ use Rattle.wl_symbols.specs.Input.{Input}
 use Rattle.wl_symbols.specs.Relocations.{relocations}
 use Rattle.wl_bind.specs.SpaceFaults.{index_fault}
 use Rattle.wl_symbols.specs.declared.relocated.Relocated.{Relocated}
-use Rattle.wl_plan.specs.Fixups.{address_taken, bases_of, IsAddressReason}
+use Rattle.wl_plan.specs.Fixups.{address_taken, IsAddressReason}
 use Rattle.wl_plan.specs.Table.{space_slots}
+use Rattle.wl_plan.specs.Threads.{bases_of}
 use Rattle.wl_plan.specs.declared.placing.Placing.{Placing}
 
 -- a link of whole objects, of which this is kept, whose references are bound and whose things have

@@ -150,7 +150,7 @@ pub(crate) fn linker_address(
 
 impl<'b, 'i, 'a> AddressBook<'b, 'i, 'a> {
     /// Where a segment of an object begins.
-    fn start(&self, object: usize, number: u32) -> WasmDataAddress
+    pub(crate) fn start(&self, object: usize, number: u32) -> WasmDataAddress
         requires book { IsBook self.now }
         requires here { HasSegment self.now.input.now.link.objects object number }
         ensures { result ≡ segment_start (layouts_of self.now.placing.now object) number }

@@ -1,41 +1,58 @@
 //! The bodies of the functions, and the debug sections beside them.
 
-ghost use Rattle.std.specs.Prelude.{◌≡◌, ◌≤◌, ◌<◌, ◌^◌, ◌++◌, ◌||◌, length, map, true, false, if◌then◌else◌, Some, OnOk, IfOk, IfErr, slice_get};
+ghost use Rattle.std.specs.Prelude.{◌≡◌, ◌≤◌, ◌<◌, ◌^◌, ◌++◌, ◌||◌, length, map, true, if◌then◌else◌, Some, OnOk, IfOk, IfErr, slice_get};
+ghost use Rattle.std.specs.List.{AllByRecursion};
 ghost use Rattle.std.specs.Cow.{cow_slice_items};
 ghost use Rattle.wl_module.specs.Slices.{is_owned};
+ghost use Rattle.wl_linking.specs.Fitting.{IsWhole};
+ghost use Rattle.wl_linking.specs.Steps.{Clear};
 ghost use Rattle.wl_linking.specs.declared.error.LinkError.TheVariants.{OutOfMemory};
 ghost use Rattle.wl_index.specs.declared.index.TheConstants.{MAX_ENTRIES};
 ghost use Rattle.wl_symbols.specs.Input.{keeps};
-ghost use Rattle.wl_symbols.specs.declared.linker_symbol.WasmLinkerSymbol.TheVariants.{CallCtors};
+ghost use Rattle.wl_symbols.specs.declared.linker_symbol.WasmLinkerSymbol.TheVariants.{CallCtors, InitTls, TlsBase};
 ghost use Rattle.wl_symbols.specs.declared.units.WasmGcUnit.TheVariants.{DefinedFunction};
-ghost use Rattle.wl_bind.specs.FunctionSpace.{made_function_part, stub_part, functions_of};
+ghost use Rattle.wl_bind.specs.FunctionSpace.{made_function_part, init_memory_part, stub_part, functions_of};
+ghost use Rattle.wl_bind.specs.GlobalSpace.{GlobalOf, global_space};
+ghost use Rattle.wl_bind.specs.declared.binding.GlobalTarget.TheVariants as global;
 ghost use Rattle.wl_synth.specs.Bodies.{call_sequence_ops};
 ghost use Rattle.wl_synth.specs.Encoding.{IsEncoded};
 ghost use Rattle.wl_plan.specs.Addresses.{segment_space};
-ghost use Rattle.wl_plan.specs.Bodies.{body_in, called, AreOwnBodies, object_debug_sections};
+ghost use Rattle.wl_plan.specs.Bodies.{body_in, called, AreInitMemoryOps, AreInitTlsOps, AreOwnBodies, object_debug_sections};
 ghost use Rattle.wl_plan.specs.BodySteps.{kept_number, AreNewNumbers, AreAllNumbers, AreSoundBodies, HasSoundBody, IsBodyFrom, AddsMadeBody, AddsBodies, debug_in};
 ghost use Rattle.wl_plan.specs.Bound.{AreBindings};
-ghost use Rattle.wl_plan.specs.FunctionSteps.{own_function_part};
+ghost use Rattle.wl_plan.specs.Fixups.{AreFixups};
+ghost use Rattle.wl_plan.specs.FunctionSteps.{linker_functions, own_function_part};
+ghost use Rattle.wl_plan.specs.GlobalSteps.{AreSources};
+ghost use Rattle.wl_plan.specs.Globals.{IsGlobalFault};
 ghost use Rattle.wl_plan.specs.IndexedMaps.{AreWholeMaps};
 ghost use Rattle.wl_plan.specs.Placing.{IsPlacing};
+ghost use Rattle.wl_plan.specs.ThreadSteps.{body_error, IsBodyRefusal, IsSpelledFor, IsUnspelled};
 
 use crate::bindings::Bindings;
+use crate::global_starts::GlobalSources;
+use crate::layout::Fixup;
 use crate::parsing::link_error;
 use crate::placing::Placing;
+use crate::threads::{Copied, all_copies, got_fixups, tls_pointers};
 use std::alloc::{AllocError, Global};
 use std::borrow::CowSlice;
 use wl_bind::entries_have_types;
 use wl_ctors::InitCall;
 use wl_data::segments_have_layouts;
 use wl_index::{WASM_DEAD_INDEX, WasmObjectIndexMap};
-use wl_linking::{DebugSectionInput, File, LinkError, parts_of_objects_stand, whole_objects};
+use wl_linking::{
+    DebugSectionInput, File, LinkError, parts_of_objects_stand, segments_keep_bounds, whole_objects,
+};
 use wl_lists::ItemList;
 use wl_module::{WasmFunctionBody, copy_bytes};
 use wl_ops::remap_body_data_indices;
 use wl_symbols::{
     LinkInput, WasmGcUnit, WasmLinkerSymbol, live_units_are_closed, unmarked_bodies_number_none,
 };
-use wl_synth::{UNREACHABLE_FUNCTION_BODY, encode_call_sequence_body};
+use wl_synth::{
+    SynthError, UNREACHABLE_FUNCTION_BODY, encode_call_sequence_body, encode_init_memory_body,
+    encode_init_tls_body,
+};
 
 // ---- numbers of segments
 
@@ -242,6 +259,137 @@ fn push_call_ctors<'a>(
     }
 }
 
+/// What is told where a body isn't encoded.
+fn body_error(error: SynthError) -> LinkError
+    ensures { result ≡ body_error error }
+{
+    match error {
+        SynthError::OutOfMemory => LinkError::OutOfMemory,
+        SynthError::Range(value) => LinkError::ConstantRange { value },
+    }
+}
+
+/// The body of what fills the block of a thread, whose base stands in that global.
+fn init_tls_body(
+    alloc: Global,
+    sources: &GlobalSources<'_, '_, '_, '_>,
+    fixups: &[Fixup],
+    base_global: u32,
+) -> Result<Vec<u8>, LinkError>
+    requires sources { AreSources sources.now }
+    requires whole { AllByRecursion IsWhole sources.now.book.now.input.now.link.objects }
+    requires fixups { AreFixups sources.now.book.now.input.now sources.now.book.now.placing.now
+        fixups.now }
+    requires room { length (segment_space sources.now.book.now.placing.now) ≤ MAX_ENTRIES }
+    requires low { Clear (IsGlobalFault sources.now.book.now.input.now
+        sources.now.book.now.placing.now) }
+    requires base { slice_get (global_space sources.now.book.now.input.now) base_global
+        ≡ Some (GlobalOf (global.Made TlsBase)) }
+    ensures ok { IfOk result (λ body. IsSpelledFor (AreInitTlsOps sources.now.book.now.input.now
+        sources.now.book.now.placing.now) body.items) }
+    ensures err { IfErr result (IsUnspelled (AreInitTlsOps sources.now.book.now.input.now
+        sources.now.book.now.placing.now)) }
+{
+    segments_have_layouts();
+    segments_keep_bounds();
+    let book = sources.book;
+    let layouts = book.placing.places.layouts.as_slice();
+    let copies = all_copies(alloc, Copied::Template, layouts)?;
+    let pointers = tls_pointers(alloc, book, fixups)?;
+    let got = got_fixups(alloc, sources)?;
+    let size = book.placing.places.tls_size;
+    match encode_init_tls_body(alloc, base_global, size, &copies, &pointers, &got) {
+        Ok(body) => Ok(body),
+        Err(error) => Err(body_error(error)),
+    }
+}
+
+/// Adds the body of what fills the block of a thread, where the output has it.
+fn push_init_tls<'a>(
+    alloc: Global,
+    bodies: &mut Vec<WasmFunctionBody<'a>>,
+    sources: &GlobalSources<'_, '_, '_, 'a>,
+    fixups: &[Fixup],
+) -> Result<(), LinkError>
+    requires sources { AreSources sources.now }
+    requires whole { AllByRecursion IsWhole sources.now.book.now.input.now.link.objects }
+    requires fixups { AreFixups sources.now.book.now.input.now sources.now.book.now.placing.now
+        fixups.now }
+    requires room { length (segment_space sources.now.book.now.placing.now) ≤ MAX_ENTRIES }
+    requires low { Clear (IsGlobalFault sources.now.book.now.input.now
+        sources.now.book.now.placing.now) }
+    ensures ok { OnOk result (AddsBodies sources.now.book.now.input.now
+        sources.now.book.now.placing.now
+        (made_function_part sources.now.book.now.input.now InitTls)
+        bodies.old.items bodies.new.items) }
+    ensures err { IfErr result (IsBodyRefusal sources.now.book.now.input.now
+        sources.now.book.now.placing.now) }
+{
+    let indices = &sources.bindings.indices;
+    if indices.index(WasmLinkerSymbol::InitTls).is_none() {
+        return Ok(());
+    }
+    let base_global = match indices.index(WasmLinkerSymbol::TlsBase) {
+        Some(index) => index,
+        None => return Ok(()),
+    };
+    let body = init_tls_body(alloc, sources, fixups, base_global)?;
+    push_made(bodies, body)?;
+    Ok(())
+}
+
+/// The body of what copies data for all threads, by that flag.
+fn init_memory_body(
+    alloc: Global,
+    input: &LinkInput<'_, '_>,
+    placing: &Placing<'_>,
+    flag: u32,
+) -> Result<Vec<u8>, LinkError>
+    requires whole { AllByRecursion IsWhole input.now.link.objects }
+    requires placed { IsPlacing input.now placing.now }
+    requires room { length (segment_space placing.now) ≤ MAX_ENTRIES }
+    requires flag { placing.now.places.flag ≡ Some flag }
+    ensures ok { IfOk result (λ body. IsSpelledFor (AreInitMemoryOps placing.now) body.items) }
+    ensures err { IfErr result (IsUnspelled (AreInitMemoryOps placing.now)) }
+{
+    segments_have_layouts();
+    segments_keep_bounds();
+    let layouts = placing.places.layouts.as_slice();
+    let copies = all_copies(alloc, Copied::Shared, layouts)?;
+    match encode_init_memory_body(alloc, flag, &copies) {
+        Ok(body) => Ok(body),
+        Err(error) => Err(body_error(error)),
+    }
+}
+
+/// Adds the body of what copies data for all threads, where the output has it.
+fn push_init_memory<'a>(
+    alloc: Global,
+    bodies: &mut Vec<WasmFunctionBody<'a>>,
+    input: &LinkInput<'_, 'a>,
+    placing: &Placing<'a>,
+    bindings: &Bindings<'a>,
+) -> Result<(), LinkError>
+    requires whole { AllByRecursion IsWhole input.now.link.objects }
+    requires bindings { AreBindings input.now bindings.now }
+    requires placed { IsPlacing input.now placing.now }
+    requires room { length (segment_space placing.now) ≤ MAX_ENTRIES }
+    ensures ok { OnOk result (AddsBodies input.now placing.now (init_memory_part input.now)
+        bodies.old.items bodies.new.items) }
+    ensures err { IfErr result (IsBodyRefusal input.now placing.now) }
+{
+    if bindings.indices.init_memory().is_none() {
+        return Ok(());
+    }
+    let flag = match placing.places.flag {
+        Some(flag) => flag,
+        None => return Ok(()),
+    };
+    let body = init_memory_body(alloc, input, placing, flag)?;
+    push_made(bodies, body)?;
+    Ok(())
+}
+
 /// Adds the bodies of the stubs, one for each of their types.
 fn push_stubs<'a>(
     alloc: Global,
@@ -325,27 +473,63 @@ fn push_bodies<'a>(
     Ok(())
 }
 
+/// Adds the bodies of what the linker makes by itself, where the output has it.
+fn push_linker_made<'a>(
+    alloc: Global,
+    bodies: &mut Vec<WasmFunctionBody<'a>>,
+    sources: &GlobalSources<'_, '_, '_, 'a>,
+    fixups: &[Fixup],
+) -> Result<(), LinkError>
+    requires sources { AreSources sources.now }
+    requires whole { AllByRecursion IsWhole sources.now.book.now.input.now.link.objects }
+    requires fixups { AreFixups sources.now.book.now.input.now sources.now.book.now.placing.now
+        fixups.now }
+    requires room { length (segment_space sources.now.book.now.placing.now) ≤ MAX_ENTRIES }
+    requires low { Clear (IsGlobalFault sources.now.book.now.input.now
+        sources.now.book.now.placing.now) }
+    ensures ok { OnOk result (AddsBodies sources.now.book.now.input.now
+        sources.now.book.now.placing.now (linker_functions sources.now.book.now.input.now)
+        bodies.old.items bodies.new.items) }
+    ensures err { IfErr result (IsBodyRefusal sources.now.book.now.input.now
+        sources.now.book.now.placing.now) }
+{
+    let input = sources.book.input;
+    let placing = sources.book.placing;
+    let bindings = sources.bindings;
+    push_call_ctors(alloc, bodies, input, placing, bindings)?;
+    push_init_tls(alloc, bodies, sources, fixups)?;
+    push_init_memory(alloc, bodies, input, placing, bindings)
+}
+
 /// The bodies of the functions of the space that aren't imported, in order.
 ///
 /// # Errors
-/// Want of memory alone.
+/// `ConstantRange` where a constant of a body that the linker makes is above 2147483647.
 pub(crate) fn own_bodies<'a>(
     alloc: Global,
-    input: &LinkInput<'_, 'a>,
-    placing: &Placing<'a>,
-    bindings: &Bindings<'a>,
+    sources: &GlobalSources<'_, '_, '_, 'a>,
+    fixups: &[Fixup],
     numbers: &[ItemList<Option<u32>>],
 ) -> Result<Vec<WasmFunctionBody<'a>>, LinkError>
-    requires sound { AreSoundBodies input.now }
-    requires bindings { AreBindings input.now bindings.now }
-    requires numbers { AreAllNumbers input.now placing.now numbers.now }
-    requires alone { input.now.link.args.shared_memory ≡ false }
-    ensures ok { IfOk result (λ bodies. AreOwnBodies input.now placing.now bodies.items) }
-    ensures err { IfErr result (λ e. e ≡ OutOfMemory) }
+    requires sound { AreSoundBodies sources.now.book.now.input.now }
+    requires sources { AreSources sources.now }
+    requires fixups { AreFixups sources.now.book.now.input.now sources.now.book.now.placing.now
+        fixups.now }
+    requires room { length (segment_space sources.now.book.now.placing.now) ≤ MAX_ENTRIES }
+    requires low { Clear (IsGlobalFault sources.now.book.now.input.now
+        sources.now.book.now.placing.now) }
+    requires numbers { AreAllNumbers sources.now.book.now.input.now
+        sources.now.book.now.placing.now numbers.now }
+    ensures ok { IfOk result (λ bodies. AreOwnBodies sources.now.book.now.input.now
+        sources.now.book.now.placing.now bodies.items) }
+    ensures err { IfErr result (IsBodyRefusal sources.now.book.now.input.now
+        sources.now.book.now.placing.now) }
 {
+    let input = sources.book.input;
+    let placing = sources.book.placing;
     let mut bodies = Vec::new(alloc);
-    push_call_ctors(alloc, &mut bodies, input, placing, bindings)?;
-    push_stubs(alloc, &mut bodies, input, placing, bindings)?;
+    push_linker_made(alloc, &mut bodies, sources, fixups)?;
+    push_stubs(alloc, &mut bodies, input, placing, sources.bindings)?;
     for (object, file) in input.files().as_slice().iter().enumerate() {
         let row = numbers[object].as_slice();
         push_bodies(alloc, &mut bodies, input, placing, object, file, row)?;

@@ -1,6 +1,6 @@
 //! What the kept relocations become.
 
-ghost use Rattle.std.specs.Prelude.{◌≡◌, ◌<◌, pos, ◌+ℤ◌, ◌-ℤ◌, length, Some, Contains, IfOk, OnOk, IfErr, slice_get};
+ghost use Rattle.std.specs.Prelude.{◌≡◌, ◌<◌, pos, ◌+ℤ◌, ◌-ℤ◌, length, None, Some, Ok, Contains, IfOk, OnOk, IfErr, slice_get};
 ghost use Rattle.std.specs.List.{AllZip};
 ghost use Rattle.wl_linking.specs.Steps.{Clear, Refuses};
 ghost use Rattle.wl_custom.specs.RelocationTypes.{taking_of, is_absolute};
@@ -8,27 +8,27 @@ ghost use Rattle.wl_custom.specs.declared.takings.AddressBase.{AddressBase as Ba
 ghost use Rattle.wl_custom.specs.declared.takings.Taking.TheVariants.{Address};
 ghost use Rattle.wl_symbols.specs.Relocations.{relocations};
 ghost use Rattle.wl_plan.specs.Bodies.{IsMovedIn};
-ghost use Rattle.wl_plan.specs.FixupSteps.{AreFixupSources, AnswersFrom, left_at, left_of, counted_base, number_by, IsRefusedAt};
-ghost use Rattle.wl_plan.specs.Fixups.{no_address, address_named, bases_of, address_refusal, IsFixup, AreFixups, IsFixupFault};
+ghost use Rattle.wl_plan.specs.FixupSteps.{AreFixupSources, Answers, AnswersFrom, left_at, left_of, counted_base, number_by, IsRefusedAt};
+ghost use Rattle.wl_plan.specs.Fixups.{no_address, address_refusal, IsFixup, AreFixups, IsFixupFault};
+ghost use Rattle.wl_plan.specs.Threads.{address_named, bases_of, template_start, pointer_named};
 
+use crate::addresses::AddressBook;
 use crate::layout::{Fixup, FixupTo};
-use crate::placing::Placing;
+use crate::threads::place_in_block;
 use std::alloc::Global;
 use wl_bind::{references_are_kept, same_targets_are_one, table_functions_stand_once};
 use wl_bytes::Form;
 use wl_index::{WasmDataAddress, WasmObjectIndexMap};
-use wl_linking::{File, LinkError, RelocationType, addends_are_words};
+use wl_linking::{File, LinkError, RelocationType, addends_are_words, whole_objects};
 use wl_lists::ItemList;
-use wl_reloc::{AddressBase, RelocError, Taking, resolve_reloc};
-use wl_symbols::{LinkInput, Relocated, kept_relocations};
+use wl_reloc::{AddressBase, RelocError, Taking, deferred_tls_template_pointer, resolve_reloc};
+use wl_symbols::{FixupPlace, Relocated, kept_relocations};
 
 /// What fixups are made from.
 #[derive(Drop)]
 pub(crate) struct FixupSources<'s, 'i, 'a> {
-    /// The link, and what is kept of it.
-    pub(crate) input: &'s LinkInput<'i, 'a>,
-    /// Where data, stack and heap lie.
-    pub(crate) placing: &'s Placing<'a>,
+    /// Where definitions and segments lie.
+    pub(crate) book: &'s AddressBook<'s, 'i, 'a>,
     /// Where the things of each object stand.
     pub(crate) maps: &'s [WasmObjectIndexMap],
     /// The slots of functions by their indices.
@@ -96,8 +96,9 @@ impl<'s, 'i, 'a> FixupSources<'s, 'i, 'a> {
     /// The address of the data symbol that a relocation names.
     fn address(&self, relocated: &Relocated) -> WasmDataAddress
         requires sources { AreFixupSources self.now }
-        requires kept { Contains (relocations self.now.input.now) relocated.now }
-        ensures { result ≡ address_named self.now.input.now self.now.placing.now relocated.now }
+        requires kept { Contains (relocations self.now.book.now.input.now) relocated.now }
+        ensures { result ≡ address_named self.now.book.now.input.now self.now.book.now.placing.now
+            relocated.now }
     {
         let map = map_at(self.maps, relocated.object);
         map.data_address(relocated.relocation.index)
@@ -107,7 +108,7 @@ impl<'s, 'i, 'a> FixupSources<'s, 'i, 'a> {
     /// What is added to what the symbol stands for.
     fn addend(&self, relocated: &Relocated) -> i32
         requires sources { AreFixupSources self.now }
-        requires kept { Contains (relocations self.now.input.now) relocated.now }
+        requires kept { Contains (relocations self.now.book.now.input.now) relocated.now }
         ensures { result ≡ relocated.now.relocation.addend }
     {
         addends_are_words();
@@ -118,9 +119,9 @@ impl<'s, 'i, 'a> FixupSources<'s, 'i, 'a> {
     /// addend.
     fn addend_left(&self, relocated: &Relocated) -> i32
         requires sources { AreFixupSources self.now }
-        requires kept { Contains (relocations self.now.input.now) relocated.now }
-        ensures { result ≡ left_of (address_named self.now.input.now self.now.placing.now
-            relocated.now) relocated.now.relocation }
+        requires kept { Contains (relocations self.now.book.now.input.now) relocated.now }
+        ensures { result ≡ left_of (address_named self.now.book.now.input.now
+            self.now.book.now.placing.now relocated.now) relocated.now.relocation }
     {
         if !relocated.relocation.ty.is_absolute() {
             return 0;
@@ -131,7 +132,7 @@ impl<'s, 'i, 'a> FixupSources<'s, 'i, 'a> {
 
     /// The address from which what is taken is counted; 0 for what is no address.
     fn counted_base(&self, taking: Taking) -> u32
-        ensures { result ≡ counted_base taking (bases_of self.now.placing.now) }
+        ensures { result ≡ counted_base taking (bases_of self.now.book.now.placing.now) }
     {
         match taking {
             Taking::FunctionIndex
@@ -141,18 +142,19 @@ impl<'s, 'i, 'a> FixupSources<'s, 'i, 'a> {
             | Taking::GlobalIndex
             | Taking::TableNumber
             | Taking::Address(AddressBase::Memory) => 0,
-            Taking::Address(AddressBase::MemoryBase) => self.placing.memory_base,
-            Taking::Address(AddressBase::ThreadData) => self.placing.places.tls_base,
+            Taking::Address(AddressBase::MemoryBase) => self.book.placing.memory_base,
+            Taking::Address(AddressBase::ThreadData) => self.book.placing.places.tls_base,
         }
     }
 
     /// The number that would stand in the field of a relocation that takes an address.
     fn number_taken(&self, relocated: &Relocated) -> i64
         requires sources { AreFixupSources self.now }
-        requires kept { Contains (relocations self.now.input.now) relocated.now }
+        requires kept { Contains (relocations self.now.book.now.input.now) relocated.now }
         ensures { result ≡ number_by
-            (counted_base (taking_of relocated.now.relocation.ty) (bases_of self.now.placing.now))
-            (address_named self.now.input.now self.now.placing.now relocated.now)
+            (counted_base (taking_of relocated.now.relocation.ty)
+            (bases_of self.now.book.now.placing.now))
+            (address_named self.now.book.now.input.now self.now.book.now.placing.now relocated.now)
             relocated.now.relocation.addend }
     {
         let base = self.counted_base(relocated.relocation.ty.takes());
@@ -162,10 +164,11 @@ impl<'s, 'i, 'a> FixupSources<'s, 'i, 'a> {
     /// Why a relocation has no value, as a refusal of the plan.
     fn refusal(&self, relocated: &Relocated, error: RelocError) -> LinkError
         requires sources { AreFixupSources self.now }
-        requires kept { Contains (relocations self.now.input.now) relocated.now }
+        requires kept { Contains (relocations self.now.book.now.input.now) relocated.now }
         ensures { (base : Base) → taking_of relocated.now.relocation.ty ≡ Address base
-            → result ≡ address_refusal self.now.placing.now relocated.now base
-            (address_named self.now.input.now self.now.placing.now relocated.now) error }
+            → result ≡ address_refusal self.now.book.now.placing.now relocated.now base
+            (address_named self.now.book.now.input.now self.now.book.now.placing.now relocated.now)
+            error }
     {
         match error {
             RelocError::Range => LinkError::RelocationRange {
@@ -185,35 +188,106 @@ impl<'s, 'i, 'a> FixupSources<'s, 'i, 'a> {
     /// The value of a kept relocation.
     fn value(&self, relocated: &Relocated) -> Result<u32, RelocError>
         requires sources { AreFixupSources self.now }
-        requires kept { Contains (relocations self.now.input.now) relocated.now }
+        requires kept { Contains (relocations self.now.book.now.input.now) relocated.now }
         ensures { AnswersFrom self.now relocated.now result }
     {
         references_are_kept();
         same_targets_are_one();
         table_functions_stand_once();
-        let file = file_at(self.input.files().as_slice(), relocated.object);
+        let file = file_at(self.book.input.files().as_slice(), relocated.object);
         let symbols = file.symbols();
         resolve_reloc(
             map_at(self.maps, relocated.object),
             &relocated.relocation,
             symbols,
             self.slots,
-            self.placing.memory_base,
-            self.placing.places.tls_base,
+            self.book.placing.memory_base,
+            self.book.placing.places.tls_base,
         )
+    }
+
+    /// Where the template begins in the block in which the field of a relocation lies, if it lies
+    /// in one.
+    fn template_start(&self, relocated: &Relocated) -> Option<u32>
+        requires sources { AreFixupSources self.now }
+        requires kept { Contains (relocations self.now.book.now.input.now) relocated.now }
+        ensures { result ≡ template_start self.now.book.now.placing.now relocated.now }
+    {
+        whole_objects();
+        match relocated.place {
+            FixupPlace::Code => None,
+            FixupPlace::Segment => {
+                place_in_block(self.book.start(relocated.object, relocated.site.unit))
+            }
+        }
+    }
+
+    /// The place in the block of a thread that the field of a relocation takes when the thread
+    /// starts, where it lies in a template and names data of the block.
+    fn pointer(&self, relocated: &Relocated) -> Result<Option<i32>, RelocError>
+        requires sources { AreFixupSources self.now }
+        requires kept { Contains (relocations self.now.book.now.input.now) relocated.now }
+        ensures { result ≡ pointer_named self.now.book.now.input.now self.now.book.now.placing.now
+            relocated.now }
+    {
+        match self.template_start(relocated) {
+            Some(_) => deferred_tls_template_pointer(
+                map_at(self.maps, relocated.object),
+                &relocated.relocation,
+            ),
+            None => Ok(None),
+        }
+    }
+
+    /// What the field of a kept relocation takes that names no place in the block of a thread, or
+    /// lies in no template.
+    fn value_taken(&self, relocated: &Relocated) -> Result<FixupTo, RelocError>
+        requires sources { AreFixupSources self.now }
+        requires kept { Contains (relocations self.now.book.now.input.now) relocated.now }
+        requires common { pointer_named self.now.book.now.input.now self.now.book.now.placing.now
+            relocated.now ≡ Ok None }
+        ensures { Answers self.now.book.now.input.now self.now.book.now.placing.now relocated.now
+            (taking_of relocated.now.relocation.ty) result }
+    {
+        match self.value(relocated) {
+            Err(error) => Err(error),
+            Ok(value) => Ok(FixupTo::Value {
+                value,
+                addend_left: self.addend_left(relocated),
+            }),
+        }
+    }
+
+    /// What the field of a kept relocation takes.
+    fn taken(&self, relocated: &Relocated) -> Result<FixupTo, RelocError>
+        requires sources { AreFixupSources self.now }
+        requires kept { Contains (relocations self.now.book.now.input.now) relocated.now }
+        ensures { Answers self.now.book.now.input.now self.now.book.now.placing.now relocated.now
+            (taking_of relocated.now.relocation.ty) result }
+    {
+        let known = match self.pointer(relocated) {
+            Ok(known) => known,
+            Err(error) => return Err(error),
+        };
+        match known {
+            Some(offset) => Ok(FixupTo::Deferred { offset }),
+            None => self.value_taken(relocated),
+        }
     }
 
     /// What a kept relocation becomes, whose field stands there in what the output has.
     fn fixup(&self, relocated: &Relocated, position: u32) -> Result<Fixup, LinkError>
         requires sources { AreFixupSources self.now }
-        requires kept { Contains (relocations self.now.input.now) relocated.now }
-        requires moved { IsMovedIn self.now.input.now self.now.placing.now relocated.now position }
-        ensures ok { IfOk result (IsFixup self.now.input.now self.now.placing.now relocated.now) }
+        requires kept { Contains (relocations self.now.book.now.input.now) relocated.now }
+        requires moved { IsMovedIn self.now.book.now.input.now self.now.book.now.placing.now
+            relocated.now position }
+        ensures ok { IfOk result
+            (IsFixup self.now.book.now.input.now self.now.book.now.placing.now relocated.now) }
         ensures clear { OnOk result (Clear (IsRefusedAt self.now relocated.now)) }
         ensures err { IfErr result (IsRefusedAt self.now relocated.now) }
     {
-        let value = match self.value(relocated) {
-            Ok(value) => value,
+        let to = match self.taken(relocated) {
+            Ok(to) => to,
             Err(error) => return Err(self.refusal(relocated, error)),
         };
         Ok(Fixup {
@@ -222,10 +296,7 @@ impl<'s, 'i, 'a> FixupSources<'s, 'i, 'a> {
             unit: relocated.site.unit,
             position,
             ty: relocated.relocation.ty,
-            to: FixupTo::Value {
-                value,
-                addend_left: self.addend_left(relocated),
-            },
+            to,
         })
     }
 }
@@ -241,16 +312,18 @@ pub(crate) fn all_fixups(
     positions: &[u32],
 ) -> Result<ItemList<Fixup>, LinkError>
     requires sources { AreFixupSources sources.now }
-    requires positions { AllZip (IsMovedIn sources.now.input.now sources.now.placing.now)
-        (relocations sources.now.input.now) positions.now }
-    ensures ok { IfOk result (AreFixups sources.now.input.now sources.now.placing.now) }
+    requires positions { AllZip
+        (IsMovedIn sources.now.book.now.input.now sources.now.book.now.placing.now)
+        (relocations sources.now.book.now.input.now) positions.now }
+    ensures ok { IfOk result
+        (AreFixups sources.now.book.now.input.now sources.now.book.now.placing.now) }
     ensures clear { OnOk result
-        (Clear (IsFixupFault sources.now.input.now sources.now.placing.now)) }
+        (Clear (IsFixupFault sources.now.book.now.input.now sources.now.book.now.placing.now)) }
     ensures err { IfErr result
-        (Refuses (IsFixupFault sources.now.input.now sources.now.placing.now)) }
+        (Refuses (IsFixupFault sources.now.book.now.input.now sources.now.book.now.placing.now)) }
 {
     let mut fixups = Vec::with_capacity(alloc, positions.len())?;
-    for relocated in kept_relocations(sources.input) {
+    for relocated in kept_relocations(sources.book.input) {
         let position = positions[fixups.len()];
         fixups.push(sources.fixup(&relocated, position)?)?;
     }

@@ -1,14 +1,16 @@
 //! The functions of the output that aren't imported, each with its type.
 
-ghost use Rattle.std.specs.Prelude.{◌≡◌, ◌<◌, ◌∷◌, ◌++◌, [], false, length, Some, Contains, IfOk, OnOk, slice_get};
-ghost use Rattle.wl_symbols.specs.declared.linker_symbol.WasmLinkerSymbol.TheVariants.{CallCtors};
-ghost use Rattle.wl_bind.specs.FunctionSpace.{made_function_part, stub_part, functions_of};
+ghost use Rattle.std.specs.Prelude.{◌≡◌, ◌<◌, ◌∷◌, ◌++◌, [], length, Some, Contains, IfOk, OnOk, slice_get};
+ghost use Rattle.wl_custom.specs.declared.symbols.WasmSymbolKind.TheVariants.{Func};
+ghost use Rattle.wl_symbols.specs.LinkerNames.{row_of};
+ghost use Rattle.wl_bind.specs.FunctionSpace.{made_function_part, init_memory_part, stub_part, functions_of};
+ghost use Rattle.wl_bind.specs.FunctionTypes.{type_of_made};
 ghost use Rattle.wl_bind.specs.IndexMaps.{AreIndexMaps};
 ghost use Rattle.wl_bind.specs.OutputTypes.{output_types, AreTypeIndices};
 ghost use Rattle.wl_bind.specs.References.{IsSettled};
 ghost use Rattle.wl_plan.specs.Functions.{AreOwnFunctions};
 ghost use Rattle.wl_plan.specs.Bound.{AreBindings};
-ghost use Rattle.wl_plan.specs.FunctionSteps.{AddsFunctions, own_function_part};
+ghost use Rattle.wl_plan.specs.FunctionSteps.{AddsFunction, AddsFunctions, linker_functions, own_function_part, plain_type};
 ghost use Rattle.wl_plan.specs.OriginsSeen.{origin_seen};
 
 use crate::bindings::Bindings;
@@ -17,7 +19,7 @@ use std::alloc::{AllocError, Global};
 use wl_bind::{TypeMerger, entries_have_types, stub_imports, types_have_indices};
 use wl_index::{WASM_DEAD_INDEX, WasmObjectIndexMap};
 use wl_linking::{File, whole_objects};
-use wl_module::FuncType;
+use wl_module::{FuncType, ValType};
 use wl_symbols::{LinkInput, WasmGcUnit, WasmLinkerSymbol};
 use wl_types::same_types_are_one;
 
@@ -47,29 +49,89 @@ fn push_function<'a>(
     Ok(())
 }
 
-/// Adds what calls the constructors, where the output has it.
-fn push_call_ctors<'a>(
+/// Adds a function of that type, which is one of these.
+fn push_typed<'a>(
+    functions: &mut Vec<OutputFunction<'a>>,
+    types: &TypeMerger,
+    ty: &FuncType,
+    origin: FunctionOrigin<'a>,
+) -> Result<(), AllocError>
+    requires { Contains types.now ty.now }
+    ensures { OnOk result (AddsFunction types.now ty.now (origin_seen origin.entry)
+        functions.old.items functions.new.items) }
+{
+    push_function(functions, type_number(types, ty), origin)
+}
+
+/// Adds a function of that type that the linker makes under a name, where the output has it.
+fn push_made<'a>(
+    functions: &mut Vec<OutputFunction<'a>>,
+    input: &LinkInput<'_, 'a>,
+    bindings: &Bindings<'a>,
+    made: WasmLinkerSymbol,
+    ty: &FuncType,
+) -> Result<(), AllocError>
+    requires bindings { AreBindings input.now bindings.now }
+    requires function { (row_of made).kind ≡ Func }
+    requires typed { type_of_made made ≡ Some ty.now }
+    ensures { OnOk result (AddsFunctions input.now (made_function_part input.now made)
+        functions.old.items functions.new.items) }
+{
+    entries_have_types();
+    if bindings.indices.index(made).is_none() {
+        return Ok(());
+    }
+    push_typed(functions, &bindings.types, ty, FunctionOrigin::Made(made))
+}
+
+/// Adds what copies data for all threads, where the output has it: a function of type `()->()`.
+fn push_init_memory<'a>(
+    functions: &mut Vec<OutputFunction<'a>>,
+    input: &LinkInput<'_, 'a>,
+    bindings: &Bindings<'a>,
+    ty: &FuncType,
+) -> Result<(), AllocError>
+    requires bindings { AreBindings input.now bindings.now }
+    requires typed { ty.now ≡ plain_type }
+    ensures { OnOk result (AddsFunctions input.now (init_memory_part input.now)
+        functions.old.items functions.new.items) }
+{
+    entries_have_types();
+    if bindings.indices.init_memory().is_none() {
+        return Ok(());
+    }
+    push_typed(functions, &bindings.types, ty, FunctionOrigin::InitMemory)
+}
+
+/// Adds what the linker makes by itself, where the output has it: what calls the constructors, what
+/// fills the block of a thread, and what copies data for all threads.
+fn push_linker_made<'a>(
     alloc: Global,
     functions: &mut Vec<OutputFunction<'a>>,
     input: &LinkInput<'_, 'a>,
     bindings: &Bindings<'a>,
 ) -> Result<(), AllocError>
     requires bindings { AreBindings input.now bindings.now }
-    ensures { OnOk result (AddsFunctions input.now (made_function_part input.now CallCtors)
+    ensures { OnOk result (AddsFunctions input.now (linker_functions input.now)
         functions.old.items functions.new.items) }
 {
-    entries_have_types();
-    if bindings
-        .indices
-        .index(WasmLinkerSymbol::CallCtors)
-        .is_none()
-    {
-        return Ok(());
-    }
-    let ty = FuncType::new(Vec::new(alloc), Vec::new(alloc));
-    let type_index = type_number(&bindings.types, &ty);
-    let origin = FunctionOrigin::Made(WasmLinkerSymbol::CallCtors);
-    push_function(functions, type_index, origin)
+    let plain = FuncType::new(Vec::new(alloc), Vec::new(alloc));
+    let based = FuncType::new(Vec::from_slice(alloc, &[ValType::I32])?, Vec::new(alloc));
+    push_made(
+        functions,
+        input,
+        bindings,
+        WasmLinkerSymbol::CallCtors,
+        &plain,
+    )?;
+    push_made(
+        functions,
+        input,
+        bindings,
+        WasmLinkerSymbol::InitTls,
+        &based,
+    )?;
+    push_init_memory(functions, input, bindings, &plain)
 }
 
 /// Adds the stubs.
@@ -91,9 +153,8 @@ fn push_stubs<'a>(
     }
     let stubs = stub_imports(alloc, input)?;
     for (place, stub) in stubs.as_slice().iter().enumerate() {
-        let type_index = type_number(&bindings.types, &types[place]);
         let origin = FunctionOrigin::Stub { name: stub.name };
-        push_function(functions, type_index, origin)?;
+        push_typed(functions, &bindings.types, &types[place], origin)?;
     }
     Ok(())
 }
@@ -164,12 +225,11 @@ pub(crate) fn own_functions<'a>(
 ) -> Result<Vec<OutputFunction<'a>>, AllocError>
     requires bindings { AreBindings input.now bindings.now }
     requires maps { AreIndexMaps input.now maps.now }
-    requires alone { input.now.link.args.shared_memory ≡ false }
     ensures { IfOk result
         (λ functions. AreOwnFunctions input.now (output_types input.now) functions.items) }
 {
     let mut functions = Vec::new(alloc);
-    push_call_ctors(alloc, &mut functions, input, bindings)?;
+    push_linker_made(alloc, &mut functions, input, bindings)?;
     push_stubs(alloc, &mut functions, input, bindings)?;
     for (object, file) in input.files().as_slice().iter().enumerate() {
         let types = maps[object].type_indices.as_slice();

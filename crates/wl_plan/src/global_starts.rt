@@ -52,8 +52,12 @@ fn got_address(object: usize, address: WasmDataAddress) -> Result<u32, LinkError
 {
     match address {
         WasmDataAddress::Placed(place) => Ok(place),
-        WasmDataAddress::Missing | WasmDataAddress::TlsOffset(_) => Ok(0),
+        WasmDataAddress::Missing => Ok(0),
         WasmDataAddress::Passive => Err(unsupported(object, Form::PassiveAddress)),
+        WasmDataAddress::TlsOffset(place) => {
+            constant_or_range(place)?;
+            Ok(0)
+        }
     }
 }
 
@@ -124,7 +128,7 @@ impl<'g, 'b, 'i, 'a> GlobalSources<'g, 'b, 'i, 'a> {
 
     /// The definition of an entry of the GOT list of data.
     #[tactic(auto, using(crate::proofs::GlobalLaws::mem_at))]
-    fn mem_definition(&self, place: usize) -> Option<Definition>
+    pub(crate) fn mem_definition(&self, place: usize) -> Option<Definition>
         requires { AreSources self.now }
         ensures { result ≡ slice_get (got_mem self.now.book.now.input.now) place }
     {
@@ -188,7 +192,7 @@ impl<'g, 'b, 'i, 'a> GlobalSources<'g, 'b, 'i, 'a> {
     }
 
     /// The address of an entry of the GOT list of data: none of these is past the last address.
-    fn mem_address(&self, definition: Definition) -> Result<WasmDataAddress, LinkError>
+    pub(crate) fn mem_address(&self, definition: Definition) -> Result<WasmDataAddress, LinkError>
         requires sources { AreSources self.now }
         requires listed { Contains (got_mem self.now.book.now.input.now) definition }
         ensures ok { IfOk result (λ a. a ≡ address_of_definition

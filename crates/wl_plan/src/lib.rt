@@ -21,10 +21,11 @@ mod outline;
 mod parsing;
 mod placing;
 mod plan;
-mod planned;
 mod positions;
+mod running_laws;
 mod sizes;
 mod table;
+mod threads;
 mod wrappers;
 
 pub use laws::{
@@ -38,6 +39,11 @@ pub use layout::{
 pub use link::{plan_files, plan_link};
 pub use module_layout::build_output_module_layout;
 pub use objects::{MAX_OBJECT, ObjectList, PushError};
+pub use running_laws::{
+    block_exports_name_their_things, constructors_of_plans_are_called,
+    deferred_fields_are_pointers, segments_of_plans_are_laid_once, stubs_of_plans_trap,
+    thread_blocks_of_plans_are_made, wrappers_of_plans_call_twice,
+};
 pub use wl_bind::TypeMerger;
 pub use wl_index::{WASM_DEAD_INDEX, WasmObjectIndexMap};
 pub use wl_reloc::{RelocError, deferred_tls_template_pointer, resolve_reloc};

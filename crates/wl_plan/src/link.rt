@@ -12,7 +12,6 @@ use crate::layout::LinkPlan;
 use crate::objects::ObjectList;
 use crate::parsing::parse_objects;
 use crate::plan::plan_kept;
-use crate::planned::check_options;
 use std::alloc::Global;
 use wl_features::check_features;
 use wl_linking::{FileList, LinkError};
@@ -30,11 +29,11 @@ fn objects_are_whole(files: &FileList<'_>)
 /// The plan of one module of these objects. Each step refuses only where none before it does.
 ///
 /// # Errors
-/// `DuplicateSymbol` where two symbols that other objects can name have one name; then
-/// `Unsupported` with `NotYet` for options that can't be planned; then what [`check_features`]
-/// refuses; then `EntryNotDefined` where an entry is asked for that no object defines; then what
-/// [`collect_live`] refuses; then why references can't be bound, things numbered or data placed,
-/// why a global or a field can't take its value, or why there can't be the exports.
+/// `DuplicateSymbol` where two symbols that other objects can name have one name; then what
+/// [`check_features`] refuses; then `EntryNotDefined` where an entry is asked for that no object
+/// defines; then what [`collect_live`] refuses; then why references can't be bound, things numbered
+/// or data placed, why a global, a field or a body of the linker's can't take its value, or why
+/// there can't be the exports.
 pub fn plan_files<'a>(
     alloc: Global,
     files: &FileList<'a>,
@@ -46,7 +45,6 @@ pub fn plan_files<'a>(
     live_sets_are_one();
     objects_are_whole(files);
     let symbols = SymbolTable::build(alloc, files, args)?;
-    check_options(args)?;
     let features = check_features(alloc, files, args)?;
     check_entry(alloc, &symbols)?;
     let live = collect_live(alloc, files, &symbols, args)?;

@@ -1,6 +1,6 @@
 //! The layout of the output module, where it is known what is kept.
 
-ghost use Rattle.std.specs.Prelude.{◌≡◌, false, OnOk, IfOk, IfErr};
+ghost use Rattle.std.specs.Prelude.{OnOk, IfOk, IfErr};
 ghost use Rattle.wl_linking.specs.Steps.{Clear, Refuses};
 ghost use Rattle.wl_plan.specs.BodySteps.{AreSoundBodies};
 ghost use Rattle.wl_plan.specs.Faults.{kept_fault};
@@ -24,7 +24,6 @@ pub fn build_output_module_layout<'a>(
     input: &LinkInput<'a, 'a>,
 ) -> Result<WasmLayout<'a>, LinkError>
     requires sound { AreSoundBodies input.now }
-    requires alone { input.now.link.args.shared_memory ≡ false }
     ensures ok { IfOk result (IsLayout input.now) }
     ensures clear { OnOk result (Clear (kept_fault input.now)) }
     ensures err { IfErr result (Refuses (kept_fault input.now)) }

@@ -1,6 +1,6 @@
 //! What of the output is known before it is known where its data lies.
 
-ghost use Rattle.std.specs.Prelude.{◌≡◌, ◌≤◌, false, length, IfOk, IfErr, OnOk};
+ghost use Rattle.std.specs.Prelude.{◌≡◌, ◌≤◌, length, IfOk, IfErr, OnOk};
 ghost use Rattle.wl_linking.specs.Steps.{Clear, Refuses};
 ghost use Rattle.wl_index.specs.declared.index.TheConstants.{MAX_ENTRIES};
 ghost use Rattle.wl_bind.specs.BoundIndices.{IsBoundIndices};
@@ -109,7 +109,6 @@ fn seen_of<'a>(
     requires bindings { AreBindings input.now bindings.now }
     requires sources { AreSources sources.now }
     requires same { sources.now.input.now ≡ input.now }
-    requires alone { input.now.link.args.shared_memory ≡ false }
     ensures interface { IfOk result (λ r. IsInterface input.now r.0) }
     ensures functions { IfOk result
         (λ r. AreOutputFunctions input.now (output_types input.now) r.1) }
@@ -148,7 +147,6 @@ pub(crate) fn outline_of<'a>(
     requires bound { IsBoundIndices input.now bound }
     requires few { AreFew input.now }
     requires features { AreTaken input.now.link features }
-    requires alone { input.now.link.args.shared_memory ≡ false }
     ensures outline { IfOk result (λ r. HasOutline input.now r.0) }
     ensures maps { IfOk result (λ r. AreIndexMaps input.now r.1) }
     ensures checked { IfOk result (λ r. AreChecked input.now r.2) }

@@ -1,6 +1,6 @@
 //! The plan of a link, part by part, where it is known what is kept.
 
-ghost use Rattle.std.specs.Prelude.{◌≡◌, ◌≤◌, false, length, OnOk, IfOk, IfErr};
+ghost use Rattle.std.specs.Prelude.{◌≡◌, ◌≤◌, length, OnOk, IfOk, IfErr};
 ghost use Rattle.wl_linking.specs.Steps.{Clear, Refuses};
 ghost use Rattle.wl_linking.specs.declared.error.LinkError.TheVariants.{OutOfMemory};
 ghost use Rattle.wl_index.specs.declared.index.TheConstants.{MAX_ENTRIES};
@@ -12,12 +12,15 @@ ghost use Rattle.wl_plan.specs.Addresses.{segment_space, IsAddressTooHigh};
 ghost use Rattle.wl_plan.specs.Bodies.{AreBodies};
 ghost use Rattle.wl_plan.specs.BodySteps.{AreAllNumbers, AreSoundBodies};
 ghost use Rattle.wl_plan.specs.Bound.{AreBindings};
-ghost use Rattle.wl_plan.specs.Faults.{IsValueFault, value_steps, placed_fault, laid_fault, kept_fault};
+ghost use Rattle.wl_plan.specs.Faults.{IsNumberFault, value_steps, placed_fault, laid_fault, kept_fault};
+ghost use Rattle.wl_plan.specs.Fixups.{AreFixups};
+ghost use Rattle.wl_plan.specs.Globals.{IsGlobalFault};
 ghost use Rattle.wl_plan.specs.IndexedMaps.{AreWholeMaps};
 ghost use Rattle.wl_plan.specs.Outline.{AreChecked, AreFew, HasOutline, HasWrapperRoom, with_types};
 ghost use Rattle.wl_plan.specs.Placing.{IsPlacing};
 ghost use Rattle.wl_plan.specs.Plan.{IsPlan};
 ghost use Rattle.wl_plan.specs.PlanSteps.{ArePlacedThings, IsBookOf, HasValues, HasNames, HasPartsOf, AreLists, IsOutputModule, AreLaid};
+ghost use Rattle.wl_plan.specs.ThreadSteps.{IsBodyRefusal};
 ghost use Rattle.wl_plan.specs.declared.placing.Placing.{Placing as Places};
 
 use crate::addresses::{AddressBook, all_starts, check_exported};
@@ -71,21 +74,35 @@ struct PlacedThings<'p, 'i, 'a> {
     wrappers: &'p [Wrapper<'a>],
 }
 
-/// The bodies of the functions that aren't imported, in order.
+/// The bodies of the functions that aren't imported, in order, where the globals can start and the
+/// fields have taken their addresses.
+///
+/// # Errors
+/// `ConstantRange` where a constant of a body that the linker makes is above 2147483647.
 fn output_bodies<'a>(
     alloc: Global,
     things: &PlacedThings<'_, '_, 'a>,
+    book: &AddressBook<'_, '_, 'a>,
+    fixups: &[Fixup],
     numbers: &[ItemList<Option<u32>>],
 ) -> Result<ItemList<WasmFunctionBody<'a>>, LinkError>
     requires things { ArePlacedThings things.now }
     requires sound { AreSoundBodies things.now.input.now }
+    requires book { IsBookOf things.now book.now }
+    requires fixups { AreFixups things.now.input.now things.now.placing.now fixups.now }
     requires numbers { AreAllNumbers things.now.input.now things.now.placing.now numbers.now }
-    requires alone { things.now.input.now.link.args.shared_memory ≡ false }
+    requires low { Clear (IsAddressTooHigh things.now.input.now things.now.placing.now) }
+    requires globals { Clear (IsGlobalFault things.now.input.now things.now.placing.now) }
     ensures ok { IfOk result (AreBodies things.now.input.now things.now.placing.now) }
-    ensures err { IfErr result (λ e. e ≡ OutOfMemory) }
+    ensures err { IfErr result (IsBodyRefusal things.now.input.now things.now.placing.now) }
 {
     let (input, bindings) = (things.input, things.bindings);
-    let mut bodies = own_bodies(alloc, input, things.placing, bindings, numbers)?;
+    let sources = GlobalSources {
+        book,
+        bindings,
+        maps: things.maps,
+    };
+    let mut bodies = own_bodies(alloc, &sources, fixups, numbers)?;
     push_wrapper_bodies(
         alloc,
         &mut bodies,
@@ -129,9 +146,9 @@ fn output_values<'a>(
     requires low { Clear (IsAddressTooHigh things.now.input.now things.now.placing.now) }
     ensures ok { IfOk result (HasValues things.now.input.now things.now.placing.now) }
     ensures clear { OnOk result
-        (Clear (IsValueFault things.now.input.now things.now.placing.now)) }
+        (Clear (IsNumberFault things.now.input.now things.now.placing.now)) }
     ensures err { IfErr result
-        (Refuses (IsValueFault things.now.input.now things.now.placing.now)) }
+        (Refuses (IsNumberFault things.now.input.now things.now.placing.now)) }
 {
     table_functions_stand_once();
     same_targets_are_one();
@@ -154,8 +171,7 @@ fn output_values<'a>(
     let mut slots = space_slots(alloc, input, bindings, elements.as_slice(), count)?;
     let positions = moved_positions(alloc, input, placing, numbers)?;
     let sources = FixupSources {
-        input,
-        placing,
+        book,
         maps,
         slots: slots.as_slice(),
     };
@@ -217,7 +233,6 @@ fn output_parts<'a>(
     requires sound { AreSoundBodies things.now.input.now }
     requires book { IsBookOf things.now book.now }
     requires args { args.now ≡ things.now.input.now.link.args }
-    requires alone { things.now.input.now.link.args.shared_memory ≡ false }
     requires low { Clear (IsAddressTooHigh things.now.input.now things.now.placing.now) }
     requires checked { AreChecked things.now.input.now checked }
     ensures ok { IfOk result (HasPartsOf things.now.input.now things.now.placing.now) }
@@ -232,8 +247,9 @@ fn output_parts<'a>(
     entries_stand_once();
     let numbers = all_numbers(alloc, things.input, things.placing, things.maps)?;
     let numbers = numbers.as_slice();
-    let bodies = output_bodies(alloc, things, numbers)?;
     let values = output_values(alloc, things, book, numbers)?;
+    let fixups = values.fixups.as_slice();
+    let bodies = output_bodies(alloc, things, book, fixups, numbers)?;
     checked?;
     let layouts = things.placing.places.layouts.as_slice();
     let sizes = section_sizes(bodies.as_slice(), layouts)?;
@@ -381,7 +397,6 @@ fn placed_parts<'a>(
     requires wrapper_room { HasWrapperRoom input.now }
     requires segments { length (segment_space placing.now) ≤ MAX_ENTRIES }
     requires args { args.now ≡ input.now.link.args }
-    requires alone { input.now.link.args.shared_memory ≡ false }
     ensures maps { IfOk result (λ r. AreWholeMaps input.now placing.now r.0) }
     ensures parts { IfOk result (λ r. HasPartsOf input.now placing.now r.1) }
     ensures clear { OnOk result (Clear (placed_fault input.now placing.now)) }
@@ -434,7 +449,6 @@ fn laid_parts<'a>(
     requires few { AreFew input.now }
     requires wrapper_room { HasWrapperRoom input.now }
     requires args { args.now ≡ input.now.link.args }
-    requires alone { input.now.link.args.shared_memory ≡ false }
     ensures laid { IfOk result (AreLaid input.now) }
     ensures outline { IfOk result (λ l. HasOutline input.now (with_types outline.new l.types)) }
     ensures clear { OnOk result (Clear (laid_fault input.now)) }
@@ -470,7 +484,6 @@ fn plan_outlined<'a>(
     requires few { AreFew input.now }
     requires wrapper_room { HasWrapperRoom input.now }
     requires args { args.now ≡ input.now.link.args }
-    requires alone { input.now.link.args.shared_memory ≡ false }
     ensures ok { IfOk result (IsPlan input.now) }
     ensures clear { OnOk result (Clear (laid_fault input.now)) }
     ensures err { IfErr result (Refuses (laid_fault input.now)) }
@@ -497,7 +510,6 @@ pub(crate) fn plan_kept<'a>(
     requires sound { AreSoundBodies input.now }
     requires args { args.now ≡ input.now.link.args }
     requires features { AreTaken input.now.link features }
-    requires alone { input.now.link.args.shared_memory ≡ false }
     ensures ok { IfOk result (IsPlan input.now) }
     ensures clear { OnOk result (Clear (kept_fault input.now)) }
     ensures err { IfErr result (Refuses (kept_fault input.now)) }

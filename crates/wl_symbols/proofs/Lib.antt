@@ -14,6 +14,7 @@ pub mod ExistLaws
 pub mod FirstImportLaws
 pub mod ImportLaws
 pub mod ImportPlaceLaws
+pub mod KeptFieldLaws
 pub mod KeptLaws
 pub mod KeptSlotLaws
 pub mod NumberingLaws

@@ -1,7 +1,9 @@
 -- The relocations of the objects whose fields lie in units that are kept.
-use Rattle.std.specs.Prelude.{ℕ, ◌+◌, Bool, List, [], ◌∷◌, ◌++◌, if◌then◌else◌}
+use Rattle.std.specs.Prelude.{◌≡◌, ◌≤◌, ℕ, ◌+◌, Bool, List, [], ◌∷◌, ◌++◌, if◌then◌else◌}
 use Rattle.wl_linking.specs.Object.{Object}
+use Rattle.wl_custom.specs.RelocationTypes.{field_form}
 use Rattle.wl_custom.specs.declared.relocations.WasmRelocation.{WasmRelocation}
+use Rattle.wl_linking.specs.Sites.{field_len}
 use Rattle.wl_linking.specs.declared.sites.Site.{Site}
 use Rattle.wl_symbols.specs.Live.{Live, is_live}
 use Rattle.wl_symbols.specs.declared.units.WasmGcUnit.{WasmGcUnit}
@@ -53,3 +55,9 @@ kept_relocations live objects = relocations_from live 0 objects
 -- the kept relocations
 abbrev pub relocations : Input → List Relocated
 relocations input = kept_relocations input.live input.link.objects
+
+-- where both lie in one unit, the field of the first ends before that of the second begins
+abbrev pub EndsBefore : Relocated → Relocated → Type 0
+EndsBefore r q =
+    r.object ≡ q.object → r.place ≡ q.place → r.site.unit ≡ q.site.unit
+    → r.site.position + field_len (field_form r.relocation.ty) ≤ q.site.position

@@ -2,8 +2,10 @@
 //! kept.
 
 ghost use Rattle.std.specs.Prelude.{◌≡◌, ℕ, ◌<◌, List, [], Some, true, false, slice_get};
+ghost use Rattle.std.specs.List.{AllByRecursion};
 ghost use Rattle.wl_ops.specs.declared.op.Op.{Op as OpRecord};
 ghost use Rattle.wl_module.specs.Bodies.{Body};
+ghost use Rattle.wl_linking.specs.Fitting.{IsWhole};
 ghost use Rattle.wl_linking.specs.Object.{Object};
 ghost use Rattle.wl_ops.specs.Decoding.{AreTaken};
 ghost use Rattle.wl_ops.specs.Numbers.{HasNumbers};
@@ -13,10 +15,14 @@ ghost use Rattle.wl_symbols.specs.Roots.{IsRoot};
 ghost use Rattle.wl_symbols.specs.References.{RefersBySymbol, RefersByNumber, RefersBySlot};
 ghost use Rattle.wl_symbols.specs.Kept.{IsKept};
 ghost use Rattle.wl_symbols.specs.Live.{Live, is_live, numbers_segments, ordinal_of, IsLiveOf, AreOfOneKind};
+ghost use Rattle.wl_symbols.specs.Input.{Input};
+ghost use Rattle.wl_symbols.specs.Relocations.{EndsBefore, relocations};
+ghost use Rattle.wl_symbols.specs.declared.relocated.Relocated.{Relocated as KeptRelocation};
 ghost use Rattle.wl_symbols.specs.declared.units.LinkUnit.{LinkUnit as UnitRecord};
 ghost use Rattle.wl_symbols.specs.declared.units.WasmGcUnit.TheVariants.{DefinedFunction};
 ghost use Rattle.wl_symbols.specs.declared.units.UnitCounts.{UnitCounts as Counts};
 
+use wl_linking::whole_objects;
 use wl_ops::{numbers_are_one, numbers_or_fault};
 
 /// A root is kept, and so is what a kept unit refers to: the unit of a symbol that a relocation in
@@ -99,4 +105,14 @@ pub fn unmarked_bodies_number_none()
 {
     numbers_are_one();
     numbers_or_fault();
+}
+
+/// Two kept fields share no byte: in one unit a field ends before a later one begins.
+pub fn kept_fields_are_apart()
+    ensures { (input : Input) (i j : ℕ) (r q : KeptRelocation)
+        → AllByRecursion IsWhole input.link.objects → i < j
+        → slice_get (relocations input) i ≡ Some r → slice_get (relocations input) j ≡ Some q
+        → EndsBefore r q }
+{
+    whole_objects();
 }

@@ -45,8 +45,9 @@ pub use entry::Definition;
 pub use input::LinkInput;
 pub use kept_imports::{is_kept_slot, kept_slots, left_slots};
 pub use kept_laws::{
-    kept_units_are_closed, live_sets_are_one, live_units_are_closed, ordinals_are_dense,
-    undecoded_bodies_refer_to_none, units_are_numbered, unmarked_bodies_number_none,
+    kept_fields_are_apart, kept_units_are_closed, live_sets_are_one, live_units_are_closed,
+    ordinals_are_dense, undecoded_bodies_refer_to_none, units_are_numbered,
+    unmarked_bodies_number_none,
 };
 pub use left::{DividedSlots, HostImport, HostImports, Stubs, divide_slots, host_imports};
 pub use linker_symbol::WasmLinkerSymbol;

@@ -5,6 +5,7 @@ pub mod BoundLaws
 pub mod OneLaws
 pub mod RunLaws
 pub mod FactLaws
+pub mod PlannedFactLaws
 pub mod MemoryLaws
 pub mod LaidLaws
 pub mod InitLaws

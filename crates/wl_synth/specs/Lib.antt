@@ -7,3 +7,4 @@ pub mod Calls
 pub mod Memory
 pub mod ThreadLocal
 pub mod Facts
+pub mod PlannedFacts

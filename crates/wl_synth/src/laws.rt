@@ -14,6 +14,7 @@ ghost use Rattle.wl_synth.specs.Calls.{AnswerByType, HasResults, MakesCalls, wra
 ghost use Rattle.wl_synth.specs.Memory.{CanInitMemory, InitsMemory};
 ghost use Rattle.wl_synth.specs.ThreadLocal.{CanInitTls, IsInitialized};
 ghost use Rattle.wl_synth.specs.Facts.{RunsOthers};
+ghost use Rattle.wl_synth.specs.PlannedFacts.{RunsPlanned};
 
 use crate::calls::{EMPTY_FUNCTION_BODY, UNREACHABLE_FUNCTION_BODY};
 use wl_bytes::shortest_form_is_one;
@@ -80,6 +81,14 @@ pub fn thread_block_is_made()
 /// The machine runs bodies that no call here makes as the core specification says.
 pub fn machine_runs_other_bodies()
     ensures { (w : World) → RunsOthers w }
+{
+    computed_operators_are_spelled();
+}
+
+/// The machine runs bodies of plans on small memories as the core specification and the threads
+/// proposal say.
+pub fn machine_runs_planned_bodies()
+    ensures { RunsPlanned }
 {
     computed_operators_are_spelled();
 }

@@ -21,8 +21,9 @@ pub use calls::{
 };
 pub use error::SynthError;
 pub use laws::{
-    body_or_fault, call_sequence_makes_its_calls, machine_runs_other_bodies, runs_have_one_outcome,
-    segments_are_laid_once, short_bodies_run, thread_block_is_made, wrapper_makes_two_calls,
+    body_or_fault, call_sequence_makes_its_calls, machine_runs_other_bodies,
+    machine_runs_planned_bodies, runs_have_one_outcome, segments_are_laid_once, short_bodies_run,
+    thread_block_is_made, wrapper_makes_two_calls,
 };
 pub use memory::encode_init_memory_body;
 pub use parts::{PassiveSegmentCopy, TlsGotFixup, TlsPointerFixup};

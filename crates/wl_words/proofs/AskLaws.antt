@@ -4,7 +4,7 @@ use Rattle.std.specs.List.{last_or}
 use Rattle.std.specs.Option.{option_or}
 use Rattle.std.proofs.lemmas.List.Elements.{filter_map-append}
 use Rattle.wl_words.specs.Items.{ArgItem}
-use Rattle.wl_words.specs.Args.{AsksFor, all_of, said_of, last_of, input_of, export_symbol_of, required_export_symbol_of, export_dynamic_of, allow_undefined_of, stack_first_of, gc_sections_of, check_features_of, entry_of, z_stack_size_of, initial_memory_of, max_memory_of, import_memory_of, export_memory_of, extra_features_of, strip_all_of, strip_debug_of, keep_section_of, output_of}
+use Rattle.wl_words.specs.Args.{AsksFor, all_of, said_of, last_of, input_of, export_symbol_of, required_export_symbol_of, export_dynamic_of, allow_undefined_of, shared_memory_of, stack_first_of, gc_sections_of, check_features_of, entry_of, z_stack_size_of, initial_memory_of, max_memory_of, import_memory_of, export_memory_of, extra_features_of, strip_all_of, strip_debug_of, keep_section_of, output_of}
 use Rattle.wl_words.specs.Taking.{put_behind, AddsItem}
 use Rattle.wl_words.specs.declared.args.TheConstants.{DEFAULT_STACK_SIZE}
 use Rattle.wl_words.specs.declared.args.WasmArgs.{WasmArgs}
@@ -44,7 +44,7 @@ asks_more items item old new h adds = record {
   required_export_symbols = all_field required_export_symbol_of items item old.required_export_symbols new.required_export_symbols h.required_export_symbols adds.required_export_symbols;
   export_dynamic = last_field export_dynamic_of false items item old.export_dynamic new.export_dynamic h.export_dynamic adds.export_dynamic;
   allow_undefined = last_field allow_undefined_of false items item old.allow_undefined new.allow_undefined h.allow_undefined adds.allow_undefined;
-  shared_memory = adds.shared_memory ∙ h.shared_memory;
+  shared_memory = last_field shared_memory_of false items item old.shared_memory new.shared_memory h.shared_memory adds.shared_memory;
   stack_first = last_field stack_first_of false items item old.stack_first new.stack_first h.stack_first adds.stack_first;
   gc_sections = last_field gc_sections_of true items item old.gc_sections new.gc_sections h.gc_sections adds.gc_sections;
   check_features = last_field check_features_of true items item old.check_features new.check_features h.check_features adds.check_features;
@@ -69,7 +69,7 @@ args_of items = record {
   required_export_symbols = all_of required_export_symbol_of items;
   export_dynamic = last_of export_dynamic_of false items;
   allow_undefined = last_of allow_undefined_of false items;
-  shared_memory = false;
+  shared_memory = last_of shared_memory_of false items;
   stack_first = last_of stack_first_of false items;
   gc_sections = last_of gc_sections_of true items;
   check_features = last_of check_features_of true items;

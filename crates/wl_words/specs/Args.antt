@@ -41,6 +41,11 @@ abbrev pub allow_undefined_of : ArgItem → Option Bool
 allow_undefined_of (Given flag.AllowUndefined) = Some true
 allow_undefined_of _ = None
 
+-- that threads share the memory
+abbrev pub shared_memory_of : ArgItem → Option Bool
+shared_memory_of (Given flag.SharedMemory) = Some true
+shared_memory_of _ = None
+
 -- whether the stack lies in front of the data
 abbrev pub stack_first_of : ArgItem → Option Bool
 stack_first_of (Given (flag.StackFirst on)) = Some on
@@ -126,7 +131,7 @@ said_of says items = last_or None (filter_map says items)
 abbrev pub last_of : {X : Type 0} → (ArgItem → Option X) → X → List ArgItem → X
 last_of says default items = unwrap_or (said_of says items) default
 
--- what the items ask for; none asks for shared memory so far
+-- what the items ask for
 pub record AsksFor (items : List ArgItem) (args : WasmArgs) : Type 0 where
   pub inputs : args.inputs ≡ all_of input_of items
   pub export_symbols : args.export_symbols ≡ all_of export_symbol_of items
@@ -134,7 +139,7 @@ pub record AsksFor (items : List ArgItem) (args : WasmArgs) : Type 0 where
       ≡ all_of required_export_symbol_of items
   pub export_dynamic : args.export_dynamic ≡ last_of export_dynamic_of false items
   pub allow_undefined : args.allow_undefined ≡ last_of allow_undefined_of false items
-  pub shared_memory : args.shared_memory ≡ false
+  pub shared_memory : args.shared_memory ≡ last_of shared_memory_of false items
   pub stack_first : args.stack_first ≡ last_of stack_first_of false items
   pub gc_sections : args.gc_sections ≡ last_of gc_sections_of true items
   pub check_features : args.check_features ≡ last_of check_features_of true items

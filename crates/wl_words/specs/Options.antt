@@ -20,6 +20,7 @@ options =
     ∷ option_row (codes "export-if-defined") (Value setting.ExportIfDefined)
     ∷ option_row (codes "export-dynamic") (Nothing flag.ExportDynamic)
     ∷ option_row (codes "allow-undefined") (Nothing flag.AllowUndefined)
+    ∷ option_row (codes "shared-memory") (Nothing flag.SharedMemory)
     ∷ option_row (codes "stack-first") (Nothing (flag.StackFirst true))
     ∷ option_row (codes "no-stack-first") (Nothing (flag.StackFirst false))
     ∷ option_row (codes "gc-sections") (Nothing (flag.GcSections true))

@@ -2,7 +2,7 @@
 use Rattle.std.specs.Prelude.{◌≡◌, ℕ, List, [], ◌∷◌, ◌++◌, Option, Some, None, unwrap_or}
 use Rattle.std.specs.Option.{option_or}
 use Rattle.wl_words.specs.Items.{ArgItem, StandsAtWord}
-use Rattle.wl_words.specs.Args.{input_of, export_symbol_of, required_export_symbol_of, export_dynamic_of, allow_undefined_of, stack_first_of, gc_sections_of, check_features_of, entry_of, z_stack_size_of, initial_memory_of, max_memory_of, import_memory_of, export_memory_of, extra_features_of, strip_all_of, strip_debug_of, keep_section_of, output_of}
+use Rattle.wl_words.specs.Args.{input_of, export_symbol_of, required_export_symbol_of, export_dynamic_of, allow_undefined_of, shared_memory_of, stack_first_of, gc_sections_of, check_features_of, entry_of, z_stack_size_of, initial_memory_of, max_memory_of, import_memory_of, export_memory_of, extra_features_of, strip_all_of, strip_debug_of, keep_section_of, output_of}
 use Rattle.wl_words.specs.declared.args.WasmArgs.{WasmArgs}
 
 -- a list, and behind it what there may be
@@ -19,7 +19,7 @@ pub record AddsItem (item : ArgItem) (old new : WasmArgs) : Type 0 where
   pub export_dynamic : new.export_dynamic ≡ unwrap_or (export_dynamic_of item) old.export_dynamic
   pub allow_undefined : new.allow_undefined
       ≡ unwrap_or (allow_undefined_of item) old.allow_undefined
-  pub shared_memory : new.shared_memory ≡ old.shared_memory
+  pub shared_memory : new.shared_memory ≡ unwrap_or (shared_memory_of item) old.shared_memory
   pub stack_first : new.stack_first ≡ unwrap_or (stack_first_of item) old.stack_first
   pub gc_sections : new.gc_sections ≡ unwrap_or (gc_sections_of item) old.gc_sections
   pub check_features : new.check_features ≡ unwrap_or (check_features_of item) old.check_features

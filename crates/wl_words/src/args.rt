@@ -34,7 +34,7 @@ pub struct WasmArgs {
     pub export_dynamic: bool,
     /// Names that nothing defines are left to the host.
     pub allow_undefined: bool,
-    /// Threads share the memory. No word asks for that so far.
+    /// Threads share the memory.
     pub shared_memory: bool,
     /// The stack lies in front of the data.
     pub stack_first: bool,
@@ -145,6 +145,7 @@ impl WasmArgs {
         match flag {
             Flag::ExportDynamic => self.export_dynamic = true,
             Flag::AllowUndefined => self.allow_undefined = true,
+            Flag::SharedMemory => self.shared_memory = true,
             Flag::StackFirst(on) => self.stack_first = on,
             Flag::GcSections(on) => self.gc_sections = on,
             Flag::CheckFeatures(on) => self.check_features = on,

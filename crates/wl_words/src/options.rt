@@ -12,6 +12,8 @@ pub enum Flag {
     ExportDynamic,
     /// Names that nothing defines are left to the host.
     AllowUndefined,
+    /// Threads share the memory.
+    SharedMemory,
     /// Whether the stack lies in front of the data.
     StackFirst(bool),
     /// Whether what nothing refers to is left out.
@@ -84,7 +86,7 @@ impl Model for OptionRow {
 }
 
 /// The table of options.
-const OPTIONS: [OptionRow; 25] = [
+const OPTIONS: [OptionRow; 26] = [
     OptionRow {
         name: "export",
         takes: OptionKind::Value(Setting::Export),
@@ -100,6 +102,10 @@ const OPTIONS: [OptionRow; 25] = [
     OptionRow {
         name: "allow-undefined",
         takes: OptionKind::Nothing(Flag::AllowUndefined),
+    },
+    OptionRow {
+        name: "shared-memory",
+        takes: OptionKind::Nothing(Flag::SharedMemory),
     },
     OptionRow {
         name: "stack-first",

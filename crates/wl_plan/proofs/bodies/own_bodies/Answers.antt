@@ -1,15 +1,37 @@
-use Rattle.std.proofs.Common.{◌∙◌, []}
+use Rattle.std.proofs.Common.{◌∙◌, ◌++◌, List, [], append-nil, subst, sym}
+use Rattle.wl_module.specs.Bodies.{Body}
+use Rattle.wl_bind.specs.FunctionSpace.{stub_part}
+use Rattle.wl_plan.specs.BodySteps.{AddsBodies}
+use Rattle.wl_plan.specs.FunctionSteps.{linker_functions}
 use Rattle.wl_lists.proofs.Rows.{object_here}
-use Rattle.wl_plan.proofs.GrowLaws.{objects_more}
+use Rattle.wl_plan.proofs.GrowLaws.{adds_more, adds_same, linker_part, objects_more}
 use Rattle.wl_plan.proofs.bodies.own_bodies.Goals as goal
+
+pub loop-object-init : goal.loop-object-init
+loop-object-init c =
+    let input = c.args.sources.now.book.now.input.now in
+    let g = c.args.sources.now.book.now.placing.now in
+    let new = c.push_stubs.new.bodies.items in
+    let both : AddsBodies input g (linker_part input) c.new-bodies.result.items new =
+    adds_more input g (linker_functions input) (stub_part input) c.new-bodies.result.items
+    c.push_linker_made.new.bodies.items new c.in_ok-push_linker_made.ensures.ok c.in_ok-push_stubs.ensures in
+    adds_same input g (linker_part input) (linker_part input ++ []) [] new (sym (append-nil (linker_part input)))
+    (subst (λ (bs : List Body). AddsBodies input g (linker_part input) bs new) c.new-bodies.ensures.items both)
+
+pub push_bodies-requires-clause-here : goal.push_bodies-requires-clause-here
+push_bodies-requires-clause-here c =
+    let input = c.args.sources.now.book.now.input.now in
+    let files = c.as_slice-file-items.ensures.objects ∙ c.files.ensures.objects in
+    object_here input.link.objects c.as_slice-file-items.result.now c.loop-object.object c.file-item.result files
+    c.loop-object-test.true c.file-item.is
 
 pub loop-object-preserved : goal.loop-object-preserved
 loop-object-preserved c =
-    let input = c.args.input.now in
+    let input = c.args.sources.now.book.now.input.now in
     let o = c.file-item.result in
     let i = c.loop-object.object in
     let files = c.as_slice-file-items.ensures.objects ∙ c.files.ensures.objects in
-    objects_more input c.args.placing.now input.link.objects i o [] c.loop-object.bodies.items
+    objects_more input c.args.sources.now.book.now.placing.now input.link.objects i o [] c.loop-object.bodies.items
     c.push_bodies.new.bodies.items
     (object_here input.link.objects c.as_slice-file-items.result.now i o files
     c.loop-object-test.true c.file-item.is)

@@ -7,6 +7,7 @@ use Rattle.wl_plan.proofs.bodies.own_bodies.Given as goal
 
 abbrev pub invariant-loop-object : goal.invariant-loop-object
 invariant-loop-object l =
-    AddsBodies l.input l.placing
-    (linker_part l.input ++ by_object (functions_of l.input) 0 (take l.object l.input.link.objects))
+    AddsBodies l.sources.book.now.input.now l.sources.book.now.placing.now
+    (linker_part l.sources.book.now.input.now
+    ++ by_object (functions_of l.sources.book.now.input.now) 0 (take l.object l.sources.book.now.input.now.link.objects))
     [] l.bodies.items

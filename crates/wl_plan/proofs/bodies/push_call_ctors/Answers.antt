@@ -1,8 +1,12 @@
 use Rattle.wl_symbols.specs.declared.linker_symbol.WasmLinkerSymbol.TheVariants.{CallCtors}
-use Rattle.wl_bind.specs.FunctionSpace.{made_function_part}
+use Rattle.wl_bind.specs.FunctionSpace.{FunctionOf, made_function_part}
 use Rattle.wl_plan.specs.BodySteps.{AddsMadeBody, AddsBodies}
-use Rattle.wl_plan.proofs.FunctionLaws.{ok_then}
-use Rattle.wl_plan.proofs.GrowLaws.{adds_ctors, ctors_encoded, is_made_at}
+use Rattle.std.proofs.Common.{map, refl}
+use Rattle.wl_synth.specs.Bodies.{call_sequence_ops}
+use Rattle.wl_bind.specs.declared.binding.FunctionTarget.TheVariants.{Made}
+use Rattle.wl_plan.specs.Bodies.{called}
+use Rattle.wl_plan.proofs.FunctionLaws.{ok_then, one_made}
+use Rattle.wl_plan.proofs.GrowLaws.{adds_made, ctors_encoded}
 use Rattle.wl_plan.proofs.bodies.push_call_ctors.Goals as goal
 
 pub returns-in_ok-body-in-Some : goal.returns-in_ok-body-in-Some
@@ -16,10 +20,11 @@ returns-in_ok-body-in-Some c =
     ok_then c.push_made.result (AddsMadeBody bytes old new)
     (AddsBodies input g (made_function_part input CallCtors) old new)
     (λ (a : AddsMadeBody bytes old new).
-    adds_ctors input g calls bytes old new
-    (is_made_at input c.in-Some.field-0 (c.in-Some.ensures input c.requires.indices))
-    c.requires.calls
+    adds_made input g (made_function_part input CallCtors) (FunctionOf (Made CallCtors))
+    (call_sequence_ops (map called calls)) bytes old new
+    (one_made input CallCtors c.in-Some.field-0 (c.in-Some.ensures input c.requires.indices))
+    (record { calls = calls; are_calls = c.requires.calls; are = refl })
     (ctors_encoded c.as_slice.result.now calls bytes c.as_slice.ensures
     c.in_ok-body-in-Some.ensures)
-    a)
+    (λ b x. x) a)
     c.push_made.ensures

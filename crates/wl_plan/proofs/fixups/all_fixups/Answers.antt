@@ -15,8 +15,8 @@ pub bounds-positions-len : goal.bounds-positions-len
 bounds-positions-len c =
     let s = c.args.sources.now in
     let at = c.loop-relocated in
-    place_within (IsMovedIn s.input.now s.placing.now) (IsFixup s.input.now s.placing.now)
-    (relocations s.input.now) at.yielded _ (relocations_left c.next.new.self) c.in-Some.relocated
+    place_within (IsMovedIn s.book.now.input.now s.book.now.placing.now) (IsFixup s.book.now.input.now s.book.now.placing.now)
+    (relocations s.book.now.input.now) at.yielded _ (relocations_left c.next.new.self) c.in-Some.relocated
     c.args.positions.now at.fixups.items c.len.result at.invariant.all c.in-Some.ensures.steps
     c.requires.positions at.invariant.so_far (c.len.ensures ∙ at.fixups.ok.0)
 
@@ -25,8 +25,8 @@ offset_bounds-positions-len c =
     let s = c.args.sources.now in
     let at = c.loop-relocated in
     let within : c.len.result < length c.args.positions.now =
-    place_within (IsMovedIn s.input.now s.placing.now) (IsFixup s.input.now s.placing.now)
-    (relocations s.input.now) at.yielded _ (relocations_left c.next.new.self) c.in-Some.relocated
+    place_within (IsMovedIn s.book.now.input.now s.book.now.placing.now) (IsFixup s.book.now.input.now s.book.now.placing.now)
+    (relocations s.book.now.input.now) at.yielded _ (relocations_left c.next.new.self) c.in-Some.relocated
     c.args.positions.now at.fixups.items c.len.result at.invariant.all c.in-Some.ensures.steps
     c.requires.positions at.invariant.so_far (c.len.ensures ∙ at.fixups.ok.0) in
     search rules
@@ -34,15 +34,15 @@ offset_bounds-positions-len c =
 pub fixup-requires-clause-kept : goal.fixup-requires-clause-kept
 fixup-requires-clause-kept c =
     let at = c.loop-relocated in
-    next_is_kept (relocations c.args.sources.now.input.now) at.yielded _
+    next_is_kept (relocations c.args.sources.now.book.now.input.now) at.yielded _
     (relocations_left c.next.new.self) c.in-Some.relocated at.invariant.all c.in-Some.ensures.steps
 
 pub fixup-requires-clause-moved : goal.fixup-requires-clause-moved
 fixup-requires-clause-moved c =
     let s = c.args.sources.now in
     let at = c.loop-relocated in
-    place_there (IsMovedIn s.input.now s.placing.now) (IsFixup s.input.now s.placing.now)
-    (relocations s.input.now) at.yielded _ (relocations_left c.next.new.self) c.in-Some.relocated
+    place_there (IsMovedIn s.book.now.input.now s.book.now.placing.now) (IsFixup s.book.now.input.now s.book.now.placing.now)
+    (relocations s.book.now.input.now) at.yielded _ (relocations_left c.next.new.self) c.in-Some.relocated
     c.args.positions.now at.fixups.items c.len.result 0 at.invariant.all c.in-Some.ensures.steps
     c.requires.positions at.invariant.so_far (c.len.ensures ∙ at.fixups.ok.0)
 
@@ -52,7 +52,7 @@ returns-in_err-fixup-clause-err c =
     let s = c.args.sources.now in
     let at = c.loop-relocated in
     let r = c.in-Some.relocated in
-    let kept = next_is_kept (relocations s.input.now) at.yielded _ (relocations_left c.next.new.self) r
+    let kept = next_is_kept (relocations s.book.now.input.now) at.yielded _ (relocations_left c.next.new.self) r
     at.invariant.all c.in-Some.ensures.steps in
     rw (p.1, p.2) (one_refused s r c.in_err-fixup.field-0.0 kept c.in_err-fixup.ensures.err)
 
@@ -63,7 +63,7 @@ loop-relocated-preserved c =
     let r = c.in-Some.relocated in
     record {
       all = append_assoc at.yielded (r ∷ []) _ ∙ rw (← c.in-Some.ensures.steps) at.invariant.all;
-      so_far = zip_more (IsFixup s.input.now s.placing.now) at.yielded r at.fixups.items
+      so_far = zip_more (IsFixup s.book.now.input.now s.book.now.placing.now) at.yielded r at.fixups.items
           c.push.new.self.items c.in_ok-fixup.field-0 at.invariant.so_far c.in_ok-fixup.ensures.ok
           c.in_ok-push.ensures.items;
       clear = all_more (λ (x : Relocated). Clear (IsRefusedAt s x)) at.yielded r at.invariant.clear
@@ -74,10 +74,10 @@ pub returns-clause-ok : goal.returns-clause-ok
 returns-clause-ok c =
     let s = c.args.sources.now in
     let at = c.loop-relocated in
-    let seen : at.yielded ≡ relocations s.input.now =
+    let seen : at.yielded ≡ relocations s.book.now.input.now =
     sym (append-nil at.yielded) ∙ rw c.in-None.ensures.steps.0 at at.invariant.all in
-    let made : AllZip (IsFixup s.input.now s.placing.now) (relocations s.input.now) at.fixups.items =
-    subst (λ (rs : List Relocated). AllZip (IsFixup s.input.now s.placing.now) rs at.fixups.items) seen
+    let made : AllZip (IsFixup s.book.now.input.now s.book.now.placing.now) (relocations s.book.now.input.now) at.fixups.items =
+    subst (λ (rs : List Relocated). AllZip (IsFixup s.book.now.input.now s.book.now.placing.now) rs at.fixups.items) seen
     at.invariant.so_far in
     rw c.new.ensures made
 
@@ -85,6 +85,6 @@ pub returns-clause-clear : goal.returns-clause-clear
 returns-clause-clear c =
     let s = c.args.sources.now in
     let at = c.loop-relocated in
-    let seen : at.yielded ≡ relocations s.input.now =
+    let seen : at.yielded ≡ relocations s.book.now.input.now =
     sym (append-nil at.yielded) ∙ rw c.in-None.ensures.steps.0 at at.invariant.all in
     none_refused s at.yielded seen at.invariant.clear

@@ -8,7 +8,7 @@ use Rattle.wl_plan.proofs.fixups.all_fixups.Given as goal
 
 abbrev pub invariant-loop-relocated : goal.invariant-loop-relocated
 invariant-loop-relocated l = record {
-  all : l.yielded ++ relocations_left l.relocated-iterator ≡ relocations l.sources.input.now;
-  so_far : AllZip (IsFixup l.sources.input.now l.sources.placing.now) l.yielded l.fixups.items;
+  all : l.yielded ++ relocations_left l.relocated-iterator ≡ relocations l.sources.book.now.input.now;
+  so_far : AllZip (IsFixup l.sources.book.now.input.now l.sources.book.now.placing.now) l.yielded l.fixups.items;
   clear : NoneRefused l.sources l.yielded;
 }

@@ -2,11 +2,10 @@ use Rattle.std.proofs.Common.{◌≡◌, ◌∙◌, ◌<◌, ◌≤◌, List, []
 use Rattle.std.proofs.lemmas.List.{append-nil}
 use Rattle.std.proofs.lemmas.Option.{slice_get-get_or}
 use Rattle.wl_linking.specs.Object.{Object}
-use Rattle.wl_symbols.specs.declared.linker_symbol.WasmLinkerSymbol.TheVariants.{CallCtors}
-use Rattle.wl_bind.specs.FunctionSpace.{FunctionEntry, made_function_part, stub_part}
+use Rattle.wl_bind.specs.FunctionSpace.{FunctionEntry, stub_part}
 use Rattle.wl_bind.specs.IndexMaps.{IsIndexMap}
 use Rattle.wl_index.specs.declared.index_map.WasmObjectIndexMap.{WasmObjectIndexMap}
-use Rattle.wl_plan.specs.FunctionSteps.{AddsFunctions}
+use Rattle.wl_plan.specs.FunctionSteps.{AddsFunctions, linker_functions}
 use Rattle.wl_plan.specs.Origins.{PlannedFunction}
 use Rattle.wl_plan.proofs.FunctionLaws.{adds_more, adds_same, objects_done, objects_more, types_in_row}
 use Rattle.wl_lists.proofs.Rows.{object_here, row_within}
@@ -15,13 +14,13 @@ use Rattle.wl_plan.proofs.functions.own_functions.Goals as goal
 pub loop-object-init : goal.loop-object-init
 loop-object-init c =
     let input = c.args.input.now in
-    let ctors : List FunctionEntry = made_function_part input CallCtors in
+    let ctors : List FunctionEntry = linker_functions input in
     let stubs : List FunctionEntry = stub_part input in
     let start = c.new-functions.result.items in
-    let middle = c.push_call_ctors.new.functions.items in
+    let middle = c.push_linker_made.new.functions.items in
     let new = c.push_stubs.new.functions.items in
     let both : AddsFunctions input (ctors ++ stubs) c.new-functions.result.items c.push_stubs.new.functions.items =
-    adds_more input ctors stubs start middle new c.in_ok-push_call_ctors.ensures c.in_ok-push_stubs.ensures in
+    adds_more input ctors stubs start middle new c.in_ok-push_linker_made.ensures c.in_ok-push_stubs.ensures in
     adds_same input (ctors ++ stubs) ((ctors ++ stubs) ++ []) [] new (sym (append-nil (ctors ++ stubs)))
     (subst (λ (fs : List PlannedFunction). AddsFunctions input (ctors ++ stubs) fs new) c.new-functions.ensures.items
     both)
@@ -61,7 +60,7 @@ loop-object-preserved c =
     let is : o ≡ get_or input.link.objects k o = c.file-item.is ∙ ap (λ (os : List Object). get_or os k o) objects in
     let at : slice_get input.link.objects k ≡ Some o =
     slice_get-get_or input.link.objects k o lt ∙ ap (λ (p : Object). Some p) (sym is) in
-    objects_more input k o (made_function_part input CallCtors ++ stub_part input) [] c.loop-object.functions.items
+    objects_more input k o (linker_functions input ++ stub_part input) [] c.loop-object.functions.items
     c.push_functions.new.functions.items at c.in_ok-push_functions.ensures c.loop-object.invariant
 
 pub returns : goal.returns
@@ -70,5 +69,5 @@ returns c =
     let k = c.loop-object.object in
     let objects : c.as_slice-file-items.result.now ≡ input.link.objects =
     c.as_slice-file-items.ensures.objects ∙ c.files.ensures.objects in
-    objects_done input k c.loop-object.functions.items c.requires.alone
+    objects_done input k c.loop-object.functions.items
     (subst (λ (os : List Object). length os ≤ k) objects c.loop-object-test.false) c.loop-object.invariant

@@ -33,8 +33,8 @@ bounds-types-place c =
 pub loop-place-init : goal.loop-place-init
 loop-place-init c = adds_none c.args.input.now c.args.functions.now.items
 
-pub type_number-type_index-requires : goal.type_number-type_index-requires
-type_number-type_index-requires c =
+pub push_typed-requires : goal.push_typed-requires
+push_typed-requires c =
     let input = c.args.input.now in
     let k = c.loop-place.place in
     let b = c.requires.bindings in
@@ -66,9 +66,9 @@ loop-place-preserved c =
     (c.stub-item.is ∙ ap (λ (hs : List HostImport). get_or hs k h) hosts)
     (c.index-types-place.is ∙ ap (λ (ts : List FunctionType). get_or ts k ty) types) in
     stub_more input k ty c.args.bindings.now.types h.name c.stub.inside.name.now c.args.functions.now.items
-    c.loop-place.functions.items c.push_function.new.functions.items b.types
+    c.loop-place.functions.items c.push_typed.new.functions.items b.types
     (ap (λ (g : HostImport). g.name) c.stub.view_is) is
-    (record { number = c.type_number-type_index.result; typed = c.type_number-type_index.ensures; grown = c.in_ok-push_function.ensures })
+    c.in_ok-push_typed.ensures
     c.loop-place.invariant
 
 pub returns : goal.returns

@@ -8,9 +8,8 @@ use Rattle.wl_live.specs.Faults.{IsKeptFault}
 use Rattle.wl_symbols.specs.Live.{IsLiveOf}
 use Rattle.wl_symbols.specs.Input.{Input}
 use Rattle.wl_plan.specs.Faults.{input_of}
-use Rattle.wl_plan.specs.Planned.{IsUnplannedOption}
 use Rattle.wl_linking.proofs.StepLaws.{refuses_here, refuses_behind, row_behind, row_refuses}
-use Rattle.wl_plan.proofs.LinkLaws.{AreClear, feature_is_row, feature_row, features_by, files_err, files_ok, input_alone, sound_by}
+use Rattle.wl_plan.proofs.LinkLaws.{AreClear, feature_is_row, feature_row, features_by, files_err, files_ok, sound_by}
 use Rattle.wl_plan.proofs.link.plan_files.Goals as goal
 
 pub returns-in_err-check_entry-clause-err : goal.returns-in_err-check_entry-clause-err
@@ -22,9 +21,8 @@ returns-in_err-check_entry-clause-err c =
     let cause : Refuses (IsEntryFault link) e =
     rw c.in_ok-symbols.ensures.ok at c.in_err-check_entry.ensures.err in
     rw (p.1, p.2) (refuses_behind (IsDuplicate link.objects) _ e c.in_ok-symbols.ensures.clear
-    (refuses_behind (IsUnplannedOption link.args) _ e c.in_ok-check_options.ensures.ok
     (row_behind (feature_row link) (feature_is_row link) _ e c.in_ok-features.ensures.clear
-    (refuses_here (IsEntryFault link) _ e cause))))
+    (refuses_here (IsEntryFault link) _ e cause)))
 
 pub returns-in_err-live-clause-err : goal.returns-in_err-live-clause-err
 returns-in_err-live-clause-err c =
@@ -37,10 +35,9 @@ returns-in_err-live-clause-err c =
     let cause : Refuses (IsKeptFault link) e =
     rw c.in_ok-symbols.ensures.ok at c.in_err-live.ensures.err in
     rw (p.1, p.2) (refuses_behind (IsDuplicate link.objects) _ e c.in_ok-symbols.ensures.clear
-    (refuses_behind (IsUnplannedOption link.args) _ e c.in_ok-check_options.ensures.ok
     (row_behind (feature_row link) (feature_is_row link) _ e c.in_ok-features.ensures.clear
     (refuses_behind (IsEntryFault link) _ e clear
-    (refuses_here (IsKeptFault link) _ e cause)))))
+    (refuses_here (IsKeptFault link) _ e cause))))
 
 pub returns-in_err-features-clause-err : goal.returns-in_err-features-clause-err
 returns-in_err-features-clause-err c =
@@ -49,8 +46,7 @@ returns-in_err-features-clause-err c =
     let link : Link = link_of c.args.files.now c.args.args.now in
     let e = c.in_err-features.field-0.0 in
     rw (p.1, p.2) (refuses_behind (IsDuplicate link.objects) _ e c.in_ok-symbols.ensures.clear
-    (refuses_behind (IsUnplannedOption link.args) _ e c.in_ok-check_options.ensures.ok
-    (row_refuses (feature_row link) (feature_is_row link) _ e c.in_err-features.ensures.err)))
+    (row_refuses (feature_row link) (feature_is_row link) _ e c.in_err-features.ensures.err))
 
 pub plan_kept-requires-clause-features : goal.plan_kept-requires-clause-features
 plan_kept-requires-clause-features c =
@@ -74,15 +70,6 @@ plan_kept-requires-clause-sound c =
     rw c.in_ok-symbols.ensures.ok at c.in_ok-live.ensures.clear in
     sound_by link live input same c.objects_are_whole.ensures kept faults
 
-pub plan_kept-requires-clause-alone : goal.plan_kept-requires-clause-alone
-plan_kept-requires-clause-alone c =
-    let link : Link = link_of c.args.files.now c.args.args.now in
-    let live = c.in_ok-live.live in
-    let input : Input = c.new-input.result in
-    let same : input ≡ input_of link live =
-    c.new-input.ensures ∙ ap (λ (l : Link). input_of l live) c.in_ok-symbols.ensures.ok in
-    input_alone link live input same c.in_ok-check_options.ensures.ok
-
 pub returns-clause-ok : goal.returns-clause-ok
 returns-clause-ok c =
     let link : Link = link_of c.args.files.now c.args.args.now in
@@ -98,7 +85,6 @@ returns-clause-ok c =
     rw c.in_ok-symbols.ensures.ok at c.in_ok-live.ensures.clear in
     let clear : AreClear link = record {
       names = c.in_ok-symbols.ensures.clear;
-      options = c.in_ok-check_options.ensures.ok;
       features = c.in_ok-features.ensures.clear;
       entry = entry;
       kept = faults;
@@ -121,7 +107,6 @@ returns-clause-err c =
     rw c.in_ok-symbols.ensures.ok at c.in_ok-live.ensures.clear in
     let clear : AreClear link = record {
       names = c.in_ok-symbols.ensures.clear;
-      options = c.in_ok-check_options.ensures.ok;
       features = c.in_ok-features.ensures.clear;
       entry = entry;
       kept = faults;

@@ -7,10 +7,12 @@ use Rattle.wl_data.specs.Segments.{SegmentLayout}
 use Rattle.wl_data.specs.Sizes.{segment_count}
 use Rattle.wl_exports.specs.Faults.{IsExportFault}
 use Rattle.wl_plan.specs.Faults.{IsSizeFault, IsValueFault}
+use Rattle.wl_plan.specs.Fixups.{IsFixupFault}
+use Rattle.wl_plan.specs.Globals.{IsGlobalFault}
 use Rattle.wl_plan.specs.SizeSteps.{IsTooBig}
 use Rattle.wl_linking.proofs.StepLaws.{clear_end, clear_step, refuses_behind, refuses_for, refuses_here}
 use Rattle.wl_plan.proofs.PlannedLaws.{checked_refused, checked_sound}
-use Rattle.wl_plan.proofs.PlanLaws.{bodies_few, segments_few, size_clear, size_refuses}
+use Rattle.wl_plan.proofs.PlanLaws.{bodies_few, body_refuses, first_of_both, number_refuses, segments_few, size_clear, size_refuses, values_clear}
 use Rattle.wl_plan.proofs.UniqueBodies.{FormsAreOne}
 use Rattle.wl_plan.proofs.plan.output_parts.Goals as goal
 
@@ -42,8 +44,18 @@ returns-in_err-sizes-clause-err c =
     subst (λ (rows : List (List SegmentLayout)). IsTooBig c.in_ok-bodies.bodies rows e) layouts
     (subst (λ (bs : List Body). IsTooBig bs c.as_slice-layouts.result.now e) bodies
     c.in_err-sizes.ensures.err) in
+    let forms : FormsAreOne = record {
+      unsigned = c.shortest_form_is_one.ensures.unsigned;
+      signed = c.shortest_form_is_one.ensures.signed;
+      numbers = c.numbers_are_one.ensures.one;
+      calls = c.init_calls_are_one.ensures;
+      encoded = c.body_or_fault.ensures.one;
+    } in
+    let values : Clear (IsValueFault input g) =
+    values_clear forms c.body_or_fault.ensures.either input g (c.entries_stand_once.ensures.globals input)
+    c.in_ok-bodies.bodies c.in_ok-bodies.ensures.ok c.in_ok-values.ensures.clear in
     let fault = size_refuses input g c.in_ok-bodies.bodies e c.in_ok-bodies.ensures.ok big in
-    rw (p.1, p.2) (refuses_behind (IsValueFault input g) _ e c.in_ok-values.ensures.clear
+    rw (p.1, p.2) (refuses_behind (IsValueFault input g) _ e values
     (refuses_behind (IsExportFault input) (Step (IsSizeFault input g) NoStep) e
     (checked_sound input c.args.checked c.in_ok-checked.field-0 c.in_ok-checked.was c.requires.checked)
     (refuses_here (IsSizeFault input g) NoStep e (refuses_for (IsSizeFault input g) e fault))))
@@ -66,11 +78,15 @@ returns-clause-clear c =
     layouts
     (subst (λ (bs : List Body). Clear (IsTooBig bs c.as_slice-layouts.result.now)) bodies
     c.in_ok-sizes.ensures.clear) in
-    clear_step (IsValueFault input g) _ c.in_ok-values.ensures.clear
+    let values : Clear (IsValueFault input g) =
+    values_clear forms c.body_or_fault.ensures.either input g (c.entries_stand_once.ensures.globals input)
+    c.in_ok-bodies.bodies c.in_ok-bodies.ensures.ok c.in_ok-values.ensures.clear in
+    clear_step (IsValueFault input g) _ values
     (clear_step (IsExportFault input) (Step (IsSizeFault input g) NoStep)
     (checked_sound input c.args.checked c.in_ok-checked.field-0 c.in_ok-checked.was c.requires.checked)
     (clear_step (IsSizeFault input g) NoStep
     (size_clear forms input g c.in_ok-bodies.bodies (c.entries_stand_once.ensures.functions input)
+    (c.entries_stand_once.ensures.globals input)
     c.in_ok-bodies.ensures.ok small)
     clear_end))
 
@@ -81,7 +97,8 @@ returns-in_err-values-clause-err c =
     let input = c.args.things.now.input.now in
     let g = c.args.things.now.placing.now in
     rw (p.1, p.2)
-    (refuses_here (IsValueFault input g) _ c.in_err-values.field-0.0 c.in_err-values.ensures.err)
+    (refuses_here (IsValueFault input g) _ c.in_err-values.field-0.0
+    (number_refuses input g c.in_err-values.field-0.0 c.in_err-values.ensures.err))
 
 pub returns-in_err-checked-clause-err : goal.returns-in_err-checked-clause-err
 returns-in_err-checked-clause-err c =
@@ -90,6 +107,32 @@ returns-in_err-checked-clause-err c =
     let input = c.args.things.now.input.now in
     let g = c.args.things.now.placing.now in
     let e = c.in_err-checked.field-0.0 in
+    let forms : FormsAreOne = record {
+      unsigned = c.shortest_form_is_one.ensures.unsigned;
+      signed = c.shortest_form_is_one.ensures.signed;
+      numbers = c.numbers_are_one.ensures.one;
+      calls = c.init_calls_are_one.ensures;
+      encoded = c.body_or_fault.ensures.one;
+    } in
+    let values : Clear (IsValueFault input g) =
+    values_clear forms c.body_or_fault.ensures.either input g (c.entries_stand_once.ensures.globals input)
+    c.in_ok-bodies.bodies c.in_ok-bodies.ensures.ok c.in_ok-values.ensures.clear in
     let refused = checked_refused input c.args.checked e c.in_err-checked.was c.requires.checked in
-    rw (p.1, p.2) (refuses_behind (IsValueFault input g) _ e c.in_ok-values.ensures.clear
+    rw (p.1, p.2) (refuses_behind (IsValueFault input g) _ e values
     (refuses_here (IsExportFault input) _ e refused))
+
+pub returns-in_err-bodies-clause-err : goal.returns-in_err-bodies-clause-err
+returns-in_err-bodies-clause-err c =
+    let residual = c.from_residual-in_err-bodies in
+    let p = err_from_is_err_and residual.result residual.ensures.1 in
+    let input = c.args.things.now.input.now in
+    let g = c.args.things.now.placing.now in
+    rw (p.1, p.2)
+    (refuses_here (IsValueFault input g) _ c.in_err-bodies.field-0.0
+    (body_refuses input g c.in_err-bodies.field-0.0 c.in_err-bodies.ensures.err))
+
+pub output_bodies-requires-clause-globals : goal.output_bodies-requires-clause-globals
+output_bodies-requires-clause-globals c =
+    let input = c.args.things.now.input.now in
+    let g = c.args.things.now.placing.now in
+    first_of_both (IsGlobalFault input g) (IsFixupFault input g) c.in_ok-values.ensures.clear

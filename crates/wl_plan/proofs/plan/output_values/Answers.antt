@@ -1,12 +1,18 @@
-use Rattle.std.proofs.Common.{◌≡◌, ◌∙◌, ◌≤◌, ℕ, List, ◌++◌, ap, arith, length, map, rules}
+use Rattle.std.proofs.Common.{◌≡◌, ◌∙◌, ◌≤◌, ℕ, List, ◌++◌, ap, arith, length, map, rules, subst, sym}
+use Rattle.std.specs.List.{AllZip}
 use Rattle.wl_linking.specs.Steps.{Clear}
 use Rattle.wl_bind.specs.FunctionSpace.{function_space}
 use Rattle.wl_bind.specs.Scan.{table_functions}
 use Rattle.wl_index.specs.declared.index.TheConstants.{WASM_DEAD_INDEX, MAX_ENTRIES}
+use Rattle.wl_symbols.specs.Input.{Input}
+use Rattle.wl_symbols.specs.Relocations.{relocations}
 use Rattle.wl_exports.specs.Wrapped.{WrapperEntry}
-use Rattle.wl_plan.specs.Fixups.{IsFixupFault}
+use Rattle.wl_plan.specs.Bodies.{IsMovedIn}
+use Rattle.wl_plan.specs.Fixups.{AreFixups, IsFixupFault}
+use Rattle.wl_plan.specs.FixupSteps.{HasRoom}
 use Rattle.wl_plan.specs.Globals.{ArePlannedGlobals, IsGlobalFault}
 use Rattle.wl_plan.specs.Table.{function_slots, space_slots}
+use Rattle.wl_plan.specs.declared.placing.Placing.{Placing}
 use Rattle.wl_linking.proofs.StepLaws.{clear_both}
 use Rattle.wl_plan.proofs.SlotLaws.{TableLaws, few_in_table}
 use Rattle.wl_plan.proofs.WrapperLaws.{dead_are}
@@ -24,15 +30,17 @@ all_fixups-requires-clause-sources c =
     few_in_table laws input c.in_ok-elements.elements c.in_ok-elements.ensures in
     let room : length (function_space input) ≤ MAX_ENTRIES = things.few.functions in
     let slots : c.as_slice-2.result.now ≡ space_slots input = search rules in
+    let few : HasRoom input = record {
+      types = things.few.types;
+      globals = things.few.globals;
+      table = omega (arith, within, room);
+    } in
     record {
-      settled = things.bindings.settled;
-      room = record {
-        types = things.few.types;
-        globals = things.few.globals;
-        table = omega (arith, within, room);
-      };
-      maps = things.maps;
-      slots = slots;
+      book = c.requires.book.book_is;
+      settled = rw (c.requires.book.input) things.bindings.settled;
+      room = rw (c.requires.book.input) few;
+      maps = rw (c.requires.book.input, c.requires.book.placing) things.maps;
+      slots = rw (c.requires.book.input) slots;
     }
 
 pub returns-clause-clear : goal.returns-clause-clear
@@ -41,7 +49,9 @@ returns-clause-clear c =
     let g = c.args.things.now.placing.now in
     let first : Clear (IsGlobalFault input g) =
     rw (c.requires.book.input, c.requires.book.placing) at c.in_ok-globals.ensures.clear in
-    clear_both (IsGlobalFault input g) (IsFixupFault input g) first c.in_ok-fixups.ensures.clear
+    let second : Clear (IsFixupFault input g) =
+    rw (c.requires.book.input, c.requires.book.placing) at c.in_ok-fixups.ensures.clear in
+    clear_both (IsGlobalFault input g) (IsFixupFault input g) first second
 
 pub returns-clause-ok : goal.returns-clause-ok
 returns-clause-ok c =
@@ -54,9 +64,27 @@ returns-clause-ok c =
     c.in_ok-push_wrapper_slots.ensures
     ∙ (ap (λ (ns : List ℕ). ns ++ map (λ (w : WrapperEntry). WASM_DEAD_INDEX) ws) c.in_ok-slots.ensures
     ∙ ap (λ (ns : List ℕ). space_slots input ++ ns) (dead_are input ws c.requires.things.wrappers)) in
+    let fixups : AreFixups input g c.in_ok-fixups.fixups =
+    rw (c.requires.book.input, c.requires.book.placing) at c.in_ok-fixups.ensures.ok in
     record {
       globals = globals;
       elements = c.in_ok-elements.ensures;
       slots = slots;
-      fixups = c.in_ok-fixups.ensures.ok;
+      fixups = fixups;
     }
+
+pub all_fixups-requires-clause-positions : goal.all_fixups-requires-clause-positions
+all_fixups-requires-clause-positions c =
+    let input = c.args.things.now.input.now in
+    let g = c.args.things.now.placing.now in
+    let book = c.args.book.now in
+    let positions = c.deref.result.now in
+    let same : positions ≡ c.in_ok-positions.positions.items = search rules in
+    let moved : AllZip (IsMovedIn input g) (relocations input) positions =
+    subst (λ (ps : List ℕ). AllZip (IsMovedIn input g) (relocations input) ps) (sym same)
+    c.in_ok-positions.ensures.ok in
+    let placed : AllZip (IsMovedIn input book.placing.now) (relocations input) positions =
+    subst (λ (p : Placing). AllZip (IsMovedIn input p) (relocations input) positions)
+    (sym c.requires.book.placing) moved in
+    subst (λ (i : Input). AllZip (IsMovedIn i book.placing.now) (relocations i) positions)
+    (sym c.requires.book.input) placed

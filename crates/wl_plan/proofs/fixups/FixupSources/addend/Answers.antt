@@ -8,7 +8,7 @@ use Rattle.wl_plan.proofs.fixups.FixupSources.addend.Goals as goal
 
 pub overflow_cast-result : goal.overflow_cast-result
 overflow_cast-result c =
-    let input = c.args.self.now.input.now in
+    let input = c.args.self.now.book.now.input.now in
     let r = c.args.relocated.now in
     let from = object_of input r c.requires.kept in
     let whole = all_at IsWhole input.link.objects r.object from.object
@@ -19,7 +19,7 @@ overflow_cast-result c =
 
 pub returns : goal.returns
 returns c =
-    let input = c.args.self.now.input.now in
+    let input = c.args.self.now.book.now.input.now in
     let r = c.args.relocated.now in
     let from = object_of input r c.requires.kept in
     let whole = all_at IsWhole input.link.objects r.object from.object

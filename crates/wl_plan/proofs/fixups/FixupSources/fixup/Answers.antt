@@ -1,10 +1,4 @@
-use Rattle.std.proofs.Common.{◌∙◌, refl, rules, subst, sym, w32}
-use Rattle.std.specs.Prelude.{ℤ, FitsSigned}
-use Rattle.std.proofs.lemmas.Int.{to_z-of_z}
-use Rattle.wl_custom.specs.RelocationTypes.{taking_of}
-use Rattle.wl_plan.specs.FixupSteps.{left_of}
-use Rattle.wl_plan.specs.Fixups.{address_named, IsTaken}
-use Rattle.wl_plan.specs.declared.layout.FixupTo.TheVariants.{Value}
+use Rattle.std.proofs.Common.{refl}
 use Rattle.wl_plan.proofs.FixupLaws.{clear_of}
 use Rattle.wl_plan.proofs.fixups.FixupSources.fixup.Goals as goal
 
@@ -20,24 +14,14 @@ returns-in-Err-clause-err c =
     }
 
 pub returns-clause-ok : goal.returns-clause-ok
-returns-clause-ok c =
-    let s = c.args.self.now in
-    let r = c.args.relocated.now in
-    let fits : FitsSigned w32 c.addend_left.result = search rules in
-    let same = to_z-of_z w32 c.addend_left.result fits ∙ c.addend_left.ensures in
-    record {
-      object = refl;
-      place = refl;
-      unit = refl;
-      position = c.requires.moved;
-      ty = refl;
-      to = subst (λ (left : ℤ). IsTaken s.input.now s.placing.now r (taking_of r.relocation.ty)
-          (Value c.in-Ok.value left)) (sym same) c.in-Ok.ensures;
-    }
+returns-clause-ok c = record {
+  object = refl;
+  place = refl;
+  unit = refl;
+  position = c.requires.moved;
+  ty = refl;
+  to = c.in-Ok.ensures;
+}
 
 pub returns-clause-clear : goal.returns-clause-clear
-returns-clause-clear c =
-    let s = c.args.self.now in
-    let r = c.args.relocated.now in
-    clear_of s r c.in-Ok.value (left_of (address_named s.input.now s.placing.now r) r.relocation)
-    c.in-Ok.ensures
+returns-clause-clear c = clear_of c.args.self.now c.args.relocated.now c.in-Ok.to c.in-Ok.ensures

@@ -3,7 +3,7 @@ use Rattle.std.specs.Prelude.{ℤ, FitsSigned}
 use Rattle.std.proofs.lemmas.Int.{to_z-of_z}
 use Rattle.wl_custom.specs.RelocationTypes.{taking_of}
 use Rattle.wl_linking.specs.declared.error.LinkError.TheVariants.{RelocationRange}
-use Rattle.wl_plan.specs.Fixups.{address_named, bases_of}
+use Rattle.wl_plan.specs.Threads.{address_named, bases_of}
 use Rattle.wl_plan.proofs.FixupLaws.{number_is}
 use Rattle.wl_plan.proofs.fixups.FixupSources.refusal.Goals as goal
 
@@ -15,5 +15,5 @@ returns-in-Range c = λ base takes.
     rw c.in-Range.is (ap (λ (z : ℤ). RelocationRange r.object r.relocation.offset z)
     (to_z-of_z w64 c.number_taken.result fits
     ∙ (c.number_taken.ensures
-    ∙ number_is (taking_of r.relocation.ty) base (bases_of s.placing.now)
-    (address_named s.input.now s.placing.now r) r.relocation.addend takes)))
+    ∙ number_is (taking_of r.relocation.ty) base (bases_of s.book.now.placing.now)
+    (address_named s.book.now.input.now s.book.now.placing.now r) r.relocation.addend takes)))

@@ -8,15 +8,15 @@ use Rattle.wl_plan.proofs.fixups.FixupSources.value.Goals as goal
 pub file_at-file-requires : goal.file_at-file-requires
 file_at-file-requires c =
     let s = c.args.self.now in
-    let within = object_within s.input.now c.args.relocated.now c.requires.kept in
+    let within = object_within s.book.now.input.now c.args.relocated.now c.requires.kept in
     rw (c.as_slice.ensures.objects, c.files.ensures.objects) within
 
 pub map_at-requires : goal.map_at-requires
 map_at-requires c =
     let s = c.args.self.now in
-    maps_within s.input.now s.placing.now s.maps.now c.args.relocated.now.object
+    maps_within s.book.now.input.now s.book.now.placing.now s.maps.now c.args.relocated.now.object
     c.requires.sources.maps
-    (object_within s.input.now c.args.relocated.now c.requires.kept)
+    (object_within s.book.now.input.now c.args.relocated.now c.requires.kept)
 
 pub returns : goal.returns
 returns c =
@@ -33,7 +33,7 @@ returns c =
       once = c.table_functions_stand_once.ensures.table;
       itself = c.same_targets_are_one.ensures.itself;
     } in
-    let here : slice_get s.input.now.link.objects r.object ≡ Some c.file_at-file.result.now =
+    let here : slice_get s.book.now.input.now.link.objects r.object ≡ Some c.file_at-file.result.now =
     ap (λ (os : List Object). slice_get os r.object)
     (sym (c.as_slice.ensures.objects ∙ c.files.ensures.objects)) ∙ c.file_at-file.ensures in
     answers_of s r c.file_at-file.result.now c.map_at.result.now c.symbols-symbols.result.now

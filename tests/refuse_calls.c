@@ -1,20 +1,26 @@
-// Loaded into a program in front of the C library, it refuses one of the program's allocations: that of the
-// number REFUSED, counted from 1. Where that is 0, or beyond the last one, it refuses none. At the end it
-// writes how many there were to the descriptor COUNTED. Only calls from the program's own code count: those
-// of the C library go through.
+// Loaded into a program in front of the C library, it refuses one of the program's calls: that of the number
+// REFUSED, counted from 1, among the calls of the kind CALLS, which is "memory", "read" or "write". Where the number
+// is 0, or beyond the last one, it refuses none. At the end it writes how many there were to the descriptor
+// COUNTED. Only calls from the program's own code count: those of the C library go through.
 #define _GNU_SOURCE
 #include <dlfcn.h>
+#include <errno.h>
 #include <link.h>
 #include <stdint.h>
 #include <stdio.h>
 #include <stdlib.h>
+#include <string.h>
+#include <sys/types.h>
 
 static void *(*real_malloc)(size_t);
 static void *(*real_realloc)(void *, size_t);
 static void *(*real_calloc)(size_t, size_t);
+static ssize_t (*real_read)(int, void *, size_t);
+static ssize_t (*real_write)(int, const void *, size_t);
 
 // The addresses of the program's own code and data, from the first to the one behind the last.
 static uintptr_t first, behind;
+static const char *counted = "memory";
 static long seen, refused;
 
 // Of what is loaded the program is told first, and nothing else is asked for.
@@ -35,11 +41,14 @@ static void find_real(void) {
     real_malloc = dlsym(RTLD_NEXT, "malloc");
     real_realloc = dlsym(RTLD_NEXT, "realloc");
     real_calloc = dlsym(RTLD_NEXT, "calloc");
+    real_read = dlsym(RTLD_NEXT, "read");
+    real_write = dlsym(RTLD_NEXT, "write");
 }
 
 __attribute__((constructor)) static void begin(void) {
     find_real();
-    const char *number = getenv("REFUSED");
+    const char *kind = getenv("CALLS"), *number = getenv("REFUSED");
+    if (kind) counted = kind;
     refused = number ? atol(number) : 0;
     dl_iterate_phdr(note_program, 0);
 }
@@ -49,23 +58,38 @@ __attribute__((destructor)) static void end(void) {
     if (to) dprintf(atoi(to), "%ld\n", seen);
 }
 
-static int is_refused(void *caller) {
+static int is_refused(const char *kind, void *caller) {
     uintptr_t at = (uintptr_t)caller;
-    return first <= at && at < behind && ++seen == refused;
+    return first <= at && at < behind && !strcmp(kind, counted) && ++seen == refused;
 }
 
 void *malloc(size_t size) {
     if (!real_malloc) find_real();
-    return is_refused(__builtin_return_address(0)) ? 0 : real_malloc(size);
+    return is_refused("memory", __builtin_return_address(0)) ? 0 : real_malloc(size);
 }
 
 void *realloc(void *old, size_t size) {
     if (!real_realloc) find_real();
-    return is_refused(__builtin_return_address(0)) ? 0 : real_realloc(old, size);
+    return is_refused("memory", __builtin_return_address(0)) ? 0 : real_realloc(old, size);
 }
 
 void *calloc(size_t count, size_t size) {
     // dlsym itself may ask, and does without.
     if (!real_calloc) return 0;
-    return is_refused(__builtin_return_address(0)) ? 0 : real_calloc(count, size);
+    return is_refused("memory", __builtin_return_address(0)) ? 0 : real_calloc(count, size);
+}
+
+static ssize_t input_output_error(void) {
+    errno = EIO;
+    return -1;
+}
+
+ssize_t read(int from, void *room, size_t size) {
+    if (!real_read) find_real();
+    return is_refused("read", __builtin_return_address(0)) ? input_output_error() : real_read(from, room, size);
+}
+
+ssize_t write(int to, const void *bytes, size_t size) {
+    if (!real_write) find_real();
+    return is_refused("write", __builtin_return_address(0)) ? input_output_error() : real_write(to, bytes, size);
 }
