@@ -144,11 +144,11 @@ split_hosts input entry i at =
     elim (append_split hosts (rest ++ own) i entry here) [
       | inl front ↦ inl front
       | inr behind ↦ inr (record {
-          k = behind.0;
-          index = behind.1;
-          own = ap (λ (es : List FunctionEntry). slice_get (drop (length hosts) es) behind.0) whole
-              ∙ drop_whole hosts (rest ++ own) behind.0 ∙ behind.2;
-        })
+        k = behind.0;
+        index = behind.1;
+        own = ap (λ (es : List FunctionEntry). slice_get (drop (length hosts) es) behind.0) whole
+            ∙ drop_whole hosts (rest ++ own) behind.0 ∙ behind.2;
+      })
     ]
 
 behind_hosts : (input : Input) (t : FunctionTarget) (i : ℕ)

@@ -48,10 +48,12 @@ copies_disjoint test n (l ∷ rows) h =
   where
     at : (b : Bool) → test l ≡ b → AreDisjoint (copies_from test (n + 1) rows)
         → AreDisjoint ((if b then copy_of n l ∷ [] else []) ++ copies_from test (n + 1) rows)
-    at true e r =
-        (copies_all
-        (λ (c : PassiveSegmentCopy). ShareNoByte l.output_memory_offset (length l.payload) c.offset c.len)
-        test (n + 1) rows (λ k m f t. h zero (suc k) l m (omega arith) refl f e t), r)
+    at true e r = (
+      copies_all
+          (λ (c : PassiveSegmentCopy). ShareNoByte l.output_memory_offset (length l.payload) c.offset c.len)
+          test (n + 1) rows (λ k m f t. h zero (suc k) l m (omega arith) refl f e t),
+      r,
+    )
     at false e r = r
 
 -- so many bytes behind which all of them end share none with them

@@ -345,11 +345,11 @@ behind_hosts input t i at never =
     elim (append_split hosts (rest ++ own) i (GlobalOf t) here) [
       | inl front ↦ (let h = no_host input t i front in absurd (never h.0 h.1 h.2))
       | inr behind ↦ record {
-          k = behind.0;
-          index = behind.1;
-          own = ap (λ (es : List GlobalEntry). slice_get (drop (length hosts) es) behind.0) whole
-              ∙ drop_whole hosts (rest ++ own) behind.0 ∙ behind.2;
-        }
+        k = behind.0;
+        index = behind.1;
+        own = ap (λ (es : List GlobalEntry). slice_get (drop (length hosts) es) behind.0) whole
+            ∙ drop_whole hosts (rest ++ own) behind.0 ∙ behind.2;
+      }
     ]
 
 -- a global of 32 bits that the linker makes and may be set
@@ -500,8 +500,8 @@ can_init fits layouts laws input plan is w s base block numbered holds room shar
     let apart = pointers_apart fits input g numbered.whole inside (laws.block_apart d g.places laid) in
     let base_at = behind_hosts input (global.Made TlsBase) block.base_global is_block.base (λ object slot e. absurd cc) in
     let got_word : (p : ℕ × ℕ) (f : TlsGotFixup) → IsGotFixup input p f
-        → may_change input g (GlobalOf (global.GotMem p.0)) ≡ true
-        → IsWordGlobal w s.globals f.global × (f.global ≢ block.base_global) =
+    → may_change input g (GlobalOf (global.GotMem p.0)) ≡ true
+    → IsWordGlobal w s.globals f.global × (f.global ≢ block.base_global) =
     λ p f h change.
     let at = behind_hosts input (global.GotMem p.0) f.global h.global (λ object slot e. absurd cc) in (
       word_global input plan is w s holds f.global at.k (GlobalOf (global.GotMem p.0)) at.index at.own (λ q made. made.global_is) change,

@@ -104,10 +104,13 @@ module _ (input : Input) (g : Placing) (r : Relocated) where
 
   no_value : (taking : Taking) (why : RelocError) → pointer_named input g r ≡ Ok None
       → AnswersValue input g r taking (Err why) → Answers input g r taking (Err why)
-  no_value taking why named h =
-      (h.0, h.1, field_is h.0 (Ok None) named
-      ∙ ap (λ (v : Result ℤ RelocError). value_or_pointer (Ok None)
-      (addend_left h.0 (address_named input g r) r.relocation.addend) v) h.2)
+  no_value taking why named h = (
+    h.0,
+    h.1,
+    field_is h.0 (Ok None) named
+        ∙ ap (λ (v : Result ℤ RelocError). value_or_pointer (Ok None)
+        (addend_left h.0 (address_named input g r) r.relocation.addend) v) h.2,
+  )
 
 -- what is left to be added, by what is taken
 left_by : (r : WasmRelocation) (a : WasmDataAddress) (base : AddressBase)
