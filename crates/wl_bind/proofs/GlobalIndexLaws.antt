@@ -30,7 +30,7 @@ use Rattle.wl_bind.specs.Numbering.{IsNumbering}
 use Rattle.wl_bind.specs.NumberingSteps.{FitsPlace, resolution_of, own_indices_of, HaveSlotIndices, IsSlotIndex}
 use Rattle.wl_bind.specs.Parts.{IsIndexOf, AreIndicesOf}
 use Rattle.wl_bind.specs.Resolutions.{kept_number, resolved_global, as_global, global_resolution}
-use Rattle.wl_bind.specs.Shared.{global_imports, import_place, places_from, place_in, place_at, shared_of, Shared}
+use Rattle.wl_bind.specs.Shared.{global_imports, import_place, import_places, place_in, place_at, shared_of, Shared}
 use Rattle.wl_bind.specs.Undefined.{is_host_slot, is_host_global}
 use Rattle.wl_bind.specs.declared.binding.FunctionTarget.{FunctionTarget}
 use Rattle.wl_bind.specs.declared.binding.GlobalTarget.{GlobalTarget}
@@ -58,7 +58,7 @@ global_place : (input : Input) (object k : ℕ) (t : ImportSlot) → slice_get (
     → place_at (shared_of input) Global t.object t.number ≡ import_place input Global (global_imports input) t
 global_place input object k t here =
     let at : IsAt object Global k t = placed input.link.objects object Global k t here in
-    let rows : List (List (Option ℕ)) = places_from input Global (global_imports input) 0 input.link.objects in
+    let rows : List (List (Option ℕ)) = import_places input Global (global_imports input) in
     ap (λ (i : ℕ). place_in rows i t.number) at.object_is
     ∙ (ap (λ (m : ℕ). place_in rows object m) at.number_is
     ∙ places_in input Global (global_imports input) 0 object input.link.objects object k t (omega arith) here)

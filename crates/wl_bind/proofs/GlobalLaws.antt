@@ -1,7 +1,7 @@
 -- Global slots with what names and the GOT lists resolve them to.
 use Rattle.std.proofs.Common.{◌≡◌, ◌∙◌, ℕ, ◌+◌, ◌&&◌, Bool, true, false, List, [], ◌∷◌, map, Option, Some, None, refl, sym, ap, codes, if◌then◌else◌}
 use Rattle.std.specs.List.{position}
-use Rattle.std.specs.Option.{option_or, option_map, option_map_or, unwrap_or}
+use Rattle.std.specs.Option.{option_or, option_map, option_map_or, unwrap_or, is_none}
 use Rattle.std.specs.Str.{bytes_eq}
 use Rattle.wl_module.specs.Imports.{Imported}
 use Rattle.wl_linking.specs.Object.{Object}
@@ -14,7 +14,10 @@ use Rattle.wl_symbols.specs.declared.targets.SlotTarget.{SlotTarget}
 use Rattle.wl_symbols.specs.declared.targets.SlotTarget.TheVariants as slot
 use Rattle.wl_symbols.specs.Input.{Input, keeps_slot}
 use Rattle.wl_bind.specs.Scan.{GotMemEntry, GotFuncEntry, got_mem, got_func, got_mem_entry, got_func_entry, scan_of}
-use Rattle.wl_bind.specs.GlobalBinding.{named_global, is_called, by_got, by_host, binds_global}
+use Rattle.wl_bind.specs.GlobalBinding.{named_global, is_called, is_from, by_got, by_host, binds_global, host_globals}
+use Rattle.wl_bind.specs.GlobalSlots.{is_host_by_lists}
+use Rattle.wl_symbols.specs.KeptSlots.{is_kept_slot}
+use Rattle.wl_symbols.specs.Left.{same_import, first_like, first_imports}
 use Rattle.wl_bind.specs.Resolutions.{resolved, named_resolution, as_global, global_resolution, rows_from, by_names, by_names_and_got, resolutions}
 use Rattle.wl_bind.specs.Stepped.{stepped}
 use Rattle.wl_bind.specs.Later.{later_by_got, has_that_name, is_unresolved, walk_of, walked_at, globals_walked}
@@ -63,7 +66,7 @@ one_of input false false x y g h host first second none = none
 
 -- what the rule makes of an import is what the slot is bound to by it, or nothing
 later_is : (input : Input) (t : ImportSlot)
-    → later_by_got (scan_of input) t.item ≡ as_global input (unwrap_or (by_got input t) (by_host input t))
+    → later_by_got (scan_of input) t.item.origin t.item.name ≡ as_global input (unwrap_or (by_got input t) (by_host input t))
 later_is input t =
     let name = t.item.name in
     let mem = position (is_called input name) (got_mem input) in
@@ -94,18 +97,55 @@ picked input true (Some (slot.Made m)) later got host is = refl
 picked input true None later got host is = is
 
 walked_global : (input : Input) (object n : ℕ) (symbols : List LinkedSymbol) (i : Imported)
-    → walked_at (walk_of input (later_by_got (scan_of input)) Global object) n i (named_resolution input (slot_at object Global symbols n i))
+    → walked_at (walk_of input (scan_of input) object) n i (named_resolution input (slot_at object Global symbols n i))
     ≡ global_resolution input (slot_at object Global symbols n i)
 walked_global input object n symbols i =
     let t = slot_at object Global symbols n i in
     let kept = keeps_slot input Global object n in
-    picked input kept (slot_target input.link t) (later_by_got (scan_of input) i) (by_got input t) (by_host input t) (later_is input t)
+    picked input kept (slot_target input.link t) (later_by_got (scan_of input) i.origin i.name) (by_got input t) (by_host input t) (later_is input t)
     ∙ ap (λ (g : GlobalTarget). if kept then as_global input g else Unresolved) (sym (binds input t (slot_target input.link t) refl))
+
+-- a kept slot that names leave is resolved by the lists
+pub left_resolved : (input : Input) (t : ImportSlot) → is_kept_slot input t ≡ true → slot_target input.link t ≡ None
+    → later_by_got (scan_of input) t.item.origin t.item.name ≡ global_resolution input t
+left_resolved input t kept none =
+    let bound : as_global input (unwrap_or (by_got input t) (by_host input t)) ≡ as_global input (binds_global input t) = ap (as_global input) (sym (binds input t None none)) in
+    let whole : global_resolution input t ≡ as_global input (binds_global input t) = ap (λ (k : Bool). if k then as_global input (binds_global input t) else Unresolved) kept in
+    later_is input t ∙ bound ∙ sym whole
+
+resolved_is : (input : Input) (target : SlotTarget) → resolved input Global target ≡ as_global input (named_global target)
+resolved_is input (slot.Defined object number) = refl
+resolved_is input (slot.Made m) = refl
+
+-- a kept slot that names bind is resolved to what they bind it to
+pub named_resolved : (input : Input) (t : ImportSlot) (target : SlotTarget) → is_kept_slot input t ≡ true
+    → slot_target input.link t ≡ Some target → resolved input Global target ≡ global_resolution input t
+named_resolved input t target kept some =
+    let whole : global_resolution input t ≡ as_global input (binds_global input t) = ap (λ (k : Bool). if k then as_global input (binds_global input t) else Unresolved) kept in
+    resolved_is input target ∙ ap (as_global input) (sym (binds input t (Some target) some)) ∙ sym whole
+
+unresolved_is : (input : Input) (mem func : Bool) (m f : Option ℕ) (c d : ℕ)
+    → is_unresolved (as_global input (unwrap_or (if mem then option_map global.GotMem m else if func then option_map global.GotFunc f else None) (global.Host c d)))
+    ≡ is_none (if mem then option_map global.GotMem m else if func then option_map global.GotFunc f else None)
+unresolved_is input true func (Some k) f c d = refl
+unresolved_is input true func None f c d = refl
+unresolved_is input false true m (Some k) c d = refl
+unresolved_is input false true m None c d = refl
+unresolved_is input false false m f c d = refl
+
+-- the lists leave a slot to the host where the fourth rule gives nothing
+pub left_by_lists : (input : Input) (t : ImportSlot) → is_host_by_lists (scan_of input) t ≡ is_none (by_got input t)
+left_by_lists input t =
+    ap is_unresolved (later_is input t)
+    ∙ unresolved_is input (is_from (codes "GOT.mem") t) (is_from (codes "GOT.func") t)
+    (position (is_called input t.item.name) (got_mem input))
+    (position (λ (p : Definition × FunctionTarget). is_called input t.item.name p.0) (got_func input))
+    (first_like same_import (first_imports (host_globals input)) t).object (first_like same_import (first_imports (host_globals input)) t).number
 
 -- ---- the slots of an object
 
 walked_slots : (input : Input) (object n : ℕ) (symbols : List LinkedSymbol) (is : List Imported)
-    → stepped (walked_at (walk_of input (later_by_got (scan_of input)) Global object)) n is
+    → stepped (walked_at (walk_of input (scan_of input) object)) n is
     (map (named_resolution input) (numbered_slots object Global symbols n is))
     ≡ map (global_resolution input) (numbered_slots object Global symbols n is)
 walked_slots input object n symbols [] = refl
@@ -113,7 +153,7 @@ walked_slots input object n symbols (i ∷ is) =
     let t = slot_at object Global symbols n i in
     let rest = numbered_slots object Global symbols (n + 1) is in
     ap (λ (r : ImportResolution). r
-    ∷ stepped (walked_at (walk_of input (later_by_got (scan_of input)) Global object)) (n + 1) is (map (named_resolution input) rest))
+    ∷ stepped (walked_at (walk_of input (scan_of input) object)) (n + 1) is (map (named_resolution input) rest))
     (walked_global input object n symbols i)
     ∙ ap (λ (rs : List ImportResolution). global_resolution input t ∷ rs) (walked_slots input object (n + 1) symbols is)
 

@@ -10,8 +10,8 @@ pub mod MismatchLaws
 pub mod OneRuleLaws
 pub mod ResolvingLaws
 pub mod RowLaws
-pub mod RowsLaws
 pub mod SameLaws
+pub mod ScanLaws
 pub mod SharedLaws
 pub mod StepLaws
 pub mod SteppedLaws

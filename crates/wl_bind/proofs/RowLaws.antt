@@ -1,6 +1,7 @@
 -- Slots and rows, object by object.
-use Rattle.std.proofs.Common.{◌≡◌, ◌∙◌, ℕ, zero, suc, ◌+◌, ◌<◌, List, [], ◌∷◌, ◌++◌, length, drop, map, refl, sym, ap, arith, append_assoc, Option, slice_get, slice_index_or, Contains}
+use Rattle.std.proofs.Common.{◌≡◌, ◌∙◌, ℕ, zero, suc, ◌+◌, ◌<◌, ◌≤◌, List, [], ◌∷◌, ◌++◌, length, drop, map, refl, sym, ap, arith, append_assoc, append-nil, Option, slice_get, slice_index_or, Contains}
 use Rattle.std.specs.Option.{option_map_or, option_and_then}
+use Rattle.std.proofs.lemmas.List.{drop_all}
 use Rattle.std.proofs.lemmas.List.Elements.{Contains-append_left, Contains-append_right}
 use Rattle.std.proofs.lemmas.Option.{get_or_from_slice_get}
 use Rattle.wl_linking.specs.Object.{Object}
@@ -9,9 +10,9 @@ use Rattle.wl_custom.specs.declared.symbols.WasmSymbolKind.TheVariants.{Func}
 use Rattle.wl_symbols.specs.ImportSlots.{ImportSlot, object_slots, import_slots}
 use Rattle.wl_symbols.specs.Input.{Input}
 use Rattle.wl_symbols.specs.KeptSlots.{slots_from}
-use Rattle.wl_bind.specs.FunctionSymbols.{kept_binding, binding_at, bindings_from, function_bindings}
+use Rattle.wl_bind.specs.FunctionSymbols.{kept_binding, binding_at, function_bindings}
+use Rattle.wl_bind.specs.SlotRows.{slot_rows}
 use Rattle.wl_bind.specs.BindingSteps.{row_at}
-use Rattle.wl_bind.specs.declared.binding.FunctionTarget.{FunctionTarget}
 use Rattle.wl_lists.proofs.Splits.{splits}
 
 -- ---- the slots of objects
@@ -32,22 +33,28 @@ slot_is_one kind objects i t listed = slot_within kind 0 i i objects t (omega ar
 -- ---- rows
 
 -- the row of one more object
-pub rows_more : (input : Input) (objects : List Object) (k : ℕ) → k < length objects
-    → bindings_from input k (drop k objects) ≡ map (kept_binding input) (import_slots objects k Func) ∷ bindings_from input (k + 1) (drop (k + 1) objects)
-rows_more input objects k lt =
+pub rows_more : {X : Type 0} (f : ImportSlot → X) (kind : WasmSymbolKind) (objects : List Object) (k : ℕ) → k < length objects
+    → slot_rows f kind k (drop k objects) ≡ map f (import_slots objects k kind) ∷ slot_rows f kind (k + 1) (drop (k + 1) objects)
+rows_more f kind objects k lt =
     let s = splits objects k lt in
     let e : k + 1 ≡ suc k = omega arith in
     let split : drop k objects ≡ s.x ∷ drop (k + 1) objects = rw e s.split in
     rw (split, s.here) refl
 
 -- one more row behind the others
-pub row_pushed : (input : Input) (objects : List Object) (k : ℕ) (row : List (Option FunctionTarget)) (rows new all : List (List (Option FunctionTarget))) → k < length objects
-    → row ≡ map (kept_binding input) (import_slots objects k Func) → new ≡ rows ++ row ∷ [] → rows ++ bindings_from input k (drop k objects) ≡ all
-    → new ++ bindings_from input (k + 1) (drop (k + 1) objects) ≡ all
-row_pushed input objects k row rows new all lt is pushed so =
-    let rest : List (List (Option FunctionTarget)) = bindings_from input (k + 1) (drop (k + 1) objects) in
-    let step : bindings_from input k (drop k objects) ≡ row ∷ rest = rw is (rows_more input objects k lt) in
-    ap (λ (t : List (List (Option FunctionTarget))). t ++ rest) pushed ∙ append_assoc rows (row ∷ []) rest ∙ (ap (λ (t : List (List (Option FunctionTarget))). rows ++ t) (sym step) ∙ so)
+pub row_pushed : {X : Type 0} (f : ImportSlot → X) (kind : WasmSymbolKind) (objects : List Object) (k : ℕ) (row : List X) (rows new all : List (List X)) → k < length objects
+    → row ≡ map f (import_slots objects k kind) → new ≡ rows ++ row ∷ [] → rows ++ slot_rows f kind k (drop k objects) ≡ all
+    → new ++ slot_rows f kind (k + 1) (drop (k + 1) objects) ≡ all
+row_pushed {X} f kind objects k row rows new all lt is pushed so =
+    let rest : List (List X) = slot_rows f kind (k + 1) (drop (k + 1) objects) in
+    let step : slot_rows f kind k (drop k objects) ≡ row ∷ rest = rw is (rows_more f kind objects k lt) in
+    ap (λ (t : List (List X)). t ++ rest) pushed ∙ append_assoc rows (row ∷ []) rest ∙ (ap (λ (t : List (List X)). rows ++ t) (sym step) ∙ so)
+
+-- behind the last object
+pub rows_end : {X : Type 0} (f : ImportSlot → X) (kind : WasmSymbolKind) (objects : List Object) (k : ℕ) (rows all : List (List X)) → length objects ≤ k
+    → rows ++ slot_rows f kind k (drop k objects) ≡ all → rows ≡ all
+rows_end {X} f kind objects k rows all le so =
+    sym (append-nil rows) ∙ (ap (λ (os : List Object). rows ++ slot_rows f kind k os) (sym (drop_all k objects le)) ∙ so)
 
 -- one more entry behind the others
 pub entry_pushed : {X Y : Type 0} (f : X → Y) (xs : List X) (k : ℕ) (x : X) (y : Y) (list new all : List Y) → k < length xs → x ≡ slice_index_or xs k x → y ≡ f x
@@ -68,7 +75,7 @@ entry_of f (x ∷ xs) zero = refl
 entry_of f (x ∷ xs) (suc k) = entry_of f xs k
 
 row_from : (input : Input) (n i m k : ℕ) (objects : List Object) → n + i ≡ m
-    → row_at (bindings_from input n objects) i k ≡ option_and_then (kept_binding input) (slice_get (option_map_or (object_slots m Func) (slice_get objects i) []) k)
+    → row_at (slot_rows (kept_binding input) Func n objects) i k ≡ option_and_then (kept_binding input) (slice_get (option_map_or (object_slots m Func) (slice_get objects i) []) k)
 row_from input n i m k [] same = refl
 row_from input n zero m k (o ∷ objects) same =
     let at : m ≡ n = omega (arith, same) in

@@ -27,7 +27,8 @@ use Rattle.wl_bind.specs.Numbering.{IsNumbering}
 use Rattle.wl_bind.specs.NumberingSteps.{FitsPlace, HasIndex, IsResolvedIndex, host_place, resolution_of, own_indices_of, HaveSlotIndices, IsSlotIndex}
 use Rattle.wl_bind.specs.Parts.{AreStarts, starts_from, total, lengths_of, joined, IsIndexOf, AreIndicesOf}
 use Rattle.wl_bind.specs.Resolutions.{kept_number, resolved_function, stub_place, as_function, function_resolution}
-use Rattle.wl_bind.specs.Shared.{function_imports, import_place, places_from, place_in, place_at, shared_of, Shared}
+use Rattle.wl_bind.specs.SlotRows.{slot_rows}
+use Rattle.wl_bind.specs.Shared.{function_imports, import_place, import_places, place_in, place_at, shared_of, Shared}
 use Rattle.wl_bind.specs.Undefined.{is_host_slot}
 use Rattle.wl_bind.specs.declared.binding.FunctionTarget.{FunctionTarget}
 use Rattle.wl_bind.specs.declared.binding.FunctionTarget.TheVariants as function
@@ -121,7 +122,7 @@ place_at_slot f (y ∷ xs) (suc k) x at = place_at_slot f xs k x at
 
 pub places_in : (input : Input) (kind : WasmSymbolKind) (imports : List HostImport) (n m : ℕ) (os : List Object) (i k : ℕ) (t : ImportSlot)
     → n + i ≡ m → slice_get (option_map_or (object_slots m kind) (slice_get os i) []) k ≡ Some t
-    → place_in (places_from input kind imports n os) i k ≡ import_place input kind imports t
+    → place_in (slot_rows (import_place input kind imports) kind n os) i k ≡ import_place input kind imports t
 places_in input kind imports n m [] i k t is at = absurd cc
 places_in input kind imports n m (o ∷ os) zero k t is at =
     let same : m ≡ n = omega (arith, is) in
@@ -134,7 +135,7 @@ function_place : (input : Input) (object k : ℕ) (t : ImportSlot) → slice_get
     → place_at (shared_of input) Func t.object t.number ≡ import_place input Func (function_imports input) t
 function_place input object k t here =
     let at : IsAt object Func k t = placed input.link.objects object Func k t here in
-    let rows : List (List (Option ℕ)) = places_from input Func (function_imports input) 0 input.link.objects in
+    let rows : List (List (Option ℕ)) = import_places input Func (function_imports input) in
     ap (λ (i : ℕ). place_in rows i t.number) at.object_is
     ∙ (ap (λ (m : ℕ). place_in rows object m) at.number_is
     ∙ places_in input Func (function_imports input) 0 object input.link.objects object k t (omega arith) here)

@@ -66,3 +66,17 @@ module _ {X Y : Type 0} (step : ℕ → X → Y → Y) where
   pub last_turn : (xs : List X) (k : ℕ) (ys all : List Y) → length xs ≤ k → left_from k xs ys ≡ all → ys ≡ all
   last_turn xs k ys all le rest =
       sym (behind_end ys k k) ∙ (ap (λ (ws : List X). stepped_behind step k k ws ys) (sym (drop_all k xs le)) ∙ rest)
+
+  -- ---- the same in a loop that takes the first list
+
+  pub one_taken : (xs rest : List X) (k m n : ℕ) (x : X) (ys zs all : List Y) → xs ≡ x ∷ rest → n ≡ k → m ≡ k + 1 → zs ≡ step_at step n n x ys
+      → stepped_behind step k k xs ys ≡ all → stepped_behind step m m rest zs ≡ all
+  one_taken xs rest k m n x ys zs all is at next new so =
+      let here : stepped_behind step k k (x ∷ rest) ys ≡ all = rw is at so in
+      let more = behind_more ys k k x rest in
+      rw (next, new, at)
+      (ap (λ (p : ℕ). stepped_behind step p (k + 1) rest (step_at step k k x ys)) (sym (next_is k)) ∙ (sym more ∙ here))
+
+  pub none_taken : (xs : List X) (k : ℕ) (ys all : List Y) → length xs ≡ 0 → stepped_behind step k k xs ys ≡ all → ys ≡ all
+  none_taken [] k ys all none so = sym (behind_end ys k k) ∙ so
+  none_taken (x ∷ xs) k ys all none so = absurd (omega (arith, none))

@@ -1,4 +1,4 @@
--- Function slots with what names resolve them to, and the stubs among them.
+-- Function slots with what they are resolved to, and the rows of resolutions.
 use Rattle.std.proofs.Common.{◌≡◌, ◌∙◌, ℕ, ◌+◌, ◌&&◌, Bool, true, false, List, [], ◌∷◌, map, Option, Some, None, is_some, Contains, refl, sym, ap, if◌then◌else◌, unwrap_or}
 use Rattle.std.specs.List.{position}
 use Rattle.std.specs.Option.{option_or, option_map, option_map_or, is_none}
@@ -16,9 +16,11 @@ use Rattle.wl_symbols.specs.declared.targets.SlotTarget.TheVariants as slot
 use Rattle.wl_symbols.specs.Input.{Input, keeps_slot}
 use Rattle.wl_symbols.specs.KeptSlots.{slots_from, is_kept_slot, kept_slots}
 use Rattle.wl_bind.specs.FunctionBinding.{left_functions, link_stubs, named_function, by_stub, by_host, binds_function}
-use Rattle.wl_bind.specs.Resolutions.{resolved, named_resolution, as_function, function_resolution, global_resolution, rows_from, by_names_and_got, by_all_rules, resolutions}
+use Rattle.wl_bind.specs.Resolutions.{resolved, as_function, function_resolution, global_resolution, rows_from, by_names_and_got, by_all_rules, resolutions}
 use Rattle.wl_bind.specs.Stepped.{stepped}
-use Rattle.wl_bind.specs.Later.{later_by_stub, is_unresolved, walk_of, walked_at, functions_walked}
+use Rattle.wl_bind.specs.Later.{with_functions, with_globals}
+use Rattle.wl_bind.specs.BindingSteps.{left_resolution}
+use Rattle.wl_bind.specs.SlotRows.{slot_rows, function_part}
 use Rattle.wl_bind.specs.declared.binding.FunctionTarget.{FunctionTarget}
 use Rattle.wl_bind.specs.declared.binding.FunctionTarget.TheVariants as function
 use Rattle.wl_bind.specs.declared.resolution.ImportResolution.{ImportResolution}
@@ -59,89 +61,79 @@ stub_or_none input t false None first is at = refl
 stub_or_none input t true (Some k) first is at = ap (λ (p : Option ℕ). WeakUndefStub (unwrap_or p 0)) (sym at)
 stub_or_none input t false (Some k) first is at = absurd cc
 
--- what the rule makes of an import is what the slot is bound to by it, or nothing
-later_is : (input : Input) (t : ImportSlot) → StubsAreTold input → Contains (left_functions input) t
-    → later_by_stub (map first_slot (link_stubs input)) t.item ≡ as_function input t (unwrap_or (by_stub input t) (by_host input t))
-later_is input t told left =
+-- what such a slot is resolved to is what it is bound to, or nothing
+pub left_is : (input : Input) (t : ImportSlot) → StubsAreTold input → Contains (left_functions input) t
+    → left_resolution (map first_slot (link_stubs input)) t ≡ as_function input t (unwrap_or (by_stub input t) (by_host input t))
+left_is input t told left =
     stub_or_none input t (is_stub input.link.objects (left_functions input) t) (place_of_name t.item.name (map first_slot (link_stubs input)))
     (first_like same_field (link_stubs input) t) (told t left)
     (sym (mapped_position first_slot (λ (h : HostImport). bytes_eq t.item.name h.name) (same_field t) (λ u. refl) (link_stubs input)))
 
 -- ---- a slot
 
-picked : (input : Input) (t : ImportSlot) (kept : Bool) (target : Option SlotTarget) (later : ImportResolution) (stub : Option FunctionTarget)
-    → (kept ≡ true → target ≡ None → later ≡ as_function input t (unwrap_or stub (by_host input t)))
-    → (if is_unresolved (if kept then option_map_or (resolved input Func) target Unresolved else Unresolved) && kept
-    then later else (if kept then option_map_or (resolved input Func) target Unresolved else Unresolved))
-    ≡ (if kept then as_function input t (unwrap_or (option_or (option_map named_function target) stub) (by_host input t)) else Unresolved)
-picked input t false target later stub is = refl
-picked input t true (Some (slot.Defined object number)) later stub is = refl
-picked input t true (Some (slot.Made m)) later stub is = refl
-picked input t true None later stub is = is refl refl
-
 -- a kept slot that names leave is one of those
-is_left : (input : Input) (t : ImportSlot) → Contains (slots_from Func 0 input.link.objects) t → is_kept_slot input t ≡ true
+pub is_left : (input : Input) (t : ImportSlot) → Contains (slots_from Func 0 input.link.objects) t → is_kept_slot input t ≡ true
     → slot_target input.link t ≡ None → Contains (left_functions input) t
 is_left input t one kept none =
     Contains-filter (λ (u : ImportSlot). is_none (slot_target input.link u)) (kept_slots input Func) t
     (Contains-filter (is_kept_slot input) (slots_from Func 0 input.link.objects) t one kept)
     (ap is_none none)
 
-walked_function : (input : Input) (object n : ℕ) (symbols : List LinkedSymbol) (i : Imported) → StubsAreTold input
-    → Contains (slots_from Func 0 input.link.objects) (slot_at object Func symbols n i)
-    → walked_at (walk_of input (later_by_stub (map first_slot (link_stubs input))) Func object) n i (named_resolution input (slot_at object Func symbols n i))
-    ≡ function_resolution input (slot_at object Func symbols n i)
-walked_function input object n symbols i told one =
-    let t = slot_at object Func symbols n i in
-    let kept = keeps_slot input Func object n in
-    picked input t kept (slot_target input.link t) (later_by_stub (map first_slot (link_stubs input)) i) (by_stub input t)
-    (λ k none. later_is input t told (is_left input t one k none))
-    ∙ ap (λ (f : FunctionTarget). if kept then as_function input t f else Unresolved) (sym (binds input t (slot_target input.link t) refl))
+-- a kept slot that names leave is resolved by its stub
+pub left_resolved : (input : Input) (t : ImportSlot) → StubsAreTold input → Contains (slots_from Func 0 input.link.objects) t → is_kept_slot input t ≡ true
+    → slot_target input.link t ≡ None → left_resolution (map first_slot (link_stubs input)) t ≡ function_resolution input t
+left_resolved input t told one kept none =
+    let bound : as_function input t (unwrap_or (by_stub input t) (by_host input t)) ≡ as_function input t (binds_function input t) = ap (as_function input t) (sym (binds input t None none)) in
+    let whole : function_resolution input t ≡ as_function input t (binds_function input t) = ap (λ (k : Bool). if k then as_function input t (binds_function input t) else Unresolved) kept in
+    left_is input t told (is_left input t one kept none) ∙ bound ∙ sym whole
 
--- ---- the slots of an object
+resolved_is : (input : Input) (t : ImportSlot) (target : SlotTarget) → resolved input Func target ≡ as_function input t (named_function target)
+resolved_is input t (slot.Defined object number) = refl
+resolved_is input t (slot.Made m) = refl
 
--- all of these slots are some of those
-abbrev AreAmong : List ImportSlot → List ImportSlot → Type 0
-AreAmong slots all = (t : ImportSlot) → Contains slots t → Contains all t
+-- a kept slot that names bind is resolved to what they bind it to
+pub named_resolved : (input : Input) (t : ImportSlot) (target : SlotTarget) → is_kept_slot input t ≡ true
+    → slot_target input.link t ≡ Some target → resolved input Func target ≡ function_resolution input t
+named_resolved input t target kept some =
+    let whole : function_resolution input t ≡ as_function input t (binds_function input t) = ap (λ (k : Bool). if k then as_function input t (binds_function input t) else Unresolved) kept in
+    resolved_is input t target ∙ ap (as_function input t) (sym (binds input t (Some target) some)) ∙ sym whole
 
-walked_slots : (input : Input) (object n : ℕ) (symbols : List LinkedSymbol) (is : List Imported) → StubsAreTold input
-    → AreAmong (numbered_slots object Func symbols n is) (slots_from Func 0 input.link.objects)
-    → stepped (walked_at (walk_of input (later_by_stub (map first_slot (link_stubs input))) Func object)) n is
-    (map (named_resolution input) (numbered_slots object Func symbols n is))
-    ≡ map (function_resolution input) (numbered_slots object Func symbols n is)
-walked_slots input object n symbols [] told among = refl
-walked_slots input object n symbols (i ∷ is) told among =
-    let t = slot_at object Func symbols n i in
-    let rest = numbered_slots object Func symbols (n + 1) is in
-    ap (λ (r : ImportResolution). r
-    ∷ stepped (walked_at (walk_of input (later_by_stub (map first_slot (link_stubs input))) Func object)) (n + 1) is (map (named_resolution input) rest))
-    (walked_function input object n symbols i told (among t (Contains-here t rest)))
-    ∙ ap (λ (rs : List ImportResolution). function_resolution input t ∷ rs)
-    (walked_slots input object (n + 1) symbols is told (λ u h. among u (Contains-there t u rest h)))
+-- ---- the rows of resolutions
 
--- ---- the slots of all objects
+set_rows : (input : Input) (n : ℕ) (os : List Object)
+    → stepped with_functions n (slot_rows (function_resolution input) Func n os) (rows_from (by_names_and_got input) n os) ≡ rows_from (by_all_rules input) n os
+set_rows input n [] = refl
+set_rows input n (o ∷ os) =
+    ap (λ (rows : List ObjectImportResolutions). the_row (map (function_resolution input) (object_slots n Func o)) (map (global_resolution input) (object_slots n Global o)) ∷ rows)
+    (set_rows input (n + 1) os)
 
-walked_rows : (input : Input) (n : ℕ) (os : List Object) → StubsAreTold input
-    → AreAmong (slots_from Func n os) (slots_from Func 0 input.link.objects)
-    → stepped (functions_walked input (map first_slot (link_stubs input))) n os (rows_from (by_names_and_got input) n os)
-    ≡ rows_from (by_all_rules input) n os
-walked_rows input n [] told among = refl
-walked_rows input n (o ∷ os) told among =
-    let here = object_slots n Func o in
-    let rest = slots_from Func (n + 1) os in
-    let globals = map (global_resolution input) (object_slots n Global o) in
-    ap (λ (functions : List ImportResolution). the_row functions globals
-    ∷ stepped (functions_walked input (map first_slot (link_stubs input))) (n + 1) os (rows_from (by_names_and_got input) (n + 1) os))
-    (walked_slots input n 0 o.symbols (slot_imports Func o.imports) told (λ u h. among u (Contains-append_left here rest u h)))
-    ∙ ap (λ (rows : List ObjectImportResolutions). the_row (map (function_resolution input) here) globals ∷ rows)
-    (walked_rows input (n + 1) os told (λ u h. among u (Contains-append_right here rest u h)))
-
--- rows that names and the GOT lists resolve, with the stubs
-pub stubbed : (input : Input) (old new : List ObjectImportResolutions) → StubsAreTold input
-    → old ≡ resolutions input (by_names_and_got input)
-    → new ≡ stepped (functions_walked input (map first_slot (link_stubs input))) 0 input.link.objects old
+-- rows that names and the GOT lists resolve, with what all rules make of function slots
+pub stubbed : (input : Input) (bound old new : List ObjectImportResolutions)
+    → map function_part bound ≡ slot_rows (function_resolution input) Func 0 input.link.objects
+    → old ≡ resolutions input (by_names_and_got input) → new ≡ stepped with_functions 0 (map function_part bound) old
     → new ≡ resolutions input (by_all_rules input)
-stubbed input old new told were are =
+stubbed input bound old new functions were are =
     are
-    ∙ (ap (stepped (functions_walked input (map first_slot (link_stubs input))) 0 input.link.objects) were
-    ∙ walked_rows input 0 input.link.objects told (λ t h. h))
+    ∙ (ap (λ (fs : List (List ImportResolution)). stepped with_functions 0 fs old) functions
+    ∙ (ap (stepped with_functions 0 (slot_rows (function_resolution input) Func 0 input.link.objects)) were ∙ set_rows input 0 input.link.objects))
+
+joined_rows : (input : Input) (n : ℕ) (os : List Object) (rows : List ObjectImportResolutions)
+    → map function_part rows ≡ slot_rows (function_resolution input) Func n os
+    → stepped with_globals n (slot_rows (global_resolution input) Global n os) rows ≡ rows_from (by_all_rules input) n os
+joined_rows input n [] [] are = refl
+joined_rows input n [] (row ∷ rows) are = absurd cc
+joined_rows input n (o ∷ os) [] are = absurd cc
+joined_rows input n (o ∷ os) (row ∷ rows) are =
+    let here : row.function_resolutions ≡ map (function_resolution input) (object_slots n Func o) = cc in
+    let rest : map function_part rows ≡ slot_rows (function_resolution input) Func (n + 1) os = cc in
+    let globals = map (global_resolution input) (object_slots n Global o) in
+    ap (λ (fs : List ImportResolution). the_row fs globals ∷ stepped with_globals (n + 1) (slot_rows (global_resolution input) Global (n + 1) os) rows) here
+    ∙ ap (λ (rs : List ObjectImportResolutions). the_row (map (function_resolution input) (object_slots n Func o)) globals ∷ rs) (joined_rows input (n + 1) os rows rest)
+
+-- rows of function slots, with what all rules make of global slots
+pub globals_joined : (input : Input) (old new : List ObjectImportResolutions) (globals : List (List ImportResolution))
+    → map function_part old ≡ slot_rows (function_resolution input) Func 0 input.link.objects
+    → globals ≡ slot_rows (global_resolution input) Global 0 input.link.objects → new ≡ stepped with_globals 0 globals old
+    → new ≡ resolutions input (by_all_rules input)
+globals_joined input old new globals functions rows are =
+    are ∙ (ap (λ (gs : List (List ImportResolution)). stepped with_globals 0 gs old) rows ∙ joined_rows input 0 input.link.objects old functions)

@@ -1,5 +1,5 @@
 -- Functions while they are bound, and types while they are compared.
-use Rattle.std.specs.Prelude.{◌≡◌, ◌⊎◌, ℕ, ◌&&◌, if◌then◌else◌, Bool, true, false, not, List, Option, slice_get, find, map}
+use Rattle.std.specs.Prelude.{◌≡◌, ◌⊎◌, ℕ, ◌&&◌, if◌then◌else◌, Bool, true, false, not, List, Option, None, slice_get, find, map}
 use Rattle.std.specs.List.{filter_map}
 use Rattle.std.specs.Option.{option_or, option_map_or, option_and_then}
 use Rattle.std.specs.Str.{bytes_eq}
@@ -12,13 +12,15 @@ use Rattle.wl_linking.specs.declared.error.LinkError.{LinkError}
 use Rattle.wl_linking.specs.declared.error.LinkError.TheVariants.{SignatureMismatch}
 use Rattle.wl_symbols.specs.Entries.{symbol_in}
 use Rattle.wl_symbols.specs.ImportSlots.{ImportSlot}
-use Rattle.wl_symbols.specs.Left.{HostImport}
+use Rattle.wl_symbols.specs.Left.{HostImport, place_of_name, place_of_import}
 use Rattle.wl_symbols.specs.Input.{Input}
 use Rattle.wl_bind.specs.FunctionSymbols.{defined_function, own_function, fun}
 use Rattle.wl_bind.specs.FunctionTypes.{type_number, declared_type, target_type}
 use Rattle.wl_bind.specs.Signatures.{OnKeptSlot, NamedByInit}
 use Rattle.wl_bind.specs.declared.binding.FunctionTarget.{FunctionTarget}
 use Rattle.wl_bind.specs.declared.binding.FunctionTarget.TheVariants.{Host, Stub}
+use Rattle.wl_bind.specs.declared.resolution.ImportResolution.{ImportResolution}
+use Rattle.wl_bind.specs.declared.resolution.ImportResolution.TheVariants.{Unresolved, WeakUndefStub}
 use Rattle.wl_symbols.specs.declared.relocated.Relocated.{Relocated}
 
 -- ---- rows
@@ -52,6 +54,18 @@ left_target stubs hosts t =
     option_map_or
     (λ (h : HostImport). Stub h.object h.slot)
     (stub_named t.item.name stubs) (host_target hosts t)
+
+-- what the slot is resolved to: its stub, or nothing
+abbrev pub left_resolution : List HostImport → ImportSlot → ImportResolution
+left_resolution stubs t =
+    option_map_or (λ k. WeakUndefStub k) (place_of_name t.item.name stubs) Unresolved
+
+-- the place of the host import that it is, unless it is a stub
+abbrev pub left_place : List HostImport → List HostImport → ImportSlot → Option ℕ
+left_place stubs hosts t =
+    option_map_or
+    (λ k. None)
+    (place_of_name t.item.name stubs) (place_of_import t.item.origin t.item.name hosts)
 
 -- ---- symbols
 

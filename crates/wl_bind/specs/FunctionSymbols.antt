@@ -1,15 +1,16 @@
 -- The function that a function symbol leads to.
-use Rattle.std.specs.Prelude.{ℕ, ◌+◌, if◌then◌else◌, List, [], ◌∷◌, map, Option, Some, None, slice_get}
+use Rattle.std.specs.Prelude.{ℕ, if◌then◌else◌, List, Option, Some, None, slice_get}
 use Rattle.std.specs.Option.{option_or, option_map, option_and_then}
 use Rattle.wl_linking.specs.Object.{Object}
 use Rattle.wl_custom.specs.Symbols.{Symbol, is_undefined, is_weak, is_function}
 use Rattle.wl_custom.specs.declared.symbols.WasmSymbolKind.TheVariants.{Func}
 use Rattle.wl_symbols.specs.Names.{def}
-use Rattle.wl_symbols.specs.ImportSlots.{ImportSlot, object_slots, import_slots}
+use Rattle.wl_symbols.specs.ImportSlots.{ImportSlot, import_slots}
 use Rattle.wl_symbols.specs.SlotTargets.{object_target, symbol_target}
 use Rattle.wl_symbols.specs.Input.{Input}
 use Rattle.wl_symbols.specs.KeptSlots.{is_kept_slot}
 use Rattle.wl_bind.specs.FunctionBinding.{named_function, binds_function}
+use Rattle.wl_bind.specs.SlotRows.{slot_rows}
 use Rattle.wl_bind.specs.declared.binding.FunctionTarget.{FunctionTarget}
 
 -- what a function slot is bound to, where it is kept
@@ -49,12 +50,6 @@ fun input object number =
     (slice_get o.symbols number))
     (slice_get input.link.objects object)
 
--- what the function slots of these objects are bound to, the first of which has that number
-abbrev pub bindings_from : Input → ℕ → List Object → List (List (Option FunctionTarget))
-bindings_from input object [] = []
-bindings_from input object (o ∷ objects) =
-    map (kept_binding input) (object_slots object Func o) ∷ bindings_from input (object + 1) objects
-
 -- what the function slots of all objects are bound to
 abbrev pub function_bindings : Input → List (List (Option FunctionTarget))
-function_bindings input = bindings_from input 0 input.link.objects
+function_bindings input = slot_rows (kept_binding input) Func 0 input.link.objects

@@ -10,6 +10,7 @@ pub mod Signatures
 pub mod Undefined
 pub mod Conflicts
 pub mod ScanFaults
+pub mod SlotRows
 pub mod Stepped
 pub mod Later
 pub mod KindSteps
@@ -18,8 +19,12 @@ pub mod ConflictSteps
 pub mod Shared
 pub mod GotSteps
 pub mod BindingSteps
+pub mod ScanSteps
+pub mod Walks
 pub mod BindingCases
 pub mod SharedSteps
+pub mod FunctionSlots
+pub mod GlobalSlots
 pub mod Bound
 pub mod Parts
 pub mod PartSteps

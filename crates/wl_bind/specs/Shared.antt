@@ -1,14 +1,14 @@
 -- The imports that the host is asked for.
-use Rattle.std.specs.Prelude.{ℕ, ◌+◌, List, [], ◌∷◌, map, Option, None, if◌then◌else◌, slice_get}
+use Rattle.std.specs.Prelude.{ℕ, List, map, Option, None, if◌then◌else◌, slice_get}
 use Rattle.std.specs.Option.{option_and_then}
-use Rattle.wl_linking.specs.Object.{Object}
 use Rattle.wl_custom.specs.declared.symbols.WasmSymbolKind.{WasmSymbolKind}
 use Rattle.wl_custom.specs.declared.symbols.WasmSymbolKind.TheVariants.{Func, Data, Global, Section, Event, Table}
-use Rattle.wl_symbols.specs.ImportSlots.{ImportSlot, object_slots}
+use Rattle.wl_symbols.specs.ImportSlots.{ImportSlot}
 use Rattle.wl_symbols.specs.Left.{HostImport, first_imports, first_slot, place_of_import}
 use Rattle.wl_symbols.specs.Input.{Input}
 use Rattle.wl_bind.specs.FunctionBinding.{host_functions}
 use Rattle.wl_bind.specs.GlobalBinding.{host_globals}
+use Rattle.wl_bind.specs.SlotRows.{slot_rows}
 use Rattle.wl_bind.specs.Undefined.{is_host_slot}
 
 -- the functions that the host is asked for, one per module and field name, in order of their first
@@ -25,13 +25,10 @@ abbrev pub import_place : Input → WasmSymbolKind → List HostImport → Impor
 import_place input kind imports t =
     if is_host_slot input kind t then place_of_import t.item.origin t.item.name imports else None
 
--- those of the slots of a kind of these objects, the first of which has that number
-abbrev pub places_from : Input → WasmSymbolKind → List HostImport → ℕ → List Object
-    → List (List (Option ℕ))
-places_from input kind imports object [] = []
-places_from input kind imports object (o ∷ objects) =
-    map (import_place input kind imports) (object_slots object kind o)
-    ∷ places_from input kind imports (object + 1) objects
+-- those of the slots of a kind of all objects
+abbrev pub import_places : Input → WasmSymbolKind → List HostImport → List (List (Option ℕ))
+import_places input kind imports =
+    slot_rows (import_place input kind imports) kind 0 input.link.objects
 
 -- the imports of functions and of globals, and for each slot of each object its import's place
 pub record Shared : Type 0 where
@@ -45,8 +42,8 @@ abbrev pub shared_of : Input → Shared
 shared_of input = record {
   functions = function_imports input;
   globals = global_imports input;
-  function_places = places_from input Func (function_imports input) 0 input.link.objects;
-  global_places = places_from input Global (global_imports input) 0 input.link.objects;
+  function_places = import_places input Func (function_imports input);
+  global_places = import_places input Global (global_imports input);
 }
 
 -- the place in a row of rows

@@ -1,13 +1,10 @@
 -- Slots that are left to the host, as they are found in the rows of resolutions.
-use Rattle.std.specs.Prelude.{ℕ, Bool, false, List, Option, None, if◌then◌else◌, slice_get}
-use Rattle.std.specs.List.{filter}
+use Rattle.std.specs.Prelude.{ℕ, Bool, false, List, Option, None, slice_get}
 use Rattle.std.specs.Option.{option_and_then, option_map_or}
 use Rattle.wl_custom.specs.declared.symbols.WasmSymbolKind.{WasmSymbolKind}
 use Rattle.wl_custom.specs.declared.symbols.WasmSymbolKind.TheVariants.{Func, Data, Global, Section, Event, Table}
 use Rattle.wl_symbols.specs.ImportSlots.{ImportSlot, import_slots}
-use Rattle.wl_symbols.specs.Left.{HostImport, place_of_import}
 use Rattle.wl_symbols.specs.Input.{Input}
-use Rattle.wl_symbols.specs.KeptSlots.{slots_from}
 use Rattle.wl_bind.specs.Undefined.{is_host_slot}
 use Rattle.wl_bind.specs.declared.resolution.ImportResolution.{ImportResolution}
 use Rattle.wl_bind.specs.declared.resolution.ObjectImportResolutions.{ObjectImportResolutions}
@@ -35,12 +32,3 @@ is_host_at input kind object number =
 -- the same of the kind, object and number of a slot
 abbrev pub is_host_of : Input → ImportSlot → Bool
 is_host_of input t = is_host_at input t.kind t.object t.number
-
--- the slots of a kind that are left to the host, object by object
-abbrev pub hosts_of : Input → WasmSymbolKind → List ImportSlot
-hosts_of input kind = filter (is_host_slot input kind) (slots_from kind 0 input.link.objects)
-
--- the place of a slot's import among these, where the slot is left to the host
-abbrev pub place_of : Input → List HostImport → ImportSlot → Option ℕ
-place_of input imports t =
-    if is_host_of input t then place_of_import t.item.origin t.item.name imports else None

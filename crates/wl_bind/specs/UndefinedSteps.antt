@@ -1,10 +1,8 @@
 -- Objects and names, as names that nothing defines.
 use Rattle.std.specs.Prelude.{ℕ, ◌&&◌, Bool, List, Option, Some, None}
-use Rattle.std.specs.List.{list_any}
 use Rattle.std.specs.Borrow.{Bor}
 use Rattle.indexmap.specs.IndexSet.{insert_key}
 use Rattle.wl_custom.specs.Symbols.{Symbol, is_data}
-use Rattle.wl_linking.specs.Object.{Object}
 use Rattle.wl_linking.specs.declared.error.UndefinedSymbol.{UndefinedSymbol}
 use Rattle.wl_symbols.specs.Input.{Input}
 use Rattle.wl_bind.specs.Scan.{definition_of}
@@ -29,11 +27,3 @@ insert_some names (Some name) = insert_key same_undefined names name
 abbrev pub is_undefined_data : Input → Relocated → Symbol → Bool
 is_undefined_data input r s =
     is_data s.kind && wants_definition s && is_undefined_definition input (definition_of input r)
-
--- the symbol is data that has to be defined
-abbrev pub is_wanted_data : Symbol → Bool
-is_wanted_data s = is_data s.kind && wants_definition s
-
--- an object has such a symbol
-abbrev pub has_wanted_data : List Object → Bool
-has_wanted_data objects = list_any (λ o. list_any is_wanted_data o.symbols) objects

@@ -9,7 +9,7 @@ ghost use Rattle.wl_bind.specs.Resolutions.{resolutions, by_names, by_names_and_
 use crate::later::Walk;
 use crate::resolution::ObjectImportResolutions;
 use crate::scan::RelocScan;
-use wl_linking::{File, WasmSymbolKind};
+use wl_linking::File;
 use wl_symbols::LinkInput;
 
 /// The global slots of an object with the entries of the GOT lists.
@@ -26,8 +26,7 @@ fn absorb_globals_at(
     if object < rows.len() {
         let walk = Walk {
             input,
-            rule: scan,
-            kind: WasmSymbolKind::Global,
+            scan,
             object,
         };
         let row = &mut rows[object];

@@ -7,6 +7,7 @@ ghost use Rattle.wl_bind.specs.IndexMaps.{IsIndexMap, AreIndexMaps};
 ghost use Rattle.wl_bind.specs.Numbering.{IsNumbering};
 ghost use Rattle.wl_bind.specs.OutputTypes.{IsMerged};
 
+use crate::function_slots::FunctionSlots;
 use crate::got_globals::{got_func_globals, got_mem_globals};
 use crate::merging::MergedTypes;
 use crate::numbering::Numbering;
@@ -104,9 +105,10 @@ fn asked_bindings(
 {
     let scan = numbering.scan;
     if scan.got_func.is_empty() {
-        return Ok(FunctionBindings::none(alloc));
+        return Ok(FunctionBindings::of(Vec::new(alloc)));
     }
-    FunctionBindings::new(alloc, numbering.input)
+    let slots = FunctionSlots::new(alloc, numbering.input)?;
+    Ok(slots.bindings)
 }
 
 /// The maps of all objects.

@@ -15,7 +15,7 @@ use crate::binding::FunctionTarget;
 use crate::targets::FunctionBindings;
 use crate::types::type_of_defined;
 use wl_linking::{LinkError, WasmInitFunc, WasmSymbol};
-use wl_symbols::{Definition, LinkInput, Relocated, WasmLinkerSymbol, kept_relocations};
+use wl_symbols::{Definition, LinkInput, Relocated, WasmLinkerSymbol};
 
 // ---- relocations
 
@@ -43,7 +43,7 @@ fn is_no_data(input: &LinkInput<'_, '_>, definition: Definition) -> bool
 }
 
 /// Whether the relocation doesn't take the symbol that it names.
-fn is_wrong_use(input: &LinkInput<'_, '_>, relocated: &Relocated, symbol: &WasmSymbol<'_>) -> bool
+pub(crate) fn is_wrong_use(input: &LinkInput<'_, '_>, relocated: &Relocated, symbol: &WasmSymbol<'_>) -> bool
     requires { symbol_of input.now relocated.now ≡ Some symbol.now }
     ensures { result ≡ is_wrong_use input.now relocated.now symbol.now }
 {
@@ -54,41 +54,15 @@ fn is_wrong_use(input: &LinkInput<'_, '_>, relocated: &Relocated, symbol: &WasmS
     symbol.kind.is_data() && is_no_data(input, input.symbols().definition(relocated.object, number))
 }
 
-/// Whether the relocation names a symbol, and doesn't take it.
-fn is_wrong_relocation(input: &LinkInput<'_, '_>, relocated: &Relocated) -> bool
-    ensures { result ≡ is_wrong_relocation input.now relocated.now }
-{
-    if relocated.relocation.ty.names_a_type() {
-        return false;
-    }
-    match input
-        .symbols()
-        .symbol(relocated.object, relocated.relocation.index)
-    {
-        None => false,
-        Some(symbol) => is_wrong_use(input, relocated, symbol),
-    }
-}
-
-/// The first kept relocation that doesn't take the symbol that it names.
-fn find_wrong_relocation(input: &LinkInput<'_, '_>) -> Option<Relocated>
-    ensures { result ≡ find (is_wrong_relocation input.now) (relocations input.now) }
-{
-    for relocated in kept_relocations(input) {
-        if is_wrong_relocation(input, &relocated) {
-            return Some(relocated);
-        }
-    }
-    None
-}
-
-/// Sees that each kept relocation takes the symbol that it names.
+/// Sees that each kept relocation takes the symbol that it names, where the first that doesn't is
+/// known.
 #[tactic(auto, using(crate::proofs::KindLaws::no_wrong_use, crate::proofs::KindLaws::a_wrong_use))]
-fn check_uses(input: &LinkInput<'_, '_>) -> Result<(), LinkError>
+fn check_uses(input: &LinkInput<'_, '_>, wrong: Option<Relocated>) -> Result<(), LinkError>
+    requires { wrong ≡ find (is_wrong_relocation input.now) (relocations input.now) }
     ensures clear { OnOk result (Clear (IsWrongUse input.now)) }
     ensures err { IfErr result (IsWrongUse input.now) }
 {
-    match find_wrong_relocation(input) {
+    match wrong {
         None => Ok(()),
         Some(relocated) => Err(LinkError::WrongKind {
             object: relocated.object,
@@ -198,7 +172,8 @@ fn check_inits(input: &LinkInput<'_, '_>, bindings: &FunctionBindings) -> Result
 }
 
 /// Sees that each symbol is of the kind that its use asks for: first those that kept relocations
-/// name, then those of the functions that run at the start.
+/// name, of which the first that is wrong is known, then those of the functions that run at the
+/// start.
 ///
 /// # Errors
 /// `WrongKind` where a relocation names a symbol of a kind that its type doesn't take, or data that
@@ -208,11 +183,13 @@ fn check_inits(input: &LinkInput<'_, '_>, bindings: &FunctionBindings) -> Result
 pub(crate) fn check_kinds(
     input: &LinkInput<'_, '_>,
     bindings: &FunctionBindings,
+    wrong: Option<Relocated>,
 ) -> Result<(), LinkError>
-    requires { bindings.now ≡ function_bindings input.now }
+    requires bindings { bindings.now ≡ function_bindings input.now }
+    requires wrong { wrong ≡ find (is_wrong_relocation input.now) (relocations input.now) }
     ensures clear { OnOk result (Clear (IsWrongKind input.now)) }
     ensures err { IfErr result (IsWrongKind input.now) }
 {
-    check_uses(input)?;
+    check_uses(input, wrong)?;
     check_inits(input, bindings)
 }

@@ -1,60 +1,32 @@
-//! Later rules for slots that names leave unresolved: entries of the GOT lists, and stubs.
+//! The rule of the GOT lists, for global slots that names leave unresolved.
 
 ghost use Rattle.std.specs.Prelude.{◌≡◌};
 ghost use Rattle.wl_bind.specs.Stepped.{step_at};
-ghost use Rattle.wl_bind.specs.Later.{is_unresolved, walk_of, walked_at, walked};
+ghost use Rattle.wl_bind.specs.Later.{later_by_got, is_unresolved, walk_of, walked_at, walked};
 
 use crate::resolution::{ImportResolution, ResolutionList};
 use crate::scan::RelocScan;
 use wl_linking::{File, WasmSymbolKind};
 use wl_module::Import;
-use wl_symbols::{LinkInput, Stubs, is_slot_of};
+use wl_symbols::{LinkInput, is_slot_of};
 
-/// A rule for slots that names leave unresolved.
-pub(crate) trait LaterRule {
-    ghost use Rattle.wl_module.specs.Imports.{Imported};
-    ghost use Rattle.wl_bind.specs.declared.resolution.ImportResolution.{ImportResolution as Resolved};
-
-    /// What an import is.
-    ghost resolves: { Self → Imported → Resolved };
-
-    /// What an import is.
-    fn resolve(&self, import: &Import<'_>) -> ImportResolution
-        ensures { result ≡ resolves self.now import.now };
-}
-
-impl<'a> LaterRule for RelocScan<'a> {
-    ghost use Rattle.wl_bind.specs.Later.{later_by_got as by_got};
-
-    ghost resolves = { by_got };
-
-    fn resolve(&self, import: &Import<'_>) -> ImportResolution {
-        let place = match import.module {
-            "GOT.mem" => self
-                .got_mem
-                .place_of_name(import.name)
-                .map(ImportResolution::GotMemSlot),
-            "GOT.func" => self
-                .got_func
-                .place_of_name(import.name)
-                .map(ImportResolution::GotFuncSlot),
-            _ => None,
-        };
-        place.unwrap_or(ImportResolution::Unresolved)
-    }
-}
-
-impl<'a> LaterRule for Stubs<'a> {
-    ghost use Rattle.wl_bind.specs.Later.{later_by_stub as by_stub};
-
-    ghost resolves = { by_stub };
-
-    fn resolve(&self, import: &Import<'_>) -> ImportResolution {
-        match self.place(import.name) {
-            Some(stub_index) => ImportResolution::WeakUndefStub { stub_index },
-            None => ImportResolution::Unresolved,
-        }
-    }
+/// What an import of a global is by the entries of the GOT lists: one of the module `GOT.mem` or
+/// `GOT.func` the first entry of that list whose definition has the field name.
+pub(crate) fn got_resolution(scan: &RelocScan<'_>, module: &str, name: &str) -> ImportResolution
+    ensures { result ≡ later_by_got scan.now module.now name.now }
+{
+    let place = match module {
+        "GOT.mem" => scan
+            .got_mem
+            .place_of_name(name)
+            .map(ImportResolution::GotMemSlot),
+        "GOT.func" => scan
+            .got_func
+            .place_of_name(name)
+            .map(ImportResolution::GotFuncSlot),
+        _ => None,
+    };
+    place.unwrap_or(ImportResolution::Unresolved)
 }
 
 impl ImportResolution {
@@ -74,24 +46,23 @@ impl ImportResolution {
     }
 }
 
-/// The slots of a kind of an object, and the rule for them.
+/// The global slots of an object, and the lists for them.
 #[derive(Drop)]
-pub(crate) struct Walk<'w, 'i, 'a, R: LaterRule> {
+pub(crate) struct Walk<'w, 'i, 'a> {
     pub(crate) input: &'w LinkInput<'i, 'a>,
-    pub(crate) rule: &'w R,
-    pub(crate) kind: WasmSymbolKind,
+    pub(crate) scan: &'w RelocScan<'a>,
     pub(crate) object: usize,
 }
 
-impl<'w, 'i, 'a, R: LaterRule> Walk<'w, 'i, 'a, R> {
+impl<'w, 'i, 'a> Walk<'w, 'i, 'a> {
     /// The slot of that number with the rule, where it is kept and isn't resolved yet.
     fn resolve(&self, number: u32, import: &Import<'_>, old: ImportResolution) -> ImportResolution
         ensures { let w = self.now in
-            result ≡ walked_at (walk_of w.input.now (R.resolves w.rule.now) w.kind w.object)
+            result ≡ walked_at (walk_of w.input.now w.scan.now w.object)
             number import.now old }
     {
-        if old.is_unresolved() && self.input.keeps_slot(self.kind, self.object, number) {
-            self.rule.resolve(import)
+        if old.is_unresolved() && self.input.keeps_slot(WasmSymbolKind::Global, self.object, number) {
+            got_resolution(self.scan, import.module, import.name)
         } else {
             old
         }
@@ -102,7 +73,7 @@ impl<'w, 'i, 'a, R: LaterRule> Walk<'w, 'i, 'a, R> {
     fn resolve_at(&self, number: u32, import: &Import<'_>, resolutions: &mut ResolutionList)
         ensures { let w = self.now in
             resolutions.new
-            ≡ step_at (walked_at (walk_of w.input.now (R.resolves w.rule.now) w.kind w.object))
+            ≡ step_at (walked_at (walk_of w.input.now w.scan.now w.object))
             number number import.now resolutions.old }
     {
         if let Some(old) = resolutions.get(number as usize) {
@@ -113,13 +84,13 @@ impl<'w, 'i, 'a, R: LaterRule> Walk<'w, 'i, 'a, R> {
     /// Resolves the slots, one behind the other.
     pub(crate) fn resolve_all(&self, file: &File<'_>, resolutions: &mut ResolutionList)
         ensures { let w = self.now in
-            resolutions.new ≡ walked (walk_of w.input.now (R.resolves w.rule.now) w.kind w.object)
+            resolutions.new ≡ walked (walk_of w.input.now w.scan.now w.object)
             file.now resolutions.old }
     {
         file.stands_for_an_object();
         let mut number: u32 = 0;
         for import in file.imports() {
-            if is_slot_of(self.kind, import.entity) {
+            if is_slot_of(WasmSymbolKind::Global, import.entity) {
                 self.resolve_at(number, import, resolutions);
                 number += 1;
             }

@@ -127,5 +127,5 @@ pub fn report_disallowed_unresolved_imports(
     if names.is_empty() {
         return Ok(());
     }
-    Err(LinkError::UndefinedSymbols(names.into_symbols(alloc)?))
+    Err(LinkError::UndefinedSymbols(names.symbols(alloc)?))
 }

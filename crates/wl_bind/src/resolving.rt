@@ -2,10 +2,9 @@
 
 ghost use Rattle.std.specs.Prelude.{◌≡◌, IfOk, IfErr, unwrap_or};
 ghost use Rattle.wl_linking.specs.declared.error.LinkError.TheVariants.{OutOfMemory};
-ghost use Rattle.wl_custom.specs.declared.symbols.WasmSymbolKind.TheVariants.{Func, Global as GlobalKind};
-ghost use Rattle.wl_bind.specs.Resolutions.{kept_number, resolved, named_resolution, named_resolutions, resolutions, by_names};
+ghost use Rattle.wl_bind.specs.Resolutions.{kept_number, resolved, named_resolution, named_resolutions};
 
-use crate::resolution::{ImportResolution, ObjectImportResolutions, ResolutionList};
+use crate::resolution::ImportResolution;
 use std::alloc::Global;
 use wl_linking::{LinkError, WasmSymbolKind};
 use wl_symbols::{
@@ -20,7 +19,7 @@ fn kept_number(input: &LinkInput<'_, '_>, object: usize, unit: WasmGcUnit) -> u3
 }
 
 /// What names bind a slot of that kind to, as a resolution.
-fn resolved(input: &LinkInput<'_, '_>, kind: WasmSymbolKind, target: SlotTarget) -> ImportResolution
+pub(crate) fn resolved(input: &LinkInput<'_, '_>, kind: WasmSymbolKind, target: SlotTarget) -> ImportResolution
     ensures { result ≡ resolved input.now kind target }
 {
     match (kind, target) {
@@ -85,43 +84,4 @@ pub fn resolve_import_symbols(
         resolutions.push(named_resolution(input, slot))?;
     }
     Ok(resolutions)
-}
-
-/// What names resolve the slots of an object to.
-fn resolve_object(
-    alloc: Global,
-    input: &LinkInput<'_, '_>,
-    object: usize,
-) -> Result<ObjectImportResolutions, LinkError>
-    ensures ok { IfOk result (λ row. row ≡ record {
-      function_resolutions = named_resolutions input.now object Func;
-      global_resolutions = named_resolutions input.now object GlobalKind;
-    }) }
-    ensures err { IfErr result (λ e. e ≡ OutOfMemory) }
-{
-    let functions = resolve_import_symbols(alloc, input, object, WasmSymbolKind::Func)?;
-    let globals = resolve_import_symbols(alloc, input, object, WasmSymbolKind::Global)?;
-    Ok(ObjectImportResolutions {
-        function_resolutions: ResolutionList::new(functions),
-        global_resolutions: ResolutionList::new(globals),
-    })
-}
-
-/// What names resolve the slots of all objects to, object by object.
-///
-/// # Errors
-/// `OutOfMemory` where memory runs out.
-pub fn resolve_objects(
-    alloc: Global,
-    input: &LinkInput<'_, '_>,
-) -> Result<Vec<ObjectImportResolutions>, LinkError>
-    ensures ok { IfOk result (λ rows. rows.items ≡ resolutions input.now (by_names input.now)) }
-    ensures err { IfErr result (λ e. e ≡ OutOfMemory) }
-{
-    let count = input.files().as_slice().len();
-    let mut rows = Vec::new(alloc);
-    for object in 0..count {
-        rows.push(resolve_object(alloc, input, object)?)?;
-    }
-    Ok(rows)
 }

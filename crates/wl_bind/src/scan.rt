@@ -1,18 +1,18 @@
 //! What kept relocations ask for.
 
-ghost use Rattle.std.specs.Prelude.{◌≡◌, ◌||◌, map, OnOk, IfOk};
-ghost use Rattle.wl_custom.specs.RelocationTypes.{is_memory_relative, is_table_relative};
+ghost use Rattle.std.specs.Prelude.{◌≡◌, map, OnOk};
 ghost use Rattle.wl_bind.specs.FunctionSymbols.{function_bindings};
 ghost use Rattle.wl_bind.specs.GotSteps.{mem_entry, func_entry, insert_some, with_mem, with_func, ArePlaces};
 ghost use Rattle.wl_bind.specs.Sameness.{same_target};
-ghost use Rattle.wl_bind.specs.Scan.{names_data, names_function, got_mem_of, got_func_of, unless_stub, table_function_of, asks_for_table, definition_name, scan_of};
+ghost use Rattle.wl_bind.specs.ScanSteps.{needs_with};
+ghost use Rattle.wl_bind.specs.Scan.{names_data, names_function, got_mem_of, got_func_of, unless_stub, table_function_of, asks_for_table, definition_name};
 
 use crate::binding::FunctionTarget;
 use crate::got::{GotFunc, GotMem, NamedKeys, TableFunctions};
 use crate::targets::FunctionBindings;
-use std::alloc::{AllocError, Global};
+use std::alloc::AllocError;
 use std::marker::Model;
-use wl_symbols::{Definition, LinkInput, Relocated, kept_relocations};
+use wl_symbols::{Definition, LinkInput, Relocated};
 
 /// What kept relocations ask the linker for.
 #[derive(Clone, Copy, PartialEq, Eq)]
@@ -156,7 +156,7 @@ fn table_function_of(
 }
 
 /// Adds what a relocation asks for to the GOT list of data.
-fn add_mem<'a>(
+pub(crate) fn add_mem<'a>(
     list: &mut NamedKeys<'a, Definition>,
     input: &LinkInput<'_, 'a>,
     relocated: &Relocated,
@@ -174,7 +174,7 @@ fn add_mem<'a>(
 }
 
 /// Adds what a relocation asks for to the GOT list of functions.
-fn add_func<'a>(
+pub(crate) fn add_func<'a>(
     list: &mut NamedKeys<'a, (Definition, FunctionTarget)>,
     input: &LinkInput<'_, 'a>,
     bindings: &FunctionBindings,
@@ -197,7 +197,7 @@ fn add_func<'a>(
 }
 
 /// Adds what a relocation asks for to the functions of the table.
-fn add_table_function(
+pub(crate) fn add_table_function(
     list: &mut TableFunctions,
     input: &LinkInput<'_, '_>,
     bindings: &FunctionBindings,
@@ -225,49 +225,10 @@ fn asks_for_table(input: &LinkInput<'_, '_>, relocated: &Relocated) -> bool
 }
 
 /// What is asked for with one more relocation.
-fn add_needs(needs: &mut RelocNeeds, input: &LinkInput<'_, '_>, relocated: &Relocated)
-    ensures memory_base { needs.new.memory_base
-        ≡ (needs.old.memory_base || is_memory_relative relocated.now.relocation.ty) }
-    ensures table_base { needs.new.table_base
-        ≡ (needs.old.table_base || is_table_relative relocated.now.relocation.ty) }
-    ensures table { needs.new.table ≡ (needs.old.table || asks_for_table input.now relocated.now) }
+pub(crate) fn add_needs(needs: &mut RelocNeeds, input: &LinkInput<'_, '_>, relocated: &Relocated)
+    ensures { needs.new ≡ needs_with input.now needs.old relocated.now }
 {
     needs.memory_base |= relocated.relocation.ty.is_memory_relative();
     needs.table_base |= relocated.relocation.ty.is_table_relative();
     needs.table |= asks_for_table(input, relocated);
-}
-
-/// What kept relocations ask for: the entries of both GOT lists and the functions of the table, all
-/// in order of first occurrence, and things that the linker makes.
-///
-/// # Errors
-/// `AllocError` where memory runs out.
-pub(crate) fn gather<'a>(
-    alloc: Global,
-    input: &LinkInput<'_, 'a>,
-    bindings: &FunctionBindings,
-) -> Result<RelocScan<'a>, AllocError>
-    requires { bindings.now ≡ function_bindings input.now }
-    ensures { IfOk result (λ s. s ≡ scan_of input.now) }
-{
-    let mut got_mem = NamedKeys::new(alloc);
-    let mut got_func = NamedKeys::new(alloc);
-    let mut table_functions = TableFunctions::new(alloc);
-    let mut needs = RelocNeeds {
-        memory_base: false,
-        table_base: false,
-        table: false,
-    };
-    for relocated in kept_relocations(input) {
-        add_mem(&mut got_mem, input, &relocated)?;
-        add_func(&mut got_func, input, bindings, &relocated)?;
-        add_table_function(&mut table_functions, input, bindings, &relocated)?;
-        add_needs(&mut needs, input, &relocated);
-    }
-    Ok(RelocScan {
-        got_mem: GotMem::of(got_mem),
-        got_func: GotFunc::of(got_func),
-        table_functions,
-        needs,
-    })
 }

@@ -1,7 +1,7 @@
 //! Functions of another type than the one under which an object knows them.
 
-ghost use Rattle.std.specs.Prelude.{◌≡◌, ℕ, OnOk, IfErr, Some, false, find, slice_get};
-ghost use Rattle.wl_linking.specs.Steps.{Clear, Refuses};
+ghost use Rattle.std.specs.Prelude.{◌≡◌, ℕ, OnOk, IfOk, IfErr, Some, false, find, slice_get};
+ghost use Rattle.wl_linking.specs.Steps.{Clear};
 ghost use Rattle.wl_symbols.specs.Entries.{symbol_in};
 ghost use Rattle.wl_bind.specs.FunctionSymbols.{function_bindings};
 ghost use Rattle.wl_symbols.specs.Relocations.{relocations};
@@ -11,21 +11,41 @@ ghost use Rattle.wl_bind.specs.BindingSteps.{slot_numbers, differs, is_mismatch,
 use crate::binding::FunctionTarget;
 use crate::targets::FunctionBindings;
 use crate::types::{SlotTypes, declared_type, is_other_type};
-use std::alloc::Global;
+use std::alloc::{AllocError, Global};
 use wl_linking::{File, LinkError, WasmSymbol, WasmSymbolKind};
-use wl_symbols::{LinkInput, Relocated, kept_relocations};
+use wl_symbols::{LinkInput, Relocated};
 
 /// What types are compared by: what function slots are bound to, and their types.
 #[derive(Drop)]
-struct TypeCheck<'c, 'i, 'a> {
-    input: &'c LinkInput<'i, 'a>,
-    bindings: &'c FunctionBindings,
+pub(crate) struct TypeCheck<'c, 'i, 'a> {
+    pub(crate) input: &'c LinkInput<'i, 'a>,
+    pub(crate) bindings: &'c FunctionBindings,
     types: SlotTypes,
     ghost bound: { bindings.now ≡ function_bindings input.now },
     ghost typed: { types ≡ slot_numbers input.now.link.objects },
 }
 
 impl<'c, 'i, 'a> TypeCheck<'c, 'i, 'a> {
+    /// What types are compared by.
+    ///
+    /// # Errors
+    /// `AllocError` where memory runs out.
+    pub(crate) fn new(
+        alloc: Global,
+        input: &'c LinkInput<'i, 'a>,
+        bindings: &'c FunctionBindings,
+    ) -> Result<Self, AllocError>
+        requires { bindings.now ≡ function_bindings input.now }
+        ensures input { IfOk result (λ check. check.input.now ≡ input.now) }
+        ensures bindings { IfOk result (λ check. check.bindings.now ≡ bindings.now) }
+    {
+        Ok(TypeCheck {
+            input,
+            bindings,
+            types: SlotTypes::new(alloc, input.files())?,
+        })
+    }
+
     /// Whether a function has another type than the one under which an object knows its symbol.
     fn differs(&self, object: usize, symbol: &WasmSymbol<'_>, target: FunctionTarget) -> bool
         ensures { result ≡ differs self.now.input.now object symbol.now target }
@@ -37,13 +57,16 @@ impl<'c, 'i, 'a> TypeCheck<'c, 'i, 'a> {
         }
     }
 
-    /// Whether a symbol is a function's, and leads to one of another type.
-    fn is_mismatch(&self, object: usize, number: u32) -> bool
+    /// Whether a symbol of that number is a function's, and leads to one of another type.
+    pub(crate) fn leads_to_other(
+        &self,
+        object: usize,
+        number: u32,
+        symbol: &WasmSymbol<'_>,
+    ) -> bool
+        requires { symbol_in self.now.input.now.link.objects object number ≡ Some symbol.now }
         ensures { result ≡ is_mismatch self.now.input.now object number }
     {
-        let Some(symbol) = self.input.symbols().symbol(object, number) else {
-            return false;
-        };
         // One that is defined and isn't weak leads to what its object defines, of that type.
         if !symbol.kind.is_function() || (symbol.is_defined() && !symbol.is_weak()) {
             return false;
@@ -51,6 +74,16 @@ impl<'c, 'i, 'a> TypeCheck<'c, 'i, 'a> {
         match self.bindings.function(self.input, object, number) {
             None => false,
             Some(target) => self.differs(object, symbol, target),
+        }
+    }
+
+    /// The same of the symbol of that number, if there is one.
+    fn is_mismatch(&self, object: usize, number: u32) -> bool
+        ensures { result ≡ is_mismatch self.now.input.now object number }
+    {
+        match self.input.symbols().symbol(object, number) {
+            None => false,
+            Some(symbol) => self.leads_to_other(object, number, symbol),
         }
     }
 
@@ -69,36 +102,17 @@ impl<'c, 'i, 'a> TypeCheck<'c, 'i, 'a> {
         }
     }
 
-    /// Whether a relocation names such a symbol.
-    fn names_mismatch(&self, relocated: &Relocated) -> bool
-        ensures { result ≡ names_mismatch self.now.input.now relocated.now }
-    {
-        let relocation = relocated.relocation;
-        !relocation.ty.names_a_type() && self.is_mismatch(relocated.object, relocation.index)
-    }
-
-    /// The first kept relocation that names such a symbol.
-    fn find_relocation(&self) -> Option<Relocated>
-        ensures { result
-            ≡ find (names_mismatch self.now.input.now) (relocations self.now.input.now) }
-    {
-        for relocated in kept_relocations(self.input) {
-            if self.names_mismatch(&relocated) {
-                return Some(relocated);
-            }
-        }
-        None
-    }
-
-    /// Sees that kept relocations name no such symbol.
+    /// Sees that kept relocations name no such symbol, where the first that does is known.
     #[tactic(auto, using(crate::proofs::MismatchLaws::no_relocation, crate::proofs::MismatchLaws::a_relocation))]
-    fn check_relocations(&self) -> Result<(), LinkError>
+    fn check_relocations(&self, mismatch: Option<Relocated>) -> Result<(), LinkError>
+        requires { mismatch
+            ≡ find (names_mismatch self.now.input.now) (relocations self.now.input.now) }
         ensures clear { OnOk result ((object number : ℕ)
             → NamedByRelocation self.now.input.now object number
             → is_mismatch self.now.input.now object number ≡ false) }
         ensures err { IfErr result (IsMismatch self.now.input.now) }
     {
-        match self.find_relocation() {
+        match mismatch {
             None => Ok(()),
             Some(relocated) => Err(LinkError::SignatureMismatch {
                 object: relocated.object,
@@ -178,29 +192,21 @@ impl<'c, 'i, 'a> TypeCheck<'c, 'i, 'a> {
         }
         Ok(())
     }
-}
 
-/// Sees that the function symbols that are looked at lead to functions of the types under which
-/// their objects know them: those that kept relocations name, the undefined ones on kept slots, and
-/// those of functions that run at the start.
-///
-/// # Errors
-/// `SignatureMismatch` tells a symbol that leads to a function of another type.
-pub(crate) fn check_signatures(
-    alloc: Global,
-    input: &LinkInput<'_, '_>,
-    bindings: &FunctionBindings,
-) -> Result<(), LinkError>
-    requires { bindings.now ≡ function_bindings input.now }
-    ensures clear { OnOk result (Clear (IsMismatch input.now)) }
-    ensures err { IfErr result (Refuses (IsMismatch input.now)) }
-{
-    let check = TypeCheck {
-        input,
-        bindings,
-        types: SlotTypes::new(alloc, input.files())?,
-    };
-    check.check_relocations()?;
-    check.check_objects()?;
-    Ok(())
+    /// Sees that the function symbols that are looked at lead to functions of the types under which
+    /// their objects know them: those that kept relocations name, of which the first that doesn't is
+    /// known, the undefined ones on kept slots, and those of functions that run at the start.
+    ///
+    /// # Errors
+    /// `SignatureMismatch` tells a symbol that leads to a function of another type.
+    pub(crate) fn check(&self, mismatch: Option<Relocated>) -> Result<(), LinkError>
+        requires { mismatch
+            ≡ find (names_mismatch self.now.input.now) (relocations self.now.input.now) }
+        ensures clear { OnOk result (Clear (IsMismatch self.now.input.now)) }
+        ensures err { IfErr result (IsMismatch self.now.input.now) }
+    {
+        self.check_relocations(mismatch)?;
+        self.check_objects()?;
+        Ok(())
+    }
 }

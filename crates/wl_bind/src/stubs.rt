@@ -1,23 +1,25 @@
 //! Stubs: functions that are named weakly, and that nothing defines.
 
-ghost use Rattle.std.specs.Prelude.{◌≡◌, ◌++◌, option_map, IfOk, OnOk, OnErr, IfErr, filter_map};
+ghost use Rattle.std.specs.Prelude.{◌≡◌, ◌++◌, map, option_map, IfOk, OnOk, OnErr, IfErr, filter_map};
 ghost use Rattle.std.specs.Option.{option_to_list};
 ghost use Rattle.wl_linking.specs.Steps.{Clear, Refuses};
 ghost use Rattle.wl_bind.specs.Stepped.{stepped, step_at};
 ghost use Rattle.wl_bind.specs.FunctionTypes.{slot_type, stub_types};
+ghost use Rattle.wl_bind.specs.FunctionSlots.{AreFunctionSlots};
+ghost use Rattle.wl_bind.specs.SlotRows.{function_part};
 ghost use Rattle.wl_bind.specs.Conflicts.{IsStubConflict};
-ghost use Rattle.wl_bind.specs.Later.{functions_walked};
+ghost use Rattle.wl_bind.specs.Later.{with_functions};
 ghost use Rattle.wl_bind.specs.Resolutions.{resolutions, by_names_and_got, by_all_rules};
 
 use crate::conflicts::check_stub_types;
 use crate::first_slots::{FirstSlots, first_stub_slots};
-use crate::later::Walk;
-use crate::resolution::ObjectImportResolutions;
+use crate::function_slots::FunctionSlots;
+use crate::resolution::{ObjectImportResolutions, ResolutionList};
 use crate::types::slot_type;
 use std::alloc::{AllocError, Global};
-use wl_linking::{File, FileList, LinkError, WasmSymbolKind};
+use wl_linking::{FileList, LinkError};
 use wl_module::FuncType;
-use wl_symbols::{LinkInput, Stubs, divide_slots, left_slots, stubs_are_found_by_name};
+use wl_symbols::LinkInput;
 use wl_types::copy_type;
 
 // ---- the types of stubs
@@ -52,42 +54,47 @@ fn slot_types(
     Ok(types)
 }
 
+/// The types of the stubs, in order.
+///
+/// # Errors
+/// `ConflictingTypes` where a slot has another type than the first slot of its stub.
+pub(crate) fn stub_types(
+    alloc: Global,
+    input: &LinkInput<'_, '_>,
+    slots: &FunctionSlots<'_, '_>,
+) -> Result<Vec<FuncType>, LinkError>
+    requires { AreFunctionSlots input.now slots.now }
+    ensures types { IfOk result (λ types. types.items ≡ stub_types input.now) }
+    ensures clear { OnOk result (Clear (IsStubConflict input.now)) }
+    ensures err { IfErr result (Refuses (IsStubConflict input.now)) }
+{
+    check_stub_types(alloc, input, &slots.stubs, &slots.stub_slots)?;
+    let firsts = first_stub_slots(alloc, &slots.stubs, &slots.stub_slots)?;
+    Ok(slot_types(alloc, input.files(), &firsts)?)
+}
+
 // ---- the slots of stubs
 
-/// The function slots of an object with the stubs.
-fn absorb_functions_at(
-    input: &LinkInput<'_, '_>,
-    stubs: &Stubs<'_>,
-    object: usize,
-    file: &File<'_>,
+/// Puts the resolutions of the function slots of an object into its row, if there is one.
+fn set_functions_at(
     rows: &mut [ObjectImportResolutions],
+    object: usize,
+    functions: ResolutionList,
 )
-    ensures { rows.new
-        ≡ step_at (functions_walked input.now stubs.now) object object file.now rows.old }
+    ensures { rows.new ≡ step_at with_functions object object functions rows.old }
 {
     if object < rows.len() {
-        let walk = Walk {
-            input,
-            rule: stubs,
-            kind: WasmSymbolKind::Func,
-            object,
-        };
-        let row = &mut rows[object];
-        walk.resolve_all(file, &mut row.function_resolutions);
+        rows[object].function_resolutions = functions;
     }
 }
 
-/// The function slots of all objects with the stubs.
-fn absorb_functions(
-    input: &LinkInput<'_, '_>,
-    stubs: &Stubs<'_>,
-    rows: &mut [ObjectImportResolutions],
-)
+/// Puts the resolutions of the function slots of all objects into their rows.
+fn set_functions(rows: &mut [ObjectImportResolutions], bound: Vec<ObjectImportResolutions>)
     ensures { rows.new
-        ≡ stepped (functions_walked input.now stubs.now) 0 input.now.link.objects rows.old }
+        ≡ stepped with_functions 0 (map function_part bound.items) rows.old }
 {
-    for (object, file) in input.files().as_slice().iter().enumerate() {
-        absorb_functions_at(input, stubs, object, file, rows);
+    for (object, row) in bound.into_iter().enumerate() {
+        set_functions_at(rows, object, row.function_resolutions);
     }
 }
 
@@ -110,12 +117,8 @@ pub fn absorb_weak_undef_function_imports(
     ensures err { IfErr result (Refuses (IsStubConflict input.now)) }
     ensures same { OnErr result (rows.new ≡ rows.old) }
 {
-    stubs_are_found_by_name();
-    let left = left_slots(alloc, input, WasmSymbolKind::Func)?;
-    let divided = divide_slots(alloc, input.symbols(), left)?;
-    check_stub_types(alloc, input, &divided.stubs, &divided.stub_slots)?;
-    let firsts = first_stub_slots(alloc, &divided.stubs, &divided.stub_slots)?;
-    let types = slot_types(alloc, input.files(), &firsts)?;
-    absorb_functions(input, &divided.stubs, rows);
+    let slots = FunctionSlots::new(alloc, input)?;
+    let types = stub_types(alloc, input, &slots)?;
+    set_functions(rows, slots.resolutions);
     Ok(types)
 }

@@ -1,20 +1,19 @@
 //! Names that nothing defines.
 
-ghost use Rattle.std.specs.Prelude.{◌≡◌, ◌↔◌, [], Some, option_map, map, filter_map, IfOk, OnOk, OnErr, IfErr, IsTrue};
-ghost use Rattle.std.specs.List.{list_any};
-ghost use Rattle.indexmap.specs.IndexSet.{insert_key, insert_all};
+ghost use Rattle.std.specs.Prelude.{◌≡◌, ◌↔◌, [], Some, false, option_map, map, IfOk, OnOk, OnErr, IfErr, IsTrue};
+ghost use Rattle.indexmap.specs.IndexSet.{insert_key};
 ghost use Rattle.wl_linking.specs.Steps.{Clear, Refuses};
-ghost use Rattle.wl_bind.specs.Undefined.{wants_definition, same_undefined, is_undefined_definition, undefined_data_of, IsUndefinedData};
-ghost use Rattle.wl_bind.specs.UndefinedSteps.{named_in, as_undefined, insert_some, is_undefined_data, is_wanted_data, has_wanted_data};
+ghost use Rattle.wl_bind.specs.Undefined.{wants_definition, same_undefined, is_undefined_definition, undefined_data_of, undefined_data, IsUndefinedData};
+ghost use Rattle.wl_bind.specs.UndefinedSteps.{named_in, as_undefined, insert_some, is_undefined_data};
 ghost use Rattle.wl_bind.specs.Scan.{symbol_of};
-ghost use Rattle.wl_symbols.specs.Relocations.{relocations};
+ghost use Rattle.wl_custom.specs.RelocationTypes.{names_a_type};
 
 use indexmap::IndexSet;
 use std::alloc::{AllocError, Global};
 use std::marker::Model;
-use wl_linking::{File, LinkError, UndefinedSymbol, WasmSymbol};
+use wl_linking::{LinkError, UndefinedSymbol, WasmSymbol};
 use wl_lists::{ItemList, Text};
-use wl_symbols::{Definition, LinkInput, Relocated, kept_relocations};
+use wl_symbols::{Definition, LinkInput, Relocated};
 
 /// Names that nothing defines, each once with an object that refers to it, in order of first
 /// occurrence. Clauses see them as a list.
@@ -82,8 +81,8 @@ impl<'a> UndefinedNames<'a> {
     ///
     /// # Errors
     /// `AllocError` where memory runs out.
-    pub(crate) fn into_symbols(self, alloc: Global) -> Result<ItemList<UndefinedSymbol>, AllocError>
-        ensures { IfOk result (λ symbols. symbols ≡ self.entry) }
+    pub(crate) fn symbols(&self, alloc: Global) -> Result<ItemList<UndefinedSymbol>, AllocError>
+        ensures { IfOk result (λ symbols. symbols ≡ self.now) }
     {
         told(alloc, self.names.as_slice())
     }
@@ -109,37 +108,6 @@ pub(crate) fn wants_definition(symbol: &WasmSymbol<'_>) -> bool
     ensures { result ≡ wants_definition symbol.now }
 {
     symbol.is_undefined() && !symbol.is_weak() && !symbol.is_explicit_name()
-}
-
-/// Whether a symbol is data that has to be defined.
-fn is_wanted_data(symbol: &WasmSymbol<'_>) -> bool
-    ensures { result ≡ is_wanted_data symbol.now }
-{
-    symbol.kind.is_data() && wants_definition(symbol)
-}
-
-/// Whether any of these symbols is such data.
-fn any_wanted_data(symbols: &[WasmSymbol<'_>]) -> bool
-    ensures { result ≡ list_any is_wanted_data symbols.now }
-{
-    for symbol in symbols {
-        if is_wanted_data(symbol) {
-            return true;
-        }
-    }
-    false
-}
-
-/// Whether an object has such a symbol.
-fn has_wanted_data(files: &[File<'_>]) -> bool
-    ensures { result ≡ has_wanted_data files.now }
-{
-    for file in files {
-        if any_wanted_data(file.symbols()) {
-            return true;
-        }
-    }
-    false
 }
 
 /// Whether what a symbol stands for is a symbol that its object doesn't define.
@@ -171,19 +139,16 @@ fn is_undefined_data(
         && is_undefined_definition(input, input.symbols().definition(relocated.object, number))
 }
 
-/// The object and the name of the undefined data that a relocation names, if it does.
-fn undefined_data_of<'a>(
+/// The object and the name of the undefined data that a relocation names by that symbol, if it does.
+pub(crate) fn undefined_data_of<'a>(
     input: &LinkInput<'_, 'a>,
     relocated: &Relocated,
+    symbol: &WasmSymbol<'a>,
 ) -> Option<(usize, &'a str)>
+    requires symbol { symbol_of input.now relocated.now ≡ Some symbol.now }
+    requires no_type { names_a_type relocated.now.relocation.ty ≡ false }
     ensures { option_map as_undefined result ≡ undefined_data_of input.now relocated.now }
 {
-    if relocated.relocation.ty.names_a_type() {
-        return None;
-    }
-    let symbol = input
-        .symbols()
-        .symbol(relocated.object, relocated.relocation.index)?;
     if is_undefined_data(input, relocated, symbol) {
         Some((relocated.object, symbol.name))
     } else {
@@ -191,22 +156,8 @@ fn undefined_data_of<'a>(
     }
 }
 
-/// The undefined data that kept relocations name.
-fn collect_undefined_data<'a>(
-    alloc: Global,
-    input: &LinkInput<'_, 'a>,
-) -> Result<UndefinedNames<'a>, AllocError>
-    ensures { IfOk result (λ names. names ≡ insert_all same_undefined []
-        (filter_map (undefined_data_of input.now) (relocations input.now))) }
-{
-    let mut names = UndefinedNames::new(alloc);
-    for relocated in kept_relocations(input) {
-        names.add_some(undefined_data_of(input, &relocated))?;
-    }
-    Ok(names)
-}
-
-/// Sees that the data that kept relocations name is defined, unless names may be undefined.
+/// Sees that the data that kept relocations name is defined, unless names may be undefined, where
+/// the names of what isn't are known.
 ///
 /// # Errors
 /// `UndefinedSymbols` where there is data that has to be defined, and isn't: it tells all of it,
@@ -214,16 +165,14 @@ fn collect_undefined_data<'a>(
 pub(crate) fn check_undefined_data(
     alloc: Global,
     input: &LinkInput<'_, '_>,
+    names: &UndefinedNames<'_>,
 ) -> Result<(), LinkError>
+    requires { names.now ≡ undefined_data input.now }
     ensures clear { OnOk result (Clear (IsUndefinedData input.now)) }
     ensures err { IfErr result (Refuses (IsUndefinedData input.now)) }
 {
-    if input.args().allow_undefined || !has_wanted_data(input.files().as_slice()) {
+    if input.args().allow_undefined || names.is_empty() {
         return Ok(());
     }
-    let names = collect_undefined_data(alloc, input)?;
-    if names.is_empty() {
-        return Ok(());
-    }
-    Err(LinkError::UndefinedSymbols(names.into_symbols(alloc)?))
+    Err(LinkError::UndefinedSymbols(names.symbols(alloc)?))
 }

@@ -32,12 +32,12 @@ returns-in_err-report_disallowed_unresolved_imports-clause-err c =
     (Step (IsUndefinedImport input) host) refused.field-0.0 c.in_ok-slots.ensures.clear
     (refuses_here (IsUndefinedImport input) host refused.field-0.0 refused.ensures.err))
 
-pub returns-in_err-shared-clause-err : goal.returns-in_err-shared-clause-err
-returns-in_err-shared-clause-err c =
+pub returns-in_err-check_hosts-clause-err : goal.returns-in_err-check_hosts-clause-err
+returns-in_err-check_hosts-clause-err c =
     let p =
-    err_from_is_err_and c.from_residual-in_err-shared.result
-    c.from_residual-in_err-shared.ensures.1 in
-    let e = c.in_err-shared.field-0.0 in
+    err_from_is_err_and c.from_residual-in_err-check_hosts.result
+    c.from_residual-in_err-check_hosts.ensures.1 in
+    let e = c.in_err-check_hosts.field-0.0 in
     let input = c.args.input.now in
     let host = Step (IsHostConflict input) NoStep in
     rw (p.1, p.2)
@@ -46,7 +46,7 @@ returns-in_err-shared-clause-err c =
     (Step (IsUndefinedImport input) host) e c.in_ok-slots.ensures.clear
     (refuses_behind (IsUndefinedImport input) host e
     c.in_ok-report_disallowed_unresolved_imports.ensures.clear
-    (refuses_here (IsHostConflict input) NoStep e c.in_err-shared.ensures.err)))
+    (refuses_here (IsHostConflict input) NoStep e c.in_err-check_hosts.ensures.err)))
 
 pub returns-clause-clear : goal.returns-clause-clear
 returns-clause-clear c =
@@ -56,4 +56,4 @@ returns-clause-clear c =
     (Step (IsUndefinedImport input) host) c.in_ok-slots.ensures.clear
     (clear_step (IsUndefinedImport input) host
     c.in_ok-report_disallowed_unresolved_imports.ensures.clear
-    (clear_step (IsHostConflict input) NoStep c.in_ok-shared.ensures.clear clear_end))
+    (clear_step (IsHostConflict input) NoStep c.in_ok-check_hosts.ensures.clear clear_end))

@@ -1,5 +1,6 @@
 use Rattle.std.proofs.Common.{◌∙◌, sym, ap, arith}
 use Rattle.wl_module.specs.Imports.{Imported}
+use Rattle.wl_custom.specs.declared.symbols.WasmSymbolKind.TheVariants.{Global as GlobalKind}
 use Rattle.wl_symbols.specs.ImportSlots.{is_slot_of}
 use Rattle.wl_bind.specs.Later.{walk_of, walked_at, walked}
 use Rattle.wl_bind.proofs.WalkLaws.{walk_slot, walk_other, walk_end}
@@ -7,14 +8,14 @@ use Rattle.wl_bind.proofs.later.Walk.resolve_all.Goals.{then-is_slot_of, else-is
 use Rattle.wl_bind.proofs.later.Walk.resolve_all.Goals as goal
 
 pub loop-import-preserved : goal.loop-import-preserved
-loop-import-preserved g c =
+loop-import-preserved c =
     let s = c.args.self.now in
-    let walk = walk_of s.input.now (g.R.LaterRule.resolves s.rule.now) s.kind s.object in
-    let entity = ap (λ (i : Imported). is_slot_of s.kind i.entity) (sym c.import.view_is) ∙ sym c.is_slot_of.ensures in
+    let walk = walk_of s.input.now s.scan.now s.object in
+    let entity = ap (λ (i : Imported). is_slot_of GlobalKind i.entity) (sym c.import.view_is) ∙ sym c.is_slot_of.ensures in
     elim c.if-is_slot_of.branch [
       | then-is_slot_of w ↦ record {
         few = omega (arith, w.number-is, c.loop-import.invariant.few);
-        rest = walk_slot (walked_at walk) s.kind c.imports-import-items.result.now
+        rest = walk_slot (walked_at walk) GlobalKind c.imports-import-items.result.now
             c.loop-import.import-index c.loop-import.number c.if-is_slot_of.number
             c.import-item.result c.loop-import.resolutions c.if-is_slot_of.resolutions
             (walked walk c.args.file.now c.args.resolutions.now) c.loop-import-test.true c.import-item.is
@@ -23,7 +24,7 @@ loop-import-preserved g c =
       }
       | else-is_slot_of w ↦ record {
         few = omega (arith, w.number-is, c.loop-import.invariant.few);
-        rest = walk_other (walked_at walk) s.kind c.imports-import-items.result.now
+        rest = walk_other (walked_at walk) GlobalKind c.imports-import-items.result.now
             c.loop-import.import-index c.loop-import.number c.if-is_slot_of.number
             c.import-item.result c.loop-import.resolutions c.if-is_slot_of.resolutions
             (walked walk c.args.file.now c.args.resolutions.now) c.loop-import-test.true c.import-item.is
@@ -33,9 +34,9 @@ loop-import-preserved g c =
     ]
 
 pub returns : goal.returns
-returns g c =
+returns c =
     let s = c.args.self.now in
-    let walk = walk_of s.input.now (g.R.LaterRule.resolves s.rule.now) s.kind s.object in
-    walk_end (walked_at walk) s.kind c.imports-import-items.result.now
+    let walk = walk_of s.input.now s.scan.now s.object in
+    walk_end (walked_at walk) GlobalKind c.imports-import-items.result.now
     c.loop-import.import-index c.loop-import.number c.loop-import.resolutions
     (walked walk c.args.file.now c.args.resolutions.now) c.loop-import-test.false c.loop-import.invariant.rest

@@ -1,0 +1,145 @@
+-- What one walk over the kept relocations finds is what each question asks for.
+use Rattle.std.proofs.Common.{◌≡◌, ◌∙◌, ◌∷◌, [], ◌||◌, Bool, true, false, List, Option, Some, None, refl, sym, ap, inl, inr, map, filter_map, find, fold, if◌then◌else◌}
+use Rattle.std.specs.List.{list_any, cons_option}
+use Rattle.std.specs.Option.{option_or}
+use Rattle.std.proofs.lemmas.Bool.{cases_Bool}
+use Rattle.indexmap.specs.IndexSet.{insert_all}
+use Rattle.wl_custom.specs.RelocationTypes.{is_memory_relative, is_table_relative}
+use Rattle.wl_linking.specs.declared.error.UndefinedSymbol.{UndefinedSymbol}
+use Rattle.wl_symbols.specs.Input.{Input}
+use Rattle.wl_symbols.specs.Relocations.{relocations}
+use Rattle.wl_symbols.specs.declared.relocated.Relocated.{Relocated}
+use Rattle.wl_bind.specs.BindingSteps.{names_mismatch}
+use Rattle.wl_bind.specs.GotSteps.{mem_key, func_key, insert_some, insert_some_as, insert_all_as, with_all_mem, with_all_func}
+use Rattle.wl_bind.specs.KindSteps.{is_wrong_relocation}
+use Rattle.wl_bind.specs.Sameness.{same_definition, same_pair, same_target}
+use Rattle.wl_bind.specs.Scan.{Scanned, GotMemEntry, GotFuncEntry, got_mem_of, got_mem_entry, got_func_of, got_func_entry, table_function_of, asks_for, asks_for_table, needs_of, scan_of}
+use Rattle.wl_bind.specs.ScanSteps.{Found, scan_part, nothing_found, first_such, found_with, found_in}
+use Rattle.wl_bind.specs.Undefined.{same_undefined, undefined_data_of, undefined_data}
+use Rattle.wl_bind.specs.UndefinedSteps.{insert_some as insert_undefined}
+use Rattle.wl_bind.specs.declared.binding.FunctionTarget.{FunctionTarget}
+use Rattle.wl_bind.specs.declared.scan.RelocNeeds.{RelocNeeds}
+use Rattle.wl_bind.proofs.GotLaws.{all_as}
+
+-- ---- one more of a list
+
+-- entries with that of a first key, where there is one, before those of other keys
+module _ {K E : Type 0} (eq : K → K → Bool) (key : E → K) (entry : K → E) where
+  first_as : (es : List E) (k : Option K) (ks : List K)
+      → insert_all_as eq key entry (insert_some_as eq key entry es k) ks ≡ insert_all_as eq key entry es (cons_option k ks)
+  first_as es None ks = refl
+  first_as es (Some k) ks = refl
+
+-- keys with a first one, where there is one, before other keys
+first_key : {K : Type 0} (eq : K → K → Bool) (keys : List K) (k : Option K) (ks : List K)
+    → insert_all eq (insert_some eq keys k) ks ≡ insert_all eq keys (cons_option k ks)
+first_key eq keys None ks = refl
+first_key eq keys (Some k) ks = refl
+
+first_name : (names : List UndefinedSymbol) (k : Option UndefinedSymbol) (ks : List UndefinedSymbol)
+    → insert_all same_undefined (insert_undefined names k) ks ≡ insert_all same_undefined names (cons_option k ks)
+first_name names None ks = refl
+first_name names (Some k) ks = refl
+
+or_assoc : (a b c : Bool) → ((a || b) || c) ≡ (a || (b || c))
+or_assoc true b c = refl
+or_assoc false b c = refl
+
+first_found : (old : Option Relocated) (test : Relocated → Bool) (r : Relocated) (rs : List Relocated)
+    → option_or (first_such old (test r) r) (find test rs) ≡ option_or old (find test (r ∷ rs))
+first_found (Some s) test r rs = refl
+first_found None test r rs = elim (cases_Bool (test r)) [ inl y ↦ rw y refl | inr n ↦ rw n refl ]
+
+or_false : (a : Bool) → a ≡ (a || false)
+or_false true = refl
+or_false false = refl
+
+or_none : (r : Option Relocated) → r ≡ option_or r None
+or_none None = refl
+or_none (Some x) = refl
+
+-- ---- records by their fields
+
+abbrev the_needs : Bool → Bool → Bool → RelocNeeds
+the_needs memory_base table_base table = record { memory_base = memory_base; table_base = table_base; table = table }
+
+needs_are : (n : RelocNeeds) (m b t : Bool) → n.memory_base ≡ m → n.table_base ≡ b → n.table ≡ t → n ≡ the_needs m b t
+needs_are n m b t memory base table = rw (← memory, ← base, ← table) refl
+
+same_needs : {a b c d e f : Bool} → a ≡ b → c ≡ d → e ≡ f → the_needs a c e ≡ the_needs b d f
+same_needs x y z = rw (x, y, z) refl
+
+abbrev the_scan : List GotMemEntry → List GotFuncEntry → List FunctionTarget → RelocNeeds → Scanned
+the_scan m f t n = record { got_mem = m; got_func = f; table_functions = t; needs = n }
+
+-- ---- a field each
+
+module _ (input : Input) where
+  mem_from : (rs : List Relocated) (f : Found) → (fold (found_with input) f rs).got_mem ≡ with_all_mem input f.got_mem (filter_map (got_mem_of input) rs)
+  mem_from [] f = refl
+  mem_from (r ∷ rs) f =
+      mem_from rs (found_with input f r) ∙ first_as same_definition mem_key (got_mem_entry input) f.got_mem (got_mem_of input r) (filter_map (got_mem_of input) rs)
+
+  func_from : (rs : List Relocated) (f : Found) → (fold (found_with input) f rs).got_func ≡ with_all_func input f.got_func (filter_map (got_func_of input) rs)
+  func_from [] f = refl
+  func_from (r ∷ rs) f =
+      func_from rs (found_with input f r) ∙ first_as same_pair func_key (got_func_entry input) f.got_func (got_func_of input r) (filter_map (got_func_of input) rs)
+
+  table_from : (rs : List Relocated) (f : Found)
+      → (fold (found_with input) f rs).table_functions ≡ insert_all same_target f.table_functions (filter_map (table_function_of input) rs)
+  table_from [] f = refl
+  table_from (r ∷ rs) f =
+      table_from rs (found_with input f r) ∙ first_key same_target f.table_functions (table_function_of input r) (filter_map (table_function_of input) rs)
+
+  undefined_from : (rs : List Relocated) (f : Found)
+      → (fold (found_with input) f rs).undefined ≡ insert_all same_undefined f.undefined (filter_map (undefined_data_of input) rs)
+  undefined_from [] f = refl
+  undefined_from (r ∷ rs) f =
+      undefined_from rs (found_with input f r) ∙ first_name f.undefined (undefined_data_of input r) (filter_map (undefined_data_of input) rs)
+
+  wrong_from : (rs : List Relocated) (f : Found) → (fold (found_with input) f rs).wrong ≡ option_or f.wrong (find (is_wrong_relocation input) rs)
+  wrong_from [] f = or_none f.wrong
+  wrong_from (r ∷ rs) f = wrong_from rs (found_with input f r) ∙ first_found f.wrong (is_wrong_relocation input) r rs
+
+  mismatch_from : (rs : List Relocated) (f : Found) → (fold (found_with input) f rs).mismatch ≡ option_or f.mismatch (find (names_mismatch input) rs)
+  mismatch_from [] f = or_none f.mismatch
+  mismatch_from (r ∷ rs) f = mismatch_from rs (found_with input f r) ∙ first_found f.mismatch (names_mismatch input) r rs
+
+  abbrev all_needs : RelocNeeds → List Relocated → RelocNeeds
+  all_needs n rs =
+      the_needs (n.memory_base || list_any (λ (r : Relocated). is_memory_relative r.relocation.ty) rs)
+      (n.table_base || list_any (λ (r : Relocated). is_table_relative r.relocation.ty) rs) (n.table || list_any (asks_for_table input) rs)
+
+  needs_from : (rs : List Relocated) (f : Found) → (fold (found_with input) f rs).needs ≡ all_needs f.needs rs
+  needs_from [] f = needs_are f.needs (f.needs.memory_base || false) (f.needs.table_base || false) (f.needs.table || false)
+      (or_false f.needs.memory_base) (or_false f.needs.table_base) (or_false f.needs.table)
+  needs_from (r ∷ rs) f =
+      needs_from rs (found_with input f r)
+      ∙ same_needs (or_assoc f.needs.memory_base (is_memory_relative r.relocation.ty) (list_any (λ (q : Relocated). is_memory_relative q.relocation.ty) rs))
+      (or_assoc f.needs.table_base (is_table_relative r.relocation.ty) (list_any (λ (q : Relocated). is_table_relative q.relocation.ty) rs))
+      (or_assoc f.needs.table (asks_for_table input r) (list_any (asks_for_table input) rs))
+
+-- ---- all of it
+
+scan_is : {mems ms : List GotMemEntry} {funcs fs : List GotFuncEntry} {table ts : List FunctionTarget} {needs ns : RelocNeeds}
+    → mems ≡ ms → funcs ≡ fs → table ≡ ts → needs ≡ ns → the_scan mems funcs table needs ≡ the_scan ms fs ts ns
+scan_is m f t n = rw (m, f, t, n) refl
+
+-- what the relocations ask for
+pub scan_found : (input : Input) → scan_part (found_in input) ≡ scan_of input
+scan_found input =
+    let all = relocations input in
+    scan_is
+    (mem_from input all nothing_found ∙ all_as same_definition mem_key (got_mem_entry input) (λ k. refl) [] (filter_map (got_mem_of input) all))
+    (func_from input all nothing_found ∙ all_as same_pair func_key (got_func_entry input) (λ k. refl) [] (filter_map (got_func_of input) all))
+    (table_from input all nothing_found) (needs_from input all nothing_found)
+
+-- the first of them that is refused for each reason, and the undefined data
+pub wrong_found : (input : Input) → (found_in input).wrong ≡ find (is_wrong_relocation input) (relocations input)
+wrong_found input = wrong_from input (relocations input) nothing_found
+
+pub mismatch_found : (input : Input) → (found_in input).mismatch ≡ find (names_mismatch input) (relocations input)
+mismatch_found input = mismatch_from input (relocations input) nothing_found
+
+pub undefined_found : (input : Input) → (found_in input).undefined ≡ undefined_data input
+undefined_found input = undefined_from input (relocations input) nothing_found

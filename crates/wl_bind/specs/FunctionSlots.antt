@@ -1,0 +1,23 @@
+-- The function slots of a link, as they are handed on.
+use Rattle.std.specs.Prelude.{◌≡◌, map}
+use Rattle.wl_custom.specs.declared.symbols.WasmSymbolKind.TheVariants.{Func}
+use Rattle.wl_symbols.specs.Left.{first_slot, stub_slots}
+use Rattle.wl_symbols.specs.Input.{Input}
+use Rattle.wl_bind.specs.FunctionBinding.{left_functions, link_stubs, host_functions}
+use Rattle.wl_bind.specs.FunctionSymbols.{function_bindings}
+use Rattle.wl_bind.specs.Resolutions.{function_resolution}
+use Rattle.wl_bind.specs.Shared.{function_imports, import_places}
+use Rattle.wl_bind.specs.SlotRows.{slot_rows, function_part}
+use Rattle.wl_bind.specs.declared.function_slots.FunctionSlots.{FunctionSlots}
+
+-- what each is bound to and resolved to, which import of the host it is, and those that are stubs'
+-- and the host's
+pub record AreFunctionSlots (input : Input) (s : FunctionSlots) : Type 0 where
+  pub bindings : s.bindings ≡ function_bindings input
+  pub resolutions : map function_part s.resolutions.items
+      ≡ slot_rows (function_resolution input) Func 0 input.link.objects
+  pub places : s.places.items ≡ import_places input Func (function_imports input)
+  pub stub_slots : s.stub_slots.items ≡ stub_slots input.link.objects (left_functions input)
+  pub stubs : s.stubs ≡ map first_slot (link_stubs input)
+  pub host_slots : s.host_slots.items ≡ host_functions input
+  pub hosts : s.hosts ≡ function_imports input

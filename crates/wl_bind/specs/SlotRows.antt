@@ -1,0 +1,19 @@
+-- What is made of the import slots of each object.
+use Rattle.std.specs.Prelude.{ℕ, ◌+◌, List, [], ◌∷◌, map}
+use Rattle.wl_linking.specs.Object.{Object}
+use Rattle.wl_custom.specs.declared.symbols.WasmSymbolKind.{WasmSymbolKind}
+use Rattle.wl_symbols.specs.ImportSlots.{ImportSlot, object_slots}
+use Rattle.wl_bind.specs.declared.resolution.ImportResolution.{ImportResolution}
+use Rattle.wl_bind.specs.declared.resolution.ObjectImportResolutions.{ObjectImportResolutions}
+
+-- what is made of the slots of that kind of these objects, a row an object, the first of which has
+-- that number
+abbrev pub slot_rows : {X : Type 0} → (ImportSlot → X) → WasmSymbolKind → ℕ → List Object
+    → List (List X)
+slot_rows f kind object [] = []
+slot_rows f kind object (o ∷ objects) =
+    map f (object_slots object kind o) ∷ slot_rows f kind (object + 1) objects
+
+-- the function slots of a row of resolutions
+abbrev pub function_part : ObjectImportResolutions → List ImportResolution
+function_part row = row.function_resolutions
