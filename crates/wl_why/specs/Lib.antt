@@ -1,0 +1,10 @@
+pub mod Certificate
+pub mod BreadthFirst
+pub mod Chain
+pub mod Units
+pub mod Text
+pub mod Marked
+pub mod Places
+pub mod Checking
+pub mod Walk
+pub mod Explaining
