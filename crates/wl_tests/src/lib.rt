@@ -35,4 +35,6 @@ mod text;
 #[cfg(test)]
 mod types;
 #[cfg(test)]
+mod why;
+#[cfg(test)]
 mod words;

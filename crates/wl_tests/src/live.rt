@@ -20,7 +20,7 @@ use wl_symbols::SymbolTable;
 use wl_words::WasmArgs;
 
 /// Two functions `()->()`: `a`, which calls `b`, and `b`.
-const OBJECT: &[u8; 76] = b"\0asm\x01\0\0\0\
+pub(crate) const OBJECT: &[u8; 76] = b"\0asm\x01\0\0\0\
     \x01\x04\x01\x60\0\0\
     \x03\x03\x02\0\0\
     \x0a\x0d\x02\x08\0\x10\x81\x80\x80\x80\0\x0b\x02\0\x0b\
@@ -135,7 +135,7 @@ fn answers_on(alloc: Global, files: &FileList<'_>, args: &WasmArgs) -> Result<Fo
 }
 
 /// The link of one object.
-fn one_file(alloc: Global, bytes: &[u8]) -> Result<FileList<'_>, LinkError>
+pub(crate) fn one_file(alloc: Global, bytes: &[u8]) -> Result<FileList<'_>, LinkError>
     requires { length bytes.now ≤ MAX_LEN }
 {
     let mut files = FileList::new(alloc);
@@ -162,10 +162,11 @@ fn numbering(alloc: Global, args: &WasmArgs) -> Result<[bool; 2], LinkError> {
     Ok([0, 1].map(|function| live.numbers_segments(0, function)))
 }
 
-/// The options of a link that begins at `a`.
-fn options(alloc: Global) -> Result<WasmArgs, Fail> {
+/// The options of these words and of one that names an object.
+pub(crate) fn options(alloc: Global, texts: &[&str]) -> Result<WasmArgs, Fail> {
     let mut words = Vec::new(alloc);
-    for text in ["--entry=a", "a.o"] {
+    words.push(String::from_str(alloc, "a.o")?)?;
+    for text in texts {
         words.push(String::from_str(alloc, text)?)?;
     }
     Ok(WasmArgs::parse(alloc, &words)?)
@@ -174,7 +175,7 @@ fn options(alloc: Global) -> Result<WasmArgs, Fail> {
 #[test]
 fn a_function_that_is_called_is_kept(rt: HostRuntime) -> Result<(), Fail> {
     let alloc = rt.alloc();
-    let args = options(alloc)?;
+    let args = options(alloc, &["--entry=a"])?;
     let want = Found {
         in_steps: [true, true],
         from_facts: [true, true],
@@ -188,7 +189,7 @@ fn a_function_that_is_called_is_kept(rt: HostRuntime) -> Result<(), Fail> {
 #[test]
 fn a_function_that_drops_a_segment_numbers_it(rt: HostRuntime) -> Result<(), Fail> {
     let alloc = rt.alloc();
-    let args = options(alloc)?;
+    let args = options(alloc, &["--entry=a"])?;
     assert_eq!(rt; numbering(alloc, &args).ok(), Some([true, false]));
     Ok(())
 }

@@ -20,7 +20,8 @@ abbrev pub IsListed : List Step → LinkUnit → Type 0
 IsListed steps u = (place : ℕ) × (unit_at_place steps place ≡ Some u)
 
 -- the step at the place `from`, which is before the other place, is of a unit that refers to u
-pub record ComesFrom (link : Link) (steps : List Step) (from place : ℕ) (u : LinkUnit) : Type 0 where
+pub record ComesFrom (link : Link) (steps : List Step) (from place : ℕ) (u : LinkUnit)
+    : Type 0 where
   pub before : from < place
   pub unit : LinkUnit
   pub at : unit_at_place steps from ≡ Some unit

@@ -22,7 +22,8 @@ pub record HasPlace (ns : List UnitCounts) (steps : List Step) (count place n : 
 
 -- of the first steps each has a unit that exists, at whose number stands its place; at the number
 -- of any other unit stands no place of a step
-pub record ArePlacesTo (ns : List UnitCounts) (steps : List Step) (count : ℕ) (places : List ℕ) : Type 0 where
+pub record ArePlacesTo (ns : List UnitCounts) (steps : List Step) (count : ℕ) (places : List ℕ)
+    : Type 0 where
   pub size : length places ≡ total_of ns
   pub exist : (place : ℕ) (u : LinkUnit) → place < count → unit_at_place steps place ≡ Some u
       → exists ns u ≡ true

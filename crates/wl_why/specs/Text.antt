@@ -82,7 +82,8 @@ step_number ns s = unit_number_if ns (step_unit s)
 abbrev pub certificate_text : Link → List Step → List ℕ
 certificate_text link steps =
     flat_map (why_line link.args.gc_sections steps) steps
-    ++ flat_map drop_line (filter (λ u. not (is_listed steps u)) (all_units (units_of link.objects)))
+    ++ flat_map drop_line
+    (filter (λ u. not (is_listed steps u)) (all_units (units_of link.objects)))
 
 -- the text is that of a valid certificate
 pub record IsWhyText (link : Link) (text : List ℕ) : Type 0 where

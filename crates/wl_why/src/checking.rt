@@ -179,7 +179,8 @@ fn is_whole(symbols: &SymbolTable<'_, '_>, places: &[usize], steps: &[Step]) -> 
 }
 
 /// Whether a certificate is valid: what each of its steps says is so, and it lists the roots and
-/// all to which a listed unit refers, or every unit where nothing is left out. The steps may be any.
+/// all to which a listed unit refers, or every unit where nothing is left out. Its steps may be
+/// any.
 ///
 /// # Errors
 /// `AllocError` where memory runs out.
