@@ -1,10 +1,14 @@
 //! Why the functions of a small object are kept, by each of the calls that tell it.
 
+ghost use Rattle.std.specs.Prelude.{◌≡◌};
+ghost use Rattle.wl_symbols.specs.Link.{link_of};
+ghost use Rattle.wl_symbols.specs.Live.{IsLiveOf};
+
 use crate::live::{OBJECT, one_file, options};
-use std::alloc::Global;
+use std::alloc::{AllocError, Global};
 use std::test::Fail;
 use wl_linking::{FileList, LinkError};
-use wl_live::{WasmGcUnit, collect_live};
+use wl_live::{LiveSet, WasmGcUnit, collect_live};
 use wl_symbols::SymbolTable;
 use wl_why::{Certificate, Step, certificate_text, chain_to, check_why, explain, why_text};
 use wl_words::WasmArgs;
@@ -21,6 +25,62 @@ struct Told {
     chain: Option<usize>,
 }
 
+/// Whether the text of what is kept is the one that is wanted.
+fn is_why_text(
+    alloc: Global,
+    files: &FileList<'_>,
+    symbols: &SymbolTable<'_, '_>,
+    args: &WasmArgs,
+    live: &LiveSet,
+    want: &[u8],
+) -> Result<bool, AllocError>
+    requires fit { symbols.now ≡ link_of files.now args.now }
+    requires live { IsLiveOf symbols.now live.now }
+{
+    let text = why_text(alloc, files, symbols, args, live)?;
+    Ok(text.as_slice() == want)
+}
+
+/// Whether so is that of a certificate.
+fn is_certificate_text(
+    alloc: Global,
+    symbols: &SymbolTable<'_, '_>,
+    certificate: &Certificate,
+    want: &[u8],
+) -> Result<bool, AllocError> {
+    let text = certificate_text(alloc, symbols, certificate)?;
+    Ok(text.as_slice() == want)
+}
+
+/// How many units the chain to `b` has.
+fn chain_len(alloc: Global, certificate: &Certificate) -> Result<Option<usize>, AllocError> {
+    match chain_to(alloc, certificate, 0, WasmGcUnit::DefinedFunction(1))? {
+        Some(chain) => Ok(Some(chain.len())),
+        None => Ok(None),
+    }
+}
+
+/// What the calls answer of what is kept.
+fn answers_on_kept(
+    alloc: Global,
+    files: &FileList<'_>,
+    symbols: &SymbolTable<'_, '_>,
+    args: &WasmArgs,
+    live: &LiveSet,
+    want: &[u8],
+) -> Result<Told, AllocError>
+    requires fit { symbols.now ≡ link_of files.now args.now }
+    requires live { IsLiveOf symbols.now live.now }
+{
+    let certificate = explain(alloc, files, symbols, args, live)?;
+    Ok(Told {
+        why: is_why_text(alloc, files, symbols, args, live, want)?,
+        text: is_certificate_text(alloc, symbols, &certificate, want)?,
+        valid: check_why(alloc, files, symbols, args, &certificate)?,
+        chain: chain_len(alloc, &certificate)?,
+    })
+}
+
 /// What the calls answer of these objects.
 fn answers_on(
     alloc: Global,
@@ -30,16 +90,7 @@ fn answers_on(
 ) -> Result<Told, LinkError> {
     let symbols = SymbolTable::build(alloc, files, args)?;
     let live = collect_live(alloc, files, &symbols, args)?;
-    let why = why_text(alloc, files, &symbols, args, &live)?;
-    let certificate = explain(alloc, files, &symbols, args, &live)?;
-    let text = certificate_text(alloc, &symbols, &certificate)?;
-    let chain = chain_to(alloc, &certificate, 0, WasmGcUnit::DefinedFunction(1))?;
-    Ok(Told {
-        why: why.as_slice() == want,
-        text: text.as_slice() == want,
-        valid: check_why(alloc, files, &symbols, args, &certificate)?,
-        chain: chain.map(|chain| chain.len()),
-    })
+    Ok(answers_on_kept(alloc, files, &symbols, args, &live, want)?)
 }
 
 /// What the calls answer of the object.
