@@ -27,6 +27,7 @@ LARGEST = 1 << 30
 CONSTANTS = {
     "WASM_PAGE_SIZE": ("wl_module/src/limits.rt", "65536"),
     "MAX_PAGES": ("wl_module/src/limits.rt", "65536"),
+    "MAX_IMAGE_PAGES": ("wl_load/src/memory.rt", None),
     "STACK_ALIGNMENT": ("wl_index/src/memory.rt", None),
     "LINKER_MEMORY_BASE": ("wl_index/src/memory.rt", "1024"),
     "LINKER_TABLE_BASE": ("wl_index/src/index.rt", None),
@@ -37,8 +38,14 @@ CONSTANTS = {
     "TARGET_FEATURE_BULK_MEMORY": ("wl_features/src/taken.rt", '"bulk-memory"'),
     "TARGET_FEATURE_MUTABLE_GLOBALS": ("wl_features/src/taken.rt", '"mutable-globals"'),
 }
-# Where 65536 is something else: bytes that are read at once, the default of an option, the third byte of a number.
-OTHER_CONSTANTS = {"wl_files/src/read.rt", "wl_words/src/args.rt", "wl_synth/specs/Machine.antt"}
+# Where 65536 is something else: bytes that are read at once, the default of an option, the third byte of a number;
+# and where 1024 is: the most pages of an image.
+OTHER_CONSTANTS = {
+    "wl_files/src/read.rt",
+    "wl_words/src/args.rt",
+    "wl_synth/specs/Machine.antt",
+    "wl_load/src/memory.rt",
+}
 SYMBOLS = "wl_custom/src/symbols.rt"
 
 passed = 0
