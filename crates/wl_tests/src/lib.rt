@@ -19,6 +19,8 @@ mod lists;
 #[cfg(test)]
 mod live;
 #[cfg(test)]
+mod load;
+#[cfg(test)]
 mod module;
 #[cfg(test)]
 mod numeric;
