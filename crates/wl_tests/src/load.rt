@@ -50,25 +50,36 @@ fn parts(alloc: Global, results: &[ValType], body: &[u8]) -> Result<ImageParts, 
     })
 }
 
-/// The image whose first function has this body.
+/// The image whose first function has these results and this body.
 fn image(alloc: Global, results: &[ValType], body: &[u8]) -> Result<Image, LoadError> {
     Image::new(alloc, parts(alloc, results, body)?)
 }
 
+/// How a run of that function ends, if it can be run.
+fn run(
+    alloc: Global,
+    results: &[ValType],
+    body: &[u8],
+    fuel: u64,
+) -> Result<Option<RunEnd>, LoadError> {
+    let mut image = image(alloc, results, body)?;
+    Ok(if image.can_run(0, &[]) {
+        Some(image.run(0, &[], fuel))
+    } else {
+        None
+    })
+}
+
 #[test]
-fn fuel_is_a_step_for_each_operator(rt: HostRuntime) -> Result<(), Fail> {
+fn fuel_is_a_step_for_each_operator(rt: HostRuntime) {
     let body = [0x00, 0x10, 0x01, 0x0b];
-    let Ok(mut image) = image(rt.alloc(), &[], &body) else {
-        panic!(rt; "refused");
-    };
-    assert!(rt; image.can_run(0, &[]));
-    assert!(rt; !image.can_run(2, &[]) && !image.can_run(0, &[Value::I32(0)]));
-    assert_eq!(rt; image.run(0, &[], 2), RunEnd::OutOfFuel);
-    match image.run(0, &[], 3) {
-        RunEnd::Done(results) => assert!(rt; results.as_slice().is_empty()),
-        end => panic!(rt; "{end:?}"),
-    }
-    Ok(())
+    let end = run(rt.alloc(), &[], &body, 2);
+    assert!(rt; matches!(&end, Ok(Some(RunEnd::OutOfFuel))), "{end:?}");
+    let end = run(rt.alloc(), &[], &body, 3);
+    assert!(rt;
+        matches!(&end, Ok(Some(RunEnd::Done(results))) if results.as_slice().is_empty()),
+        "{end:?}"
+    );
 }
 
 /// Bodies, and the number that each leaves.
@@ -124,12 +135,8 @@ const RETURNED: [(&[u8], u32); 10] = [
 #[test]
 fn functions_leave_numbers(rt: HostRuntime) {
     for (body, want) in &RETURNED {
-        let Ok(mut image) = image(rt.alloc(), &[ValType::I32], *body) else {
-            panic!(rt; "refused: {body:?}");
-        };
-        assert!(rt; image.can_run(0, &[]));
-        match image.run(0, &[], 99) {
-            RunEnd::Done(results) => {
+        match run(rt.alloc(), &[ValType::I32], *body, 99) {
+            Ok(Some(RunEnd::Done(results))) => {
                 assert_eq!(rt;
                     results.as_slice(),
                     [Value::I32(*want)].as_slice(),
@@ -212,12 +219,10 @@ const STOPPED: [(&[u8], RunEnd); 11] = [
 #[test]
 fn functions_stop(rt: HostRuntime) {
     for (body, want) in &STOPPED {
-        let Ok(mut image) = image(rt.alloc(), &[ValType::I32], *body) else {
-            panic!(rt; "refused: {body:?}");
-        };
-        assert!(rt; image.can_run(0, &[]));
-        let end = image.run(0, &[], 99);
-        assert!(rt; end == *want, "{body:?}: {end:?}");
+        match run(rt.alloc(), &[ValType::I32], *body, 99) {
+            Ok(Some(end)) => assert!(rt; end == *want, "{body:?}: {end:?}"),
+            end => panic!(rt; "{body:?}: {end:?}"),
+        }
     }
 }
 
@@ -258,7 +263,7 @@ const REFUSED: [(&[u8], LoadError); 4] = [
 fn images_are_refused(rt: HostRuntime) {
     for (body, want) in &REFUSED {
         assert_eq!(rt;
-            image(rt.alloc(), &[], *body).err(),
+            run(rt.alloc(), &[], *body, 0).err(),
             Some(*want),
             "{body:?}"
         );
