@@ -12,10 +12,10 @@ use wl_symbols::{LinkInput, is_slot_of};
 
 /// What an import of a global is by the entries of the GOT lists: one of the module `GOT.mem` or
 /// `GOT.func` the first entry of that list whose definition has the field name.
-pub(crate) fn got_resolution(scan: &RelocScan<'_>, module: &str, name: &str) -> ImportResolution
-    ensures { result ≡ later_by_got scan.now module.now name.now }
+pub(crate) fn got_resolution(scan: &RelocScan<'_>, origin: &str, name: &str) -> ImportResolution
+    ensures { result ≡ later_by_got scan.now origin.now name.now }
 {
-    let place = match module {
+    let place = match origin {
         "GOT.mem" => scan
             .got_mem
             .place_of_name(name)
