@@ -23,7 +23,7 @@ use Rattle.wl_bind.specs.GlobalSpace.{GlobalOf, global_parts, global_space, own_
 use Rattle.wl_symbols.specs.Input.{Input, keeps, keeps_slot}
 use Rattle.wl_bind.specs.Numbering.{IsNumbering}
 use Rattle.wl_bind.specs.NumberingSteps.{HasRoom, FitsOwn, own_indices_of, HasIndex, IsResolvedIndex, resolution_of, HaveSlotIndices, IsSlotIndex}
-use Rattle.wl_bind.specs.OwnIndices.{own_unit, kept_own, firsts_from, function_firsts, global_firsts, own_index, kept_count}
+use Rattle.wl_bind.specs.OwnIndices.{own_unit, kept_own, firsts_from, own_index, kept_count}
 use Rattle.wl_bind.specs.Parts.{joined, lengths_of, total, by_object, IsIndexOf, AreIndicesOf, IsOver}
 use Rattle.wl_bind.specs.Resolutions.{Resolving, rows_from, resolutions, by_all_rules}
 use Rattle.wl_bind.specs.Shared.{place_at}

@@ -1,5 +1,5 @@
 -- What one walk over the kept relocations finds is what each question asks for.
-use Rattle.std.proofs.Common.{◌≡◌, ◌∙◌, ◌∷◌, [], ◌||◌, Bool, true, false, List, Option, Some, None, refl, sym, ap, inl, inr, map, filter_map, find, fold, if◌then◌else◌}
+use Rattle.std.proofs.Common.{◌≡◌, ◌∙◌, ◌∷◌, [], ◌||◌, Bool, true, false, List, Option, Some, None, refl, inl, inr, filter_map, find, fold}
 use Rattle.std.specs.List.{list_any, cons_option}
 use Rattle.std.specs.Option.{option_or}
 use Rattle.std.proofs.lemmas.Bool.{cases_Bool}
@@ -13,7 +13,7 @@ use Rattle.wl_bind.specs.BindingSteps.{names_mismatch}
 use Rattle.wl_bind.specs.GotSteps.{mem_key, func_key, insert_some, insert_some_as, insert_all_as, with_all_mem, with_all_func}
 use Rattle.wl_bind.specs.KindSteps.{is_wrong_relocation}
 use Rattle.wl_bind.specs.Sameness.{same_definition, same_pair, same_target}
-use Rattle.wl_bind.specs.Scan.{Scanned, GotMemEntry, GotFuncEntry, got_mem_of, got_mem_entry, got_func_of, got_func_entry, table_function_of, asks_for, asks_for_table, needs_of, scan_of}
+use Rattle.wl_bind.specs.Scan.{Scanned, GotMemEntry, GotFuncEntry, got_mem_of, got_mem_entry, got_func_of, got_func_entry, table_function_of, asks_for_table, scan_of}
 use Rattle.wl_bind.specs.ScanSteps.{Found, scan_part, nothing_found, first_such, found_with, found_in}
 use Rattle.wl_bind.specs.Undefined.{same_undefined, undefined_data_of, undefined_data}
 use Rattle.wl_bind.specs.UndefinedSteps.{insert_some as insert_undefined}

@@ -1,19 +1,16 @@
 -- Function slots with what they are resolved to, and the rows of resolutions.
-use Rattle.std.proofs.Common.{◌≡◌, ◌∙◌, ℕ, ◌+◌, ◌&&◌, Bool, true, false, List, [], ◌∷◌, map, Option, Some, None, is_some, Contains, refl, sym, ap, if◌then◌else◌, unwrap_or}
+use Rattle.std.proofs.Common.{◌≡◌, ◌∙◌, ℕ, ◌+◌, Bool, true, false, List, [], ◌∷◌, map, Option, Some, None, is_some, Contains, refl, sym, ap, if◌then◌else◌, unwrap_or}
 use Rattle.std.specs.List.{position}
 use Rattle.std.specs.Option.{option_or, option_map, option_map_or, is_none}
 use Rattle.std.specs.Str.{bytes_eq}
-use Rattle.std.proofs.lemmas.List.Elements.{Contains-append_left, Contains-append_right}
-use Rattle.wl_module.specs.Imports.{Imported}
 use Rattle.wl_linking.specs.Object.{Object}
-use Rattle.wl_custom.specs.Symbols.{Symbol as LinkedSymbol}
 use Rattle.wl_custom.specs.declared.symbols.WasmSymbolKind.TheVariants.{Func, Global}
-use Rattle.wl_symbols.specs.ImportSlots.{ImportSlot, slot_imports, slot_at, numbered_slots, object_slots}
+use Rattle.wl_symbols.specs.ImportSlots.{ImportSlot, object_slots}
 use Rattle.wl_symbols.specs.SlotTargets.{by_definition, by_symbol_name, by_field_name, slot_target}
 use Rattle.wl_symbols.specs.Left.{HostImport, same_field, first_like, is_stub, first_slot, place_of_name}
 use Rattle.wl_symbols.specs.declared.targets.SlotTarget.{SlotTarget}
 use Rattle.wl_symbols.specs.declared.targets.SlotTarget.TheVariants as slot
-use Rattle.wl_symbols.specs.Input.{Input, keeps_slot}
+use Rattle.wl_symbols.specs.Input.{Input}
 use Rattle.wl_symbols.specs.KeptSlots.{slots_from, is_kept_slot, kept_slots}
 use Rattle.wl_bind.specs.FunctionBinding.{left_functions, link_stubs, named_function, by_stub, by_host, binds_function}
 use Rattle.wl_bind.specs.Resolutions.{resolved, as_function, function_resolution, global_resolution, rows_from, by_names_and_got, by_all_rules, resolutions}
@@ -26,7 +23,7 @@ use Rattle.wl_bind.specs.declared.binding.FunctionTarget.TheVariants as function
 use Rattle.wl_bind.specs.declared.resolution.ImportResolution.{ImportResolution}
 use Rattle.wl_bind.specs.declared.resolution.ImportResolution.TheVariants.{Unresolved, WeakUndefStub}
 use Rattle.wl_bind.specs.declared.resolution.ObjectImportResolutions.{ObjectImportResolutions}
-use Rattle.wl_lists.proofs.In.{Contains-here, Contains-there, Contains-filter}
+use Rattle.wl_lists.proofs.In.{Contains-filter}
 use Rattle.wl_bind.proofs.ResolvingLaws.{mapped_position, joined}
 
 -- the resolutions of an object

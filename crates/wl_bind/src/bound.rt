@@ -110,11 +110,7 @@ impl<'a> BoundReferences<'a> {
             resolutions: ItemList::new(functions.resolutions),
             scan: slots.scan,
             stubs: ItemList::new(slots.stubs),
-            shared: SharedUnresolvedImports::of(
-                functions.hosts,
-                functions.places,
-                slots.globals,
-            ),
+            shared: SharedUnresolvedImports::of(functions.hosts, functions.places, slots.globals),
         }
     }
 }

@@ -212,11 +212,7 @@ fn bind_rows(
 }
 
 /// Puts the resolutions of the global slots of an object into its row, if there is one.
-fn set_globals_at(
-    rows: &mut [ObjectImportResolutions],
-    object: usize,
-    globals: ResolutionList,
-)
+fn set_globals_at(rows: &mut [ObjectImportResolutions], object: usize, globals: ResolutionList)
     ensures { rows.new ≡ step_at with_globals object object globals rows.old }
 {
     if object < rows.len() {

@@ -43,7 +43,11 @@ fn is_no_data(input: &LinkInput<'_, '_>, definition: Definition) -> bool
 }
 
 /// Whether the relocation doesn't take the symbol that it names.
-pub(crate) fn is_wrong_use(input: &LinkInput<'_, '_>, relocated: &Relocated, symbol: &WasmSymbol<'_>) -> bool
+pub(crate) fn is_wrong_use(
+    input: &LinkInput<'_, '_>,
+    relocated: &Relocated,
+    symbol: &WasmSymbol<'_>,
+) -> bool
     requires { symbol_of input.now relocated.now ≡ Some symbol.now }
     ensures { result ≡ is_wrong_use input.now relocated.now symbol.now }
 {

@@ -61,7 +61,11 @@ impl<'w, 'i, 'a> Walk<'w, 'i, 'a> {
             result ≡ walked_at (walk_of w.input.now w.scan.now w.object)
             number import.now old }
     {
-        if old.is_unresolved() && self.input.keeps_slot(WasmSymbolKind::Global, self.object, number) {
+        if old.is_unresolved()
+            && self
+                .input
+                .keeps_slot(WasmSymbolKind::Global, self.object, number)
+        {
             got_resolution(self.scan, import.module, import.name)
         } else {
             old

@@ -19,7 +19,11 @@ fn kept_number(input: &LinkInput<'_, '_>, object: usize, unit: WasmGcUnit) -> u3
 }
 
 /// What names bind a slot of that kind to, as a resolution.
-pub(crate) fn resolved(input: &LinkInput<'_, '_>, kind: WasmSymbolKind, target: SlotTarget) -> ImportResolution
+pub(crate) fn resolved(
+    input: &LinkInput<'_, '_>,
+    kind: WasmSymbolKind,
+    target: SlotTarget,
+) -> ImportResolution
     ensures { result ≡ resolved input.now kind target }
 {
     match (kind, target) {

@@ -155,7 +155,10 @@ impl<'a> Walk<'a> {
 ///
 /// # Errors
 /// `AllocError` where memory runs out.
-fn walk_relocations<'a>(alloc: Global, check: &TypeCheck<'_, '_, 'a>) -> Result<Walk<'a>, AllocError>
+fn walk_relocations<'a>(
+    alloc: Global,
+    check: &TypeCheck<'_, '_, 'a>,
+) -> Result<Walk<'a>, AllocError>
     ensures found { IfOk result (λ walk. found_by walk ≡ found_in check.now.input.now) }
     ensures lists { IfOk result AreLists }
 {

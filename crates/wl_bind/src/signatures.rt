@@ -58,12 +58,7 @@ impl<'c, 'i, 'a> TypeCheck<'c, 'i, 'a> {
     }
 
     /// Whether a symbol of that number is a function's, and leads to one of another type.
-    pub(crate) fn leads_to_other(
-        &self,
-        object: usize,
-        number: u32,
-        symbol: &WasmSymbol<'_>,
-    ) -> bool
+    pub(crate) fn leads_to_other(&self, object: usize, number: u32, symbol: &WasmSymbol<'_>) -> bool
         requires { symbol_in self.now.input.now.link.objects object number ≡ Some symbol.now }
         ensures { result ≡ is_mismatch self.now.input.now object number }
     {

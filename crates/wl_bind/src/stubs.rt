@@ -76,11 +76,7 @@ pub(crate) fn stub_types(
 // ---- the slots of stubs
 
 /// Puts the resolutions of the function slots of an object into its row, if there is one.
-fn set_functions_at(
-    rows: &mut [ObjectImportResolutions],
-    object: usize,
-    functions: ResolutionList,
-)
+fn set_functions_at(rows: &mut [ObjectImportResolutions], object: usize, functions: ResolutionList)
     ensures { rows.new ≡ step_at with_functions object object functions rows.old }
 {
     if object < rows.len() {

@@ -1,4 +1,4 @@
-use Rattle.std.proofs.Common.{◌≡◌, ◌<◌, rules, map, length}
+use Rattle.std.proofs.Common.{◌<◌, rules, map, length}
 use Rattle.wl_custom.specs.declared.symbols.WasmSymbolKind.TheVariants.{Func}
 use Rattle.wl_bind.specs.FunctionSymbols.{kept_binding, function_bindings}
 use Rattle.wl_bind.specs.Resolutions.{function_resolution}

@@ -6,8 +6,8 @@ use Rattle.wl_bind.specs.BindingSteps.{left_place, left_resolution}
 use Rattle.wl_bind.specs.FunctionBinding.{left_functions, link_stubs}
 use Rattle.wl_bind.specs.Shared.{function_imports}
 use Rattle.wl_bind.proofs.LeftLaws.{left_binds}
-use Rattle.wl_bind.proofs.SharedLaws.{dropped_function, left_placed, named_function_place}
-use Rattle.wl_bind.proofs.StubLaws.{StubsAreTold, is_left, left_resolved, named_resolved}
+use Rattle.wl_bind.proofs.SharedLaws.{left_placed}
+use Rattle.wl_bind.proofs.StubLaws.{StubsAreTold, is_left, left_resolved}
 use Rattle.wl_bind.proofs.function_slots.bound_slot.Goals as goal
 
 pub returns-in-None-clause-target : goal.returns-in-None-clause-target

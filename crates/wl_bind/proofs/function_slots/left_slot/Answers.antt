@@ -1,4 +1,4 @@
-use Rattle.std.proofs.Common.{◌≡◌, ◌∙◌, sym, rules, bytes_eq, None}
+use Rattle.std.proofs.Common.{◌≡◌, rules, bytes_eq, None}
 use Rattle.wl_symbols.specs.Left.{HostImport, place_of_name}
 use Rattle.wl_bind.specs.BindingSteps.{stub_named}
 use Rattle.wl_bind.proofs.LeftLaws.{no_place}

@@ -1,4 +1,4 @@
-use Rattle.std.proofs.Common.{◌≡◌, ◌<◌, rules, length}
+use Rattle.std.proofs.Common.{◌<◌, rules, length}
 use Rattle.wl_custom.specs.declared.symbols.WasmSymbolKind.TheVariants.{Global}
 use Rattle.wl_bind.specs.Resolutions.{global_resolution}
 use Rattle.wl_bind.specs.Shared.{import_place, import_places}

@@ -1,4 +1,4 @@
-use Rattle.std.proofs.Common.{◌≡◌, ◌∙◌, ap, rules, true, None, Some}
+use Rattle.std.proofs.Common.{◌≡◌, ◌∙◌, ap, rules, true, None}
 use Rattle.wl_symbols.specs.SlotTargets.{slot_target}
 use Rattle.wl_symbols.specs.KeptSlots.{is_kept_slot}
 use Rattle.wl_bind.specs.GlobalSlots.{left_global_place}

@@ -3,7 +3,6 @@ use Rattle.std.proofs.lemmas.Result.{err_from_is_err_and}
 use Rattle.wl_linking.specs.Steps.{here, behind, Clear, Refuses}
 use Rattle.wl_symbols.specs.Input.{Input}
 use Rattle.wl_symbols.specs.Relocations.{relocations}
-use Rattle.wl_bind.specs.BindingSteps.{names_mismatch}
 use Rattle.wl_bind.specs.KindSteps.{is_wrong_relocation}
 use Rattle.wl_bind.specs.Scan.{scan_of}
 use Rattle.wl_bind.specs.ScanFaults.{scan_fault}
