@@ -1,14 +1,14 @@
 -- Of two kept fields in one unit the earlier ends before the later begins.
-use Rattle.std.proofs.Common.{◌≡◌, ◌≤◌, ◌<◌, ℕ, zero, suc, ◌+◌, ◌-◌, Bool, true, false, List, [], ◌∷◌, ◌++◌, length, refl, sym, ap, ◌∙◌, subst, arith, Some, slice_get, if◌then◌else◌, get_or}
+use Rattle.std.proofs.Common.{◌≡◌, ◌≤◌, ◌<◌, ℕ, zero, suc, ◌+◌, Bool, true, false, List, [], ◌∷◌, length, refl, sym, ap, ◌∙◌, subst, arith, Some, slice_get, if◌then◌else◌}
 use Rattle.std.specs.List.{AllByRecursion, slice_index_or}
 use Rattle.wl_linking.specs.Object.{Object}
 use Rattle.wl_linking.specs.Fitting.{IsFitting, IsWhole, code_pieces, data_pieces}
-use Rattle.wl_linking.specs.Sites.{PieceOf, IsSite, AreSites, AreApart, LiesBefore, LieApart, field_len}
+use Rattle.wl_linking.specs.Sites.{PieceOf, IsSite, AreSites, AreApart, LiesBefore, field_len}
 use Rattle.wl_custom.specs.RelocationTypes.{field_form}
 use Rattle.wl_custom.specs.declared.relocations.WasmRelocation.{WasmRelocation}
 use Rattle.wl_linking.specs.declared.sites.Site.{Site}
 use Rattle.wl_symbols.specs.Live.{Live}
-use Rattle.wl_lists.proofs.Later.{AllLater, all_map, all_of, later_append}
+use Rattle.wl_lists.proofs.Later.{AllLater, all_map, later_append}
 use Rattle.wl_lists.proofs.Places.{all_append}
 use Rattle.wl_symbols.specs.Relocations.{EndsBefore, keeps_unit, relocated_at, relocated_if, relocated_in, object_relocations, relocations_from}
 use Rattle.wl_symbols.specs.declared.relocated.FixupPlace.{FixupPlace}

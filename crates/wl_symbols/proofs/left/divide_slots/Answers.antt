@@ -1,6 +1,6 @@
 use Rattle.std.proofs.Common.{◌≡◌, ◌∙◌, ℕ, List, [], ap, map}
 use Rattle.indexmap.specs.IndexSet.{insert_all}
-use Rattle.wl_symbols.specs.Left.{is_stub_name, stub_slots, host_slots, first_slot}
+use Rattle.wl_symbols.specs.Left.{is_stub_name, stub_slots, first_slot}
 use Rattle.wl_symbols.specs.LeftSteps.{has_same_name, is_told_stub}
 use Rattle.wl_symbols.proofs.TellingLaws.{told_stubs, told_hosts, map_all}
 use Rattle.wl_symbols.proofs.left.divide_slots.Goals as goal
