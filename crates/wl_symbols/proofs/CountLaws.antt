@@ -2,9 +2,10 @@
 use Rattle.std.proofs.Common.{◌≡◌, ◌≤◌, ◌<◌, ℕ, ◌+◌, false, true, List, [], ◌∷◌, length, take, get_or, refl, ap, ◌∙◌, inl, inr, arith}
 use Rattle.std.proofs.lemmas.Bool.{cases_Bool}
 use Rattle.std.proofs.lemmas.List.{length-append}
+use Rattle.std.proofs.lemmas.List.Sums.{sum_by-cons}
 use Rattle.wl_custom.specs.Symbols.{Symbol as LinkedSymbol}
 use Rattle.wl_linking.specs.Object.{Object}
-use Rattle.wl_symbols.specs.Entries.{is_private, entries_at, entries_from, entries_of}
+use Rattle.wl_symbols.specs.Entries.{is_private, entries_at, entries_from, entries_of, symbol_count}
 use Rattle.wl_symbols.proofs.AdditionLaws.{symbols_more, objects_more}
 
 pub no_entry : (object k : ℕ) (s : LinkedSymbol) → is_private s ≡ true
@@ -30,6 +31,16 @@ entries_few object k (s ∷ symbols) =
     let one = entry_few object k s in
     let few = entries_few object (k + 1) symbols in
     omega (arith, all, one, few)
+
+-- nor have objects
+pub all_few : (i : ℕ) (objects : List Object) → length (entries_of i objects) ≤ symbol_count objects
+all_few i [] = omega arith
+all_few i (o ∷ objects) =
+    let all : length (entries_of i (o ∷ objects)) ≡ length (entries_from i 0 o.symbols) + length (entries_of (i + 1) objects) = length-append (entries_from i 0 o.symbols) (entries_of (i + 1) objects) in
+    let count : symbol_count (o ∷ objects) ≡ length o.symbols + symbol_count objects = sum_by-cons (λ (x : Object). length x.symbols) o objects in
+    let here = entries_few i 0 o.symbols in
+    let rest = all_few (i + 1) objects in
+    omega (arith, all, count, here, rest)
 
 pub symbols_counted : (object k : ℕ) (symbols : List LinkedSymbol) (s : LinkedSymbol)
     → k < length symbols → s ≡ get_or symbols k s

@@ -6,6 +6,7 @@ pub mod CaseLaws
 pub mod MadeLaws
 pub mod NamedLaws
 pub mod DefinitionLaws
+pub mod IndexLaws
 pub mod RowLaws
 pub mod RepeatLaws
 pub mod RefusalLaws

@@ -5,6 +5,7 @@ pub mod Entries
 pub mod Names
 pub mod Repeats
 pub mod Definitions
+pub mod Index
 pub mod Units
 pub mod DefinedUnits
 pub mod References

@@ -14,6 +14,8 @@
 mod adding;
 mod definitions;
 mod entry;
+mod gathering;
+mod index;
 mod linker_symbol;
 mod names;
 mod table;
@@ -42,6 +44,7 @@ mod slot_laws;
 
 pub use candidates::{definition_at, is_candidate};
 pub use entry::Definition;
+pub use index::NameIndex;
 pub use input::LinkInput;
 pub use kept_imports::{is_kept_slot, kept_slots, left_slots};
 pub use kept_laws::{
