@@ -82,14 +82,6 @@ meets_all a b xs ys back all pair adds meets split = λ before holds none.
     (append_assoc (before ++ xs) ys back ∙ (append_assoc before xs (ys ++ back) ∙ ap (λ (zs : List Entry). before ++ zs) split))
     (meets (before ++ xs) (adds.found before holds) (adds.clear before holds none))
 
--- ---- one entry
-
-pub adds_entry : (a c : List ℕ → Firsts) (e : Entry) → AddsOne a c e None → Adds a c (e ∷ [])
-adds_entry a c e one = adds_more a a c [] e (adds_none a) one
-
-pub meets_entry : (a c : List ℕ → Firsts) (e : Entry) (pair : Pair) → AddsOne a c e (Some pair.first) → e.name ≡ pair.name → e.place ≡ pair.second → Meets a (e ∷ []) pair
-meets_entry a c e pair one name place = meets_one a a c [] [] (e ∷ []) e pair (adds_none a) one name place refl
-
 -- ---- one symbol
 
 pub adds_symbol : (a c : List ℕ → Firsts) (object i : ℕ) (s : LinkedSymbol) (e : Entry) → is_private s ≡ false → e ≡ entry_for object i s → AddsOne a c e None → Adds a c (entries_at object i s)

@@ -1,5 +1,5 @@
 -- What an index of names has follows the objects.
-use Rattle.std.proofs.Common.{◌≡◌, ◌<◌, ◌≤◌, ℕ, zero, suc, ◌+◌, ◌-◌, List, [], ◌∷◌, ◌++◌, length, take, drop, set, get_or, replicate, refl, sym, ap, ◌∙◌, arith, add-one, append-nil}
+use Rattle.std.proofs.Common.{Result, Ok, Err, OnOk, ◌≡◌, ◌<◌, ◌≤◌, ℕ, zero, suc, ◌+◌, ◌-◌, List, [], ◌∷◌, ◌++◌, length, take, drop, set, get_or, replicate, refl, sym, ap, ◌∙◌, arith, add-one, append-nil}
 use Rattle.std.proofs.lemmas.List.{take_more, take-append-drop, length-append, append_assoc, replicate_more}
 use Rattle.std.proofs.lemmas.List.Concat.{flat_map-append}
 use Rattle.std.proofs.Math.Seq.{drop-cons}
@@ -97,3 +97,8 @@ padded_more index new n le is =
     ap (λ (xs : List (List Entry)). xs ++ [] ∷ []) is
     ∙ (append_assoc index (replicate (n - length index) []) ([] ∷ [])
     ∙ rw one (ap (λ (xs : List (List Entry)). index ++ xs) (replicate_more (n - length index) [])))
+
+-- the same where a call may be refused
+pub on_ok : {T E : Type 0} (r : Result T E) (P Q : Type 0) → (P → Q) → OnOk r P → OnOk r Q
+on_ok (Ok v) P Q f p = f p
+on_ok (Err e) P Q f p = tt

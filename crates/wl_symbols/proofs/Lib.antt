@@ -7,6 +7,8 @@ pub mod MadeLaws
 pub mod NamedLaws
 pub mod DefinitionLaws
 pub mod IndexLaws
+pub mod BearerLaws
+pub mod ToldLaws
 pub mod RowLaws
 pub mod RepeatLaws
 pub mod RefusalLaws

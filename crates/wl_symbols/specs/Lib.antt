@@ -5,7 +5,10 @@ pub mod Entries
 pub mod Names
 pub mod Repeats
 pub mod Definitions
+pub mod Bearers
 pub mod Index
+pub mod Exchanging
+pub mod Telling
 pub mod Units
 pub mod DefinedUnits
 pub mod References

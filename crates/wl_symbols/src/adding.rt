@@ -29,7 +29,7 @@ impl<'a> Model for Repeat<'a> {
 }
 
 /// The strong symbol of these, where one more symbol, of that strength, repeats its name.
-fn repeated(firsts: Firsts, strength: Strength) -> Option<Place>
+pub(crate) fn repeated(firsts: Firsts, strength: Strength) -> Option<Place>
     ensures { result ≡ repeat_in firsts strength }
 {
     match strength {
@@ -40,7 +40,7 @@ fn repeated(firsts: Firsts, strength: Strength) -> Option<Place>
 
 /// Adds a symbol, behind all before. Answers with the symbol whose strong name it repeats, if it
 /// does.
-pub(crate) fn add<'a, L: Ledger>(
+fn add<'a, L: Ledger>(
     names: &mut CountedNames<'a>,
     name: &'a str,
     strength: Strength,

@@ -2,7 +2,9 @@
 
 ghost use Rattle.std.specs.Prelude.{◌≡◌, ◌++◌, [], OnOk, IfOk};
 ghost use Rattle.wl_symbols.specs.Entries.{entries_at, entries_from};
+ghost use Rattle.wl_symbols.specs.Bearers.{bearer_of};
 
+use crate::bearers::Bearer;
 use crate::entry::{Place, Strength, is_private, strength_of};
 use std::alloc::{AllocError, Global};
 use std::marker::Model;
@@ -38,6 +40,25 @@ impl<'a> Model for ObjectEntries<'a> {
     ghost Value = { List Entry };
 
     ghost view = { λ o. o.list.items };
+}
+
+impl<'a> NameEntry<'a> {
+    /// The name.
+    pub(crate) fn name(&self) -> &'a str
+        ensures { result.now ≡ self.now.name }
+    {
+        self.name
+    }
+
+    /// The symbol without its name.
+    pub(crate) fn bearer(&self) -> Bearer
+        ensures { result ≡ bearer_of self.now }
+    {
+        Bearer {
+            strength: self.strength,
+            place: self.place,
+        }
+    }
 }
 
 impl<'a> ObjectEntries<'a> {

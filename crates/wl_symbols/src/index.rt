@@ -1,32 +1,35 @@
 //! The names of objects, kept while objects are added and replaced.
 
-ghost use Rattle.std.specs.Prelude.{◌≡◌, ◌+◌, ◌*◌, ◌<◌, ◌≤◌, List, [], ◌∷◌, ◌++◌, length, slice_set, vec_len, IfOk, OnOk, OnErr, IfErr, IfNone};
+ghost use Rattle.std.specs.Prelude.{◌≡◌, ◌+◌, ◌*◌, ◌<◌, ◌≤◌, List, [], ◌∷◌, ◌++◌, length, slice_set, IfOk, OnOk, OnErr, IfErr};
 ghost use Rattle.wl_linking.specs.Object.{Object};
 ghost use Rattle.wl_linking.specs.Steps.{Clear, Refuses};
 ghost use Rattle.wl_symbols.specs.Link.{link_of};
 ghost use Rattle.wl_symbols.specs.Entries.{entries_of, symbol_count};
 ghost use Rattle.wl_symbols.specs.Repeats.{HasOneStrong, IsDuplicate};
-ghost use Rattle.wl_symbols.specs.Adding.{firsts_in, AddsAll};
-ghost use Rattle.wl_symbols.specs.Index.{index_of, all_entries, padded, with_object};
+ghost use Rattle.wl_symbols.specs.Index.{index_of, with_object};
+ghost use Rattle.wl_symbols.specs.Telling.{name_count};
 
-use crate::adding::{Repeat, add};
-use crate::gathering::{NameEntry, ObjectEntries, gather};
+use crate::bearers::BearerMap;
+use crate::exchanging::exchange;
+use crate::gathering::{ObjectEntries, gather};
 use crate::names::CountedNames;
 use crate::table::{SymbolTable, duplicate};
+use crate::telling::tell_objects;
 use std::alloc::{AllocError, Global};
 use std::marker::{Brand, Model};
-use std::mem;
 use std::sync::ledger::{Blank, Ledger};
 use wl_linking::{File, FileList, LinkError};
 use wl_steps::Steps;
 use wl_words::WasmArgs;
 
-/// The names of objects, kept while objects are added and replaced: of each object which symbols
-/// others know, by which name, and how they define it. A change of one object gathers its names
-/// anew, and no other's. Clauses see it as the entries of each object.
+/// The names of objects, kept while objects are added and replaced: for each name the symbols that
+/// bear it, in the order of objects and symbols, and of each object its names, to take them out
+/// again. A change of one object gathers its names anew, and no other's, and changes what these
+/// names have, and no others. Clauses see it as the entries of each object.
 #[derive(Drop)]
 pub struct NameIndex<'a> {
     alloc: Global,
+    lists: BearerMap<'a>,
     objects: Vec<ObjectEntries<'a>>,
 }
 
@@ -36,114 +39,12 @@ impl<'a> Model for NameIndex<'a> {
 
     ghost Value = { List (List Entry) };
 
+    ghost use Rattle.wl_symbols.specs.Bearers.{found_in};
+    ghost use Rattle.wl_symbols.specs.Index.{IsIndexed};
+
     ghost view = { λ n. n.objects.items };
-}
 
-/// Makes room for an object of that number. Those before it that aren't known yet have no entries.
-///
-/// # Errors
-/// `AllocError` where memory runs out. The objects are as they were then.
-fn make_room<'a>(
-    alloc: Global,
-    objects: &mut Vec<ObjectEntries<'a>>,
-    object: usize,
-) -> Result<(), AllocError>
-    ensures padded { OnOk result (objects.new.items ≡ padded (object + 1) objects.old.items) }
-    ensures kept { OnErr result (objects.new.items ≡ objects.old.items) }
-{
-    let known = objects.len();
-    while objects.len() <= object {
-        if objects.push(ObjectEntries::empty(alloc)).is_err() {
-            objects.truncate(known);
-            return Err(AllocError);
-        }
-    }
-    Ok(())
-}
-
-/// Puts the entries of an object in place of those that its number had, and hands these back.
-fn replace_at<'a>(
-    objects: &mut Vec<ObjectEntries<'a>>,
-    object: usize,
-    entries: ObjectEntries<'a>,
-) -> ObjectEntries<'a>
-    requires { object < vec_len objects.old }
-    ensures { objects.new.items ≡ slice_set objects.old.items object entries.entry }
-{
-    mem::replace(&mut objects[object], entries)
-}
-
-/// How many entries these objects have: as many names there are at most. It tells how much room to
-/// take, and nothing else rests on it.
-fn entry_count(objects: &[ObjectEntries<'_>]) -> usize {
-    let mut count: usize = 0;
-    for entries in objects {
-        count = count.saturating_add(entries.as_slice().len());
-    }
-    count
-}
-
-/// Adds an entry to the names. Answers with both symbols, where it repeats a strong name.
-fn add_entry<'a, L: Ledger>(
-    names: &mut CountedNames<'a>,
-    entry: &NameEntry<'a>,
-    steps: &mut Steps<L>,
-) -> Result<Option<Repeat<'a>>, AllocError>
-    ensures adds { IfOk result (AddsAll
-        (firsts_in names.old.names.firsts) (firsts_in names.new.names.firsts) (entry.now ∷ [])) }
-    ensures counted { IfOk result (λ told. IfNone told (steps.new ≡ steps.old + 2)) }
-    ensures cost { steps.new ≤ steps.old + 2 }
-{
-    let name = entry.name;
-    match add(names, name, entry.strength, entry.place, steps)? {
-        None => Ok(None),
-        Some(first) => Ok(Some(Repeat {
-            name,
-            first,
-            second: entry.place,
-        })),
-    }
-}
-
-/// Adds the entries of an object. Answers with the first that repeats a strong name.
-fn add_entries<'a, L: Ledger>(
-    names: &mut CountedNames<'a>,
-    entries: &[NameEntry<'a>],
-    steps: &mut Steps<L>,
-) -> Result<Option<Repeat<'a>>, AllocError>
-    ensures adds { IfOk result (AddsAll
-        (firsts_in names.old.names.firsts) (firsts_in names.new.names.firsts) entries.now) }
-    ensures counted { IfOk result (λ told. IfNone told
-        (steps.new ≡ steps.old + 2 * length entries.now)) }
-    ensures cost { steps.new ≤ steps.old + 2 * length entries.now }
-{
-    for entry in entries {
-        if let Some(repeat) = add_entry(names, entry, steps)? {
-            return Ok(Some(repeat));
-        }
-    }
-    Ok(None)
-}
-
-/// Adds the entries of objects. Answers with the first that repeats a strong name.
-fn add_objects<'a, L: Ledger>(
-    names: &mut CountedNames<'a>,
-    objects: &[ObjectEntries<'a>],
-    steps: &mut Steps<L>,
-) -> Result<Option<Repeat<'a>>, AllocError>
-    ensures adds { IfOk result (AddsAll
-        (firsts_in names.old.names.firsts) (firsts_in names.new.names.firsts)
-        (all_entries objects.now)) }
-    ensures counted { IfOk result (λ told. IfNone told
-        (steps.new ≡ steps.old + 2 * length (all_entries objects.now))) }
-    ensures cost { steps.new ≤ steps.old + 2 * length (all_entries objects.now) }
-{
-    for entries in objects {
-        if let Some(repeat) = add_entries(names, entries.as_slice(), steps)? {
-            return Ok(Some(repeat));
-        }
-    }
-    Ok(None)
+    ghost invariant = { λ n. IsIndexed (found_in n.lists.lists) n.objects.items };
 }
 
 impl<'a> NameIndex<'a> {
@@ -153,6 +54,7 @@ impl<'a> NameIndex<'a> {
     {
         NameIndex {
             alloc,
+            lists: BearerMap::new(alloc),
             objects: Vec::new(alloc),
         }
     }
@@ -171,9 +73,13 @@ impl<'a> NameIndex<'a> {
         ensures kept { OnErr result (self.new ≡ self.old) }
     {
         let entries = gather(self.alloc, object, file)?;
-        make_room(self.alloc, &mut self.objects, object)?;
-        let _replaced = replace_at(&mut self.objects, object, entries);
-        Ok(())
+        exchange(
+            self.alloc,
+            &mut self.lists,
+            &mut self.objects,
+            object,
+            entries,
+        )
     }
 
     /// The table of the names of objects, where the index has the names of these and no others: the
@@ -196,7 +102,9 @@ impl<'a> NameIndex<'a> {
         table_uncounted::<Brand>(self, alloc, files, args, Blank::new(1))
     }
 
-    /// The same in steps that are counted, as [`SymbolTable::build_counted`] counts them.
+    /// The same in steps that are counted: each is a call on a map of names. There are two for each
+    /// symbol that other objects know by a name, which ask who bears it and what it stands for, and
+    /// one for each name, which puts the first symbols that bear it.
     ///
     /// # Errors
     /// As [`SymbolTable::build`].
@@ -213,11 +121,17 @@ impl<'a> NameIndex<'a> {
         ensures clear { OnOk result (Clear (IsDuplicate files.now)) }
         ensures err { IfErr result (Refuses (IsDuplicate files.now)) }
         ensures counted { OnOk result
-            (steps.new ≡ steps.old + 3 * length (entries_of 0 files.now)) }
+            (steps.new ≡ steps.old + 2 * length (entries_of 0 files.now)
+            + name_count (entries_of 0 files.now)) }
         ensures cost { steps.new ≤ steps.old + 3 * symbol_count files.now }
     {
-        let mut names = CountedNames::with_room(alloc, entry_count(self.objects.as_slice()))?;
-        if let Some(repeat) = add_objects(&mut names, self.objects.as_slice(), steps)? {
+        let mut names = CountedNames::with_room(alloc, self.lists.len())?;
+        if let Some(repeat) = tell_objects(
+            &mut names,
+            &self.lists,
+            self.objects.as_slice(),
+            steps,
+        )? {
             return Err(duplicate(alloc, &repeat)?);
         }
         Ok(SymbolTable::of(alloc, files, args, names, steps)?)

@@ -2,7 +2,7 @@ use Rattle.std.proofs.Common.{◌≡◌, ◌≤◌, ◌+◌, ◌-◌, ◌∙◌,
 use Rattle.std.proofs.lemmas.List.{length-append}
 use Rattle.wl_symbols.specs.Index.{padded}
 use Rattle.wl_symbols.proofs.IndexLaws.{padded_more}
-use Rattle.wl_symbols.proofs.index.make_room.Goals as goal
+use Rattle.wl_symbols.proofs.exchanging.make_room.Goals as goal
 
 pub loop-alloc-preserved : goal.loop-alloc-preserved
 loop-alloc-preserved c =

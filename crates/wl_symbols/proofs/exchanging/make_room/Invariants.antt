@@ -1,6 +1,6 @@
 use Rattle.std.proofs.Common.{◌≡◌, ◌≤◌, ◌+◌, ◌-◌, length}
 use Rattle.wl_symbols.specs.Index.{padded}
-use Rattle.wl_symbols.proofs.index.make_room.Given as goal
+use Rattle.wl_symbols.proofs.exchanging.make_room.Given as goal
 
 abbrev pub invariant-loop-alloc : goal.invariant-loop-alloc
 invariant-loop-alloc l = record {
