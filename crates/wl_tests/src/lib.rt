@@ -15,6 +15,8 @@ mod data;
 #[cfg(test)]
 mod files;
 #[cfg(test)]
+mod generated;
+#[cfg(test)]
 mod lists;
 #[cfg(test)]
 mod live;
