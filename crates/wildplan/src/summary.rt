@@ -54,8 +54,7 @@ pub fn summary(alloc: Global, plan: &LinkPlan<'_>) -> Result<Vec<u8>, AllocError
     let functions = plan.layout.function_type_indices.as_slice().len();
     let dropped = dropped_in_all(maps);
     let fixups = plan.fixups.as_slice().len();
-    let text = format!(
-        in alloc;
+    let text = format!(in alloc;
         "objects {objects} functions {functions} dropped {dropped} fixups {fixups}\n"
     )?;
     Ok(text.into_bytes())
