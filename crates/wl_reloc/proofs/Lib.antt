@@ -1,2 +1,3 @@
-mod CauseLaws
+mod FaultLaws
+mod PointerLaws
 mod RefusalLaws

@@ -17,12 +17,12 @@ use Rattle.wl_index.specs.declared.data_address.WasmDataAddress.{WasmDataAddress
 use Rattle.wl_index.specs.declared.data_address.WasmDataAddress.TheVariants.{Missing, Placed, Passive, TlsOffset}
 use Rattle.wl_index.specs.declared.index.TheConstants.{WASM_DEAD_INDEX}
 use Rattle.wl_reloc.specs.Addresses.{is_s32, s32_or_range, as_word, behind_thread_data, address_value}
-use Rattle.wl_reloc.specs.Causes.{is_of_function, takes_function, NamesKind, TakesAddress, LacksSlot, IsPastEnd, past_types, past_symbols, past_functions, past_globals, past_got_mem, past_got_func, past_addresses, IsRemoved, no_type, no_global, no_function, IsOfWrongKind, HasNoSlot, HasNoGot, no_got_mem, no_got_func, HasNoRule, passive, block_in_memory, block_by_base, IsOutOfRange, missing_by_base, placed_by_base, before_thread_data, in_thread_data, in_block, HasCause}
+use Rattle.wl_reloc.specs.Faults.{is_of_function, takes_function, NamesKind, TakesAddress, LacksSlot, IsPastEnd, past_types, past_symbols, past_functions, past_globals, past_got_mem, past_got_func, past_addresses, IsRemoved, no_type, no_global, no_function, IsOfWrongKind, HasNoSlot, HasNoGot, no_got_mem, no_got_func, HasNoRule, passive, block_in_memory, block_by_base, IsOutOfRange, missing_by_base, placed_by_base, before_thread_data, in_thread_data, in_block, IsRelocFault}
 use Rattle.wl_reloc.specs.Resolving.{Resolver, kept_index, redirect, got_global, slot_in, function_index, slot_of, behind_first, global_index, table_number, address_in, address_of, symbol_named, taken_of, taken, resolved}
 use Rattle.wl_reloc.specs.declared.addresses.AddressBases.{AddressBases}
 use Rattle.wl_reloc.specs.declared.error.RelocError.{RelocError}
 use Rattle.wl_reloc.specs.declared.error.RelocError.TheVariants.{OutOfRange, Removed, WrongKind, NoSlot, NoGot, Unsupported, Range}
-use Rattle.wl_reloc.proofs.CauseLaws.{same_err, why}
+use Rattle.wl_reloc.proofs.FaultLaws.{same_err, why}
 
 -- ---- what a type takes
 
@@ -308,7 +308,7 @@ module _ (by : Resolver) (r : WasmRelocation) where
       value_refused ThreadData (TlsOffset offset) Range h (no_number (pos offset +ℤ r.addend) out)
 
 -- where a refusal has its cause, it is told
-pub refused : (by : Resolver) (r : WasmRelocation) (e : RelocError) → HasCause by r e
+pub refused : (by : Resolver) (r : WasmRelocation) (e : RelocError) → IsRelocFault by r e
     → resolved by r ≡ Err e
 refused by r OutOfRange h = past_end by r h
 refused by r Removed h = removed by r h
@@ -318,15 +318,15 @@ refused by r NoGot h = without_got by r h
 refused by r Unsupported h = without_rule by r h
 refused by r Range h = out_of_range by r h
 
-pub one : (by : Resolver) (r : WasmRelocation) (e f : RelocError) → HasCause by r e
-    → HasCause by r f → e ≡ f
+pub one : (by : Resolver) (r : WasmRelocation) (e f : RelocError) → IsRelocFault by r e
+    → IsRelocFault by r f → e ≡ f
 one by r e f h k = same_err {T = ℕ} e f (sym (refused by r e h) ∙ refused by r f k)
 
 clear_by : (by : Resolver) (r : WasmRelocation) (x : Result ℕ RelocError) → resolved by r ≡ x
-    → ((e : RelocError) → HasCause by r e → ⊥) → (value : ℕ) × (resolved by r ≡ Ok value)
+    → ((e : RelocError) → IsRelocFault by r e → ⊥) → (value : ℕ) × (resolved by r ≡ Ok value)
 clear_by by r (Ok value) is none = (value, is)
 clear_by by r (Err e) is none = absurd (none e (why by r e is))
 
-pub clear : (by : Resolver) (r : WasmRelocation) → ((e : RelocError) → HasCause by r e → ⊥)
+pub clear : (by : Resolver) (r : WasmRelocation) → ((e : RelocError) → IsRelocFault by r e → ⊥)
     → (value : ℕ) × (resolved by r ≡ Ok value)
 clear by r none = clear_by by r (resolved by r) refl none

@@ -1,3 +1,3 @@
 pub mod Addresses
-pub mod Causes
+pub mod Faults
 pub mod Resolving

@@ -1,8 +1,9 @@
 -- Why the field of a relocation has no value: the cause of each refusal (object file linking,
 -- version 2, "Relocation Sections"), by where the things of its object stand in the output.
-use Rattle.std.specs.Prelude.{◌≡◌, ◌⊎◌, ℕ, ◌≤◌, ◌<◌, pos, ◌+ℤ◌, ◌-ℤ◌, Bool, true, false, List, length, Some, None, slice_get}
-use Rattle.wl_custom.specs.RelocationTypes.{taking_of, names_a_type, has_addend, takes_kind, is_global_index, is_table_index}
+use Rattle.std.specs.Prelude.{◌≡◌, ◌≢◌, ◌⊎◌, ℕ, ◌≤◌, ◌<◌, pos, ◌+ℤ◌, ◌-ℤ◌, Bool, true, false, List, length, Some, None, slice_get}
+use Rattle.wl_custom.specs.RelocationTypes.{taking_of, field_form, names_a_type, has_addend, takes_kind, is_global_index, is_table_index}
 use Rattle.wl_custom.specs.Symbols.{Symbol, is_function, is_data, is_global}
+use Rattle.wl_custom.specs.declared.relocation_type.FieldForm.TheVariants.{Word}
 use Rattle.wl_custom.specs.declared.relocation_type.RelocationType.{RelocationType}
 use Rattle.wl_custom.specs.declared.relocations.WasmRelocation.{WasmRelocation}
 use Rattle.wl_custom.specs.declared.symbols.WasmSymbolKind.{WasmSymbolKind}
@@ -51,8 +52,7 @@ LacksSlot slots index = (length slots ≤ index) ⊎ (slice_get slots index ≡ 
 
 -- ---- the causes
 
--- OutOfRange: the number of its type or symbol is past the end of the list of these, or of the
--- list of the map that has what it takes; of a global symbol, that of its global
+-- OutOfRange: its number, or of a global symbol that of the global, is past the end of its list
 pub data IsPastEnd (by : Resolver) (r : WasmRelocation) : Type 0 where
   past_types : names_a_type r.ty ≡ true → length by.map.type_indices ≤ r.index → IsPastEnd by r
   past_symbols : names_a_type r.ty ≡ false → length by.symbols ≤ r.index → IsPastEnd by r
@@ -67,8 +67,7 @@ pub data IsPastEnd (by : Resolver) (r : WasmRelocation) : Type 0 where
   past_addresses : has_addend r.ty ≡ true → NamesKind by r is_data
       → length by.map.data_addresses ≤ r.index → IsPastEnd by r
 
--- Removed: the map has 4294967295 for its type or its symbol's global, or says of its function
--- symbol that it leads to none
+-- Removed: the map has 4294967295 for its type or global, or no function for its symbol
 pub data IsRemoved (by : Resolver) (r : WasmRelocation) : Type 0 where
   no_type : names_a_type r.ty ≡ true
       → slice_get by.map.type_indices r.index ≡ Some WASM_DEAD_INDEX → IsRemoved by r
@@ -92,23 +91,22 @@ pub record HasNoSlot (by : Resolver) (r : WasmRelocation) : Type 0 where
   pub leads : slice_get by.map.function_symbol_redirects r.index ≡ Some (Some index)
   pub lacks : LacksSlot by.slots index
 
--- NoGot: its type takes a global, and none holds the address of its data symbol, or the slot of
--- its function symbol
+-- NoGot: its type takes a global, and the map has none for its data or its function
 pub data HasNoGot (by : Resolver) (r : WasmRelocation) : Type 0 where
   no_got_mem : is_global_index r.ty ≡ true → NamesKind by r is_data
       → slice_get by.map.got_mem_globals r.index ≡ Some None → HasNoGot by r
   no_got_func : is_global_index r.ty ≡ true → NamesKind by r is_function
       → slice_get by.map.got_func_globals r.index ≡ Some None → HasNoGot by r
 
--- Unsupported: the data has no address; or it lies in the block of each thread, and its address is
--- counted from the start of the memory or from the memory's base
+-- Unsupported: its data has no address, or has one in the block of each thread, which isn't counted
+-- from the start of the memory nor from the memory's base
 pub data HasNoRule (by : Resolver) (r : WasmRelocation) : Type 0 where
   passive : (base : AddressBase) → TakesAddress by r base Passive → HasNoRule by r
   block_in_memory : (offset : ℕ) → TakesAddress by r Memory (TlsOffset offset) → HasNoRule by r
   block_by_base : (offset : ℕ) → TakesAddress by r MemoryBase (TlsOffset offset) → HasNoRule by r
 
--- Range: the address, counted from its base, and with the addend, isn't from -2147483648 to
--- 2147483647; or it stands before the data of the thread, from where it is counted
+-- Range: an address counted from a base, with the addend, isn't from -2147483648 to 2147483647, or
+-- it stands before the data of the thread, from where it is counted
 pub data IsOutOfRange (by : Resolver) (r : WasmRelocation) : Type 0 where
   missing_by_base : TakesAddress by r MemoryBase Missing
       → is_s32 ((pos 0 -ℤ pos by.bases.memory_base) +ℤ r.addend) ≡ false → IsOutOfRange by r
@@ -122,11 +120,43 @@ pub data IsOutOfRange (by : Resolver) (r : WasmRelocation) : Type 0 where
       → is_s32 (pos offset +ℤ r.addend) ≡ false → IsOutOfRange by r
 
 -- the cause of each refusal
-abbrev pub HasCause : Resolver → WasmRelocation → RelocError → Type 0
-HasCause by r OutOfRange = IsPastEnd by r
-HasCause by r Removed = IsRemoved by r
-HasCause by r WrongKind = IsOfWrongKind by r
-HasCause by r NoSlot = HasNoSlot by r
-HasCause by r NoGot = HasNoGot by r
-HasCause by r Unsupported = HasNoRule by r
-HasCause by r Range = IsOutOfRange by r
+abbrev pub IsRelocFault : Resolver → WasmRelocation → RelocError → Type 0
+IsRelocFault by r OutOfRange = IsPastEnd by r
+IsRelocFault by r Removed = IsRemoved by r
+IsRelocFault by r WrongKind = IsOfWrongKind by r
+IsRelocFault by r NoSlot = HasNoSlot by r
+IsRelocFault by r NoGot = HasNoGot by r
+IsRelocFault by r Unsupported = HasNoRule by r
+IsRelocFault by r Range = IsOutOfRange by r
+
+-- ---- addresses that are known when a thread starts
+
+-- its type takes an address, and what it names lies at that place of the block of each thread
+pub record PointsIntoBlock (addresses : List WasmDataAddress) (r : WasmRelocation) (offset : ℕ)
+    : Type 0 where
+  pub takes : has_addend r.ty ≡ true
+  pub lies : slice_get addresses r.index ≡ Some (TlsOffset offset)
+
+-- Unsupported: such a place can be stored in four bytes alone, and its field has another form
+pub record HasOtherForm (addresses : List WasmDataAddress) (r : WasmRelocation) : Type 0 where
+  pub offset : ℕ
+  pub points : PointsIntoBlock addresses r offset
+  pub form : field_form r.ty ≢ Word
+
+-- Range: its field has four bytes, and the place, with the addend, isn't from -2147483648 to
+-- 2147483647
+pub record PointsTooFar (addresses : List WasmDataAddress) (r : WasmRelocation) : Type 0 where
+  pub offset : ℕ
+  pub points : PointsIntoBlock addresses r offset
+  pub form : field_form r.ty ≡ Word
+  pub out : is_s32 (pos offset +ℤ r.addend) ≡ false
+
+-- the cause of each refusal of a place in the block; others don't come
+abbrev pub IsPointerFault : List WasmDataAddress → WasmRelocation → RelocError → Type 0
+IsPointerFault addresses r Unsupported = HasOtherForm addresses r
+IsPointerFault addresses r Range = PointsTooFar addresses r
+IsPointerFault addresses r OutOfRange = ⊥
+IsPointerFault addresses r Removed = ⊥
+IsPointerFault addresses r WrongKind = ⊥
+IsPointerFault addresses r NoSlot = ⊥
+IsPointerFault addresses r NoGot = ⊥

@@ -18,7 +18,7 @@ use Rattle.wl_index.specs.declared.data_address.WasmDataAddress.{WasmDataAddress
 use Rattle.wl_index.specs.declared.data_address.WasmDataAddress.TheVariants.{Missing, Placed, Passive, TlsOffset}
 use Rattle.wl_index.specs.declared.index.TheConstants.{WASM_DEAD_INDEX}
 use Rattle.wl_reloc.specs.Addresses.{is_s32, s32_or_range, as_word, behind_thread_data, address_value}
-use Rattle.wl_reloc.specs.Causes.{is_of_function, takes_function, NamesKind, TakesAddress, LacksSlot, past_types, past_symbols, past_functions, past_globals, past_got_mem, past_got_func, past_addresses, no_type, no_global, no_function, no_got_mem, no_got_func, passive, block_in_memory, block_by_base, missing_by_base, placed_by_base, before_thread_data, in_thread_data, in_block, HasCause}
+use Rattle.wl_reloc.specs.Faults.{is_of_function, takes_function, NamesKind, TakesAddress, LacksSlot, past_types, past_symbols, past_functions, past_globals, past_got_mem, past_got_func, past_addresses, no_type, no_global, no_function, no_got_mem, no_got_func, passive, block_in_memory, block_by_base, missing_by_base, placed_by_base, before_thread_data, in_thread_data, in_block, IsRelocFault}
 use Rattle.wl_reloc.specs.Resolving.{Resolver, kept_index, redirect, got_global, slot_in, function_index, slot_of, behind_first, global_index, table_number, address_in, address_of, symbol_named, taken_of, taken, resolved}
 use Rattle.wl_reloc.specs.declared.addresses.AddressBases.{AddressBases}
 use Rattle.wl_reloc.specs.declared.error.RelocError.{RelocError}
@@ -46,7 +46,7 @@ past xs i h = past_by xs i h (slice_get_cases xs i).1
 
 -- what is told has that cause
 module _ (Cause : RelocError → Type 0) where
-  told : {T : Type 0} (a b : RelocError) → ◌≡◌ {A = Result T RelocError} (Err a) (Err b)
+  pub told : {T : Type 0} (a b : RelocError) → ◌≡◌ {A = Result T RelocError} (Err a) (Err b)
       → Cause a → Cause b
   told {T} a b h c = subst Cause (same_err {T = T} a b h) c
 
@@ -119,7 +119,7 @@ before_first (Err d) e h = h
 
 module _ (by : Resolver) (r : WasmRelocation) where
   abbrev caused : RelocError → Type 0
-  caused e = HasCause by r e
+  caused e = IsRelocFault by r e
 
   -- of types
   type_caused : taking_of r.ty ≡ TypeIndex → (e : RelocError)
@@ -311,5 +311,5 @@ module _ (by : Resolver) (r : WasmRelocation) where
 
 -- where it is refused, that refusal has its cause
 pub why : (by : Resolver) (r : WasmRelocation) (e : RelocError) → resolved by r ≡ Err e
-    → HasCause by r e
+    → IsRelocFault by r e
 why by r e h = taking_caused by r (taking_of r.ty) refl e h
