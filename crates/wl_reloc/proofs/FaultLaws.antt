@@ -133,13 +133,13 @@ module _ (by : Resolver) (r : WasmRelocation) where
   -- of a symbol
   abbrev kind_named : (is_kind : WasmSymbolKind → Bool) (s : Symbol) → symbol_named by r ≡ Some s
       → is_kind s.kind ≡ true → NamesKind by r is_kind
-  kind_named is_kind s named is = record { symbol = s; named = named; kind_is = is; }
+  kind_named is_kind s named is = record { symbol = s; named = named; kind_is = is }
 
   -- in place of a symbol of another kind
   wrong_kind : (s : Symbol) → symbol_named by r ≡ Some s → names_a_type r.ty ≡ false
       → takes_kind r.ty s.kind ≡ false → caused WrongKind
   wrong_kind s named names wrong =
-      record { symbol = s; names = names; named = named; wrong = wrong; }
+      record { symbol = s; names = names; named = named; wrong = wrong }
 
   -- the function that a symbol leads to
   function_caused : (s : Symbol) (is : Bool) → symbol_named by r ≡ Some s
@@ -168,7 +168,11 @@ module _ (by : Resolver) (r : WasmRelocation) where
       (λ none. past_functions takes k (past by.map.function_symbol_redirects r.index none))
       (λ none. no_function takes k none)
       (λ index leads lacks. record {
-        index = index; takes = slot; names = k; leads = leads; lacks = lacks;
+        index = index;
+        takes = slot;
+        names = k;
+        leads = leads;
+        lacks = lacks;
       })
   slot_caused s false named is slot takes names kinds e h =
       told caused {T = ℕ} WrongKind e h (wrong_kind s named names (kinds ∙ is))
@@ -259,7 +263,7 @@ module _ (by : Resolver) (r : WasmRelocation) where
       told caused {T = ℕ} OutOfRange e h
       (past_addresses (ap is_address is) names (past by.map.data_addresses r.index at))
   listed_caused base is names (Some a) at e h =
-      address_caused base a (record { takes = is; names = names; lies = at; }) e h
+      address_caused base a (record { takes = is; names = names; lies = at }) e h
 
   data_caused : (base : AddressBase) (s : Symbol) (d : Bool) → taking_of r.ty ≡ Address base
       → symbol_named by r ≡ Some s → is_data s.kind ≡ d → (e : RelocError)

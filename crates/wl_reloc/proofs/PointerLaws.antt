@@ -25,7 +25,7 @@ module _ (addresses : List WasmDataAddress) (r : WasmRelocation) where
   number_caused offset points form true is e h = absurd cc
   number_caused offset points form false is e h =
       told caused {T = Option ℤ} Range e h
-      (record { offset = offset; points = points; form = form; out = is; })
+      (record { offset = offset; points = points; form = form; out = is })
 
   form_caused : (offset : ℕ) → PointsIntoBlock addresses r offset → (form : FieldForm)
       → field_form r.ty ≡ form → (e : RelocError)
@@ -34,17 +34,17 @@ module _ (addresses : List WasmDataAddress) (r : WasmRelocation) where
       number_caused offset points is (is_s32 (pos offset +ℤ r.addend)) refl e h
   form_caused offset points PaddedUnsigned is e h =
       told caused {T = Option ℤ} Unsupported e h
-      (record { offset = offset; points = points; form = λ word. absurd cc; })
+      (record { offset = offset; points = points; form = λ word. absurd cc })
   form_caused offset points PaddedSigned is e h =
       told caused {T = Option ℤ} Unsupported e h
-      (record { offset = offset; points = points; form = λ word. absurd cc; })
+      (record { offset = offset; points = points; form = λ word. absurd cc })
 
   block_caused : (offset : ℕ) → slice_get addresses r.index ≡ Some (TlsOffset offset)
       → (takes : Bool) → has_addend r.ty ≡ takes → (e : RelocError)
       → (if takes then stored_by_thread (field_form r.ty) (pos offset +ℤ r.addend) else Ok None)
       ≡ Err e → caused e
   block_caused offset lies true takes e h =
-      form_caused offset (record { takes = takes; lies = lies; }) (field_form r.ty) refl e h
+      form_caused offset (record { takes = takes; lies = lies }) (field_form r.ty) refl e h
   block_caused offset lies false takes e h = absurd cc
 
   listed_caused : (o : Option WasmDataAddress) → slice_get addresses r.index ≡ o
