@@ -1,10 +1,10 @@
 -- Where a relocation has no value, the refusal that is told has its cause.
 use Rattle.std.proofs.Common.{◌≡◌, ◌≢◌, ◌⊎◌, inl, inr, ℕ, ◌≤◌, ◌<◌, Bool, true, false, eqb, List, length, refl, sym, ap, subst, ◌∙◌, Option, Some, None, slice_get, if◌then◌else◌, get_or}
-use Rattle.std.specs.Prelude.{ℤ, pos, ◌+ℤ◌, ◌-ℤ◌, nat_lt, Result, Ok, Err}
+use Rattle.std.specs.Prelude.{ℤ, pos, ◌+ℤ◌, ◌-ℤ◌, Result, Ok, Err}
 use Rattle.std.proofs.lemmas.Bool.{cases_lt, lt-ltb, le-ltb}
 use Rattle.std.proofs.lemmas.Bool.Decides.{eqb_tells}
 use Rattle.std.proofs.lemmas.Option.{slice_get_cases}
-use Rattle.wl_custom.specs.RelocationTypes.{taking_of, names_a_type, has_addend, takes_kind, is_global_index, is_table_index}
+use Rattle.wl_custom.specs.RelocationTypes.{taking_of, names_a_type, takes_kind, is_global_index, is_table_index}
 use Rattle.wl_custom.specs.Symbols.{Symbol, is_function, is_data, is_global, is_table}
 use Rattle.wl_custom.specs.Takings.{is_type, is_slot, is_address, is_global as is_of_global, is_taken_of}
 use Rattle.wl_custom.specs.declared.relocations.WasmRelocation.{WasmRelocation}
@@ -20,7 +20,6 @@ use Rattle.wl_index.specs.declared.index.TheConstants.{WASM_DEAD_INDEX}
 use Rattle.wl_reloc.specs.Addresses.{is_s32, s32_or_range, as_word, behind_thread_data, address_value}
 use Rattle.wl_reloc.specs.Faults.{is_of_function, takes_function, NamesKind, TakesAddress, LacksSlot, past_types, past_symbols, past_functions, past_globals, past_got_mem, past_got_func, past_addresses, no_type, no_global, no_function, no_got_mem, no_got_func, passive, block_in_memory, block_by_base, missing_by_base, placed_by_base, before_thread_data, in_thread_data, in_block, IsRelocFault}
 use Rattle.wl_reloc.specs.Resolving.{Resolver, kept_index, redirect, got_global, slot_in, function_index, slot_of, behind_first, global_index, table_number, address_in, address_of, symbol_named, taken_of, taken, resolved}
-use Rattle.wl_reloc.specs.declared.addresses.AddressBases.{AddressBases}
 use Rattle.wl_reloc.specs.declared.error.RelocError.{RelocError}
 use Rattle.wl_reloc.specs.declared.error.RelocError.TheVariants.{OutOfRange, Removed, WrongKind, NoSlot, NoGot, Unsupported, Range}
 

@@ -7,11 +7,11 @@ use Rattle.wl_custom.specs.declared.relocation_type.FieldForm.TheVariants.{Padde
 use Rattle.wl_custom.specs.declared.relocations.WasmRelocation.{WasmRelocation}
 use Rattle.wl_index.specs.declared.data_address.WasmDataAddress.{WasmDataAddress}
 use Rattle.wl_index.specs.declared.data_address.WasmDataAddress.TheVariants.{Missing, Placed, Passive, TlsOffset}
-use Rattle.wl_reloc.specs.Addresses.{is_s32, s32_or_range, as_some, stored_by_thread, deferred_value, deferred_at, deferred_pointer}
+use Rattle.wl_reloc.specs.Addresses.{is_s32, as_some, stored_by_thread, deferred_value, deferred_at, deferred_pointer}
 use Rattle.wl_reloc.specs.Faults.{PointsIntoBlock, HasOtherForm, PointsTooFar, IsPointerFault}
 use Rattle.wl_reloc.specs.declared.error.RelocError.{RelocError}
 use Rattle.wl_reloc.specs.declared.error.RelocError.TheVariants.{OutOfRange, Removed, WrongKind, NoSlot, NoGot, Unsupported, Range}
-use Rattle.wl_reloc.proofs.FaultLaws.{same_err, no_err, told}
+use Rattle.wl_reloc.proofs.FaultLaws.{same_err, told}
 
 module _ (addresses : List WasmDataAddress) (r : WasmRelocation) where
   abbrev caused : RelocError → Type 0
