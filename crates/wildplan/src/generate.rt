@@ -2,7 +2,8 @@
 
 ghost use Rattle.std.specs.Prelude.{◌≡◌, ◌≤◌, [], ◌∷◌, ◌++◌, length, OnOk, IfOk};
 ghost use Rattle.wl_generate.specs.Generated.{generated};
-ghost use Rattle.wl_generate.specs.declared.object.TheConstants.{MOST_OBJECTS, LONGEST_OBJECT};
+ghost use Rattle.wl_generate.specs.declared.object.TheConstants.{LONGEST_OBJECT};
+ghost use Rattle.wl_words.specs.declared.values.TheConstants.{MAX_GENERATED};
 
 use std::alloc::{AllocError, Global};
 use wl_generate::generated_object;
@@ -26,7 +27,7 @@ fn push_object(objects: &mut ObjectList, object: Vec<u8>) -> Result<(), AllocErr
 /// `AllocError` where memory runs out.
 pub fn generate(alloc: Global, n: u32) -> Result<ObjectList, AllocError>
     requires some { 1 ≤ n }
-    requires most { n ≤ MOST_OBJECTS }
+    requires most { n ≤ MAX_GENERATED }
     ensures { IfOk result (λ objects. objects ≡ generated n) }
 {
     let mut objects = ObjectList::new(alloc);

@@ -8,4 +8,4 @@
 mod object;
 mod sections;
 
-pub use object::{LONGEST_OBJECT, MOST_OBJECTS, generated_object};
+pub use object::{LONGEST_OBJECT, generated_object};

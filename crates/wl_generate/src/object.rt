@@ -2,16 +2,14 @@
 
 ghost use Rattle.std.specs.Prelude.{◌≡◌, ◌+◌, ◌<◌, ◌≤◌, ◌++◌, length, IfOk, OnOk};
 ghost use Rattle.wl_generate.specs.Generated.{chained_name, spare_name, import_of, linking, defined_symbol, imported_symbol, both_defined, calling_object, last_object, generated_object};
-ghost use Rattle.wl_generate.specs.declared.object.TheConstants.{MOST_OBJECTS, LONGEST_OBJECT, LONGEST_NAME};
+ghost use Rattle.wl_generate.specs.declared.object.TheConstants.{LONGEST_OBJECT, LONGEST_NAME};
+ghost use Rattle.wl_words.specs.declared.values.TheConstants.{MAX_GENERATED};
 
 use crate::sections::{
     CALLING_BODY, EMPTY_BODY, push_call_relocation, push_code, push_front, push_import,
     push_linking, push_sized, push_two_functions,
 };
 use std::alloc::{AllocError, Global};
-
-/// The greatest number of objects.
-pub const MOST_OBJECTS: u32 = 10_000;
 
 /// How many bytes an object has at most.
 pub const LONGEST_OBJECT: usize = 102;
@@ -22,7 +20,7 @@ const LONGEST_NAME: usize = 5;
 /// The name of the function of an object that the one of the object before calls.
 #[tactic(auto, using(crate::proofs::Short::four_digits))]
 fn chained_name(alloc: Global, number: u32) -> Result<Vec<u8>, AllocError>
-    requires { number < MOST_OBJECTS }
+    requires { number < MAX_GENERATED }
     ensures name { IfOk result (λ name. name.items ≡ chained_name number) }
     ensures short { IfOk result (λ name. length name.items ≤ LONGEST_NAME) }
 {
@@ -32,7 +30,7 @@ fn chained_name(alloc: Global, number: u32) -> Result<Vec<u8>, AllocError>
 /// The name of the function of an object that nothing names.
 #[tactic(auto, using(crate::proofs::Short::four_digits))]
 fn spare_name(alloc: Global, number: u32) -> Result<Vec<u8>, AllocError>
-    requires { number < MOST_OBJECTS }
+    requires { number < MAX_GENERATED }
     ensures name { IfOk result (λ name. name.items ≡ spare_name number) }
     ensures short { IfOk result (λ name. length name.items ≤ LONGEST_NAME) }
 {
@@ -56,7 +54,7 @@ fn push_both_defined(
     number: u32,
 ) -> Result<(), AllocError>
     requires first { first < 128 }
-    requires number { number < MOST_OBJECTS }
+    requires number { number < MAX_GENERATED }
     ensures symbols { OnOk result (out.new.items ≡ out.old.items ++ both_defined first number) }
     ensures short { OnOk result (length out.new.items ≤ length out.old.items + 18) }
 {
@@ -66,7 +64,7 @@ fn push_both_defined(
 
 /// Puts the import of the function that an object calls, which the next object defines.
 fn push_called(alloc: Global, out: &mut Vec<u8>, number: u32) -> Result<(), AllocError>
-    requires { number + 1 < MOST_OBJECTS }
+    requires { number + 1 < MAX_GENERATED }
     ensures import { OnOk result
         (out.new.items ≡ out.old.items ++ import_of (chained_name (number + 1))) }
     ensures short { OnOk result (length out.new.items ≤ length out.old.items + 15) }
@@ -76,7 +74,7 @@ fn push_called(alloc: Global, out: &mut Vec<u8>, number: u32) -> Result<(), Allo
 
 /// Puts the table of the symbols of an object that calls a function.
 fn push_calling_symbols(alloc: Global, out: &mut Vec<u8>, number: u32) -> Result<(), AllocError>
-    requires { number < MOST_OBJECTS }
+    requires { number < MAX_GENERATED }
     ensures table { OnOk result (out.new.items ≡ out.old.items
         ++ linking 3 (imported_symbol ++ both_defined 1 number)) }
     ensures short { OnOk result (length out.new.items ≤ length out.old.items + 35) }
@@ -89,7 +87,7 @@ fn push_calling_symbols(alloc: Global, out: &mut Vec<u8>, number: u32) -> Result
 
 /// An object whose first function calls that of the next object.
 fn calling_object(alloc: Global, number: u32) -> Result<Vec<u8>, AllocError>
-    requires { number + 1 < MOST_OBJECTS }
+    requires { number + 1 < MAX_GENERATED }
     ensures object { IfOk result (λ object. object.items ≡ calling_object number) }
     ensures short { IfOk result (λ object. length object.items ≤ LONGEST_OBJECT) }
 {
@@ -105,7 +103,7 @@ fn calling_object(alloc: Global, number: u32) -> Result<Vec<u8>, AllocError>
 
 /// An object whose functions call none.
 fn last_object(alloc: Global, number: u32) -> Result<Vec<u8>, AllocError>
-    requires { number < MOST_OBJECTS }
+    requires { number < MAX_GENERATED }
     ensures object { IfOk result (λ object. object.items ≡ last_object number) }
     ensures short { IfOk result (λ object. length object.items ≤ LONGEST_OBJECT) }
 {
@@ -130,7 +128,7 @@ fn last_object(alloc: Global, number: u32) -> Result<Vec<u8>, AllocError>
 /// `AllocError` where memory runs out.
 pub fn generated_object(alloc: Global, number: u32, count: u32) -> Result<Vec<u8>, AllocError>
     requires number { number < count }
-    requires count { count ≤ MOST_OBJECTS }
+    requires count { count ≤ MAX_GENERATED }
     ensures object { IfOk result (λ object. object.items ≡ generated_object count number) }
     ensures short { IfOk result (λ object. length object.items ≤ LONGEST_OBJECT) }
 {

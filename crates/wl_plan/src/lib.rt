@@ -39,6 +39,7 @@ pub use layout::{
 pub use link::{plan_files, plan_link};
 pub use module_layout::build_output_module_layout;
 pub use objects::{MAX_OBJECT, ObjectList, PushError};
+pub use parsing::parse_objects;
 pub use running_laws::{
     block_exports_name_their_things, constructors_of_plans_are_called,
     deferred_fields_are_pointers, segments_of_plans_are_laid_once, stubs_of_plans_trap,
