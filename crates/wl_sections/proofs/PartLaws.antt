@@ -29,9 +29,9 @@ number section.FileHeader = 15
 number_at : (n : ℕ) (s : OutputSection) → slice_get part_order n ≡ Some s → number s ≡ n
 number_at n s at =
     let there : slice_get (map number part_order) n ≡ Some (number s) =
-      slice_get-map number part_order n ∙ ap (option_map number) at in
+    slice_get-map number part_order n ∙ ap (option_map number) at in
     let is : get_or (map number part_order) n 0 ≡ number s =
-      get_or_from_slice_get (map number part_order) n (number s) 0 there in
+    get_or_from_slice_get (map number part_order) n (number s) 0 there in
     let inside : n < 15 = slice_get_within part_order n s at in
     sym is ∙ get_or-range_with_len 0 15 n 0 inside ∙ zero-add n
 
