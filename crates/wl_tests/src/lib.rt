@@ -31,6 +31,8 @@ mod ops;
 #[cfg(test)]
 mod reach;
 #[cfg(test)]
+mod sections;
+#[cfg(test)]
 mod session;
 #[cfg(test)]
 mod steps;
