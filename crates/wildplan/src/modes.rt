@@ -33,11 +33,7 @@ pub(crate) fn planned_args(alloc: Global, args: WasmArgs) -> Result<WasmArgs, Al
 
 /// Why the units of objects that have a plan are kept. What is kept is found once more, for a plan
 /// doesn't hold it.
-fn why_planned(
-    alloc: Global,
-    files: &FileList<'_>,
-    args: &WasmArgs,
-) -> Result<Vec<u8>, LinkError>
+fn why_planned(alloc: Global, files: &FileList<'_>, args: &WasmArgs) -> Result<Vec<u8>, LinkError>
     requires { Clear (link_fault (link_of files.now args.now)) }
     ensures ok { IfOk result (λ text. IsWhyText (link_of files.now args.now) text.items) }
     ensures err { IfErr result (Refuses (λ _. ⊥)) }
