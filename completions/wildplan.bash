@@ -1,0 +1,17 @@
+# Completions for bash, made by tools/make_pages.py from the tables of docs/
+_wildplan() {
+    local word=${COMP_WORDS[COMP_CWORD]} before=${COMP_WORDS[COMP_CWORD - 1]}
+    COMPREPLY=()
+    case $before in
+        -z) COMPREPLY=($(compgen -W 'stack-size=' -- "$word")); return ;;
+        --export | --export-if-defined | --entry | -e | --extra-features | --initial-memory | --max-memory | --keep-section | =) return ;;
+    esac
+    if [[ $word == -* ]]; then
+        mapfile -t COMPREPLY < <(compgen -W '--allow-undefined --check-features --entry= --export-dynamic --export-if-defined= --export-memory --export= --extra-features= --gc-sections --import-memory --initial-memory= --keep-section= --max-memory= --no-check-features --no-entry --no-gc-sections --no-stack-first --shared-memory --stack-first --strip-all --strip-debug -S -e -o -s -z' -- "$word")
+        [[ ${COMPREPLY[0]} == *= ]] && compopt -o nospace
+    elif [[ $word != = ]]; then
+        mapfile -t COMPREPLY < <(compgen -f -- "$word")
+        compopt -o filenames
+    fi
+} 2>/dev/null
+complete -F _wildplan wildplan
