@@ -49,7 +49,7 @@ uninstall:
 
 check: $(PROGRAM)
 	$(PYTHON) tests/chain.py
-	WILDPLAN='$(abspath $(PROGRAM))' $(PYTHON) tests/cli.py
+	$(PYTHON) tests/cli.py '$(PROGRAM)'
 
 check-pages:
 	$(PYTHON) tests/chain.py
