@@ -53,7 +53,8 @@ def block_at(lines, place):
     end = place
     while end < len(lines) and (lines[end].startswith("    ") or not lines[end].strip()):
         end += 1
-    return [line[4:] for line in lines[place:end]], end
+    block = "\n".join(line[4:] for line in lines[place:end]).rstrip("\n")
+    return block.split("\n"), end
 
 
 def blocks_of(document):
@@ -73,9 +74,25 @@ def prose_of(document):
     return re.sub(r"(?m)(?<=\n\n)(?:    .*\n)+", "", text)
 
 
+def paragraphs_of(document):
+    """The paragraphs of a document without its blocks of code, each in one line; a row of a table is one of its own."""
+    paragraphs = []
+    for text in re.split(r"\n\s*\n", prose_of(document)):
+        lines = text.strip("\n").splitlines()
+        paragraphs += lines if lines and lines[0].startswith("|") else [" ".join(line.strip() for line in lines)]
+    return [text for text in paragraphs if text]
+
+
 def spans_of(document):
     """The pieces of code in the text of a document, each once, in order."""
-    return list(dict.fromkeys(re.findall(r"`([^`\n]+)`", prose_of(document))))
+    spans = [span for text in paragraphs_of(document) for span in re.findall(r"`([^`]+)`", text)]
+    return list(dict.fromkeys(span.replace("\\|", "|") for span in spans))
+
+
+def headings_of(document):
+    """The headings of a document, without their marks and without pieces of code that follow a colon."""
+    found = re.findall(r"^#+ (.*)$", document.read_text(), re.M)
+    return [*found, *(heading.split(":")[0] for heading in found)]
 
 
 def links_of(document):
