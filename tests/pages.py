@@ -24,13 +24,15 @@ PROGRAM = pathlib.Path(sys.argv[1]).resolve() if sys.argv[1:] else None
 SOURCES = ["crates/*/src/**/*", "crates/*/specs/**/*", "crates/*/proofs/**/*", "crates/*/must-fail/*", "tests/**/*",
            "tools/*", "examples/**/*", ".ci/*", "wildplan", "crates.txt", "Makefile", "HANDLES"]
 # Names of others: conventions of toolchains, and what stands for any name in a rule.
-FOREIGN = {"__indirect_function_table", "__wasm_call_dtors", "x_at"}
+FOREIGN = {"__indirect_function_table", "__wasm_call_dtors", "basic_streambuf", "x_at", "xN"}
 # The parts of docs/CLAIMS.md that name wrong bodies which stand in no folder, as it says there.
 BY_HAND = {"Bindings", "The plan", "Kept relocations"}
 # Programs whose commands stand on pages, but for those of the repository.
 TOOLS = {"ar", "apt-get", "c++filt", "cat", "clang", "clang++", "curl", "git", "llvm-nm", "llvm-objcopy", "llvm-readobj",
          "man", "node", "printf", "rattle", "rustc", "rustup", "ulimit", "wasm-ld", "wasm-objdump", "wasm-validate"}
-RT = {"check", "ci", "doc", "expand", "fmt", "lemma", "lib", "must-fail", "plant", "run", "test", "tidy", "try", "version"}
+# The calls of rt.
+RT = {"check", "ci", "doc", "expand", "fmt", "lemma", "lib", "must-fail", "plant", "run", "test", "tidy", "try",
+      "version"}
 # Options of others than wildplan and wasm-ld, and words that a page shows as unknown.
 OTHERS = {"--anew", "--incremental", "--jobs", "--only", "--symbols", "--target", "--test", "-O1", "-c", "-fvisibility",
           "-fwasm-exceptions", "-matomics", "-mcpu", "-pthread", "-v", "-x"}
@@ -75,7 +77,8 @@ def by_hand(page):
     if page.name != "CLAIMS.md":
         return set()
     parts = re.split(r"(?m)^## ", page.read_text())
-    return {name for part in parts if part.split(":")[0].split("\n")[0] in BY_HAND for name in re.findall(r"`(\w+)`", part)}
+    named = [part for part in parts if re.split(r"[:\n]", part)[0] in BY_HAND]
+    return {name for part in named for name in re.findall(r"`(\w+)`", part)}
 
 
 def names(page, known):
@@ -83,7 +86,7 @@ def names(page, known):
     allowed = known | by_hand(page)
     for span in documents.spans_of(page):
         for word in re.findall(r"[A-Za-z_]\w*", span):
-            if looks_like_code(word):
+            if looks_like_code(word) and not word.endswith("_NAME"):
                 note(page, f"the name {word} stands nowhere", word in allowed)
 
 
@@ -122,8 +125,8 @@ def links(page):
         file = (page.parent / place) if place else page
         note(page, f"the link {target} leads nowhere", file.exists())
         if anchor and file.exists():
-            anchors = {re.sub(r"[^\w -]", "", heading.lower()).replace(" ", "-") for heading in documents.headings_of(file)}
-            note(page, f"the link {target} leads to no heading", anchor in anchors)
+            headings = [re.sub(r"[^\w -]", "", heading.lower()) for heading in documents.headings_of(file)]
+            note(page, f"the link {target} leads to no heading", anchor in [name.replace(" ", "-") for name in headings])
 
 
 def sections(page):
@@ -166,7 +169,8 @@ def refusals(page, lines, reasons):
 def refusal_names():
     """The names of refusals, of docs/ERRORS.md, and those of reasons, of docs/FORMAT.md and docs/ERRORS.md."""
     told = (DOCS / "ERRORS.md").read_text()
-    tables = [rows for title, rows in documents.tables_of(DOCS / "FORMAT.md") if title[0] in ("`Malformed`", "`Unsupported`")]
+    kinds = ("`Malformed`", "`Unsupported`")
+    tables = [rows for title, rows in documents.tables_of(DOCS / "FORMAT.md") if title[0] in kinds]
     reasons = {name for rows in tables for row in rows for name in row[0].split(", ")}
     return set(re.findall(r"`error: (\w+)", told)), reasons | set(re.findall(r"`error: Unsupported O (\w+)`", told))
 
@@ -216,7 +220,9 @@ def printed_by(line):
     """What a command of wildplan prints, or None where its files aren't in the repository."""
     words = shlex.split(line)[1:]
     objects = [word for word in words if word.endswith(".o")]
-    if PROGRAM is None or not objects or not all((ROOT / word).is_file() for word in objects) or set("|$<>") & set(line):
+    if PROGRAM is None or not objects or set("|$<>") & set(line):
+        return None
+    if not all((ROOT / word).is_file() for word in objects):
         return None
     ended = subprocess.run([PROGRAM, *words], cwd=ROOT, stdin=subprocess.DEVNULL, capture_output=True, timeout=120)
     return (ended.stdout + ended.stderr).decode() if ended.returncode == 0 else f"status {ended.returncode}"
