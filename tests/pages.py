@@ -35,7 +35,7 @@ RT = {"check", "ci", "doc", "expand", "fmt", "lemma", "lib", "must-fail", "plant
       "version"}
 # Options of others than wildplan and wasm-ld, and words that a page shows as unknown.
 OTHERS = {"--anew", "--incremental", "--jobs", "--only", "--symbols", "--target", "--test", "-O1", "-c", "-fvisibility",
-          "-fwasm-exceptions", "-matomics", "-mcpu", "-pthread", "-v", "-x"}
+          "-fno-exceptions", "-fno-rtti", "-fprofile-instr-generate", "-fwasm-exceptions", "-matomics", "-mcpu", "-pthread", "-v", "-x"}
 SHOWN_UNKNOWN = {"--e", "--static", "-a", "-emain", "-entry", "-zstack-size"}
 
 passed = 0
@@ -93,7 +93,7 @@ def names(page, known):
 def is_path(span):
     """Whether a piece of code names a file or a folder of the repository."""
     ends = r"[\w.-]+\.(?:md|py|txt|rt|antt|sh|plan|hex|c|edit|yml)"
-    return re.fullmatch(rf"(?:\./)?(?:[\w.-]+/)+[\w.*-]*|{ends}", span) is not None and not span.startswith("./-")
+    return re.fullmatch(rf"(?:\./)?(?:[\w.-]+/)+[\w.*-]*|{ends}", span) is not None and span != "./" and not span.startswith("./-")
 
 
 def paths_of(repository):
@@ -217,14 +217,18 @@ def command(page, line):
 
 
 def printed_by(line):
-    """What a command of wildplan prints, or None where its files aren't in the repository."""
-    words = shlex.split(line)[1:]
+    """What a command of wildplan prints, or None where its files aren't in the repository. One that ends with
+    `| diff - FILE` has to print that file."""
+    text, _, kept = line.partition(" | diff - ")
+    words = shlex.split(text)[1:]
     objects = [word for word in words if word.endswith(".o")]
-    if PROGRAM is None or not objects or set("|$<>") & set(line):
+    if PROGRAM is None or not objects or set("|$<>") & set(text):
         return None
     if not all((ROOT / word).is_file() for word in objects):
         return None
     ended = subprocess.run([PROGRAM, *words], cwd=ROOT, stdin=subprocess.DEVNULL, capture_output=True, timeout=120)
+    if kept and (ROOT / kept).read_bytes() != ended.stdout:
+        return f"another listing than {kept}"
     return (ended.stdout + ended.stderr).decode() if ended.returncode == 0 else f"status {ended.returncode}"
 
 
