@@ -28,14 +28,16 @@ FOREIGN = {"__indirect_function_table", "__wasm_call_dtors", "basic_streambuf", 
 # The parts of docs/CLAIMS.md that name wrong bodies which stand in no folder, as it says there.
 BY_HAND = {"Bindings", "The plan", "Kept relocations"}
 # Programs whose commands stand on pages, but for those of the repository.
-TOOLS = {"ar", "apt-get", "c++filt", "cat", "clang", "clang++", "curl", "git", "llvm-nm", "llvm-objcopy", "llvm-readobj",
-         "man", "node", "printf", "rattle", "rustc", "rustup", "ulimit", "wasm-ld", "wasm-objdump", "wasm-validate"}
+TOOLS = {"ar", "apt-get", "c++filt", "cat", "clang", "clang++", "curl", "git", "llvm-nm", "llvm-objcopy",
+         "llvm-readobj", "man", "node", "printf", "rattle", "rustc", "rustup", "ulimit", "wasm-ld", "wasm-objdump",
+         "wasm-validate"}
 # The calls of rt.
 RT = {"check", "ci", "doc", "expand", "fmt", "lemma", "lib", "must-fail", "plant", "run", "test", "tidy", "try",
       "version"}
 # Options of others than wildplan and wasm-ld, and words that a page shows as unknown.
 OTHERS = {"--anew", "--incremental", "--jobs", "--only", "--symbols", "--target", "--test", "-O1", "-c", "-fvisibility",
-          "-fno-exceptions", "-fno-rtti", "-fprofile-instr-generate", "-fwasm-exceptions", "-matomics", "-mcpu", "-pthread", "-v", "-x"}
+          "-fno-exceptions", "-fno-rtti", "-fprofile-instr-generate", "-fwasm-exceptions", "-matomics", "-mcpu",
+          "-pthread", "-v", "-x"}
 SHOWN_UNKNOWN = {"--e", "--static", "-a", "-emain", "-entry", "-zstack-size"}
 
 passed = 0
@@ -93,7 +95,8 @@ def names(page, known):
 def is_path(span):
     """Whether a piece of code names a file or a folder of the repository."""
     ends = r"[\w.-]+\.(?:md|py|txt|rt|antt|sh|plan|hex|c|edit|yml)"
-    return re.fullmatch(rf"(?:\./)?(?:[\w.-]+/)+[\w.*-]*|{ends}", span) is not None and span != "./" and not span.startswith("./-")
+    found = re.fullmatch(rf"(?:\./)?(?:[\w.-]+/)+[\w.*-]*|{ends}", span)
+    return found is not None and span != "./" and not span.startswith("./-")
 
 
 def paths_of(repository):
@@ -126,7 +129,8 @@ def links(page):
         note(page, f"the link {target} leads nowhere", file.exists())
         if anchor and file.exists():
             headings = [re.sub(r"[^\w -]", "", heading.lower()) for heading in documents.headings_of(file)]
-            note(page, f"the link {target} leads to no heading", anchor in [name.replace(" ", "-") for name in headings])
+            anchors = [heading.replace(" ", "-") for heading in headings]
+            note(page, f"the link {target} leads to no heading", anchor in anchors)
 
 
 def sections(page):

@@ -21,6 +21,7 @@ import sys
 
 VERSION = 1
 VALUE_TYPE = "i32|i64|f32|f64|v128|funcref|externref"
+VALUE_TYPES = f"(?:(?:{VALUE_TYPE})(?:,(?:{VALUE_TYPE}))*)?"
 
 
 class ListingError(ValueError):
@@ -43,16 +44,21 @@ def _marked(name):
     return re.sub(r'[\x00-\x1f"\\\x7f]', lambda found: f"\\{ord(found[0]):02x}", name)
 
 
+def _bound(text):
+    """A size, or None where there is none."""
+    return None if text == "-" else int(text)
+
+
 # What fields are: how one is written, what is read from that, and how it is written again.
 _FIELDS = {
     "number": ("0|[1-9][0-9]*", int, str),
     "signed": ("0|-?[1-9][0-9]*", int, str),
-    "bound": ("-|0|[1-9][0-9]*", lambda text: None if text == "-" else int(text), lambda n: "-" if n is None else str(n)),
+    "bound": ("-|0|[1-9][0-9]*", _bound, lambda bound: "-" if bound is None else str(bound)),
     "name": (r'(?:[^"\\\x00-\x1f\x7f]|\\[0-9a-f]{2})*', _plain, _marked),
     "word": ("[A-Za-z_][A-Za-z0-9_]*", str, str),
     "bytes": ("(?:[0-9a-f]{2})*", bytes.fromhex, bytes.hex),
     "type": (VALUE_TYPE, str, str),
-    "types": (f"(?:(?:{VALUE_TYPE})(?:,(?:{VALUE_TYPE}))*)?", lambda text: tuple(text.split(",")) if text else (), ",".join),
+    "types": (VALUE_TYPES, lambda text: tuple(text.split(",")) if text else (), ",".join),
     "mutable": ("var|const", "var".__eq__, lambda is_mutable: "var" if is_mutable else "const"),
     "shared": ("shared|-", "shared".__eq__, lambda is_shared: "shared" if is_shared else "-"),
     "kind": ("func|table|memory|global", str, str),
@@ -166,7 +172,8 @@ class Global(Line):
     code: bytes
 
 
-@_line("global {index:number} {value_type:type} {is_mutable:mutable} {code:bytes} object {object:number} unit {unit:number}")
+@_line("global {index:number} {value_type:type} {is_mutable:mutable} {code:bytes} "
+       "object {object:number} unit {unit:number}")
 class DefinedGlobal(Global):
     object: int
     unit: int

@@ -21,12 +21,12 @@ MADE = "made by tools/make_pages.py from the tables of docs/"
 INTRODUCTION = [
     "wildplan plans the linking of WebAssembly. It reads relocatable wasm32 objects, as clang and rustc make them, and "
     "prints what the linked module holds and where everything stands. It writes no module and no file.",
-    "Each argument that doesn't begin with a dash names an object. Objects are numbered from 0, in their order. The plan "
-    "goes to standard output, and one line that says why there is none to standard error.",
+    "Each argument that doesn't begin with a dash names an object. Objects are numbered from 0, in their order. The "
+    "plan goes to standard output, and one line that says why there is none to standard error.",
 ]
-OPTIONS_TEXT = "Options and objects stand in any order. A name of more than one letter takes one dash or two. A value " \
-    "follows an equals sign, or is the next argument; one in brackets may be left out, and follows an equals sign alone. " \
-    "Numbers are decimal."
+OPTIONS_TEXT = "Options and objects stand in any order. A name of more than one letter takes one dash or two. A " \
+    "value follows an equals sign, or is the next argument; one in brackets may be left out, and follows an equals " \
+    "sign alone. Numbers are decimal."
 DIAGNOSTICS_TEXT = "O and P are numbers of objects, S and T of symbols, and N of an argument, all counted from 0."
 EXAMPLES = [
     ("wildplan --no-entry --export run a.o b.o", "Plan a module of two objects that exports the function run."),
