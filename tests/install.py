@@ -62,7 +62,7 @@ def make(target, prefix, program):
 def man_page(page):
     """The page is sound, and has every option and every line."""
     if is_there("mandoc"):
-        told = output_of(["mandoc", "-Tlint", page])
+        told = output_of(["mandoc", "-Tlint", "-Wwarning", page])
         note(f"the man page: {told}", not told)
     if is_there("groff"):
         environment = {**os.environ, "GROFF_NO_SGR": "1"}

@@ -17,6 +17,7 @@ sys.path.insert(0, str(ROOT / "tools"))
 
 import documents  # noqa: E402
 import listing  # noqa: E402
+import make_pages  # noqa: E402
 
 DOCS = documents.DOCS
 PROGRAM = pathlib.Path(sys.argv[1]).resolve() if sys.argv[1:] else None
@@ -35,7 +36,8 @@ TOOLS = {"ar", "apt-get", "c++filt", "cat", "clang", "clang++", "curl", "git", "
 RT = {"check", "ci", "doc", "expand", "fmt", "lemma", "lib", "must-fail", "plant", "run", "test", "tidy", "try",
       "version"}
 # Options of others than wildplan and wasm-ld, and words that a page shows as unknown.
-OTHERS = {"--anew", "--check", "--incremental", "--jobs", "--only", "--symbols", "--target", "--test", "-O1", "-c", "-fvisibility",
+OTHERS = {"--anew", "--check", "--incremental", "--jobs", "--only", "--symbols", "--target", "--test", "-O1", "-c",
+          "-fvisibility",
           "-fno-exceptions", "-fno-rtti", "-fprofile-instr-generate", "-fwasm-exceptions", "-matomics", "-mcpu",
           "-pthread", "-v", "-x"}
 SHOWN_UNKNOWN = {"--e", "--static", "-a", "-emain", "-entry", "-zstack-size"}
@@ -273,8 +275,11 @@ def spans(page):
 
 
 def man_page():
-    """The man page names pages that there are."""
+    """The man page names pages that there are, and its examples are commands."""
     page = ROOT / "man" / "wildplan.1"
+    for line, _ in make_pages.EXAMPLES:
+        note(page, f"no command: {line}", is_command(line))
+        command(page, line)
     for name in set(re.findall(r"\b([A-Z_]+\.md)\b", page.read_text())):
         note(page, f"no page {name}", (DOCS / name).exists())
 

@@ -157,12 +157,29 @@ def writes():
     note("wildplan wrote a file", not made.exists())
 
 
+def archive_of(name, *members):
+    """An archive of these members, all of one name."""
+    header = f"{name}/".encode().ljust(16) + b"0".ljust(12) + b"0".ljust(6) + b"0".ljust(6) + b"644".ljust(8)
+    parts = [header + str(len(member)).encode().ljust(10) + b"`\n" + member + b"\n" * (len(member) % 2)
+             for member in members]
+    return b"!<arch>\n" + b"".join(parts)
+
+
+def same_members():
+    """Of two members of one name `ar x` leaves the second, and `ar xN 1` the first."""
+    made = folder / "errno.o"
+    (folder / "two.a").write_bytes(archive_of("errno.o", b"first", b"second"))
+    for words, wanted in [(["x", "two.a"], b"second"), (["xN", "1", "two.a", "errno.o"], b"first")]:
+        subprocess.run(["ar", *words], cwd=folder, check=True)
+        note(f"ar {words} leaves {made.read_bytes()}", made.read_bytes() == wanted)
+
+
 @case("reads archives")
 def archives():
-    member = (OBJECTS / "callee.o").read_bytes()
-    header = b"callee.o/".ljust(16) + b"0".ljust(12) + b"0".ljust(6) + b"0".ljust(6) + b"644".ljust(8)
-    archive = b"!<arch>\n" + header + str(len(member)).encode().ljust(10) + b"`\n" + member
+    archive = archive_of("callee.o", (OBJECTS / "callee.o").read_bytes())
     line(f"--entry=called {file('a.a', archive)}", "Malformed 0 Header")
+    if shutil.which("ar"):
+        same_members()
     for ended in each("--no-entry --trace names.o"):
         ended.has("lists what it takes", "names.o" in ended.said + ended.out.decode())
     for ended in each(f"--no-entry --whole-archive {file('a.a', archive)}"):
