@@ -3,7 +3,7 @@ _wildplan() {
     local word=${COMP_WORDS[COMP_CWORD]} before=${COMP_WORDS[COMP_CWORD - 1]}
     COMPREPLY=()
     case $before in
-        -z) COMPREPLY=($(compgen -W 'stack-size=' -- "$word")); return ;;
+        -z) mapfile -t COMPREPLY < <(compgen -W 'stack-size=' -- "$word"); return ;;
         --export | --export-if-defined | --entry | -e | --extra-features | --initial-memory | --max-memory | --keep-section | =) return ;;
     esac
     if [[ $word == -* ]]; then

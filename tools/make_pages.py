@@ -185,7 +185,7 @@ def bash_completions():
     values = {name: option for option in options() for name in option.names if option.placeholder}
     needed = [name for name, option in values.items() if not option.is_optional]
     listed = sorted(name + ("=" if name in needed and name.startswith("--") else "") for name in names)
-    keywords = [f"        {name}) COMPREPLY=($(compgen -W '{option.keyword}' -- \"$word\")); return ;;"
+    keywords = [f"        {name}) mapfile -t COMPREPLY < <(compgen -W '{option.keyword}' -- \"$word\"); return ;;"
                 for name, option in values.items() if option.keyword]
     free = [name for name in needed if not values[name].keyword and name != "-o"]
     return "\n".join([
