@@ -64,8 +64,9 @@ _FIELDS = {
     "kind": ("func|table|memory|global", str, str),
 }
 
-# The classes of lines, in the order of docs/LISTING.md.
+# The classes of lines, in the order of docs/LISTING.md, and by the first word of the line.
 KINDS = []
+_BY_WORD = {}
 
 
 class Line:
@@ -89,6 +90,7 @@ def _line(form):
         cls.pattern = re.compile(pattern)
         cls.__str__ = Line.__str__
         KINDS.append(cls)
+        _BY_WORD.setdefault(form.partition(" ")[0], []).append(cls)
         return cls
 
     return made
@@ -301,7 +303,7 @@ class Listing:
 
 def read_line(text):
     """The line of a listing that a text is, or None where it is none."""
-    for kind in KINDS:
+    for kind in _BY_WORD.get(text.partition(" ")[0], []):
         found = kind.pattern.fullmatch(text)
         if found:
             fields = zip(kind.kinds.items(), found.groups())
