@@ -53,10 +53,10 @@ def output_of(command, **given):
 
 
 def make(target, prefix, program):
-    """Runs make, and says whether it ended well."""
+    """Runs make: its status, and what it said."""
     words = ["make", "-s", target, "PREFIX=/usr", f"DESTDIR={prefix}", f"PROGRAM={program}"]
     ended = subprocess.run(words, cwd=ROOT, stdin=subprocess.DEVNULL, capture_output=True, text=True)
-    note(f"make {target}: {ended.stderr}", ended.returncode == 0)
+    return ended.returncode, ended.stderr
 
 
 def man_page(page):
@@ -115,10 +115,16 @@ def zsh(script):
 
 
 def installed(folder, program):
-    """What is installed works from where it is, and is removed."""
+    """What is installed works from where it is, and is removed. A program that is older than a source isn't
+    installed."""
     prefix = folder / "to"
-    make("install", prefix, program)
     place = prefix / "usr"
+    os.utime(program, (0, 0))
+    status, told = make("install", prefix, program)
+    note(f"an old program is installed: {told}", status and "a source is newer" in told and not place.exists())
+    os.utime(program)
+    status, told = make("install", prefix, program)
+    note(f"make install: {told}", status == 0)
     told = output_of([place / "bin" / "wildplan"])
     note(f"the installed program says {told}", told == "error: BadWords NoInputs\n")
     man_page(place / PAGE)
@@ -129,7 +135,8 @@ def installed(folder, program):
         zsh(place / COMPLETIONS["zsh"])
     for name in LICENCES:
         note(f"{name} isn't installed", (place / "share" / "doc" / "wildplan" / name).exists())
-    make("uninstall", prefix, program)
+    status, told = make("uninstall", prefix, program)
+    note(f"make uninstall: {told}", status == 0)
     left = [path for path in prefix.rglob("*") if not path.is_dir()]
     note(f"left: {left}", not left)
 
@@ -139,7 +146,8 @@ def main():
         sys.exit(__doc__)
     if is_there("make"):
         with tempfile.TemporaryDirectory() as name:
-            installed(pathlib.Path(name), pathlib.Path(sys.argv[1]).resolve())
+            folder = pathlib.Path(name)
+            installed(folder, shutil.copy(sys.argv[1], folder / "program"))
     print(f"{passed} passed, {failed} failed")
     sys.exit(1 if failed else 0)
 
