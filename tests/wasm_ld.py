@@ -592,6 +592,57 @@ def mangled():
     line("--entry=run inline_one.o", 'UndefinedSymbols 0 "_Z5otherv"')
 
 
+# Command lines, with the line of wildplan and the message of wasm-ld, or of some versions, which docs/ERRORS.md has as
+# `line | .. | message` with names for what stands in them.
+MESSAGES = [
+    ("--no-entry --neither names.o", "BadWords UnknownOption 1", "unknown argument: --neither"),
+    ("--no-entry --max-memory=0x10 names.o", "BadWords BadNumber 1",
+     "--max-memory=0x10: number expected, but got '0x10'"),
+    ("--no-entry -z stack-size=a names.o", "BadWords BadNumber 2", "invalid stack-size: a"),
+    ("--no-entry", "BadWords NoInputs", "no input files"),
+    ("--no-entry none.o", "ReadFault 0", "cannot open none.o: No such file or directory"),
+    ("--no-entry make.sh", "Malformed 0 Header", "unknown file type: make.sh"),
+    ("--no-entry names.o names.o", 'DuplicateSymbol "used" 0 0 1 0', "duplicate symbol: used"),
+    ("--no-entry --shared-memory --max-memory=131072 names.o", "SharedMemoryFeature Atomics",
+     "'atomics' feature must be used in order to use shared memory"),
+    ("--entry=none names.o", 'EntryNotDefined "none"',
+     "entry symbol not defined (pass --no-entry to suppress): none"),
+    ("--entry=run undefined.o", 'UndefinedSymbols 0 "missing_data"', "undefined symbol: missing_data"),
+    ("--entry=run caller.o callee.o", "SignatureMismatch 0 3", "function signature mismatch: called"),
+    ("--no-entry -z stack-size=8 names.o", "BadStackSize 8", "stack size must be 16-byte aligned"),
+    ("--no-entry --initial-memory=1 names.o", "BadMemorySize Initial 1 66560",
+     {0: "initial memory must be 65536-byte aligned",
+      22: "initial memory must be aligned to the page size (65536 bytes)"}),
+    ("--no-entry --initial-memory=4295032832 names.o", "BadMemorySize Initial 4295032832 66560",
+     "initial memory too large, cannot be greater than 4294967296"),
+    ("--no-entry --max-memory=65537 names.o", "BadMemorySize Maximum 65537 131072",
+     {0: "maximum memory must be 65536-byte aligned",
+      22: "maximum memory must be aligned to the page size (65536 bytes)"}),
+    ("--no-entry --export=none names.o", 'ExportNotFound "none"', "symbol exported via --export not found: none"),
+]
+
+
+def messages():
+    """The last column of docs/ERRORS.md has what wasm-ld says in the place of a line."""
+    tables = documents.tables_of(ROOT / "docs" / "ERRORS.md")
+    told = [row for title, table in tables if title == ["line", "cause", "way out", "wasm-ld"] for row in table]
+    for given, wanted, said in MESSAGES:
+        line(given, wanted)
+        words = {word for word in wanted.split()[:2] if word.isalpha()}
+        cells = [row[3] for row in told if words <= set(re.findall(r"\w+", row[0]))]
+        spans = [span for cell in cells for span in re.findall(r"`([^`]*)`", cell)]
+        texts = said if isinstance(said, dict) else {0: said}
+        for since, text in texts.items():
+            for ended in each(given, since=since, before=22 if since < 22 and len(texts) > 1 else 1000):
+                ended.has(f"says {text}", text in ended.said)
+            note(f"docs/ERRORS.md lacks {text}", any(pattern_of(span).fullmatch(text) for span in spans))
+
+
+def pattern_of(span):
+    """What a message of the page stands for: its names in capitals are any text."""
+    return re.compile(re.sub(r"\b(?:NAME|FILE|WORD|VALUE|M)\b", ".*", re.escape(span)))
+
+
 def made_names():
     """The names that only some versions make, of the last paragraph of the page."""
     for name, since in [("__heap_end", 19), ("__wasm_first_page_end", 22)]:
@@ -646,7 +697,7 @@ def main():
     covered()
     with tempfile.TemporaryDirectory() as name:
         folder = pathlib.Path(name)
-        for tried in [*CASES.values(), made_names]:
+        for tried in [*CASES.values(), messages, made_names]:
             tried()
     print(f"{passed} passed, {failed} failed")
     sys.exit(1 if failed else 0)
