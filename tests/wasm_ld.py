@@ -23,6 +23,8 @@ from wasm_module import read_module  # noqa: E402
 PAGE = ROOT / "docs" / "WASM_LD.md"
 OBJECTS = ROOT / "tests" / "wasm_ld"
 VERSIONS = ["", *(f"-{number}" for number in range(14, 30))]
+# Where Debian's wasi-libc and libc++ stand.
+LIBRARIES = pathlib.Path("/usr/lib/wasm32-wasi")
 TITLE = ["wasm-ld", "wildplan", "what to do"]
 # What objects begin with, and a memory of one page.
 HEADER = b"\0asm\1\0\0\0"
@@ -655,6 +657,39 @@ def made_names():
         plan(given).ok(name, lambda made: name in names_of(made.of(listing.Export)))
 
 
+def members_of(listed):
+    """The objects that wasm-ld says it takes, those of archives unpacked; of members of one name it is the first."""
+    for number, text in enumerate(listed.splitlines()):
+        found = re.fullmatch(r"(.*)\((.*)\)", text.strip())
+        if found is None:
+            yield text.strip()
+            continue
+        place = folder / f"member{number}"
+        place.mkdir()
+        subprocess.run(["ar", "xN", "1", found[1], found[2]], cwd=place, check=True)
+        yield str(place / found[2])
+
+
+def iostream():
+    """A program with <iostream> can be planned where libc++ is of version 22 or later, and else can't."""
+    files = [LIBRARIES / name for name in ["crt1-command.o", "libc++.a", "libc++abi.a", "libc.a"]]
+    needed = all(path.exists() for path in files) and all(map(shutil.which, ["clang++", "ar"]))
+    source, made = folder / "stream.cc", folder / "stream.o"
+    source.write_text('#include <iostream>\nint main() { std::cout << "hello"; }\n')
+    compiler = ["clang++", "--target=wasm32-wasi", "-fno-exceptions", "-O1", source]
+    if not (linkers and needed) or subprocess.run([*compiler, "-c", "-o", made], capture_output=True).returncode:
+        print("skipped: a program with <iostream>, for which clang++, wasi-libc and libc++ aren't installed")
+        return
+    macros = subprocess.run([*compiler, "-E", "-dM"], capture_output=True, text=True).stdout
+    number = int(re.search(r"_LIBCPP_VERSION (\d+)", macros)[1])
+    is_taken = number // (10000 if number > 99999 else 1000) >= 22
+    words = ["--allow-undefined", files[0], made, *files[1:]]
+    listed = Ended("wasm-ld -t", [linkers[max(linkers)], "-t", *words, "-o", folder / "stream.wasm"])
+    listed.has("links a program with <iostream>", listed.status == 0)
+    ended = Ended("wildplan", [program, "--allow-undefined", *members_of(listed.out.decode())])
+    ended.has("a program with <iostream>", ended.status == 0 if is_taken else "SignatureMismatch" in ended.said)
+
+
 def row_of(front):
     """The row of the page that begins so."""
     return next(row for row in rows() if row[0].startswith(front))
@@ -697,7 +732,7 @@ def main():
     covered()
     with tempfile.TemporaryDirectory() as name:
         folder = pathlib.Path(name)
-        for tried in [*CASES.values(), messages, made_names]:
+        for tried in [*CASES.values(), messages, made_names, iostream]:
             tried()
     print(f"{passed} passed, {failed} failed")
     sys.exit(1 if failed else 0)
