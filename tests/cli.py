@@ -1,5 +1,10 @@
 #!/usr/bin/env python3
-"""Runs the proved program on real files, and compares its status and what it wrote to each stream."""
+"""Runs the proved program on real files, and compares its status and what it wrote to each stream.
+
+    tests/cli.py              tries the program that .ci/run built, and the launcher
+    tests/cli.py PROGRAM      tries another one, as an installed one, and not the launcher
+
+The last line is `N passed, M failed`."""
 
 import os
 import pathlib
@@ -10,7 +15,11 @@ import sys
 import tempfile
 
 ROOT = pathlib.Path(__file__).resolve().parent.parent
-PROGRAM = ROOT / "crates" / "wildplan" / "out" / "wildplan"
+sys.path.insert(0, str(ROOT / "tools"))
+from documents import OPTIONS_TITLE, table_of  # noqa: E402
+
+BUILT = ROOT / "crates" / "wildplan" / "out" / "wildplan"
+PROGRAM = pathlib.Path(sys.argv[1]).resolve() if sys.argv[1:] else BUILT
 EXAMPLES = ROOT / "examples"
 OBJECTS = ROOT / "tests" / "objects"
 ROWS = ROOT / "tests" / "rows.txt"
@@ -337,17 +346,6 @@ def operators(folder):
             check(f"{rule}: {row}", run([*FLAGS, made]), 1 if err else 0, out.encode(), err.encode())
 
 
-def table_of(document, title):
-    """The rows below the first one of a table in a document, each a list of its cells."""
-    lines = document.read_text().splitlines()
-    rows = []
-    for line in lines[lines.index(title) + 2 :]:
-        if not line.startswith("|"):
-            break
-        rows.append([cell.strip() for cell in line.strip("|").split("|")])
-    return rows
-
-
 def note(title, sound, of="the documents"):
     """Counts a comparison of the documents, or of other texts, with the program."""
     global passed, failed
@@ -414,7 +412,7 @@ def documented_options():
     code = (ROOT / "crates" / "wl_words" / "src" / "options.rt").read_text()
     wanted = set(re.findall(r'name: "([\w-]+)"', code))
     tables = [
-        (OPTIONS, "| option | value | what it does | given again | without it |"),
+        (OPTIONS, OPTIONS_TITLE),
         (README, "| option | meaning | without it |"),
     ]
     for document, title in tables:
@@ -442,7 +440,7 @@ def documented_words():
         note(f"the words {given}: {line}", line == f"error: {fault}\n")
 
     none, unknown = "BadWords NoInputs", "BadWords UnknownOption 0"
-    for names, value, *_ in table_of(OPTIONS, "| option | value | what it does | given again | without it |"):
+    for names, value, *_ in table_of(OPTIONS, OPTIONS_TITLE):
         for name in re.findall(r"`(-[\w-]+)`", names):
             spelled = [name, name[1:]] if name.startswith("--") else [name]
             if name.startswith("--"):
@@ -667,17 +665,36 @@ def relocation_types():
 
 
 def launched(folder):
-    """The launcher runs the proved program, and where there is none the sources, and says so."""
-    ended = subprocess.run([ROOT / "wildplan"], stdin=subprocess.DEVNULL, capture_output=True, timeout=600)
-    check("the proved program is that of the sources", ended, 2, err=b"error: BadWords NoInputs\n")
+    """The launcher runs the proved program, through symbolic links too, and where there is none the sources, and
+    says so."""
+    links = [ROOT / "wildplan", folder / "link", folder / "link of a link"]
+    links[1].symlink_to(os.path.relpath(links[0], folder.resolve()))
+    links[2].symlink_to("link")
+    for launcher in links:
+        ended = subprocess.run([launcher], stdin=subprocess.DEVNULL, capture_output=True, timeout=600)
+        check("the proved program is that of the sources", ended, 2, err=b"error: BadWords NoInputs\n")
     copy = folder / "copy"
     shutil.copytree(ROOT / "crates", copy / "crates", ignore=shutil.ignore_patterns("out"))
     for name in ["crates.txt", "wildplan", "examples/two_functions.o"]:
         shutil.copy(ROOT / name, copy)
     command = ["./wildplan", *FLAGS, "two_functions.o"]
     ended = subprocess.run(command, cwd=copy, stdin=subprocess.DEVNULL, capture_output=True, timeout=600)
-    notice = b"wildplan: running unproved, which takes half a minute; .ci/run proves and builds it\n"
+    notice = b"wildplan: running unproved, which takes a while; .ci/run proves and builds it\n"
     check("no proved program", ended, 0, (EXAMPLES / "two_functions.plan").read_bytes(), notice)
+
+
+def joined(script, *words):
+    """Adds what another script counts, whose last line is `N passed, M failed`, and prints what it says before that."""
+    global passed, failed
+    command = [sys.executable, ROOT / script, *words]
+    ended = subprocess.run(command, stdin=subprocess.DEVNULL, stdout=subprocess.PIPE, text=True, timeout=600)
+    *said, last = ended.stdout.splitlines() or [""]
+    counts = re.fullmatch(r"(\d+) passed, (\d+) failed", last)
+    note(f"{script} ends with {last!r}", counts is not None, "scripts")
+    if counts:
+        passed, failed = passed + int(counts[1]), failed + int(counts[2])
+    for line in said:
+        print(f"{script}: {line}")
 
 
 def main():
@@ -707,8 +724,14 @@ def main():
         documented_operators(folder)
         compiled(folder)
         sizes(folder)
-        launched(folder)
+        if PROGRAM == BUILT:
+            launched(folder)
     writes()
+    joined("tools/make_pages.py", "--check")
+    joined("tests/listing.py")
+    joined("tests/pages.py", PROGRAM)
+    joined("tests/install.py", PROGRAM)
+    joined("tests/wasm_ld.py", PROGRAM)
     print(f"{passed} passed, {failed} failed")
     sys.exit(1 if failed else 0)
 
