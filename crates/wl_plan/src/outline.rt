@@ -33,7 +33,6 @@ use wl_symbols::LinkInput;
 use wl_words::WasmArgs;
 
 /// What of the output is known before it is known where its data lies.
-#[derive(Drop)]
 pub(crate) struct Outline<'a> {
     /// What the references are bound to.
     pub(crate) bindings: Bindings<'a>,
@@ -43,6 +42,17 @@ pub(crate) struct Outline<'a> {
     pub(crate) interface: OutputInterface<'a>,
     /// The features that are used.
     pub(crate) features: FeatureList<'a>,
+}
+
+impl<'a> Drop for Outline<'a> {
+    fn drop(self) {
+        let Self {
+            bindings: _,
+            functions: _,
+            interface: _,
+            features: _,
+        } = self;
+    }
 }
 
 /// The parts of the bound link that a plan is made from, with what is called at the start, and the
