@@ -22,6 +22,7 @@ ROOT = pathlib.Path(__file__).resolve().parent.parent
 sys.path[:0] = [str(ROOT / "tools"), str(ROOT / "tests")]
 
 import archives  # noqa: E402
+import documents  # noqa: E402
 import link_line  # noqa: E402
 import made_objects  # noqa: E402
 import wasm_object  # noqa: E402
@@ -89,6 +90,7 @@ def rendered(line):
         "-l" * given.is_library + given.name + "*" * given.is_whole + "?" * given.is_lazy for given in line.inputs
     ]
     said = [note.split(" changes nothing: ")[0].split(": ")[0] for note in line.notes]
+    inputs = [name or "''" for name in inputs]
     fields = {
         "output": [line.output] if line.output else [],
         "inputs": inputs,
@@ -97,7 +99,7 @@ def rendered(line):
         "asked": line.asked,
         "said": [shlex.quote(word) for word in said],
     }
-    return " ; ".join(f"{name} {' '.join(words)}" for name, words in fields.items() if words)
+    return " ; ".join(f"{name} {' '.join(words)}" for name, words in fields.items() if words) or "nothing"
 
 
 def link_lines():
@@ -208,7 +210,9 @@ def stands_in(folder):
     """The script plans what the program plans, by hand, through archives and through files of words."""
     wanted = (EXAMPLES / "counter" / "counter.plan").read_text()
     library = folder / "libparts.a"
-    library.write_bytes(made_objects.archive("gnu", [("setup.o", pathlib.Path(COUNTER[1]).read_bytes(), ["step", "chosen"])]))
+    member = ("setup.o", pathlib.Path(COUNTER[1]).read_bytes(), ["step", "chosen"])
+    library.write_bytes(made_objects.archive("gnu", [member]))
+    (folder / "link").symlink_to(LINKER)
     (folder / "words").write_text(shlex.join(["-o", str(folder / "out"), COUNTER[0], f"-L{folder}", "-lparts"]))
     lines = [
         ["-o", folder / "out", *COUNTER],
@@ -219,15 +223,16 @@ def stands_in(folder):
     ]
     for words in lines:
         (folder / "out").write_text("what was there")
-        ended = run([LINKER, *COUNTER_WORDS, *words])
+        ended = run([folder / "link", *COUNTER_WORDS, *words])
         same(f"{words}: {ended.stderr}", (ended.returncode, (folder / "out").read_text()), (0, wanted))
     kept = folder / "out.objects"
     names = [path.name for path in sorted(kept.iterdir())]
-    same("what is kept", names, ["0000-counter.o", "0001-setup.o", "objects.txt", "said.txt", "words.txt"])
-    same("their bytes", [(kept / name).read_bytes() for name in names[:2]], [pathlib.Path(name).read_bytes() for name in COUNTER])
-    words = (kept / "words.txt").read_text().splitlines()
+    same("what is kept", names, ["0000-counter.o", "0001-setup.o", "objects", "said", "words"])
+    for name, source in zip(names, COUNTER):
+        same(f"the bytes of {name}", (kept / name).read_bytes(), pathlib.Path(source).read_bytes())
+    words = (kept / "words").read_text().splitlines()
     same("the words that are kept", run([PROGRAM, *words], cwd=kept).stdout, wanted)
-    same("what is said", (kept / "said.txt").read_text(), ended.stderr)
+    same("what is said", (kept / "said").read_text(), ended.stderr)
     same("what changes nothing", ended.stderr, "wildplan-ld: --threads=4 changes nothing: there is one thread\n")
     for word, begin in [("--help", "usage: wildplan-ld"), ("--version", "wildplan-ld 1\n")]:
         ended = run([LINKER, word])
@@ -241,11 +246,12 @@ def statuses(folder):
     (folder / "text.o").write_text("no object")
     (folder / "mine.objects").mkdir()
     out, line = folder / "out", "wildplan-ld: "
+    duplicate = [f"object 1 is {twice[1]}", "its symbol 1 is a", f"object 0 is {twice[0]}"]
     cases = [
-        (["-o", out, "--no-entry", *twice], 1, [f"object 1 is {twice[1]}", "its symbol 1 is a", f"object 0 is {twice[0]}"]),
+        (["-o", out, "--no-entry", *twice], 1, duplicate),
         (["-o", out, "--no-entry", "--export=lost", bare], 1, []),
         (["-o", out, "--no-entry", "--no-gc-sections", bare], 1, [f"object 0 is {bare}"]),
-        (["-o", out, "--no-entry", folder / "text.o"], 1, ["its symbols aren't read here", f"object 0 is {folder}/text.o"]),
+        (["-o", out, "--no-entry", folder / "text.o"], 1, ["its symbols aren't read here", "object 0 is "]),
         (["-o", out, "--initial-memory=x", bare], 2, ["word 0 is --initial-memory=x"]),
         (["-o", out], 2, ["no file is given"]),
         ([bare], 2, ["no -o names the file"]),
@@ -267,7 +273,10 @@ def statuses(folder):
         for text in texts:
             note(f"{words}: {text!r} isn't in {ended.stderr!r}", text in ended.stderr)
         note(f"{words}: a listing is left", not out.exists())
-        note(f"{words}: a line that isn't the script's", all(said.startswith((line, "error: ")) for said in ended.stderr.splitlines()))
+        strange = [said for said in ended.stderr.splitlines() if not said.startswith((line, "error: "))]
+        same(f"{words}: lines that aren't the script's", strange, [])
+    nowhere = run([LINKER, "-o", out, *COUNTER_WORDS, *COUNTER], env={**ENVIRONMENT, "WILDPLAN": "/nowhere/wildplan"})
+    same("no program", (nowhere.returncode, nowhere.stderr), (125, f"{line}/nowhere/wildplan: No such file or directory\n"))
     note("a folder is made beside a device", not pathlib.Path("/dev/null.objects").exists())
 
 
@@ -338,8 +347,8 @@ def wrong_listings(folder):
     for text, objects, wanted in cases:
         (folder / "wrong.plan").write_text(text)
         ended = run([sys.executable, WRITER, folder / "wrong.plan", *objects, "-o", folder / "wrong.wasm"])
-        note(f"wanted {wanted!r}, got {ended.returncode}: {ended.stderr}", ended.returncode == 1 and wanted in ended.stderr)
-        note(f"{wanted}: a traceback", "Traceback" not in ended.stderr)
+        sound = ended.returncode == 1 and wanted in ended.stderr and "Traceback" not in ended.stderr
+        note(f"wanted {wanted!r}, got {ended.returncode}: {ended.stderr}", sound)
 
 
 # Objects, the words of their plan, calls of what it exports, and what they print: `= N` is a result, other lines are
@@ -357,7 +366,8 @@ RUNS = [
      [["choose", 1], ["choose", 0], ["apply", 1, 7, 3], ["apply", 2, 7, 3]], "= 1,= 2,= 10,= 4"),
     (["static_data.o"], ["--export=step"], [["step", 0], ["step", 0], ["step", 3]], "= 7,= 14,= 14"),
     # apply(3, 5) is minus(5).
-    (["planned_counter.o", "planned_start.o", "planned_table.o"], ["--entry=_start"], [["_start"]], "report -5,= undefined"),
+    (["planned_counter.o", "planned_start.o", "planned_table.o"], ["--entry=_start"],
+     [["_start"]], "report -5,= undefined"),
     # The block of a thread has 56 bytes; advance adds marks[i] and the count, which the constructor sets to 7.
     (["threads_shared_library.o", "threads_start.o", "threads_worker.o"],
      ["--shared-memory", "--entry=_start", "--export=begin_thread", "--export=advance"],
@@ -379,7 +389,87 @@ def runs(folder):
         same(f"{objects}: {ended.stderr}", ended.stdout.strip().replace("\n", ","), wanted)
 
 
+def option_rows(fate):
+    """The options of which one thing becomes, as docs/LINKER.md lists them: those with one text in a row."""
+    rows = {}
+    for option in link_line.OPTIONS.values():
+        if option.fate == fate:
+            dashes = "-" if len(option.name) == 1 else "--"
+            rows.setdefault(option.text, []).append(f"`{dashes}{option.name}{'..' * (option.takes == 'prefix')}`")
+    return sorted([", ".join(names), text] for text, names in rows.items())
+
+
+def documented():
+    """docs/LINKER.md has every option of the table, which has every option of the program; each refusal of
+    docs/ERRORS.md that has the number of an object is explained."""
+    page = ROOT / "docs" / "LINKER.md"
+    for fate, title in [("idle", "| option | why |"), ("refused", "| option | what to do |")]:
+        same(f"the table {title}", documents.table_of(page, title), option_rows(fate))
+    paragraphs = [" ".join(text.split()) for text in page.read_text().split("\n\n")]
+    for fate, begin in [("passed", "wildplan gets these: "), ("used", "The script itself does what these ask for: ")]:
+        names = sorted(name for row in option_rows(fate) for name in row[0].split(", "))
+        text = next(text for text in paragraphs if text.startswith(begin)).removeprefix(begin).split(". ")[0]
+        same(begin, sorted(text.removesuffix(".").split(", ")), names)
+    code = (ROOT / "crates" / "wl_words" / "src" / "options.rt").read_text()
+    unknown = set(re.findall(r'name: "([\w-]+)"', code)) - link_line.OPTIONS.keys()
+    same("options of the program that aren't known", unknown, set())
+    told = re.findall(r"`error: (\w+)([^`]*)`", (ROOT / "docs" / "ERRORS.md").read_text())
+    for kind, rest in told:
+        letters = ["O" if word in ("O", "P") else "-" for word in rest.split() if word != ".."]
+        if "O" in letters and "O" not in linker.REFUSALS.get(kind, "").replace("S", "-"):
+            note(f"{kind}: its objects aren't explained", False)
+        elif "O" in letters:
+            explained = linker.REFUSALS[kind].replace("S", "-") * len(letters)
+            same(f"the objects of {kind}", "".join(letters).rstrip("-"), explained[: len(letters)].rstrip("-"))
+
+
+def installed():
+    """What the programs of docs/LINKER.md need and isn't there, by the heading of each."""
+    libraries = ["/usr/lib/wasm32-wasi/libc.a"]
+    if shutil.which("clang"):
+        libraries.append(run(["clang", "--target=wasm32-wasi", "--print-libgcc-file-name"]).stdout.strip())
+    for_c = [name for name in ["clang", "node"] if not shutil.which(name)]
+    for_c += [path for path in libraries if not pathlib.Path(path).is_file()]
+    zlib = os.environ.get("ZLIB_SOURCE")
+    for_zlib = for_c if zlib else [*for_c, "the source of zlib, by the environment variable ZLIB_SOURCE"]
+    for_rust = [] if rust() else ["rustc with std for wasm32-wasi"]
+    return {"Hello world in C": for_c, "A library of C": for_zlib, "A program in Rust": for_rust}
+
+
+def rust():
+    """A rustc and its target for WASI, where one is installed with `std`, and Node is."""
+    for program in ["rustc", "/usr/bin/rustc"]:
+        for target in ["wasm32-wasi", "wasm32-wasip1"]:
+            if shutil.which(program) and shutil.which("node"):
+                ended = run([program, "--print", "target-libdir", "--target", target])
+                if ended.returncode == 0 and pathlib.Path(ended.stdout.strip()).is_dir():
+                    return program, target
+    return None
+
+
+def programs(folder):
+    """The commands of docs/LINKER.md plan, write and run what it says, where what they need is installed."""
+    for name in ["tools", "examples"]:
+        (folder / name).symlink_to(ROOT / name)
+    if os.environ.get("ZLIB_SOURCE"):
+        (folder / "zlib-1.2.13.dfsg").symlink_to(pathlib.Path(os.environ["ZLIB_SOURCE"]).resolve())
+    page = (ROOT / "docs" / "LINKER.md").read_text()
+    for heading, missing in installed().items():
+        if missing:
+            print(f"skipped: {heading}: {', '.join(missing)} not installed")
+            continue
+        text = page.split(f"\n## {heading}\n")[1].split("\n## ")[0]
+        commands = "\n".join(line.strip() for line in text.splitlines() if line.startswith("    "))
+        if heading == "A program in Rust":
+            program, target = rust()
+            commands = commands.replace("rustc ", f"{program} ", 1).replace("wasm32-wasi", target)
+        ended = run(["sh", "-ec", commands], cwd=folder)
+        wanted = re.search(r"prints\s+`([^`]+)`", text)[1]
+        same(f"{heading}: {ended.stderr}", (ended.returncode, ended.stdout.strip()), (0, wanted))
+
+
 def main():
+    documented()
     link_lines()
     with tempfile.TemporaryDirectory() as name:
         folder = pathlib.Path(name).resolve()
@@ -392,6 +482,7 @@ def main():
         modules(folder)
         wrong_listings(folder)
         runs(folder)
+        programs(folder)
     print(f"{passed} passed, {failed} failed")
     sys.exit(1 if failed else 0)
 

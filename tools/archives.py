@@ -4,6 +4,8 @@ An archive is in the format of GNU or of BSD, with or without an index of symbol
 lengths are in bytes.
 """
 
+from __future__ import annotations
+
 import dataclasses
 import pathlib
 
@@ -11,7 +13,8 @@ from wasm_object import BITCODE, MAGIC, Fault, Object, read_object
 
 ARCHIVE, THIN = b"!<arch>\n", b"!<thin>\n"
 HEADER = 60
-# The names of GNU's tables: the index in numbers of four and of eight bytes, and the long names. BSD's index isn't used.
+# The names of GNU's tables: the index in numbers of four and of eight bytes, and the long names. BSD's index isn't
+# read.
 INDEXES = {"/": 4, "/SYM64/": 8}
 LONG_NAMES = "//"
 BSD_INDEX = "__.SYMDEF"

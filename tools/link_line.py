@@ -1,4 +1,6 @@
-"""Reads a link line, as clang and rustc write it for wasm-ld, into what wildplan is given and what is done before it."""
+"""Reads a link line, as clang and rustc write it for wasm-ld: what wildplan gets, and what is done before that."""
+
+from __future__ import annotations
 
 import dataclasses
 import pathlib
@@ -9,32 +11,33 @@ NONE, VALUE, OPTIONAL, JOINED = "none", "value", "optional", "joined"
 # What becomes of an option: wildplan gets it; it is used here; it changes nothing; it is refused.
 PASSED, USED, IDLE, REFUSED = "passed", "used", "idle", "refused"
 
+# The name of an option, how it takes its value, what becomes of it, and what is said of that.
 TABLE = """
 allow-undefined | none | passed |
 check-features | none | passed |
-no-check-features | none | passed |
 E | none | passed |
 e | joined | passed |
 entry | value | passed |
-no-entry | none | passed |
 export | value | passed |
 export-dynamic | none | passed |
 export-if-defined | value | passed |
 export-memory | optional | passed |
 extra-features | value | passed |
 gc-sections | none | passed |
-no-gc-sections | none | passed |
 import-memory | optional | passed |
 import-undefined | none | passed | taken as --allow-undefined: data that nothing defines has the address 0
 initial-memory | value | passed |
 keep-section | value | passed |
 map | none | passed |
 max-memory | value | passed |
+no-check-features | none | passed |
+no-entry | none | passed |
+no-gc-sections | none | passed |
+no-stack-first | none | passed |
 S | none | passed |
 s | none | passed |
 shared-memory | none | passed |
 stack-first | none | passed |
-no-stack-first | none | passed |
 strip-all | none | passed |
 strip-debug | none | passed |
 why | none | passed |
@@ -57,65 +60,80 @@ whole-archive | none | used |
 ( | none | idle | members of archives are taken whatever their order
 ) | none | idle | members of archives are taken whatever their order
 as-needed | none | idle | there are no shared libraries
-no-as-needed | none | idle | there are no shared libraries
 Bdynamic | none | idle | there are no shared libraries
 Bstatic | none | idle | there are no shared libraries
 Bsymbolic | none | idle | there are no shared libraries
 build-id | optional | idle | a plan has no build id
+call_shared | none | idle | there are no shared libraries
+call_shared | none | idle | there are no shared libraries
 color-diagnostics | optional | idle | no line has a colour
-no-color-diagnostics | none | idle | no line has a colour
 compress-relocations | none | idle | fields keep their size
 demangle | none | idle | names are never demangled
-no-demangle | none | idle | names are never demangled
+dn | none | idle | there are no shared libraries
+dn | none | idle | there are no shared libraries
+dy | none | idle | there are no shared libraries
+dy | none | idle | there are no shared libraries
 eh-frame-hdr | none | idle | a module has no such thing
 end-group | none | idle | members of archives are taken whatever their order
-start-group | none | idle | members of archives are taken whatever their order
 error-limit | value | idle | one fault is reported
 error-unresolved-symbols | none | idle | undefined names are refused anyway
 fatal-warnings | none | idle | a warning never changes the status
-no-fatal-warnings | none | idle | a warning never changes the status
 flavor | value | idle | there is one kind of plan
 lto- | prefix | idle | no bitcode is read
-thinlto- | prefix | idle | no bitcode is read
 M | none | idle | no map is written; the listing says where things are
-Map | value | idle | no map is written; the listing says where things are
-print-map | none | idle | no map is written; the listing says where things are
 m | joined | idle | all is wasm32
+Map | value | idle | no map is written; the listing says where things are
 merge-data-segments | none | idle | each segment stays one
-no-merge-data-segments | none | idle | each segment stays one
 mllvm | value | idle | no code is generated
-O | joined | idle | nothing is optimised
+no-allow-multiple-definition | none | idle | two strong definitions of one name are never taken
+no-as-needed | none | idle | there are no shared libraries
+no-color-diagnostics | none | idle | no line has a colour
+no-demangle | none | idle | names are never demangled
+no-fatal-warnings | none | idle | a warning never changes the status
+no-merge-data-segments | none | idle | each segment stays one
 no-pie | none | idle | addresses are final anyway
-print-gc-sections | none | idle | what is dropped isn't listed
 no-print-gc-sections | none | idle | what is dropped isn't listed
+no-shlib-sigcheck | none | idle | there are no shared libraries
+no-shlib-sigcheck | none | idle | there are no shared libraries
+non_shared | none | idle | there are no shared libraries
+non_shared | none | idle | there are no shared libraries
+O | joined | idle | nothing is optimised
+print-gc-sections | none | idle | what is dropped isn't listed
+print-map | none | idle | no map is written; the listing says where things are
 reproduce | value | idle | the objects are kept beside the listing
+rpath | value | idle | there are no shared libraries
+rpath | value | idle | there are no shared libraries
 save-temps | none | idle | the objects are kept beside the listing
 soname | value | idle | there are no shared libraries
+start-group | none | idle | members of archives are taken whatever their order
 static | none | idle | there are no shared libraries
+thinlto- | prefix | idle | no bitcode is read
 threads | value | idle | there is one thread
 trace-symbol | value | idle | no symbol is traced
-y | joined | idle | no symbol is traced
+V | none | idle | there is nothing more to say
 v | none | idle | there is nothing more to say
 verbose | none | idle | there is nothing more to say
 why-extract | value | idle | --trace names the members that are taken
-allow-multiple-definition | none | refused | two definitions of one name are never taken
+y | joined | idle | no symbol is traced
+allow-multiple-definition | none | refused | make all definitions of a name but one weak
 allow-undefined-file | value | refused | give --allow-undefined, which is for all names at once
-emit-relocs | none | refused | a plan has no relocations; its `fix` lines are what came of them
-experimental-pic | none | refused | the addresses of a plan are final
+emit-relocs | none | refused | leave it out: the `fix` lines of the listing are what came of relocations
+experimental-pic | none | refused | leave it out: the addresses of a plan are final
 export-all | none | refused | give --export-dynamic, or --export for each name
-export-table | none | refused | the table isn't exported
-features | value | refused | features are listed, not demanded; --extra-features adds some
-global-base | value | refused | data begins at 1024, or after the stack with --stack-first
-growable-table | none | refused | the table has a fixed size
-import-table | none | refused | the table isn't imported
+export-table | none | refused | export functions that call what the table holds
+features | value | refused | give --extra-features: features are listed, not demanded
+global-base | value | refused | give --stack-first: data begins after the stack, and else at 1024
+growable-table | none | refused | leave it out: the table has a fixed size
+import-table | none | refused | leave it out: the table isn't imported
 initial-heap | value | refused | give --initial-memory
 no-growable-memory | none | refused | give --max-memory, with as much as --initial-memory
-page-size | value | refused | a page has 65536 bytes
-pie | none | refused | the addresses of a plan are final
-r | none | refused | one whole module is planned
-relocatable | none | refused | one whole module is planned
-shared | none | refused | one whole module is planned
-table-base | value | refused | the table begins at slot 1
+noinhibit-exec | none | refused | leave it out: what is at fault has no plan
+page-size | value | refused | leave it out: a page has 65536 bytes
+pie | none | refused | leave it out: the addresses of a plan are final
+r | none | refused | leave it out: one whole module is planned
+relocatable | none | refused | leave it out: one whole module is planned
+shared | none | refused | leave it out: one whole module is planned
+table-base | value | refused | leave it out: the table begins at slot 1
 unresolved-symbols | value | refused | give --allow-undefined
 warn-unresolved-symbols | none | refused | give --allow-undefined
 wrap | value | refused | rename the function in its source

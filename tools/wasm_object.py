@@ -4,6 +4,8 @@ bytes of its data segments. The proved reader is `parse_wasm_module` of wl_linki
 Places and lengths are in bytes. Names are texts; bytes of them that aren't UTF-8 are kept as surrogates.
 """
 
+from __future__ import annotations
+
 import dataclasses
 
 MAGIC = b"\0asm\1\0\0\0"

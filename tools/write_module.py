@@ -8,6 +8,8 @@ folder LISTING.objects. Debug sections aren't written, since nothing relocates t
 out where the module makes the memory. A section `name` has the names of functions, for those who read what it writes.
 """
 
+from __future__ import annotations
+
 import argparse
 import pathlib
 import sys
@@ -100,7 +102,8 @@ def import_of(given):
 
 def function_type(given):
     """A type of functions."""
-    return FUNCTION_TYPE + b"".join(listed([bytes([TYPES[name]]) for name in names]) for names in (given.parameters, given.results))
+    lists = [[bytes([TYPES[name]]) for name in names] for names in (given.parameters, given.results)]
+    return FUNCTION_TYPE + listed(lists[0]) + listed(lists[1])
 
 
 def global_of(given):

@@ -12,6 +12,7 @@ int main(void) {
     if (compress(small, &small_length, text, LENGTH) != Z_OK) return 1;
     if (uncompress(again, &length, small, small_length) != Z_OK) return 2;
     int is_same = length == LENGTH && memcmp(text, again, LENGTH) == 0;
-    printf("zlib %s: %d bytes, %d compressed, %s\n", zlibVersion(), LENGTH, (int)small_length, is_same ? "the same again" : "damaged");
+    const char *verdict = is_same ? "the same again" : "damaged";
+    printf("zlib %s: %d bytes, %d compressed, %s\n", zlibVersion(), LENGTH, (int)small_length, verdict);
     return !is_same;
 }
