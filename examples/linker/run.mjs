@@ -6,7 +6,7 @@ import { WASI } from "node:wasi";
 const [file, ...rest] = process.argv.slice(2);
 const wasi = new WASI({ version: "preview1", args: [file, ...rest], env: {}, returnOnExit: true });
 const module = await WebAssembly.compile(await readFile(file));
-const { exports } = await WebAssembly.instantiate(module, wasi.getImportObject());
+const { exports } = await WebAssembly.instantiate(module, { wasi_snapshot_preview1: wasi.wasiImport });
 
 function _start() {
     exports.__wasm_call_ctors?.();
