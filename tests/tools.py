@@ -25,6 +25,7 @@ import archives  # noqa: E402
 import documents  # noqa: E402
 import link_line  # noqa: E402
 import made_objects  # noqa: E402
+import wasm_module  # noqa: E402
 import wasm_object  # noqa: E402
 
 PROGRAM = str(pathlib.Path(sys.argv[1]).resolve())
@@ -139,20 +140,6 @@ def objects_of(sources, folder):
     return [source.replace(f"{folder}/", "").replace(".o", "").replace(".a", "") for source in sources]
 
 
-def function_order(module):
-    """The names of functions in a module's section `name`, in their order."""
-    names = [payload for _, name, payload in wasm_object.sections(module.read_bytes()) if name == "name"]
-    part = wasm_object.Reader(names[0])
-    while part.byte() != 1:
-        part.sized()
-    part.number()
-    found = []
-    for _ in range(part.number()):
-        part.number()
-        found.append(part.name())
-    return found
-
-
 def linkers():
     """The programs of wasm-ld that are installed."""
     return [name for name in ("wasm-ld", "wasm-ld-19", "wasm-ld-22") if shutil.which(name)]
@@ -170,8 +157,10 @@ def check_linkers(given, words, folder, objects):
         same(f"{program}: {given}: {ended.stderr}", ended.returncode, 0)
         wanted = sorted(objects_of([taken.source for taken in objects], folder))
         same(f"{program}: {given}", sorted(objects_of(ended.stdout.splitlines(), folder)), wanted)
-        order = [name for name in function_order(module) if name in names] if ended.returncode == 0 else []
-        same(f"the order of {program}: {given}", list(dict.fromkeys(order)), [name for name in names if name in order])
+        if ended.returncode == 0:
+            functions = wasm_module.read_module(module.read_bytes()).names.values()
+            order = [name for name in dict.fromkeys(functions) if name in names]
+            same(f"the order of {program}: {given}", order, [name for name in names if name in order])
 
 
 def members(folder):
@@ -318,16 +307,27 @@ def written(listing, objects, module):
         same(f"{listing} by node", run(["node", "-e", text]).returncode, 0)
 
 
-def modules(folder):
-    """The listings of examples/ and of tests/objects are written as modules, which engines take."""
-    for program in ["node", "wasm-validate"]:
-        is_there(program)
-    listings = {EXAMPLES / "counter" / "counter.plan": COUNTER}
+def kept_listings():
+    """The listings of the repository, with the objects of each: of those of examples/ its page has the commands."""
+    listings = {}
+    for _, block in documents.blocks_of(EXAMPLES / "README.md"):
+        words = block[0].split()
+        if block[0].startswith("./wildplan ") and words[-1].endswith(".plan"):
+            listings[ROOT / words[-1]] = [ROOT / word for word in words if word.endswith(".o")]
     for listing in [*EXAMPLES.glob("*.plan"), *OBJECTS.glob("*.plan")]:
         alone = listing.with_suffix(".o")
         family = sorted(OBJECTS.glob(f"{listing.stem.partition('_')[0]}_*.o"))
         listings[listing] = [alone] if alone.exists() else family
-    note(f"listings: {len(listings)}", len(listings) >= 16)
+    return listings
+
+
+def modules(folder):
+    """The listings of examples/ and of tests/objects are written as modules, which engines take."""
+    for program in ["node", "wasm-validate"]:
+        is_there(program)
+    listings = kept_listings()
+    every = {*EXAMPLES.rglob("*.plan"), *OBJECTS.glob("*.plan")}
+    same("listings without known objects", every - listings.keys(), set())
     for listing, objects in sorted(listings.items()):
         written(listing, objects, folder / "module.wasm")
 
@@ -358,6 +358,13 @@ RUNS = [
     (COUNTER, COUNTER_WORDS,
      [["count"], ["count"], ["store", "chosen", 2], ["count"], ["last"], ["store", "chosen", 3], ["count"]],
      "log_value 5,= 5,log_value 10,= 10,log_value 20,= 20,= 20,log_value 21,= 21"),
+    # The square of side 4 is made by the constructor, which the host calls; a virtual function has its area.
+    ([str(EXAMPLES / "shapes" / name) for name in ("shapes.o", "square.o")],
+     ["--no-entry", *(f"--export={name}" for name in ("area_of", "first_shape", "shapes_made", "__wasm_call_ctors"))],
+     [["shapes_made"], ["__wasm_call_ctors"], ["shapes_made"], ["area_of", ["first_shape"]]],
+     "= 0,= undefined,= 1,= 16"),
+    ([str(EXAMPLES / "rust_counter" / "counter.o")], ["--no-entry", *(f"--export={name}" for name in ("count", "last"))],
+     [["count"], ["count"], ["last"]], "log_value 5,= 5,log_value 10,= 10,= 10"),
     (["functions.o"], ["--export=add", "--export=four_times"], [["add", 2, 3], ["four_times", 5]], "= 5,= 20"),
     # The first constructor doubles, the second adds one, before each call.
     (["constructors.o"], ["--export=is_ready"], [["is_ready"], ["is_ready"], ["is_ready"]], "= 1,= 3,= 7"),
