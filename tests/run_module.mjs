@@ -1,7 +1,7 @@
 // Runs functions of a module: node run_module.mjs MODULE CALLS. CALLS is JSON, a list of lists of a function's name and
-// its arguments: an argument that is a text is the value of that global, and one that is a list the result of that call.
-// What is imported are functions that give 0. Prints a line for each call of such a function, its name and arguments, and
-// one for each result. A call `store` of an address and a number writes four bytes of the memory.
+// its arguments: an argument that is a text is the value of that global, and a list the result of that call. What is
+// imported are functions that give 0. Prints a line for each call of such a function, its name and arguments, and one
+// for each result. A call `store` of an address and a number writes four bytes of the memory.
 import { readFile } from "node:fs/promises";
 
 const [file, calls] = process.argv.slice(2);

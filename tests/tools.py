@@ -11,6 +11,7 @@ import importlib.util
 import json
 import os
 import pathlib
+import random
 import re
 import shlex
 import shutil
@@ -195,6 +196,26 @@ def damaged_archives(folder):
     same("a cut archive", (ended.returncode, "cut off" in ended.stderr), (1, True))
 
 
+def damaged_objects(folder):
+    """What isn't an object, or was one before bytes of it were changed, is read or reported: nothing else happens."""
+    chance = random.Random(1)
+    library = pathlib.Path(made_objects.words_of("l.gnu[one(+a ?c) a_member_of_a_long_name(+b)]", folder)[0])
+    for path in [*sorted(OBJECTS.glob("*.o")), library]:
+        whole = path.read_bytes()
+        read = wasm_object.read_object if path != library else lambda content: archives.read_archive("l.a", content)
+        for _ in range(200):
+            content = bytearray(whole)
+            for _ in range(chance.randint(1, 4)):
+                byte = chance.choice([0, 1, 0x2D, 0x7F, 0x80, 0xFF, chance.randrange(256)])
+                content[chance.randrange(len(content))] = byte
+            end = chance.choice([len(content), chance.randrange(len(content))])
+            try:
+                read(bytes(content[:end]))
+            except wasm_object.Fault:
+                pass
+        note("", True)
+
+
 def stands_in(folder):
     """The script plans what the program plans, by hand, through archives and through files of words."""
     wanted = (EXAMPLES / "counter" / "counter.plan").read_text()
@@ -234,6 +255,8 @@ def statuses(folder):
     twice = made_objects.words_of("one(+a) two(+b +a)", folder)
     (folder / "text.o").write_text("no object")
     (folder / "mine.objects").mkdir()
+    (folder / "mine.objects" / "0000-notes").write_text("mine")
+    (folder / "mine.objects" / "objects of mine").write_text("mine")
     out, line = folder / "out", "wildplan-ld: "
     duplicate = [f"object 1 is {twice[1]}", "its symbol 1 is a", f"object 0 is {twice[0]}"]
     cases = [
@@ -251,21 +274,24 @@ def statuses(folder):
         (["-o", out, "-lnone", bare], 3, ["-lnone: there is no libnone.a in the folders of -L"]),
         (["-o", out, f"@{folder}/none"], 3, [f"{folder}/none: No such file"]),
         (["-o", folder / "mine", bare], 4, [f"{folder}/mine.objects isn't a folder of kept objects"]),
+        (["-o", folder / "none" / "out", bare], 4, [f"{folder}/none/out.objects: No such file"]),
         (["-o", "/dev/full", *COUNTER_WORDS, *COUNTER], 4, []),
         (["-o", "/dev/null", *COUNTER_WORDS, *COUNTER], 0, []),
     ]
     for words, status, texts in cases:
-        if out.exists():
-            out.unlink()
+        out.write_text("what was there")
         ended = run([LINKER, *words])
         note(f"{words}: wanted {status}, got {ended.returncode}: {ended.stderr}", ended.returncode == status)
         for text in texts:
             note(f"{words}: {text!r} isn't in {ended.stderr!r}", text in ended.stderr)
-        note(f"{words}: a listing is left", not out.exists())
+        is_read = out in words and status != 2 and not any(str(word).startswith("@") for word in words)
+        note(f"{words}: a listing is left", not is_read or not out.exists())
         strange = [said for said in ended.stderr.splitlines() if not said.startswith((line, "error: "))]
         same(f"{words}: lines that aren't the script's", strange, [])
     nowhere = run([LINKER, "-o", out, *COUNTER_WORDS, *COUNTER], env={**ENVIRONMENT, "WILDPLAN": "/nowhere/wildplan"})
-    same("no program", (nowhere.returncode, nowhere.stderr), (125, f"{line}/nowhere/wildplan: No such file or directory\n"))
+    wanted = (125, f"{line}/nowhere/wildplan: No such file or directory\n")
+    same("no program", (nowhere.returncode, nowhere.stderr), wanted)
+    same("another's folder", len(list((folder / "mine.objects").iterdir())), 2)
     note("a folder is made beside a device", not pathlib.Path("/dev/null.objects").exists())
 
 
@@ -363,7 +389,7 @@ RUNS = [
      ["--no-entry", *(f"--export={name}" for name in ("area_of", "first_shape", "shapes_made", "__wasm_call_ctors"))],
      [["shapes_made"], ["__wasm_call_ctors"], ["shapes_made"], ["area_of", ["first_shape"]]],
      "= 0,= undefined,= 1,= 16"),
-    ([str(EXAMPLES / "rust_counter" / "counter.o")], ["--no-entry", *(f"--export={name}" for name in ("count", "last"))],
+    ([str(EXAMPLES / "rust_counter" / "counter.o")], ["--export=count", "--export=last"],
      [["count"], ["count"], ["last"]], "log_value 5,= 5,log_value 10,= 10,= 10"),
     (["functions.o"], ["--export=add", "--export=four_times"], [["add", 2, 3], ["four_times", 5]], "= 5,= 20"),
     # The first constructor doubles, the second adds one, before each call.
@@ -483,6 +509,7 @@ def main():
         words_in_files(folder)
         members(folder)
         damaged_archives(folder)
+        damaged_objects(folder)
         stands_in(folder)
         statuses(folder)
         warnings(folder)

@@ -82,6 +82,8 @@ def is_object(content):
 def index_of(table, width):
     """The names in a GNU index with the places of their members; its numbers have `width` bytes."""
     count = int.from_bytes(table[:width], "big")
+    if width * (count + 1) > len(table):
+        raise Fault("the archive's index is cut off")
     places = [int.from_bytes(table[width * (i + 1) : width * (i + 2)], "big") for i in range(count)]
     names = table[width * (count + 1) :].split(b"\0")
     return [(name.decode("utf-8", "surrogateescape"), place) for name, place in zip(names, places)]
@@ -101,7 +103,10 @@ def entries(content):
         if len(header) < HEADER or header[58:] != b"`\n":
             raise Fault(f"the archive has no header at byte {place}")
         name = header[:16].decode("utf-8", "surrogateescape").rstrip(" ")
-        size, begin = int(header[48:58]), place + HEADER
+        written, begin = header[48:58].rstrip(b" "), place + HEADER
+        if not written.isdigit():
+            raise Fault(f"the archive's entry at byte {place} has no size")
+        size = int(written)
         if is_thin and name not in (*INDEXES, LONG_NAMES):
             size = 0
         if begin + size > len(content):

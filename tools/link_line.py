@@ -162,8 +162,8 @@ class Option:
 
 @dataclasses.dataclass(frozen=True)
 class Given:
-    """A file of the line, or the name of a library; whether all members of an archive are taken, and whether an object is
-    taken by need, as a member is."""
+    """A file of the line, or the name of a library; whether all members of an archive are taken, and whether an object
+    is taken by need, as a member is."""
 
     name: str
     is_library: bool

@@ -219,7 +219,8 @@ def main():
     given = parser.parse_intermixed_args()
     try:
         plan = listing.read_listing(given.listing.read_bytes())
-        paths = given.objects or sorted(pathlib.Path(f"{given.listing}.objects").glob("[0-9]*"))
+        kept = pathlib.Path(f"{given.listing}.objects").glob("[0-9]*-*")
+        paths = given.objects or sorted(kept, key=lambda path: int(path.name.partition("-")[0]))
         given.module.write_bytes(module_of(plan, [read_object(path.read_bytes()) for path in paths]))
     except (Fault, listing.ListingError, OSError) as fault:
         sys.exit(f"write_module.py: {fault}")
