@@ -463,8 +463,8 @@ def installed():
         libraries.append(run(["clang", "--target=wasm32-wasi", "--print-libgcc-file-name"]).stdout.strip())
     for_c = [name for name in ["clang", "node"] if not shutil.which(name)]
     for_c += [path for path in libraries if not pathlib.Path(path).is_file()]
-    zlib = os.environ.get("ZLIB_SOURCE")
-    for_zlib = for_c if zlib else [*for_c, "the source of zlib, by the environment variable ZLIB_SOURCE"]
+    source = "the source of zlib, whose folder the environment variable ZLIB_SOURCE names"
+    for_zlib = for_c if os.environ.get("ZLIB_SOURCE") else [*for_c, source]
     for_rust = [] if rust() else ["rustc with std for wasm32-wasi"]
     return {"Hello world in C": for_c, "A library of C": for_zlib, "A program in Rust": for_rust}
 
@@ -489,7 +489,7 @@ def programs(folder):
     page = (ROOT / "docs" / "LINKER.md").read_text()
     for heading, missing in installed().items():
         if missing:
-            print(f"skipped: {heading}: {', '.join(missing)} not installed")
+            print(f"skipped: {heading}: it needs {', '.join(missing)}")
             continue
         text = page.split(f"\n## {heading}\n")[1].split("\n## ")[0]
         commands = "\n".join(line.strip() for line in text.splitlines() if line.startswith("    "))
