@@ -122,6 +122,7 @@ experimental-pic | none | refused | leave it out: the addresses of a plan are fi
 export-all | none | refused | give --export-dynamic, or --export for each name
 export-table | none | refused | export functions that call what the table holds
 features | value | refused | give --extra-features: features are listed, not demanded
+generate | value | refused | give it to wildplan itself: it makes objects, and links none
 global-base | value | refused | give --stack-first: data begins after the stack, and else at 1024
 growable-table | none | refused | leave it out: the table has a fixed size
 import-table | none | refused | leave it out: the table isn't imported
