@@ -732,6 +732,7 @@ def main():
     joined("tests/pages.py", PROGRAM)
     joined("tests/install.py", PROGRAM)
     joined("tests/wasm_ld.py", PROGRAM)
+    joined("tests/tools.py", PROGRAM)
     print(f"{passed} passed, {failed} failed")
     sys.exit(1 if failed else 0)
 

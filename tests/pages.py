@@ -16,6 +16,7 @@ ROOT = pathlib.Path(__file__).resolve().parent.parent
 sys.path.insert(0, str(ROOT / "tools"))
 
 import documents  # noqa: E402
+import link_line  # noqa: E402
 import listing  # noqa: E402
 import make_pages  # noqa: E402
 
@@ -41,6 +42,8 @@ OTHERS = {"--anew", "--check", "--incremental", "--jobs", "--only", "--symbols",
           "-fno-exceptions", "-fno-rtti", "-fprofile-instr-generate", "-fwasm-exceptions", "-matomics", "-mcpu",
           "-pthread", "-v", "-x"}
 SHOWN_UNKNOWN = {"--e", "--static", "-a", "-emain", "-entry", "-zstack-size"}
+# Options of compilers and of tools/wildplan-ld itself, which docs/LINKER.md shows.
+LINKER_WORDS = {"-C", "-fuse-ld", "--help", "--ld-path", "--no-wasm-opt", "--version"}
 
 passed = 0
 failed = 0
@@ -153,9 +156,12 @@ def options():
 
 
 def option_names(page, known):
-    """Options on a page are those of the program, or of a tool; docs/WASM_LD.md and docs/ERRORS.md have wasm-ld's."""
+    """Options on a page are those of the program, or of a tool; docs/WASM_LD.md and docs/ERRORS.md have wasm-ld's, and
+    docs/LINKER.md those of tools/wildplan-ld."""
     if page.name in ("WASM_LD.md", "ERRORS.md"):
         return
+    if page.name == "LINKER.md":
+        known = known | LINKER_WORDS | {"-" * min(len(name), 2) + name for name in link_line.OPTIONS}
     for span in documents.spans_of(page):
         for word in re.findall(r"(?<![\w-])--?[A-Za-z][\w-]*", span):
             note(page, f"the option {word}", word in known | OTHERS | SHOWN_UNKNOWN)
