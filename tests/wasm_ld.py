@@ -67,7 +67,7 @@ class Ended:
     """How a linker ended: its status, what it said, and the module or the plan."""
 
     def __init__(self, name, command):
-        ended = subprocess.run(command, cwd=OBJECTS, stdin=subprocess.DEVNULL, capture_output=True, timeout=120)
+        ended = subprocess.run(command, cwd=folder / "objects", stdin=subprocess.DEVNULL, capture_output=True, timeout=120)
         self.name, self.status = name, ended.returncode
         self.out, self.said = ended.stdout, ended.stderr.decode("utf-8", "replace")
         self.module = self.plan = None
@@ -732,6 +732,8 @@ def main():
     covered()
     with tempfile.TemporaryDirectory() as name:
         folder = pathlib.Path(name)
+        # Some words of wasm-ld write files where it runs.
+        shutil.copytree(OBJECTS, folder / "objects")
         for tried in [*CASES.values(), messages, made_names, iostream]:
             tried()
     print(f"{passed} passed, {failed} failed")
