@@ -183,6 +183,20 @@ def modes(folder):
         check(f"{mode} of no file", run([mode, folder / "none.o"]), 3, err=b"error: ReadFault 0\n")
 
 
+def about():
+    """A lone `--help` or `--version` is answered; the help names each option, and the version is that of the changes."""
+    told = run(["--help"])
+    names = set(re.findall(r"(?<![\w-])-{1,2}([\w-]+)", told.stdout.decode()))
+    code = (ROOT / "crates" / "wl_words" / "src" / "options.rt").read_text()
+    wanted = set(re.findall(r'name: "([\w-]+)"', code)) | {"help", "version"}
+    note(f"the options of --help: {names ^ wanted}", names == wanted)
+    check("--help", told, 0, told.stdout)
+    version = re.search(r"^## (\d+\.\d+\.\d+)", (ROOT / "CHANGELOG.md").read_text(), re.M)
+    check("--version", run(["--version"]), 0, f"wildplan {version[1]}\n".encode())
+    for given in [["--help", "--version"], ["-help"], ["--version", "a.o"]]:
+        check(f"words {given}", run(given), 2, err=b"error: BadWords UnknownOption 0\n")
+
+
 def options():
     """Of options the last counts."""
     made = EXAMPLES / "two_functions.o"
@@ -713,6 +727,7 @@ def main():
     listings()
     counter()
     words()
+    about()
     options()
     with tempfile.TemporaryDirectory() as name:
         folder = pathlib.Path(name)
