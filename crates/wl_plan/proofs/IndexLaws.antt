@@ -5,7 +5,6 @@ use Rattle.std.specs.Option.{option_map_or}
 use Rattle.std.proofs.lemmas.Bool.{cases_Bool, cases_eq, eq-eqb, ne_eqb, eqb-true}
 use Rattle.std.proofs.lemmas.Iterator.Adapters.{position_from-zero}
 use Rattle.std.proofs.lemmas.List.{take_more, take_all, length-map}
-use Rattle.std.proofs.Math.Seq.{set-append_seam}
 use Rattle.std.proofs.lemmas.List.FromFn.{length-map-range_with_len}
 use Rattle.std.proofs.lemmas.Option.{slice_get_read, slice_get_within, same_Some}
 use Rattle.wl_linking.specs.Object.{Object}
@@ -431,25 +430,6 @@ one_done book k object first whole new m layouts at lt here pushed is low done =
         | inr ne ↦ done.low other (omega (arith, within, ne))
       ];
     }
-
-last_got : (maps : List WasmObjectIndexMap) (m d : WasmObjectIndexMap)
-    → get_or (maps ++ m ∷ []) (length maps) d ≡ m
-last_got [] m d = refl
-last_got (x ∷ maps) m d = last_got maps m d
-
--- what stands at the last place is what was added there
-pub last_stands : (maps new : List WasmObjectIndexMap) (m here : WasmObjectIndexMap) (place : ℕ)
-    → new ≡ maps ++ m ∷ [] → place ≡ length maps → here ≡ get_or new place here → here ≡ m
-last_stands maps new m here place added at is =
-    is ∙ (ap (λ (ms : List WasmObjectIndexMap). get_or ms place here) added
-    ∙ (ap (λ (i : ℕ). get_or (maps ++ m ∷ []) i here) at ∙ last_got maps m here))
-
--- another map at the last place
-pub last_set : (maps new : List WasmObjectIndexMap) (m other : WasmObjectIndexMap) (place : ℕ)
-    → new ≡ maps ++ m ∷ [] → place ≡ length maps → set new place other ≡ maps ++ other ∷ []
-last_set maps new m other place added at =
-    ap (λ (ms : List WasmObjectIndexMap). set ms place other) added
-    ∙ (ap (λ (i : ℕ). set (maps ++ m ∷ []) i other) at ∙ set-append_seam maps m [] other)
 
 -- the map at a place is that of an object
 pub map_of : (input : Input) (maps : List WasmObjectIndexMap) (k : ℕ) (m : WasmObjectIndexMap)

@@ -12,6 +12,7 @@ use wl_module::FuncType;
 
 /// What the references of a link are bound to, what the linker makes for them, and what is called
 /// at the start.
+#[derive(Drop)]
 pub(crate) struct Bindings<'a> {
     /// What kept relocations ask for.
     pub(crate) scan: RelocScan<'a>,
@@ -25,19 +26,6 @@ pub(crate) struct Bindings<'a> {
     pub(crate) types: TypeMerger,
     /// What is called at the start, in order.
     pub(crate) calls: ItemList<InitCall>,
-}
-
-impl<'a> Drop for Bindings<'a> {
-    fn drop(self) {
-        let Self {
-            scan: _,
-            stubs: _,
-            shared: _,
-            indices: _,
-            types: _,
-            calls: _,
-        } = self;
-    }
 }
 
 impl<'a> Bindings<'a> {

@@ -45,20 +45,20 @@ fn file_of<'i, 'a>(input: &LinkInput<'i, 'a>, object: usize) -> &'i File<'a>
     &files[object]
 }
 
-/// Gives the map of an object the numbers of its segments, of which the first has that number in
-/// the output, and where its data lies.
-fn add_data(
+/// The map of an object with the numbers of its segments, of which the first has that number in the
+/// output, and with where its data lies.
+fn whole_map(
     alloc: Global,
     book: &AddressBook<'_, '_, '_>,
     object: usize,
     first: u32,
-    map: &mut WasmObjectIndexMap,
-) -> Result<(), LinkError>
+    map: WasmObjectIndexMap,
+) -> Result<WasmObjectIndexMap, LinkError>
     requires book { IsBook book.now }
-    requires here { IsMapOf book.now.input.now object map.old }
+    requires here { IsMapOf book.now.input.now object map }
     requires first { first ≡ segments_before book.now.placing.now.places.layouts object }
     requires room { length (segment_space book.now.placing.now) ≤ MAX_ENTRIES }
-    ensures ok { OnOk result (IsWholeMapOf book.now object map.new) }
+    ensures ok { IfOk result (IsWholeMapOf book.now object) }
     ensures low { OnOk result (AreLowOf book.now object) }
     ensures err { IfErr result (Refuses (IsHighSymbol book.now)) }
 {
@@ -67,9 +67,16 @@ fn add_data(
     let layouts = layouts_of(book.placing, object);
     let segment_indices = object_numbers(alloc, layouts, file.num_data_segments(), first)?;
     let data_addresses = book.of_object(alloc, object, file)?;
-    map.segment_indices = segment_indices;
-    map.data_addresses = data_addresses;
-    Ok(())
+    Ok(WasmObjectIndexMap {
+        type_indices: map.type_indices,
+        function_indices: map.function_indices,
+        global_indices: map.global_indices,
+        segment_indices,
+        data_addresses,
+        function_symbol_redirects: map.function_symbol_redirects,
+        got_mem_globals: map.got_mem_globals,
+        got_func_globals: map.got_func_globals,
+    })
 }
 
 /// The maps of all objects with the numbers of their segments, and with where their data lies.
@@ -93,8 +100,7 @@ pub(crate) fn whole_maps(
     let mut first: u32 = 0;
     for map in maps.into_vec() {
         let object = whole.len();
-        whole.push(map)?;
-        add_data(alloc, book, object, first, &mut whole[object])?;
+        whole.push(whole_map(alloc, book, object, first, map)?)?;
         first += layouts_of(book.placing, object).len() as u32;
     }
     Ok(ItemList::new(whole))

@@ -17,7 +17,7 @@ use wl_module::{
 use wl_symbols::{FixupPlace, WasmLinkerSymbol};
 
 /// What an entity that the output imports is.
-#[derive(Clone, Copy)]
+#[derive(Clone, Copy, PartialEq, Eq)]
 pub enum OutputImportEntity {
     /// A function, with its type among the output types.
     Function { type_index: u32 },
@@ -47,7 +47,7 @@ impl<'a> Model for OutputImport<'a> {
 }
 
 /// Where a function of the output is from.
-#[derive(Clone, Copy)]
+#[derive(Clone, Copy, PartialEq, Eq)]
 pub enum FunctionOrigin<'a> {
     /// A function that an object defines: the object's number, and the function's in it, where
     /// definitions alone are counted.
@@ -81,7 +81,7 @@ impl<'a> Model for OutputFunction<'a> {
 }
 
 /// What a global that the linker makes stands for.
-#[derive(Clone, Copy)]
+#[derive(Clone, Copy, PartialEq, Eq)]
 pub enum MadeGlobal {
     /// Where data may begin.
     MemoryBase,
@@ -106,7 +106,7 @@ pub enum MadeGlobal {
 }
 
 /// Where a global of the output is from.
-#[derive(Clone, Copy)]
+#[derive(Clone, Copy, PartialEq, Eq)]
 pub enum GlobalOrigin {
     /// A global that an object defines: the object's number, and the global's in it, where
     /// definitions alone are counted.
@@ -125,7 +125,7 @@ pub struct PlannedGlobal<'a> {
 }
 
 /// What a field takes.
-#[derive(Clone, Copy)]
+#[derive(Clone, Copy, PartialEq, Eq)]
 pub enum FixupTo {
     /// This number, and what is still to be added to it.
     Value { value: u32, addend_left: i32 },
@@ -135,7 +135,7 @@ pub enum FixupTo {
 }
 
 /// What a kept relocation becomes.
-#[derive(Clone, Copy)]
+#[derive(Clone, Copy, PartialEq, Eq)]
 pub struct Fixup {
     /// The object that the relocation is from.
     pub object: usize,

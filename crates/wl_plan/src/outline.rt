@@ -33,6 +33,7 @@ use wl_symbols::LinkInput;
 use wl_words::WasmArgs;
 
 /// What of the output is known before it is known where its data lies.
+#[derive(Drop)]
 pub(crate) struct Outline<'a> {
     /// What the references are bound to.
     pub(crate) bindings: Bindings<'a>,
@@ -42,17 +43,6 @@ pub(crate) struct Outline<'a> {
     pub(crate) interface: OutputInterface<'a>,
     /// The features that are used.
     pub(crate) features: FeatureList<'a>,
-}
-
-impl<'a> Drop for Outline<'a> {
-    fn drop(self) {
-        let Self {
-            bindings: _,
-            functions: _,
-            interface: _,
-            features: _,
-        } = self;
-    }
 }
 
 /// The parts of the bound link that a plan is made from, with what is called at the start, and the

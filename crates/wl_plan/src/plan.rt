@@ -262,7 +262,7 @@ fn output_parts<'a>(
 }
 
 /// What the options and the bindings say of the module as a whole.
-#[derive(Clone, Copy)]
+#[derive(Clone, Copy, PartialEq, Eq)]
 struct OutputModule {
     memory: Option<MemoryType>,
     table: Option<TableType>,

@@ -1,11 +1,11 @@
-use Rattle.std.proofs.Common.{◌≡◌, ◌∙◌, ℕ, ◌<◌, ◌+◌, List, [], ◌∷◌, ◌++◌, length, set, sym, ap, subst, arith, length-append}
+use Rattle.std.proofs.Common.{◌≡◌, ◌∙◌, ℕ, ◌<◌, ◌+◌, List, [], ◌∷◌, ◌++◌, length, sym, ap, subst, arith, length-append}
 use Rattle.std.proofs.lemmas.Iterator.Adapters.{YieldsList-from_vec}
 use Rattle.std.proofs.lemmas.Iterator.Consumers.{YieldsList-turn, YieldsList-end}
 use Rattle.wl_index.specs.declared.index_map.WasmObjectIndexMap.{WasmObjectIndexMap}
 use Rattle.wl_plan.specs.IndexedMaps.{AreWholeMaps}
 use Rattle.wl_plan.specs.IndexSteps.{segments_before, IsMapOf}
 use Rattle.wl_plan.proofs.AddressLaws.{all_laid}
-use Rattle.wl_plan.proofs.IndexLaws.{AreDone, none_done, one_done, map_of, maps_within, all_done, first_room, last_set, last_stands}
+use Rattle.wl_plan.proofs.IndexLaws.{AreDone, none_done, one_done, map_of, maps_within, all_done, first_room}
 use Rattle.wl_plan.proofs.index_maps.whole_maps.Goals as goal
 
 pub loop-map-init : goal.loop-map-init
@@ -16,19 +16,8 @@ loop-map-init c = (
       (sym c.new-whole.ensures.items) (none_done c.args.book.now),
 )
 
-pub index_mut-requires : goal.index_mut-requires
-index_mut-requires c =
-    let whole = c.loop-map.whole.items in
-    let place = c.len-object.ensures in
-    let long = c.loop-map.whole.ok.0 in
-    let one : length (whole ++ c.in-Some.map ∷ []) ≡ length whole + 1 =
-    length-append whole (c.in-Some.map ∷ []) in
-    let all = ap (λ (ms : List WasmObjectIndexMap). length ms) c.in_ok-push.ensures.items in
-    let same = c.push.new.self.ok.0 in
-    omega (arith, place, long, one, all, same)
-
-pub add_data-requires-clause-here : goal.add_data-requires-clause-here
-add_data-requires-clause-here c =
+pub whole_map-requires-clause-here : goal.whole_map-requires-clause-here
+whole_map-requires-clause-here c =
     let book = c.args.book.now in
     let gives = c.into_iter-map-iterator.ensures.into_iter_gives in
     let k : ℕ = length c.loop-map.yielded in
@@ -41,16 +30,11 @@ add_data-requires-clause-here c =
     c.next.ensures.steps in
     let at : c.len-object.result ≡ k =
     c.len-object.ensures ∙ (c.loop-map.whole.ok.0 ∙ c.loop-map.invariant.2.long) in
-    let stands : c.index_mut.result.now ≡ c.in-Some.map =
-    last_stands c.loop-map.whole.items c.push.new.self.items c.in-Some.map c.index_mut.result.now
-    c.len-object.result c.in_ok-push.ensures.items (c.len-object.ensures ∙ c.loop-map.whole.ok.0)
-    c.index_mut.ensures.value in
-    subst (λ (m : WasmObjectIndexMap). IsMapOf book.input.now c.len-object.result m) (sym stands)
-    (subst (λ (i : ℕ). IsMapOf book.input.now i c.in-Some.map) (sym at)
-    (map_of book.input.now c.args.maps k c.in-Some.map c.requires.maps t.0 t.1))
+    subst (λ (i : ℕ). IsMapOf book.input.now i c.in-Some.map) (sym at)
+    (map_of book.input.now c.args.maps k c.in-Some.map c.requires.maps t.0 t.1)
 
-pub add_data-requires-clause-first : goal.add_data-requires-clause-first
-add_data-requires-clause-first c =
+pub whole_map-requires-clause-first : goal.whole_map-requires-clause-first
+whole_map-requires-clause-first c =
     let book = c.args.book.now in
     let k : ℕ = length c.loop-map.yielded in
     let at : c.len-object.result ≡ k =
@@ -126,19 +110,15 @@ loop-map-preserved c =
     (all_laid book.input.now book.placing.now c.segments_have_layouts.ensures
     c.requires.book.placed) t.0 in
     let one : length (c.loop-map.yielded ++ c.in-Some.map ∷ []) ≡ k + 1 =
-    length-append c.loop-map.yielded (c.in-Some.map ∷ []) in
-    let new = set c.push.new.self.items c.len-object.result c.add_data.new.map in
-    let last : new ≡ c.loop-map.whole.items ++ c.add_data.new.map ∷ [] =
-    last_set c.loop-map.whole.items c.push.new.self.items c.in-Some.map c.add_data.new.map
-    c.len-object.result c.in_ok-push.ensures.items
-    (c.len-object.ensures ∙ c.loop-map.whole.ok.0) in (
+    length-append c.loop-map.yielded (c.in-Some.map ∷ []) in (
       tt,
       tt,
-      subst (λ (i : ℕ). AreDone book i (c.loop-map.first + length c.layouts_of.result.now) new)
-          (sym one)
-          (one_done book k c.len-object.result c.loop-map.first c.loop-map.whole.items new
-          c.add_data.new.map c.layouts_of.result.now at within.0 c.layouts_of.ensures last
-          c.in_ok-add_data.ensures.ok c.in_ok-add_data.ensures.low c.loop-map.invariant.2),
+      subst (λ (i : ℕ). AreDone book i
+          (c.loop-map.first + length c.layouts_of.result.now) c.push.new.self.items) (sym one)
+          (one_done book k c.len-object.result c.loop-map.first c.loop-map.whole.items
+          c.push.new.self.items c.in_ok-whole_map.field-0 c.layouts_of.result.now at within.0
+          c.layouts_of.ensures c.in_ok-push.ensures.items c.in_ok-whole_map.ensures.ok
+          c.in_ok-whole_map.ensures.low c.loop-map.invariant.2),
     )
 
 pub returns-clause-ok : goal.returns-clause-ok

@@ -4,7 +4,7 @@ use Rattle.wl_plan.specs.IndexSteps.{numbers_among}
 use Rattle.wl_lists.proofs.Rows.{row_within}
 use Rattle.wl_plan.proofs.AddressLaws.{AreLaid, all_laid, once_for}
 use Rattle.wl_plan.proofs.IndexLaws.{first_room, high_symbol, made_whole, low_object}
-use Rattle.wl_plan.proofs.index_maps.add_data.Goals as goal
+use Rattle.wl_plan.proofs.index_maps.whole_map.Goals as goal
 
 pub layouts_of-layouts-requires : goal.layouts_of-layouts-requires
 layouts_of-layouts-requires c =
@@ -44,7 +44,7 @@ pub returns-clause-ok : goal.returns-clause-ok
 returns-clause-ok c =
     let book = c.args.book.now in
     made_whole book.input.now book.placing.now c.args.object c.args.first c.requires.here.o
-    c.file_of-file.result.now c.args.map.now c.layouts_of-layouts.result.now
+    c.file_of-file.result.now c.args.map c.layouts_of-layouts.result.now
     c.in_ok-segment_indices.segment_indices c.in_ok-data_addresses.data_addresses
     (all_laid book.input.now book.placing.now c.segments_have_layouts.ensures
     c.requires.book.placed)
