@@ -37,7 +37,7 @@ or two; its value follows an equals sign, or is the next argument where it isn't
   --help, --version                  this text, and the version, as the only argument
 ";
 
-/// What a single argument asks to be told of the program: how it is used, or its version.
+/// What a single argument asks for about the program: how it is used, or its version.
 pub(crate) fn text_about(words: &[String]) -> Option<&'static str>
     ensures some { IfSome result (λ _. asks_about_program (texts words.now) ≡ true) }
     ensures none { IfNone result (asks_about_program (texts words.now) ≡ false) }
