@@ -1,5 +1,10 @@
 #!/usr/bin/env python3
-"""Runs the proved program on real files, and compares its status and what it wrote to each stream."""
+"""Runs the proved program on real files, and compares its status and what it wrote to each stream.
+
+    tests/cli.py              tries the program that .ci/run built, and the launcher
+    tests/cli.py PROGRAM      tries another one, as an installed one, and not the launcher
+
+The last line is `N passed, M failed`."""
 
 import os
 import pathlib
@@ -10,7 +15,11 @@ import sys
 import tempfile
 
 ROOT = pathlib.Path(__file__).resolve().parent.parent
-PROGRAM = ROOT / "crates" / "wildplan" / "out" / "wildplan"
+sys.path.insert(0, str(ROOT / "tools"))
+from documents import OPTIONS_TITLE, table_of  # noqa: E402
+
+BUILT = ROOT / "crates" / "wildplan" / "out" / "wildplan"
+PROGRAM = pathlib.Path(sys.argv[1]).resolve() if sys.argv[1:] else BUILT
 EXAMPLES = ROOT / "examples"
 OBJECTS = ROOT / "tests" / "objects"
 ROWS = ROOT / "tests" / "rows.txt"
@@ -123,10 +132,69 @@ def words():
         (["--initial-memory=1 "], "BadNumber 0"),
         (["--initial-memory=18446744073709551616"], "BadNumber 0"),
         (["-z", "stack-size=4294967296"], "BadNumber 1"),
+        (["--why", "--map", "a.o"], "TwoModes 1"),
+        (["--why", "a.o", "--why", "--generate=0"], "TwoModes 3"),
+        (["--map", "--generate"], "TwoModes 1"),
+        (["--map", "--why=1"], "UnknownOption 1"),
+        (["--why", "-x", "--map"], "UnknownOption 1"),
+        (["--generate", "2", "a.o"], "ExtraInput 2"),
+        (["a.o", "--generate=2"], "ExtraInput 0"),
+        (["--generate", "2", "a.o", "--bad"], "UnknownOption 3"),
+        (["a.o", "--generate", "0"], "BadNumber 2"),
+        (["--generate", "10001"], "BadNumber 1"),
+        (["--why"], "NoInputs"),
         ([b"\xff.o"], "NotUtf8"),
     ]
     for given, fault in faults:
         check(f"words {given}", run(given), 2, err=f"error: BadWords {fault}\n".encode())
+
+
+def modes(folder):
+    """What is written in place of the listing; where objects have no plan the line is that without a mode."""
+    made = EXAMPLES / "two_functions.o"
+    summed = [
+        (["--generate", "1"], "objects 1 functions 1 dropped 1 fixups 0"),
+        (["--generate", "3", "--no-entry"], "objects 3 functions 3 dropped 3 fixups 2"),
+        (["--entry", "b", "--generate", "2", "--generate=3"], "objects 3 functions 3 dropped 3 fixups 2"),
+        (["--no-gc-sections", "--generate", "3"], "objects 3 functions 6 dropped 0 fixups 2"),
+        (["--generate", "10000"], "objects 10000 functions 10000 dropped 10000 fixups 9999"),
+    ]
+    for given, line in summed:
+        check(f"words {given}", run(given), 0, line.encode() + b"\n")
+    kept = b"why 0 function 1 root\ndrop 0 function 0\n"
+    check("why one function is kept", run(["--entry", "b", "--why", made]), 0, kept)
+    whole = b"why 0 function 0 off\nwhy 0 function 1 off\n"
+    check("why all is kept", run([*FLAGS, "--why", "--why", made]), 0, whole)
+    sizes = b"code 0 9\ncode 1 3\ntotal code 15\ntotal data 0\n"
+    check("the sizes of two functions", run([*FLAGS, "--map", made]), 0, sizes)
+    sizes = b"total code 0\ntotal data 0\n"
+    check("the sizes of nothing", run(["--no-entry", "--map", made]), 0, sizes)
+    names = ["--export", "count", "--export", "last", "--export", "chosen"]
+    objects = [EXAMPLES / "counter" / name for name in ["counter.o", "setup.o"]]
+    section = (ROOT / "docs" / "WHY.md").read_text().split("\n## An example\n")[1].split("\n## ")[0]
+    shown = [line[4:] for line in section.splitlines() if line.startswith("    ")]
+    wanted = "".join(line + "\n" for line in shown if line.startswith(("why ", "drop "))).encode()
+    check("why parts of the counter are kept", run(["--why", "--no-entry", *names, *objects]), 0, wanted)
+    cut = folder / "cut.o"
+    cut.write_bytes(made.read_bytes()[:-1])
+    for mode in ["--why", "--map"]:
+        check(f"{mode} of a cut object", run([mode, cut]), 1, err=b"error: Malformed 0 Truncated\n")
+        check(f"{mode} without an entry", run([mode, made]), 1, err=b'error: EntryNotDefined "_start"\n')
+        check(f"{mode} of no file", run([mode, folder / "none.o"]), 3, err=b"error: ReadFault 0\n")
+
+
+def about():
+    """A lone `--help` or `--version` is answered; the help names each option, and the version is that of the changes."""
+    told = run(["--help"])
+    names = set(re.findall(r"(?<![\w-])-{1,2}([\w-]+)", told.stdout.decode()))
+    code = (ROOT / "crates" / "wl_words" / "src" / "options.rt").read_text()
+    wanted = set(re.findall(r'name: "([\w-]+)"', code)) | {"help", "version"}
+    note(f"the options of --help: {names ^ wanted}", names == wanted)
+    check("--help", told, 0, told.stdout)
+    version = re.search(r"^## (\d+\.\d+\.\d+)", (ROOT / "CHANGELOG.md").read_text(), re.M)
+    check("--version", run(["--version"]), 0, f"wildplan {version[1]}\n".encode())
+    for given in [["--help", "--version"], ["-help"], ["--version", "a.o"]]:
+        check(f"words {given}", run(given), 2, err=b"error: BadWords UnknownOption 0\n")
 
 
 def options():
@@ -292,17 +360,6 @@ def operators(folder):
             check(f"{rule}: {row}", run([*FLAGS, made]), 1 if err else 0, out.encode(), err.encode())
 
 
-def table_of(document, title):
-    """The rows below the first one of a table in a document, each a list of its cells."""
-    lines = document.read_text().splitlines()
-    rows = []
-    for line in lines[lines.index(title) + 2 :]:
-        if not line.startswith("|"):
-            break
-        rows.append([cell.strip() for cell in line.strip("|").split("|")])
-    return rows
-
-
 def note(title, sound, of="the documents"):
     """Counts a comparison of the documents, or of other texts, with the program."""
     global passed, failed
@@ -369,7 +426,7 @@ def documented_options():
     code = (ROOT / "crates" / "wl_words" / "src" / "options.rt").read_text()
     wanted = set(re.findall(r'name: "([\w-]+)"', code))
     tables = [
-        (OPTIONS, "| option | value | what it does | given again | without it |"),
+        (OPTIONS, OPTIONS_TITLE),
         (README, "| option | meaning | without it |"),
     ]
     for document, title in tables:
@@ -397,7 +454,7 @@ def documented_words():
         note(f"the words {given}: {line}", line == f"error: {fault}\n")
 
     none, unknown = "BadWords NoInputs", "BadWords UnknownOption 0"
-    for names, value, *_ in table_of(OPTIONS, "| option | value | what it does | given again | without it |"):
+    for names, value, *_ in table_of(OPTIONS, OPTIONS_TITLE):
         for name in re.findall(r"`(-[\w-]+)`", names):
             spelled = [name, name[1:]] if name.startswith("--") else [name]
             if name.startswith("--"):
@@ -413,6 +470,11 @@ def documented_words():
                     ends([word], none)
                     ends([word + "=a"], none)
                     ends([word, ""], "ReadFault 0")
+                elif span := re.search(r"a number from (\d+) to (\d+)", value):
+                    ends([word], "BadWords MissingValue 0")
+                    for beyond in [int(span[1]) - 1, int(span[2]) + 1]:
+                        ends([word, f"{beyond}"], "BadWords BadNumber 1")
+                    ends([f"{word}={span[1]}x"], "BadWords BadNumber 0")
                 else:
                     front = re.findall(r"`([\w-]+=)`", value)
                     sound = front[0] + "1" if front else "1"
@@ -617,17 +679,36 @@ def relocation_types():
 
 
 def launched(folder):
-    """The launcher runs the proved program, and where there is none the sources, and says so."""
-    ended = subprocess.run([ROOT / "wildplan"], stdin=subprocess.DEVNULL, capture_output=True, timeout=600)
-    check("the proved program is that of the sources", ended, 2, err=b"error: BadWords NoInputs\n")
+    """The launcher runs the proved program, through symbolic links too, and where there is none the sources, and
+    says so."""
+    links = [ROOT / "wildplan", folder / "link", folder / "link of a link"]
+    links[1].symlink_to(os.path.relpath(links[0], folder.resolve()))
+    links[2].symlink_to("link")
+    for launcher in links:
+        ended = subprocess.run([launcher], stdin=subprocess.DEVNULL, capture_output=True, timeout=600)
+        check("the proved program is that of the sources", ended, 2, err=b"error: BadWords NoInputs\n")
     copy = folder / "copy"
     shutil.copytree(ROOT / "crates", copy / "crates", ignore=shutil.ignore_patterns("out"))
     for name in ["crates.txt", "wildplan", "examples/two_functions.o"]:
         shutil.copy(ROOT / name, copy)
     command = ["./wildplan", *FLAGS, "two_functions.o"]
     ended = subprocess.run(command, cwd=copy, stdin=subprocess.DEVNULL, capture_output=True, timeout=600)
-    notice = b"wildplan: running unproved, which takes half a minute; .ci/run proves and builds it\n"
+    notice = b"wildplan: running unproved, which takes a while; .ci/run proves and builds it\n"
     check("no proved program", ended, 0, (EXAMPLES / "two_functions.plan").read_bytes(), notice)
+
+
+def joined(script, *words):
+    """Adds what another script counts, whose last line is `N passed, M failed`, and prints what it says before that."""
+    global passed, failed
+    command = [sys.executable, ROOT / script, *words]
+    ended = subprocess.run(command, stdin=subprocess.DEVNULL, stdout=subprocess.PIPE, text=True, timeout=600)
+    *said, last = ended.stdout.splitlines() or [""]
+    counts = re.fullmatch(r"(\d+) passed, (\d+) failed", last)
+    note(f"{script} ends with {last!r}", counts is not None, "scripts")
+    if counts:
+        passed, failed = passed + int(counts[1]), failed + int(counts[2])
+    for line in said:
+        print(f"{script}: {line}")
 
 
 def main():
@@ -646,18 +727,27 @@ def main():
     listings()
     counter()
     words()
+    about()
     options()
     with tempfile.TemporaryDirectory() as name:
         folder = pathlib.Path(name)
         reads(folder)
+        modes(folder)
         rows(folder)
         operators(folder)
         documented_relocations(folder)
         documented_operators(folder)
         compiled(folder)
         sizes(folder)
-        launched(folder)
+        if PROGRAM == BUILT:
+            launched(folder)
     writes()
+    joined("tools/make_pages.py", "--check")
+    joined("tests/listing.py")
+    joined("tests/pages.py", PROGRAM)
+    joined("tests/install.py", PROGRAM)
+    joined("tests/wasm_ld.py", PROGRAM)
+    joined("tests/tools.py", PROGRAM)
     print(f"{passed} passed, {failed} failed")
     sys.exit(1 if failed else 0)
 

@@ -42,11 +42,11 @@ use Rattle.wl_bind.specs.declared.resolution.ImportResolution.TheVariants.{Unres
 use Rattle.wl_lists.proofs.Beside.{zip_joined}
 use Rattle.wl_lists.proofs.Found.{cases_option}
 use Rattle.wl_lists.proofs.In.{Contains-filter, at_is_in}
-use Rattle.wl_bind.proofs.ClosedLaws.{bound_of_kind, is_global, kept_global}
+use Rattle.wl_bind.proofs.ClosedLaws.{is_global, kept_global}
 use Rattle.wl_bind.proofs.HostLaws.{IsAt, placed}
 use Rattle.wl_bind.proofs.GlobalLaws.{binds as binds_by}
 use Rattle.wl_bind.proofs.ListLaws.{place_lt}
-use Rattle.wl_bind.proofs.SlotIndexLaws.{ImportLaws, Leads, has_entry, get_via, in_front, places_in, entry_stands}
+use Rattle.wl_bind.proofs.SlotIndexLaws.{ImportLaws, Leads, has_entry, get_via, in_front, places_in, named_is_of_kind, entry_stands}
 use Rattle.wl_bind.proofs.MadeLaws.{bound_is_made_global}
 use Rattle.wl_bind.proofs.NumberingLaws.{zip_map, slots_here, fits, global_at, has_ordinal, own_globals}
 use Rattle.wl_bind.proofs.RowLaws.{slot_is_one}
@@ -149,16 +149,6 @@ named_is_live laws input live object k t i j here kept is =
           (subst (λ (ts : List ImportSlot). slice_get ts k ≡ Some t) (slots_here input.link.objects object Global o.0 o.1) here) at own is
     ]
 
--- what the linker makes, and a slot is bound to, is of its kind
-named_is_of_kind : ImportLaws → (input : Input) (object k : ℕ) (t : ImportSlot)
-    (m : WasmLinkerSymbol)
-    → slice_get (import_slots input.link.objects object Global) k ≡ Some t
-    → slot_target input.link t ≡ Some (slot.Made m) → matches_kind Global m ≡ true
-named_is_of_kind laws input object k t m here is =
-    let at : IsAt object Global k t = placed input.link.objects object Global k t here in
-    subst (λ (kind : WasmSymbolKind). matches_kind kind m ≡ true) at.kind_is
-    (bound_of_kind laws.binding.slots input.link t m is)
-
 abbrev GlobalLeads : Numbering → ImportSlot → GlobalTarget → Type 0
 GlobalLeads n t target =
     Leads n Global t (as_global n.input.now target) (global_space n.input.now) (GlobalOf target)
@@ -172,7 +162,7 @@ named_leads laws n is live object k t here kept listed (slot.Defined i j) bound 
     own_leads n is live t i j (named_is_live laws n.input.now live object k t i j here kept bound)
 named_leads laws n is live object k t here kept listed (slot.Made m) bound =
     made_leads laws n t m listed (named_binds n.input.now t (slot.Made m) bound)
-    (named_is_of_kind laws n.input.now object k t m here bound)
+    (named_is_of_kind laws n.input.now Global object k t m here bound)
 
 -- ---- entries of the GOT lists
 

@@ -42,3 +42,4 @@ pub mod FirstSlotLaws
 pub mod ReferenceLaws
 pub mod GlobalReferenceLaws
 pub mod EntryTypeLaws
+pub mod ObjectIndexLaws

@@ -21,15 +21,17 @@ use Rattle.wl_index.specs.declared.index.TheConstants.{WASM_DEAD_INDEX, MAX_ENTR
 use Rattle.wl_bind.specs.FunctionSpace.{FunctionOf, function_parts, function_space, own_function_entry}
 use Rattle.wl_bind.specs.GlobalSpace.{GlobalOf, global_parts, global_space, own_global_entry}
 use Rattle.wl_symbols.specs.Input.{Input, keeps, keeps_slot}
+use Rattle.wl_bind.specs.MadeIndices.{AreMadeIndices}
 use Rattle.wl_bind.specs.Numbering.{IsNumbering}
-use Rattle.wl_bind.specs.NumberingSteps.{HasRoom, FitsOwn, own_indices_of, HasIndex, IsResolvedIndex, resolution_of, HaveSlotIndices, IsSlotIndex}
-use Rattle.wl_bind.specs.OwnIndices.{own_unit, kept_own, firsts_from, own_index, kept_count}
+use Rattle.wl_bind.specs.NumberingSteps.{made_end, firsts_of, HasRoom, FitsOwn, own_indices_of, HasIndex, IsResolvedIndex, resolution_of, HaveSlotIndices, IsSlotIndex}
+use Rattle.wl_bind.specs.OwnIndices.{own_unit, kept_own, firsts_from, own_index, kept_count, own_start, space_length}
 use Rattle.wl_bind.specs.Parts.{joined, lengths_of, total, by_object, IsIndexOf, AreIndicesOf, IsOver}
 use Rattle.wl_bind.specs.Resolutions.{Resolving, rows_from, resolutions, by_all_rules}
 use Rattle.wl_bind.specs.Shared.{place_at}
-use Rattle.wl_bind.specs.SpaceFaults.{IsSpaceOver}
+use Rattle.wl_bind.specs.SpaceFaults.{AreTooMany, IsSpaceOver}
 use Rattle.wl_bind.specs.declared.binding.FunctionTarget.TheVariants as function
 use Rattle.wl_bind.specs.declared.binding.GlobalTarget.TheVariants as global
+use Rattle.wl_bind.specs.declared.indices.LinkerDefinedIndices.{LinkerDefinedIndices}
 use Rattle.wl_bind.specs.declared.numbering.Numbering.{Numbering}
 use Rattle.wl_bind.specs.declared.own_indices.Own.{Own}
 use Rattle.wl_bind.specs.declared.own_indices.Own.TheVariants.{Functions, Globals}
@@ -157,15 +159,12 @@ global_at input n is live object k m at =
     (sym is.global_firsts)
     (own_at input Globals (λ i j. GlobalOf (global.Defined i j)) (global_parts input) object k m live at)
 
-pub functions_fit : (input : Input) (n : Numbering) → IsNumbering input n → IsLiveOf input.link input.live
-    → (object k : ℕ) → FitsOwn input n.function_firsts.items object (DefinedFunction k)
-functions_fit input n is live object k m at =
+pub firsts_fit : (input : Input) (n : Numbering) → IsNumbering input n → IsLiveOf input.link input.live → (own : Own)
+    → (object k : ℕ) → FitsOwn input (firsts_of n own) object (own_unit own k)
+firsts_fit input n is live Functions object k m at =
     fits n.function_firsts.items (function_space input) object m (FunctionOf (function.Defined object k)) is.functions_fit
     (function_at input n is live object k m at)
-
-pub globals_fit : (input : Input) (n : Numbering) → IsNumbering input n → IsLiveOf input.link input.live
-    → (object k : ℕ) → FitsOwn input n.global_firsts.items object (DefinedGlobal k)
-globals_fit input n is live object k m at =
+firsts_fit input n is live Globals object k m at =
     fits n.global_firsts.items (global_space input) object m (GlobalOf (global.Defined object k)) is.globals_fit
     (global_at input n is live object k m at)
 
@@ -314,45 +313,45 @@ own_length input own entry object (o ∷ objects) =
     (length-map (kept_own input own object o) (entry object))
     ∙ ap (λ (m : ℕ). length (kept_own input own object o) + m) (own_length input own entry (object + 1) objects))
 
-space_length : {Y : Type 0} (input : Input) (own : Own) (entry : ℕ → ℕ → Y) (parts : List (List Y))
+entries_length : {Y : Type 0} (input : Input) (own : Own) (entry : ℕ → ℕ → Y) (parts : List (List Y))
     → length (joined parts ++ by_object (λ i o. map (entry i) (kept_own input own i o)) 0 input.link.objects)
     ≡ total (lengths_of parts) + kept_count input own 0 input.link.objects
-space_length input own entry parts =
+entries_length input own entry parts =
     length-append (joined parts) (by_object (λ i o. map (entry i) (kept_own input own i o)) 0 input.link.objects)
     ∙ (ap (λ (m : ℕ). m + length (by_object (λ i o. map (entry i) (kept_own input own i o)) 0 input.link.objects)) (joined_length parts)
     ∙ ap (λ (m : ℕ). total (lengths_of parts) + m) (own_length input own entry 0 input.link.objects))
 
-functions_long : (input : Input) → length (function_space input)
-    ≡ total (lengths_of (function_parts input)) + kept_count input Functions 0 input.link.objects
-functions_long input = space_length input Functions (λ i k. FunctionOf (function.Defined i k)) (function_parts input)
+space_long : (input : Input) (own : Own) → space_length input own ≡ own_start input own + kept_count input own 0 input.link.objects
+space_long input Functions = entries_length input Functions (λ i k. FunctionOf (function.Defined i k)) (function_parts input)
+space_long input Globals = entries_length input Globals (λ i k. GlobalOf (global.Defined i k)) (global_parts input)
 
-globals_long : (input : Input) → length (global_space input)
-    ≡ total (lengths_of (global_parts input)) + kept_count input Globals 0 input.link.objects
-globals_long input = space_length input Globals (λ i k. GlobalOf (global.Defined i k)) (global_parts input)
+-- objects' things begin behind all that no object defines
+pub made_end_is : (input : Input) (i : LinkerDefinedIndices) → AreMadeIndices input i → (own : Own) → made_end i own ≡ own_start input own
+made_end_is input i made Functions = made.functions.end
+made_end_is input i made Globals = made.globals.end
+
+pub made_end_fits : (input : Input) (i : LinkerDefinedIndices) → AreMadeIndices input i → (own : Own) → made_end i own ≤ MAX_ENTRIES
+made_end_fits input i made Functions = made.functions.room
+made_end_fits input i made Globals = made.globals.room
+
+too_many : (input : Input) (own : Own) → MAX_ENTRIES < space_length input own → AreTooMany input
+too_many input Functions lt = inl lt
+too_many input Globals lt = inr lt
 
 pub if_err : {A E : Type 0} (r : Result A E) (P Q : E → Type 0) → ((e : E) → P e → Q e) → IfErr r P → IfErr r Q
 if_err (Ok x) P Q step err = tt
 if_err (Err e) P Q step err = step e err
 
-pub functions_over : (input : Input) (start : ℕ) (e : LinkError) → start ≡ total (lengths_of (function_parts input))
-    → IsOver (start + kept_count input Functions 0 input.link.objects) e → IsSpaceOver input e
-functions_over input start e is over =
-    over_as input (start + kept_count input Functions 0 input.link.objects) e
-    (λ lt. let long = functions_long input in inl (omega (arith, lt, is, long))) over
+pub own_over : (input : Input) (own : Own) (start : ℕ) (e : LinkError) → start ≡ own_start input own
+    → IsOver (start + kept_count input own 0 input.link.objects) e → IsSpaceOver input e
+own_over input own start e is over =
+    let long = space_long input own in
+    over_as input (start + kept_count input own 0 input.link.objects) e
+    (λ lt. too_many input own (omega (arith, lt, is, long))) over
 
-pub globals_over : (input : Input) (start : ℕ) (e : LinkError) → start ≡ total (lengths_of (global_parts input))
-    → IsOver (start + kept_count input Globals 0 input.link.objects) e → IsSpaceOver input e
-globals_over input start e is over =
-    over_as input (start + kept_count input Globals 0 input.link.objects) e
-    (λ lt. let long = globals_long input in inr (omega (arith, lt, is, long))) over
-
-pub functions_room : (input : Input) (start : ℕ) → start ≡ total (lengths_of (function_parts input))
-    → start + kept_count input Functions 0 input.link.objects ≤ MAX_ENTRIES → length (function_space input) ≤ MAX_ENTRIES
-functions_room input start is room = let long = functions_long input in omega (arith, room, is, long)
-
-pub globals_room : (input : Input) (start : ℕ) → start ≡ total (lengths_of (global_parts input))
-    → start + kept_count input Globals 0 input.link.objects ≤ MAX_ENTRIES → length (global_space input) ≤ MAX_ENTRIES
-globals_room input start is room = let long = globals_long input in omega (arith, room, is, long)
+pub own_room : (input : Input) (own : Own) (start : ℕ) → start ≡ own_start input own
+    → start + kept_count input own 0 input.link.objects ≤ MAX_ENTRIES → space_length input own ≤ MAX_ENTRIES
+own_room input own start is room = let long = space_long input own in omega (arith, room, is, long)
 
 -- ---- rows
 

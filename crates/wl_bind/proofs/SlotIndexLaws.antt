@@ -247,13 +247,13 @@ named_is_live laws input live object k t i j here kept is =
     ]
 
 -- what the linker makes, and a slot is bound to, is of its kind
-named_is_of_kind : ImportLaws → (input : Input) (object k : ℕ) (t : ImportSlot)
+pub named_is_of_kind : ImportLaws → (input : Input) (kind : WasmSymbolKind) (object k : ℕ) (t : ImportSlot)
     (m : WasmLinkerSymbol)
-    → slice_get (import_slots input.link.objects object Func) k ≡ Some t
-    → slot_target input.link t ≡ Some (slot.Made m) → matches_kind Func m ≡ true
-named_is_of_kind laws input object k t m here is =
-    let at : IsAt object Func k t = placed input.link.objects object Func k t here in
-    subst (λ (kind : WasmSymbolKind). matches_kind kind m ≡ true) at.kind_is
+    → slice_get (import_slots input.link.objects object kind) k ≡ Some t
+    → slot_target input.link t ≡ Some (slot.Made m) → matches_kind kind m ≡ true
+named_is_of_kind laws input kind object k t m here is =
+    let at : IsAt object kind k t = placed input.link.objects object kind k t here in
+    subst (λ (of : WasmSymbolKind). matches_kind of m ≡ true) at.kind_is
     (bound_of_kind laws.binding.slots input.link t m is)
 
 abbrev FunctionLeads : Numbering → ImportSlot → FunctionTarget → Type 0
@@ -269,7 +269,7 @@ named_leads laws n is live object k t here kept listed (slot.Defined i j) bound 
     own_leads n is live t i j (named_is_live laws n.input.now live object k t i j here kept bound)
 named_leads laws n is live object k t here kept listed (slot.Made m) bound =
     made_leads laws n t m listed (named_binds n.input.now t (slot.Made m) bound)
-    (named_is_of_kind laws n.input.now object k t m here bound)
+    (named_is_of_kind laws n.input.now Func object k t m here bound)
 
 left_leads : ImportLaws → (n : Numbering) → IsNumbering n.input.now n
     → (object k : ℕ) (t : ImportSlot)

@@ -10,21 +10,48 @@ use Rattle.wl_symbols.specs.Live.{ordinal_of}
 use Rattle.wl_symbols.specs.declared.units.WasmGcUnit.{WasmGcUnit}
 use Rattle.wl_symbols.specs.ImportSlots.{ImportSlot}
 use Rattle.wl_index.specs.declared.index.TheConstants.{WASM_DEAD_INDEX, MAX_ENTRIES}
-use Rattle.wl_bind.specs.FunctionSpace.{stub_part, function_space}
-use Rattle.wl_bind.specs.GlobalSpace.{GlobalOf, global_space}
+use Rattle.wl_bind.specs.FunctionSpace.{stub_part, function_space, local_functions}
+use Rattle.wl_bind.specs.GlobalSpace.{GlobalOf, global_space, local_globals}
 use Rattle.wl_symbols.specs.Input.{Input}
 use Rattle.wl_symbols.specs.KeptSlots.{is_kept_slot}
 use Rattle.wl_bind.specs.Made.{is_made}
 use Rattle.wl_bind.specs.MadeIndices.{StandsAt}
 use Rattle.wl_bind.specs.OwnIndices.{own_unit, own_count, own_index}
-use Rattle.wl_bind.specs.Parts.{HasEntry}
+use Rattle.wl_bind.specs.Parts.{HasEntry, AreIndicesOf}
 use Rattle.wl_bind.specs.Resolutions.{function_resolution, global_resolution}
 use Rattle.wl_bind.specs.Shared.{place_at}
 use Rattle.wl_bind.specs.declared.binding.GlobalTarget.TheVariants as global
+use Rattle.wl_bind.specs.declared.indices.LinkerDefinedIndices.{LinkerDefinedIndices}
 use Rattle.wl_bind.specs.declared.numbering.Numbering.{Numbering}
 use Rattle.wl_bind.specs.declared.own_indices.Own.{Own}
+use Rattle.wl_bind.specs.declared.own_indices.Own.TheVariants.{Functions, Globals}
 use Rattle.wl_bind.specs.declared.resolution.ImportResolution.{ImportResolution}
 use Rattle.wl_bind.specs.declared.resolution.ImportResolution.TheVariants.{Unresolved, ResolvedFunction, ResolvedGlobal, LinkerDefined, WeakUndefStub, GotMemSlot, GotFuncSlot}
+use Rattle.wl_bind.specs.declared.resolution.ObjectImportResolutions.{ObjectImportResolutions}
+
+-- ---- functions or globals
+
+-- the index behind all that no object defines
+abbrev pub made_end : LinkerDefinedIndices → Own → ℕ
+made_end i Functions = i.functions.end
+made_end i Globals = i.globals.end
+
+-- what the slots of that kind of an object are resolved to
+abbrev pub row_part : Own → ObjectImportResolutions → List ImportResolution
+row_part Functions row = row.function_resolutions
+row_part Globals row = row.global_resolutions
+
+-- the first index of each object
+abbrev pub firsts_of : Numbering → Own → List ℕ
+firsts_of n Functions = n.function_firsts.items
+firsts_of n Globals = n.global_firsts.items
+
+-- the indices of the functions, or of the globals, of an object
+abbrev pub AreObjectIndices : Input → Own → ℕ → Object → List ℕ → Type 0
+AreObjectIndices input Functions object o =
+    AreIndicesOf (function_space input) (local_functions input object o)
+AreObjectIndices input Globals object o =
+    AreIndicesOf (global_space input) (local_globals input object o)
 
 -- ---- what objects define
 

@@ -11,6 +11,7 @@ use crate::function_slots::FunctionSlots;
 use crate::got_globals::{got_func_globals, got_mem_globals};
 use crate::merging::MergedTypes;
 use crate::numbering::Numbering;
+use crate::own_indices::Own;
 use crate::redirects::function_redirects;
 use crate::targets::FunctionBindings;
 use std::alloc::{AllocError, Global};
@@ -125,8 +126,8 @@ pub(crate) fn index_maps_of(
     ensures { IfOk result (AreIndexMaps numbering.now.input.now) }
 {
     let bindings = asked_bindings(alloc, numbering)?;
-    let functions = numbering.function_rows(alloc)?;
-    let globals = numbering.global_rows(alloc)?;
+    let functions = numbering.rows_of(alloc, Own::Functions)?;
+    let globals = numbering.rows_of(alloc, Own::Globals)?;
     let sources = MapSources {
         numbering,
         bindings: &bindings,

@@ -4,14 +4,12 @@ ghost use Rattle.std.specs.Prelude.{◌≡◌, ◌<◌, ◌≤◌, ◌^◌, ◌+
 ghost use Rattle.std.specs.List.{AllZip};
 ghost use Rattle.wl_symbols.specs.ImportSlots.{import_slots};
 ghost use Rattle.wl_index.specs.declared.index.TheConstants.{WASM_DEAD_INDEX, MAX_ENTRIES};
-ghost use Rattle.wl_bind.specs.FunctionSpace.{function_space, local_functions};
-ghost use Rattle.wl_bind.specs.GlobalSpace.{global_space, local_globals};
 ghost use Rattle.wl_symbols.specs.Input.{keeps_slot};
 ghost use Rattle.wl_bind.specs.MadeIndices.{AreMadeIndices};
 ghost use Rattle.wl_bind.specs.Numbering.{IsNumbering};
-ghost use Rattle.wl_bind.specs.NumberingSteps.{HasRoom, behind_first, FitsOwn, own_indices_of, FitsPlace, HasIndex, IsIndexOfMade, IsResolvedIndex, resolution_of, HaveSlotIndices, IsSlotIndex};
-ghost use Rattle.wl_bind.specs.OwnIndices.{own_unit, own_index, function_firsts, global_firsts};
-ghost use Rattle.wl_bind.specs.Parts.{AreIndicesOf, AreRows};
+ghost use Rattle.wl_bind.specs.NumberingSteps.{HasRoom, behind_first, FitsOwn, own_indices_of, FitsPlace, HasIndex, IsIndexOfMade, IsResolvedIndex, resolution_of, HaveSlotIndices, IsSlotIndex, made_end, row_part, firsts_of, AreObjectIndices};
+ghost use Rattle.wl_bind.specs.OwnIndices.{own_unit, own_index, own_firsts, space_length};
+ghost use Rattle.wl_bind.specs.Parts.{AreRows};
 ghost use Rattle.wl_bind.specs.Resolutions.{resolutions, by_all_rules};
 ghost use Rattle.wl_bind.specs.Scan.{scan_of};
 ghost use Rattle.wl_bind.specs.Shared.{shared_of, place_at};
@@ -70,32 +68,29 @@ fn own_index(input: &LinkInput<'_, '_>, firsts: &[u32], object: usize, unit: Was
     }
 }
 
-/// The first index of the functions of each object.
-fn function_firsts(
-    alloc: Global,
-    input: &LinkInput<'_, '_>,
-    indices: &LinkerDefinedIndices,
-) -> Result<Vec<u32>, LinkError>
-    requires { AreMadeIndices input.now indices.now }
-    ensures firsts { IfOk result (λ firsts. firsts.items ≡ function_firsts input.now) }
-    ensures room { OnOk result (length (function_space input.now) ≤ MAX_ENTRIES) }
-    ensures err { IfErr result (IsSpaceOver input.now) }
+/// The index behind all that no object defines.
+fn made_end(indices: &LinkerDefinedIndices, own: Own) -> u32
+    ensures { result ≡ made_end indices.now own }
 {
-    first_indices(alloc, input, Own::Functions, indices.functions_end())
+    match own {
+        Own::Functions => indices.functions_end(),
+        Own::Globals => indices.globals_end(),
+    }
 }
 
-/// The first index of the globals of each object.
-fn global_firsts(
+/// The first index of what each object defines.
+fn own_firsts(
     alloc: Global,
     input: &LinkInput<'_, '_>,
     indices: &LinkerDefinedIndices,
+    own: Own,
 ) -> Result<Vec<u32>, LinkError>
     requires { AreMadeIndices input.now indices.now }
-    ensures firsts { IfOk result (λ firsts. firsts.items ≡ global_firsts input.now) }
-    ensures room { OnOk result (length (global_space input.now) ≤ MAX_ENTRIES) }
+    ensures firsts { IfOk result (λ firsts. firsts.items ≡ own_firsts input.now own) }
+    ensures room { OnOk result (space_length input.now own ≤ MAX_ENTRIES) }
     ensures err { IfErr result (IsSpaceOver input.now) }
 {
-    first_indices(alloc, input, Own::Globals, indices.globals_end())
+    first_indices(alloc, input, own, made_end(indices, own))
 }
 
 impl<'n, 'i, 'a> Numbering<'n, 'i, 'a> {
@@ -118,8 +113,8 @@ impl<'n, 'i, 'a> Numbering<'n, 'i, 'a> {
         ensures ok { IfOk result (IsNumbering input.now) }
         ensures err { IfErr result (IsSpaceOver input.now) }
     {
-        let functions = function_firsts(alloc, input, indices)?;
-        let globals = global_firsts(alloc, input, indices)?;
+        let functions = own_firsts(alloc, input, indices, Own::Functions)?;
+        let globals = own_firsts(alloc, input, indices, Own::Globals)?;
         Ok(Numbering {
             input,
             rows,
@@ -131,22 +126,26 @@ impl<'n, 'i, 'a> Numbering<'n, 'i, 'a> {
         })
     }
 
-    /// What the function slots of an object are resolved to.
-    fn function_row(&self, object: usize) -> &'n [ImportResolution]
+    /// What the slots of that kind of an object are resolved to.
+    fn row(&self, own: Own, object: usize) -> &'n [ImportResolution]
         requires { object < length self.now.rows.now }
         ensures { (row : Row) → slice_get self.now.rows.now object ≡ Some row
-            → result.now ≡ row.function_resolutions }
+            → result.now ≡ row_part own row }
     {
-        self.rows[object].function_resolutions.as_slice()
+        match own {
+            Own::Functions => self.rows[object].function_resolutions.as_slice(),
+            Own::Globals => self.rows[object].global_resolutions.as_slice(),
+        }
     }
 
-    /// What the global slots of an object are resolved to.
-    fn global_row(&self, object: usize) -> &'n [ImportResolution]
-        requires { object < length self.now.rows.now }
-        ensures { (row : Row) → slice_get self.now.rows.now object ≡ Some row
-            → result.now ≡ row.global_resolutions }
+    /// The first index of what each object defines.
+    fn firsts(&self, own: Own) -> &[u32]
+        ensures { result.now ≡ firsts_of self.now own }
     {
-        self.rows[object].global_resolutions.as_slice()
+        match own {
+            Own::Functions => self.function_firsts.as_slice(),
+            Own::Globals => self.global_firsts.as_slice(),
+        }
     }
 
     /// The index of the host import that a slot is.
@@ -272,18 +271,18 @@ impl<'n, 'i, 'a> Numbering<'n, 'i, 'a> {
         Ok(())
     }
 
-    /// The index of each function of an object: of what its import slots are bound to, and then of
-    /// what it defines.
-    fn functions_of(
+    /// The index of each function, or of each global, of an object: of what its import slots are
+    /// bound to, and then of what it defines.
+    fn indices_of(
         &self,
         alloc: Global,
+        own: Own,
         object: usize,
         file: &File<'_>,
     ) -> Result<ItemList<u32>, AllocError>
         requires numbering { IsNumbering self.now.input.now self.now }
         requires here { slice_get self.now.input.now.link.objects object ≡ Some file.now }
-        ensures { let input = self.now.input.now in IfOk result
-            (AreIndicesOf (function_space input) (local_functions input object file.now)) }
+        ensures { IfOk result (AreObjectIndices self.now.input.now own object file.now) }
     {
         file.stands_for_an_object();
         whole_objects();
@@ -293,80 +292,24 @@ impl<'n, 'i, 'a> Numbering<'n, 'i, 'a> {
         host_imports_are_found();
         live_units_are_closed();
         let _ = self.input.live();
-        let row = self.function_row(object);
-        let mut indices = self.slot_indices(alloc, WasmSymbolKind::Func, object, row)?;
-        self.push_own(
-            &mut indices,
-            Own::Functions,
-            &self.function_firsts,
-            object,
-            file,
-        )?;
+        let row = self.row(own, object);
+        let mut indices = self.slot_indices(alloc, own.kind(), object, row)?;
+        self.push_own(&mut indices, own, self.firsts(own), object, file)?;
         Ok(indices)
     }
 
-    /// The same of globals.
-    fn globals_of(
-        &self,
-        alloc: Global,
-        object: usize,
-        file: &File<'_>,
-    ) -> Result<ItemList<u32>, AllocError>
-        requires numbering { IsNumbering self.now.input.now self.now }
-        requires here { slice_get self.now.input.now.link.objects object ≡ Some file.now }
+    /// The indices of the functions, or of the globals, of each object.
+    ///
+    /// # Errors
+    /// `AllocError` where memory runs out.
+    pub(crate) fn rows_of(&self, alloc: Global, own: Own) -> Result<Vec<ItemList<u32>>, AllocError>
+        requires { IsNumbering self.now.input.now self.now }
         ensures { let input = self.now.input.now in IfOk result
-            (AreIndicesOf (global_space input) (local_globals input object file.now)) }
-    {
-        file.stands_for_an_object();
-        whole_objects();
-        slots_are_numbered();
-        name_by_cases();
-        targets_by_cases();
-        host_imports_are_found();
-        live_units_are_closed();
-        let _ = self.input.live();
-        let row = self.global_row(object);
-        let mut indices = self.slot_indices(alloc, WasmSymbolKind::Global, object, row)?;
-        self.push_own(
-            &mut indices,
-            Own::Globals,
-            &self.global_firsts,
-            object,
-            file,
-        )?;
-        Ok(indices)
-    }
-
-    /// The indices of the functions of each object.
-    ///
-    /// # Errors
-    /// `AllocError` where memory runs out.
-    pub(crate) fn function_rows(&self, alloc: Global) -> Result<Vec<ItemList<u32>>, AllocError>
-        requires { IsNumbering self.now.input.now self.now }
-        ensures { let input = self.now.input.now in IfOk result (λ rows. AreRows
-            (λ object o. AreIndicesOf (function_space input) (local_functions input object o))
-            0 input.link.objects rows.items) }
+            (λ rows. AreRows (AreObjectIndices input own) 0 input.link.objects rows.items) }
     {
         let mut rows = Vec::new(alloc);
         for (object, file) in self.input.files().as_slice().iter().enumerate() {
-            rows.push(self.functions_of(alloc, object, file)?)?;
-        }
-        Ok(rows)
-    }
-
-    /// The indices of the globals of each object.
-    ///
-    /// # Errors
-    /// `AllocError` where memory runs out.
-    pub(crate) fn global_rows(&self, alloc: Global) -> Result<Vec<ItemList<u32>>, AllocError>
-        requires { IsNumbering self.now.input.now self.now }
-        ensures { let input = self.now.input.now in IfOk result (λ rows. AreRows
-            (λ object o. AreIndicesOf (global_space input) (local_globals input object o))
-            0 input.link.objects rows.items) }
-    {
-        let mut rows = Vec::new(alloc);
-        for (object, file) in self.input.files().as_slice().iter().enumerate() {
-            rows.push(self.globals_of(alloc, object, file)?)?;
+            rows.push(self.indices_of(alloc, own, object, file)?)?;
         }
         Ok(rows)
     }

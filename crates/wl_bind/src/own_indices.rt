@@ -2,12 +2,12 @@
 
 ghost use Rattle.std.specs.Prelude.{◌≡◌, ◌≤◌, ◌+◌, length, IfOk, IfErr, OnOk};
 ghost use Rattle.wl_index.specs.declared.index.TheConstants.{MAX_ENTRIES};
-ghost use Rattle.wl_bind.specs.OwnIndices.{own_unit, own_count, kept_own, firsts_from, kept_count};
+ghost use Rattle.wl_bind.specs.OwnIndices.{own_kind, own_unit, own_count, kept_own, firsts_from, kept_count};
 ghost use Rattle.wl_bind.specs.Parts.{IsOver};
 
 use crate::parts::behind;
 use std::alloc::Global;
-use wl_linking::{File, LinkError};
+use wl_linking::{File, LinkError, WasmSymbolKind};
 use wl_symbols::{LinkInput, WasmGcUnit};
 
 /// What objects define that has a space.
@@ -18,6 +18,16 @@ pub(crate) enum Own {
 }
 
 impl Own {
+    /// The kind of their slots and symbols.
+    pub(crate) fn kind(self) -> WasmSymbolKind
+        ensures { result ≡ own_kind self }
+    {
+        match self {
+            Own::Functions => WasmSymbolKind::Func,
+            Own::Globals => WasmSymbolKind::Global,
+        }
+    }
+
     /// The unit of that number.
     pub(crate) fn unit(self, number: u32) -> WasmGcUnit
         ensures { result ≡ own_unit self number }

@@ -1,0 +1,3 @@
+mod FaultLaws
+mod PointerLaws
+mod RefusalLaws

@@ -148,7 +148,7 @@ fn deferred_at(
 ///
 /// # Errors
 /// `Unsupported` for an address in another field than four bytes; `Range` where the place is no
-/// signed number of 32 bits.
+/// signed number of 32 bits, each exactly there (the law [`crate::pointer_or_fault`]).
 pub fn deferred_tls_template_pointer(
     map: &WasmObjectIndexMap,
     reloc: &WasmRelocation,

@@ -7,10 +7,12 @@
 
 mod addresses;
 mod error;
+mod laws;
 mod resolving;
 
 pub use addresses::{AddressBases, deferred_tls_template_pointer};
 pub use error::RelocError;
+pub use laws::{pointer_or_fault, value_or_fault};
 pub use resolving::resolve_reloc;
 pub use wl_custom::{AddressBase, Taking};
 pub use wl_index::WasmObjectIndexMap;

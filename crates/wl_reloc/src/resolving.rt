@@ -209,7 +209,7 @@ fn table_number(kind: WasmSymbolKind) -> Result<u32, RelocError>
 /// from the start of the memory is left to be added.
 ///
 /// # Errors
-/// Each as [`RelocError`] says. There is one exactly where there is no value.
+/// Each as [`RelocError`] says, exactly where it has its cause (the law [`crate::value_or_fault`]).
 pub fn resolve_reloc(
     map: &WasmObjectIndexMap,
     reloc: &WasmRelocation,

@@ -1,0 +1,2 @@
+/* What overrides the weak function. */
+int choose(void) { return 2; }
