@@ -2,7 +2,7 @@
 
 ghost use Rattle.std.specs.Prelude.{◌≡◌, true, false, IfSome, IfNone};
 ghost use Rattle.wl_words.specs.Texts.{texts};
-ghost use Rattle.wildplan.specs.Lines.{asks_about_program};
+ghost use Rattle.wildplan.specs.Lines.{asks_about, asks_about_program};
 
 /// The program's version.
 const VERSION: &str = "wildplan 0.1.0\n";
@@ -37,17 +37,27 @@ or two; its value follows an equals sign, or is the next argument where it isn't
   --help, --version                  this text, and the version, as the only argument
 ";
 
+/// What this word asks for about the program.
+fn text_for(word: &str) -> Option<&'static str>
+    ensures some { IfSome result (λ _. asks_about word.now ≡ true) }
+    ensures none { IfNone result (asks_about word.now ≡ false) }
+{
+    if word == "--help" {
+        Some(HELP)
+    } else if word == "--version" {
+        Some(VERSION)
+    } else {
+        None
+    }
+}
+
 /// What a single argument asks for about the program: how it is used, or its version.
 pub(crate) fn text_about(words: &[String]) -> Option<&'static str>
     ensures some { IfSome result (λ _. asks_about_program (texts words.now) ≡ true) }
     ensures none { IfNone result (asks_about_program (texts words.now) ≡ false) }
 {
-    let [word] = words else {
-        return None;
-    };
-    match word.as_str() {
-        "--help" => Some(HELP),
-        "--version" => Some(VERSION),
+    match words {
+        [word] => text_for(word.as_str()),
         _ => None,
     }
 }

@@ -1,6 +1,6 @@
 //! The sizes of what a plan keeps, line by line.
 
-ghost use Rattle.std.specs.Prelude.{◌≡◌, ◌<◌, ◌^◌, ◌++◌, ℕ, List, length, codes, OnOk, IfOk};
+ghost use Rattle.std.specs.Prelude.{◌≡◌, ◌≤◌, ◌+◌, ◌-◌, ◌^◌, ◌++◌, ℕ, List, length, codes, OnOk, IfOk};
 ghost use Rattle.wl_data.specs.Sizes.{HasEntrySize};
 ghost use Rattle.wl_text.specs.Pieces.{numbered};
 ghost use Rattle.wildplan.specs.Map.{size_line, AreCodeLines, data_line, total_lines, IsMapText};
@@ -35,7 +35,7 @@ fn push_functions(
     first: usize,
     bodies: &[WasmFunctionBody<'_>],
 ) -> Result<(), AllocError>
-    requires { first + length bodies.now < 2 ^ 64 }
+    requires { first + length bodies.now ≤ 2 ^ 64 - 1 }
     ensures { OnOk result ((text : List ℕ) × AreCodeLines first bodies.now text
         × (page.new ≡ page.old ++ text)) }
 {
@@ -50,8 +50,8 @@ fn push_segments(page: &mut Page, segments: &[ObjectSegment<'_, '_>]) -> Result<
     ensures { OnOk result (page.new ≡ page.old ++ numbered data_line 0 segments.now) }
 {
     for (i, segment) in segments.iter().enumerate() {
-        let size = u64::from(segment.layout.encoded_output_size);
-        push_size(page, b"data ", i, size)?;
+        let layout = segment.layout;
+        push_size(page, b"data ", i, u64::from(layout.encoded_output_size))?;
     }
     Ok(())
 }
@@ -73,10 +73,13 @@ fn push_totals(page: &mut Page, plan: &LinkPlan<'_>) -> Result<(), AllocError>
 pub fn link_map(alloc: Global, plan: &LinkPlan<'_>) -> Result<Vec<u8>, AllocError>
     ensures { IfOk result (λ text. IsMapText plan.now text.items) }
 {
-    let (functions, _) = count_output_imports(&plan.layout);
-    let segments = all_segments(alloc, plan.layout.object_data_layouts.as_slice())?;
+    let layout = &plan.layout;
+    // As a slice the imports are fewer than 2^63, so that each function has a number.
+    let _imports = layout.imports.as_slice();
+    let (functions, _) = count_output_imports(layout);
     let mut page = Page::new(alloc);
-    push_functions(&mut page, functions, plan.layout.function_bodies.as_slice())?;
+    push_functions(&mut page, functions, layout.function_bodies.as_slice())?;
+    let segments = all_segments(alloc, layout.object_data_layouts.as_slice())?;
     push_segments(&mut page, &segments)?;
     push_totals(&mut page, plan)?;
     page.into_text()
