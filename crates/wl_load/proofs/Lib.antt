@@ -29,4 +29,3 @@ pub mod AgreeLaws
 pub mod LoadedLaws
 pub mod UserLaws
 pub mod FuelLaws
-pub mod FieldLaws

@@ -15,8 +15,6 @@ mod data;
 #[cfg(test)]
 mod files;
 #[cfg(test)]
-mod generated;
-#[cfg(test)]
 mod lists;
 #[cfg(test)]
 mod live;
@@ -30,8 +28,6 @@ mod numeric;
 mod ops;
 #[cfg(test)]
 mod reach;
-#[cfg(test)]
-mod sections;
 #[cfg(test)]
 mod session;
 #[cfg(test)]

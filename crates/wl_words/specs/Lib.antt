@@ -2,7 +2,6 @@ pub mod Options
 pub mod Rows
 pub mod Texts
 pub mod Values
-pub mod Modes
 pub mod Items
 pub mod Faults
 pub mod Args

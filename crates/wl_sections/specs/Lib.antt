@@ -1,4 +1,0 @@
-pub mod Outcomes
-pub mod OutputSections
-pub mod BuiltIn
-pub mod Segments
