@@ -11,7 +11,8 @@ ghost use Rattle.wl_reloc.specs.declared.error.RelocError.{RelocError as Why};
 /// A relocation is refused exactly where a refusal has its cause, and with that one: of the causes
 /// one holds at most. Where none does, its field takes a value.
 pub fn value_or_fault()
-    ensures why { (by : Known) (r : Relocation) (e : Why) → resolved by r ≡ Err e → IsRelocFault by r e }
+    ensures why { (by : Known) (r : Relocation) (e : Why)
+        → resolved by r ≡ Err e → IsRelocFault by r e }
     ensures refused { (by : Known) (r : Relocation) (e : Why)
         → IsRelocFault by r e → resolved by r ≡ Err e }
     ensures one { (by : Known) (r : Relocation) (e f : Why)
