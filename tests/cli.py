@@ -132,10 +132,69 @@ def words():
         (["--initial-memory=1 "], "BadNumber 0"),
         (["--initial-memory=18446744073709551616"], "BadNumber 0"),
         (["-z", "stack-size=4294967296"], "BadNumber 1"),
+        (["--why", "--map", "a.o"], "TwoModes 1"),
+        (["--why", "a.o", "--why", "--generate=0"], "TwoModes 3"),
+        (["--map", "--generate"], "TwoModes 1"),
+        (["--map", "--why=1"], "UnknownOption 1"),
+        (["--why", "-x", "--map"], "UnknownOption 1"),
+        (["--generate", "2", "a.o"], "ExtraInput 2"),
+        (["a.o", "--generate=2"], "ExtraInput 0"),
+        (["--generate", "2", "a.o", "--bad"], "UnknownOption 3"),
+        (["a.o", "--generate", "0"], "BadNumber 2"),
+        (["--generate", "10001"], "BadNumber 1"),
+        (["--why"], "NoInputs"),
         ([b"\xff.o"], "NotUtf8"),
     ]
     for given, fault in faults:
         check(f"words {given}", run(given), 2, err=f"error: BadWords {fault}\n".encode())
+
+
+def modes(folder):
+    """What is written in place of the listing; where objects have no plan the line is that without a mode."""
+    made = EXAMPLES / "two_functions.o"
+    summed = [
+        (["--generate", "1"], "objects 1 functions 1 dropped 1 fixups 0"),
+        (["--generate", "3", "--no-entry"], "objects 3 functions 3 dropped 3 fixups 2"),
+        (["--entry", "b", "--generate", "2", "--generate=3"], "objects 3 functions 3 dropped 3 fixups 2"),
+        (["--no-gc-sections", "--generate", "3"], "objects 3 functions 6 dropped 0 fixups 2"),
+        (["--generate", "10000"], "objects 10000 functions 10000 dropped 10000 fixups 9999"),
+    ]
+    for given, line in summed:
+        check(f"words {given}", run(given), 0, line.encode() + b"\n")
+    kept = b"why 0 function 1 root\ndrop 0 function 0\n"
+    check("why one function is kept", run(["--entry", "b", "--why", made]), 0, kept)
+    whole = b"why 0 function 0 off\nwhy 0 function 1 off\n"
+    check("why all is kept", run([*FLAGS, "--why", "--why", made]), 0, whole)
+    sizes = b"code 0 9\ncode 1 3\ntotal code 15\ntotal data 0\n"
+    check("the sizes of two functions", run([*FLAGS, "--map", made]), 0, sizes)
+    sizes = b"total code 0\ntotal data 0\n"
+    check("the sizes of nothing", run(["--no-entry", "--map", made]), 0, sizes)
+    names = ["--export", "count", "--export", "last", "--export", "chosen"]
+    objects = [EXAMPLES / "counter" / name for name in ["counter.o", "setup.o"]]
+    section = (ROOT / "docs" / "WHY.md").read_text().split("\n## An example\n")[1].split("\n## ")[0]
+    shown = [line[4:] for line in section.splitlines() if line.startswith("    ")]
+    wanted = "".join(line + "\n" for line in shown if line.startswith(("why ", "drop "))).encode()
+    check("why parts of the counter are kept", run(["--why", "--no-entry", *names, *objects]), 0, wanted)
+    cut = folder / "cut.o"
+    cut.write_bytes(made.read_bytes()[:-1])
+    for mode in ["--why", "--map"]:
+        check(f"{mode} of a cut object", run([mode, cut]), 1, err=b"error: Malformed 0 Truncated\n")
+        check(f"{mode} without an entry", run([mode, made]), 1, err=b'error: EntryNotDefined "_start"\n')
+        check(f"{mode} of no file", run([mode, folder / "none.o"]), 3, err=b"error: ReadFault 0\n")
+
+
+def about():
+    """A lone `--help` or `--version` is answered; the help names each option, and the version is that of the changes."""
+    told = run(["--help"])
+    names = set(re.findall(r"(?<![\w-])-{1,2}([\w-]+)", told.stdout.decode()))
+    code = (ROOT / "crates" / "wl_words" / "src" / "options.rt").read_text()
+    wanted = set(re.findall(r'name: "([\w-]+)"', code)) | {"help", "version"}
+    note(f"the options of --help: {names ^ wanted}", names == wanted)
+    check("--help", told, 0, told.stdout)
+    version = re.search(r"^## (\d+\.\d+\.\d+)", (ROOT / "CHANGELOG.md").read_text(), re.M)
+    check("--version", run(["--version"]), 0, f"wildplan {version[1]}\n".encode())
+    for given in [["--help", "--version"], ["-help"], ["--version", "a.o"]]:
+        check(f"words {given}", run(given), 2, err=b"error: BadWords UnknownOption 0\n")
 
 
 def options():
@@ -411,6 +470,11 @@ def documented_words():
                     ends([word], none)
                     ends([word + "=a"], none)
                     ends([word, ""], "ReadFault 0")
+                elif span := re.search(r"a number from (\d+) to (\d+)", value):
+                    ends([word], "BadWords MissingValue 0")
+                    for beyond in [int(span[1]) - 1, int(span[2]) + 1]:
+                        ends([word, f"{beyond}"], "BadWords BadNumber 1")
+                    ends([f"{word}={span[1]}x"], "BadWords BadNumber 0")
                 else:
                     front = re.findall(r"`([\w-]+=)`", value)
                     sound = front[0] + "1" if front else "1"
@@ -663,10 +727,12 @@ def main():
     listings()
     counter()
     words()
+    about()
     options()
     with tempfile.TemporaryDirectory() as name:
         folder = pathlib.Path(name)
         reads(folder)
+        modes(folder)
         rows(folder)
         operators(folder)
         documented_relocations(folder)

@@ -39,6 +39,10 @@ def cases(folder):
     yield "threads", [*SHARED, *threads], 0, (OBJECTS / "threads.plan").read_bytes()
     for made in sorted(set(OBJECTS.glob("*.o")) - set(together)):
         yield made.name, [*WHOLE, "--allow-undefined", made], 0, made.with_suffix(".plan").read_bytes()
+    yield "generated objects", ["--generate", "3"], 0, b"objects 3 functions 3 dropped 3 fixups 2\n"
+    yield "why one is kept", ["--entry", "b", "--why", sound], 0, b"why 0 function 1 root\ndrop 0 function 0\n"
+    sizes = b"code 0 9\ncode 1 3\ntotal code 15\ntotal data 0\n"
+    yield "the sizes", [*WHOLE, "--map", sound], 0, sizes
     cut, odd = folder / "cut.o", folder / "odd.o"
     content = sound.read_bytes()
     cut.write_bytes(content[:-1])
@@ -47,6 +51,8 @@ def cases(folder):
     odd.write_bytes(content[:-3] + b"\xff" + content[-2:])
     yield "a relocation of no type", [*WHOLE, odd], 1, b"error: Malformed 0 RelocType\n"
     yield "a name twice", [*WHOLE, sound, sound], 1, b'error: DuplicateSymbol "a" 0 0 1 0\n'
+    yield "two modes", ["--why", sound, "--map"], 2, b"error: BadWords TwoModes 2\n"
+    yield "an object beside generated ones", ["--generate=2", sound], 2, b"error: BadWords ExtraInput 1\n"
     yield "a value is missing", [*WHOLE, sound, "--entry"], 2, b"error: BadWords MissingValue 3\n"
 
 

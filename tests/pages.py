@@ -150,9 +150,9 @@ def sections(page):
 
 
 def options():
-    """The options that docs/OPTIONS.md lists."""
+    """The options that docs/OPTIONS.md lists, and what `main` answers by itself."""
     rows = documents.table_of(DOCS / "OPTIONS.md", documents.OPTIONS_TITLE)
-    return {name for row in rows for name in re.findall(r"`(-[\w-]+)`", row[0])}
+    return {name for row in rows for name in re.findall(r"`(-[\w-]+)`", row[0])} | {"--help", "--version"}
 
 
 def option_names(page, known):

@@ -17,7 +17,7 @@ use wl_module::OutputExport;
 use wl_symbols::{is_candidate, live_units_are_closed};
 
 /// Which symbols are exported in one go.
-#[derive(Clone, Copy, PartialEq, Eq)]
+#[derive(Clone, Copy)]
 enum Wanted {
     /// Functions and globals.
     Code,

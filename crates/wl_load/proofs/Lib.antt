@@ -29,3 +29,4 @@ pub mod AgreeLaws
 pub mod LoadedLaws
 pub mod UserLaws
 pub mod FuelLaws
+pub mod FieldLaws

@@ -12,6 +12,9 @@ mod parts;
 mod results;
 mod run_end;
 
+// Fields of bodies and segments, which take numbers.
+mod fields;
+
 // How an image is made: functions, and the operators of each as they are run.
 mod block_type;
 mod blocks;
@@ -53,6 +56,7 @@ pub use agreement::{
     wrappers_run_two_functions,
 };
 pub use error::LoadError;
+pub use fields::{fields_are_read, lay_bytes, put_field};
 pub use image::Image;
 pub use memory::MAX_IMAGE_PAGES;
 pub use parts::{ImageFunction, ImageParts};

@@ -40,7 +40,7 @@ fn word_at(place: usize, memory: &Memory) -> u32
 }
 
 /// The bytes of a number, the lowest first.
-fn word_bytes(number: u32) -> [u8; 4]
+pub(crate) fn word_bytes(number: u32) -> [u8; 4]
     ensures { result ≡ little_endian 4 number }
 {
     bytes_are_digits();

@@ -39,6 +39,7 @@ pub use layout::{
 pub use link::{plan_files, plan_link};
 pub use module_layout::build_output_module_layout;
 pub use objects::{MAX_OBJECT, ObjectList, PushError};
+pub use parsing::parse_objects;
 pub use running_laws::{
     block_exports_name_their_things, constructors_of_plans_are_called,
     deferred_fields_are_pointers, segments_of_plans_are_laid_once, stubs_of_plans_trap,
@@ -47,4 +48,10 @@ pub use running_laws::{
 pub use wl_bind::TypeMerger;
 pub use wl_index::{WASM_DEAD_INDEX, WasmObjectIndexMap};
 pub use wl_reloc::{RelocError, deferred_tls_template_pointer, resolve_reloc};
+pub use wl_sections::{
+    BUILT_IN_SECTIONS, BuiltInSectionDetails, DynamicTagValues, NonAddressableIndexes,
+    OUTPUT_SECTION_ORDER, OutputSection, PROGRAM_SEGMENT_DEFS, ProgramSegmentDef, Relaxation,
+    SectionRuleOutcome, SegmentType, VerneedTable, high_part_relocations, merge_eflags,
+    new_relaxation, section_outcome, tp_offset_start,
+};
 pub use wl_symbols::FixupPlace;

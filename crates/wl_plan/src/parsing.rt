@@ -26,10 +26,7 @@ pub(crate) fn link_error(object: usize, error: ReadError) -> LinkError
 /// # Errors
 /// `Malformed` or `Unsupported` for the first object that isn't in the grammar or has a form that
 /// isn't taken.
-pub(crate) fn parse_objects<'a>(
-    alloc: Global,
-    objects: &'a ObjectList,
-) -> Result<FileList<'a>, LinkError>
+pub fn parse_objects<'a>(alloc: Global, objects: &'a ObjectList) -> Result<FileList<'a>, LinkError>
     ensures ok { IfOk result (λ files. AreObjects files objects.now) }
     ensures err { IfErr result (Refuses (IsBadObject objects.now)) }
 {

@@ -77,4 +77,6 @@ pub use units::{
     LinkUnit, UnitCounts, WasmGcUnit, counts_of, defined_number, number_below, sibling_of, unit_in,
     unit_index, wasm_gc_unit_for_symbol,
 };
-pub use wl_words::{ArgError, DEFAULT_STACK_SIZE, MemoryName, Texts, WasmArgs, args_or_fault};
+pub use wl_words::{
+    ArgError, DEFAULT_STACK_SIZE, MAX_GENERATED, MemoryName, Mode, Texts, WasmArgs, args_or_fault,
+};

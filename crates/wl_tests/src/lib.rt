@@ -15,6 +15,8 @@ mod data;
 #[cfg(test)]
 mod files;
 #[cfg(test)]
+mod generated;
+#[cfg(test)]
 mod lists;
 #[cfg(test)]
 mod live;
@@ -28,6 +30,8 @@ mod numeric;
 mod ops;
 #[cfg(test)]
 mod reach;
+#[cfg(test)]
+mod sections;
 #[cfg(test)]
 mod session;
 #[cfg(test)]

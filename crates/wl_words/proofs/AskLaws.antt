@@ -4,8 +4,9 @@ use Rattle.std.specs.List.{last_or}
 use Rattle.std.specs.Option.{option_or}
 use Rattle.std.proofs.lemmas.List.Elements.{filter_map-append}
 use Rattle.wl_words.specs.Items.{ArgItem}
-use Rattle.wl_words.specs.Args.{AsksFor, all_of, said_of, last_of, input_of, export_symbol_of, required_export_symbol_of, export_dynamic_of, allow_undefined_of, shared_memory_of, stack_first_of, gc_sections_of, check_features_of, entry_of, z_stack_size_of, initial_memory_of, max_memory_of, import_memory_of, export_memory_of, extra_features_of, strip_all_of, strip_debug_of, keep_section_of, output_of}
+use Rattle.wl_words.specs.Args.{AsksFor, all_of, said_of, last_of, input_of, export_symbol_of, required_export_symbol_of, export_dynamic_of, allow_undefined_of, shared_memory_of, stack_first_of, gc_sections_of, check_features_of, entry_of, z_stack_size_of, initial_memory_of, max_memory_of, import_memory_of, export_memory_of, extra_features_of, strip_all_of, strip_debug_of, keep_section_of, output_of, mode_of}
 use Rattle.wl_words.specs.Taking.{put_behind, AddsItem}
+use Rattle.wl_words.specs.declared.modes.Mode.TheVariants.{Listing}
 use Rattle.wl_words.specs.declared.args.TheConstants.{DEFAULT_STACK_SIZE}
 use Rattle.wl_words.specs.declared.args.WasmArgs.{WasmArgs}
 
@@ -59,6 +60,7 @@ asks_more items item old new h adds = record {
   strip_debug = last_field strip_debug_of false items item old.strip_debug new.strip_debug h.strip_debug adds.strip_debug;
   keep_sections = all_field keep_section_of items item old.keep_sections new.keep_sections h.keep_sections adds.keep_sections;
   output = said_field output_of items item old.output new.output h.output adds.output;
+  mode = last_field mode_of Listing items item old.mode new.mode h.mode adds.mode;
 }
 
 -- what the items ask for, as a record
@@ -84,6 +86,7 @@ args_of items = record {
   strip_debug = last_of strip_debug_of false items;
   keep_sections = all_of keep_section_of items;
   output = said_of output_of items;
+  mode = last_of mode_of Listing items;
 }
 
 pub asks_args : (items : List ArgItem) → AsksFor items (args_of items)
@@ -109,6 +112,7 @@ asks_args items = record {
   strip_debug = refl;
   keep_sections = refl;
   output = refl;
+  mode = refl;
 }
 
 -- items ask for one thing
@@ -135,6 +139,7 @@ asks_one items args h = λ i. record {
   strip_debug = h.strip_debug i;
   keep_sections = h.keep_sections i;
   output = h.output i;
+  mode = h.mode i;
 }
 
 pub asks_same : (items : List ArgItem) (a b : WasmArgs) → AsksFor items a → AsksFor items b → a ≡ b

@@ -1,8 +1,11 @@
 -- Items one behind the other.
-use Rattle.std.proofs.Common.{rules, ℕ, ◌<◌, ◌≤◌, List, [], ◌∷◌, ◌++◌, refl, sym, subst, arith, All}
+use Rattle.std.proofs.Common.{rules, ℕ, ◌≡◌, ◌<◌, ◌≤◌, List, [], ◌∷◌, ◌++◌, Option, refl, sym, subst, arith, All}
+use Rattle.std.specs.Option.{option_or}
 use Rattle.std.specs.List.{filter_map}
 use Rattle.std.proofs.lemmas.List.Elements.{All-cons}
-use Rattle.wl_words.specs.Items.{ArgItem, Object, Given, Set, Memory, StandsAtWord, AreArgItems, HasValue, joined, parted}
+use Rattle.wl_words.specs.Items.{ArgItem, Object, Given, Set, Memory, StandsAtWord, AreArgItems, HasValue, joined, parted, mode_of_item, mode_after}
+use Rattle.wl_words.specs.Modes.{KeepsMode}
+use Rattle.wl_words.specs.declared.modes.ModeName.{ModeName}
 use Rattle.wl_words.specs.Args.{input_of}
 use Rattle.wl_words.specs.declared.options.Setting.{Setting}
 
@@ -19,20 +22,25 @@ stands_on words at (Set setting value) next h = omega (arith, value_from words a
 stands_on words at (Memory option value) next h = omega (arith, h.1)
 
 -- one more item
-pub items_more : (words : List (List ℕ)) (at : ℕ) (items : List ArgItem) (item : ArgItem) (middle end : ℕ) → AreArgItems words at items middle → StandsAtWord words middle item end → AreArgItems words at (items ++ item ∷ []) end
-items_more words at [] item middle end is h = (end, subst (λ (n : ℕ). StandsAtWord words n item end) (sym is) h, refl)
-items_more words at (x ∷ items) item middle end (next, first, rest) h = (next, first, items_more words next items item middle end rest h)
+pub items_more : (words : List (List ℕ)) (at : ℕ) (before : Option ModeName) (items : List ArgItem) (item : ArgItem) (middle end : ℕ) → AreArgItems words at before items middle → StandsAtWord words middle item end → KeepsMode (mode_after before items) (mode_of_item item) → AreArgItems words at before (items ++ item ∷ []) end
+items_more words at before [] item middle end is h keeps = (end, subst (λ (n : ℕ). StandsAtWord words n item end) (sym is) h, keeps, refl)
+items_more words at before (x ∷ items) item middle end (next, first, kept, rest) h keeps = (next, first, kept, items_more words next (option_or (mode_of_item x) before) items item middle end rest h keeps)
+
+-- the mode after one more item
+pub after_more : (before : Option ModeName) (items : List ArgItem) (item : ArgItem) → mode_after before (items ++ item ∷ []) ≡ option_or (mode_of_item item) (mode_after before items)
+after_more before [] item = refl
+after_more before (x ∷ items) item = after_more (option_or (mode_of_item x) before) items item
 
 -- the end doesn't stand before the start
-pub items_on : (words : List (List ℕ)) (at : ℕ) (items : List ArgItem) (end : ℕ) → AreArgItems words at items end → at ≤ end
-items_on words at [] end h = omega (arith, h)
-items_on words at (item ∷ items) end (next, first, rest) = omega (arith, stands_on words at item next first, items_on words next items end rest)
+pub items_on : (words : List (List ℕ)) (at : ℕ) (before : Option ModeName) (items : List ArgItem) (end : ℕ) → AreArgItems words at before items end → at ≤ end
+items_on words at before [] end h = omega (arith, h)
+items_on words at before (item ∷ items) end (next, first, kept, rest) = omega (arith, stands_on words at item next first, items_on words next _ items end rest)
 
 -- what names an object stands before the end
-pub inputs_below : (words : List (List ℕ)) (at : ℕ) (items : List ArgItem) (end : ℕ) → AreArgItems words at items end → All (λ i. i < end) (filter_map input_of items)
-inputs_below words at [] end h = search rules
-inputs_below words at (Object place ∷ items) end (next, first, rest) =
-    All-cons (λ i. i < end) place _ (omega (arith, first.1, first.2, items_on words next items end rest)) (inputs_below words next items end rest)
-inputs_below words at (Given flag ∷ items) end (next, first, rest) = inputs_below words next items end rest
-inputs_below words at (Set setting value ∷ items) end (next, first, rest) = inputs_below words next items end rest
-inputs_below words at (Memory option value ∷ items) end (next, first, rest) = inputs_below words next items end rest
+pub inputs_below : (words : List (List ℕ)) (at : ℕ) (before : Option ModeName) (items : List ArgItem) (end : ℕ) → AreArgItems words at before items end → All (λ i. i < end) (filter_map input_of items)
+inputs_below words at before [] end h = search rules
+inputs_below words at before (Object place ∷ items) end (next, first, kept, rest) =
+    All-cons (λ i. i < end) place _ (omega (arith, first.1, first.2, items_on words next _ items end rest)) (inputs_below words next _ items end rest)
+inputs_below words at before (Given flag ∷ items) end (next, first, kept, rest) = inputs_below words next _ items end rest
+inputs_below words at before (Set setting value ∷ items) end (next, first, kept, rest) = inputs_below words next _ items end rest
+inputs_below words at before (Memory option value ∷ items) end (next, first, kept, rest) = inputs_below words next _ items end rest

@@ -1,7 +1,10 @@
 pub mod AskLaws
 pub mod ItemLaws
+pub mod ModeLaws
 pub mod NamesInLaws
 pub mod NumberLaws
+pub mod OptionLaws
 pub mod Parsing
 pub mod SomeLaws
+pub mod WholeLaws
 pub mod WordLaws

@@ -1,72 +1,22 @@
 -- Words are items in one way at most, never items and at fault, and at fault in one way at most.
-use Rattle.std.proofs.Common.{◌≡◌, ◌+◌, ◌<◌, ℕ, List, [], ◌∷◌, length, Option, Some, None, true≢false, refl, sym, ap, subst, ◌∙◌, arith, slice_get, inl, inr}
-use Rattle.std.specs.Option.{option_and_then}
+use Rattle.std.proofs.Common.{◌≡◌, ◌+◌, ◌<◌, ℕ, List, [], ◌∷◌, length, Option, Some, None, true≢false, refl, sym, ap, subst, ◌∙◌, arith, inl, inr}
+use Rattle.std.specs.Option.{option_and_then, option_or}
 use Rattle.std.proofs.lemmas.Option.{slice_get_within}
-use Rattle.wl_words.specs.Options.{front_of, value_of, taken_by, is_option}
+use Rattle.wl_words.specs.Options.{is_option}
 use Rattle.wl_words.specs.Values.{number_of}
-use Rattle.wl_words.specs.Items.{ArgItem, Object, Given, Set, Memory, NamesObject, NamesOption, HasValue, joined, parted, IsSoundValue, StandsAtWord, AreArgItems}
-use Rattle.wl_words.specs.Faults.{IsUnknownOption, unnamed, valued, LacksValue, ValueFault, ItemFault, unknown, lacking, unsound}
-use Rattle.wl_words.specs.declared.options.OptionKind.{OptionKind}
-use Rattle.wl_words.specs.declared.options.OptionKind.TheVariants.{Nothing, Value, OptionalValue}
+use Rattle.wl_words.specs.Items.{ArgItem, Object, Given, Set, Memory, NamesOption, HasValue, joined, parted, IsSoundValue, StandsAtWord, AreArgItems, mode_of_item, mode_after}
+use Rattle.wl_words.specs.Modes.{KeepsMode}
+use Rattle.wl_words.specs.declared.modes.ModeName.{ModeName}
+use Rattle.wl_words.specs.Faults.{IsUnknownOption, unnamed, valued, LacksValue, ValueFault, ItemFault, unknown, lacking, unsound, bare, with_value, StopFault, other, alone}
+use Rattle.wl_words.proofs.ModeLaws.{item_no_other}
+use Rattle.wl_words.proofs.OptionLaws.{some_same, some_none, one_option, no_option, not_unnamed, flag_value, flag_memory, value_memory, same_flag, same_setting, same_memory, value_option}
+use Rattle.wl_words.specs.declared.options.OptionKind.TheVariants.{Value}
 use Rattle.wl_words.specs.declared.options.Setting.{Setting}
 use Rattle.wl_words.specs.declared.options.Setting.TheVariants as setting
-use Rattle.wl_words.specs.declared.options.Flag.{Flag}
 use Rattle.wl_words.specs.declared.options.MemoryOption.{MemoryOption}
 use Rattle.wl_words.specs.declared.error.ArgError.{ArgError}
 
--- ---- one value or none
-
-some_same : {X : Type 0} (x y : X) → Some x ≡ Some y → x ≡ y
-some_same x y is = cc
-
-some_none : {X : Type 0} (x : X) → Some x ≡ None → ⊥
-some_none x is = absurd cc
-
--- ---- what a word names
-
--- a word names one option, with one value behind it
-one_option : (words : List (List ℕ)) (at : ℕ) (s t : OptionKind) (u v : Option (List ℕ)) → NamesOption words at s u → NamesOption words at t v → (s ≡ t) × (u ≡ v)
-one_option words at s t u v h k =
-    let same : h.word ≡ k.word = some_same _ _ (sym h.here ∙ k.here) in
-    (some_same _ _ (sym h.named ∙ ap (λ (w : List ℕ). taken_by (front_of w)) same ∙ k.named), sym h.value ∙ ap value_of same ∙ k.value)
-
--- a word that names an object names no option
-no_option : (words : List (List ℕ)) (at : ℕ) (t : OptionKind) (v : Option (List ℕ)) → NamesObject words at → NamesOption words at t v → ⊥
-no_option words at t v h k =
-    let same : h.word ≡ k.word = some_same _ _ (sym h.here ∙ k.here) in
-    absurd (true≢false (sym k.dashed ∙ ap is_option (sym same) ∙ h.plain))
-
--- a word that names an option isn't unknown
-not_unnamed : (words : List (List ℕ)) (at : ℕ) (t : OptionKind) (v : Option (List ℕ)) (word : List ℕ) → NamesOption words at t v → slice_get words at ≡ Some word → taken_by (front_of word) ≡ None → ⊥
-not_unnamed words at t v word h here none =
-    let same : h.word ≡ word = some_same _ _ (sym h.here ∙ here) in
-    some_none _ (sym h.named ∙ ap (λ (w : List ℕ). taken_by (front_of w)) same ∙ none)
-
--- options that take different things are two
-flag_value : (f : Flag) (s : Setting) → Nothing f ≡ Value s → ⊥
-flag_value f s is = absurd cc
-
-flag_memory : (f : Flag) (m : MemoryOption) → Nothing f ≡ OptionalValue m → ⊥
-flag_memory f m is = absurd cc
-
-value_memory : (s : Setting) (m : MemoryOption) → Value s ≡ OptionalValue m → ⊥
-value_memory s m is = absurd cc
-
-same_flag : (f g : Flag) → Nothing f ≡ Nothing g → f ≡ g
-same_flag f g is = cc
-
-same_setting : (s t : Setting) → Value s ≡ Value t → s ≡ t
-same_setting s t is = cc
-
-same_memory : (m n : MemoryOption) → OptionalValue m ≡ OptionalValue n → m ≡ n
-same_memory m n is = cc
-
 -- ---- an option and its value
-
--- the option, whatever stands behind its equals sign
-value_option : (words : List (List ℕ)) (at : ℕ) (s : Setting) (v : List ℕ) (p : ℕ) → HasValue words at s v p → (behind : Option (List ℕ)) × NamesOption words at (Value s) behind
-value_option words at s v p (joined h is) = (Some v, h)
-value_option words at s v p (parted h next is) = (None, h)
 
 one_value : (words : List (List ℕ)) (at : ℕ) (s t : Setting) (v w : List ℕ) (p q : ℕ) → HasValue words at s v p → HasValue words at t w q → (s ≡ t) × (v ≡ w) × (p ≡ q)
 one_value words at s t v w p q (joined h is) (joined k same) =
@@ -95,6 +45,7 @@ no_value_fault setting.MaxMemory v p e (n, is) (none, told) = some_none n (sym i
 no_value_fault setting.ExtraFeatures v p e sound fault = fault
 no_value_fault setting.KeepSection v p e sound fault = fault
 no_value_fault setting.Output v p e sound fault = fault
+no_value_fault setting.Generate v p e (n, is) (none, told) = some_none n (sym is ∙ none)
 
 -- a value has one fault
 one_value_fault : (s : Setting) (v : List ℕ) (p : ℕ) (e f : ArgError) → ValueFault s v p e → ValueFault s v p f → e ≡ f
@@ -104,12 +55,13 @@ one_value_fault setting.Entry v p e f h k = absurd h
 one_value_fault setting.Keyword v p e f (inl (none, told)) (inl (nothing, tells)) = told ∙ sym tells
 one_value_fault setting.Keyword v p e f (inl (none, told)) (inr (text, some, nothing, tells)) = absurd (some_none text (sym some ∙ none))
 one_value_fault setting.Keyword v p e f (inr (text, some, none, told)) (inl (nothing, tells)) = absurd (some_none text (sym some ∙ nothing))
-one_value_fault setting.Keyword v p e f (inr (text, some, none, told)) (inr (other, any, nothing, tells)) = told ∙ sym tells
+one_value_fault setting.Keyword v p e f (inr (text, some, none, told)) (inr (further, any, nothing, tells)) = told ∙ sym tells
 one_value_fault setting.InitialMemory v p e f (none, told) (nothing, tells) = told ∙ sym tells
 one_value_fault setting.MaxMemory v p e f (none, told) (nothing, tells) = told ∙ sym tells
 one_value_fault setting.ExtraFeatures v p e f h k = absurd h
 one_value_fault setting.KeepSection v p e f h k = absurd h
 one_value_fault setting.Output v p e f h k = absurd h
+one_value_fault setting.Generate v p e f (none, told) (nothing, tells) = told ∙ sym tells
 
 -- ---- one item
 
@@ -197,26 +149,48 @@ fault_within words at e (unknown (valued flag value named) is) = slice_get_withi
 fault_within words at e (lacking fault is) = slice_get_within words at _ fault.named.here
 fault_within words at e (unsound t w q has fault) = let o = value_option words at t w q has in slice_get_within words at _ o.1.here
 
-pub same_items : (words : List (List ℕ)) (at : ℕ) (xs ys : List ArgItem) (end : ℕ) → end ≡ length words → AreArgItems words at xs end → AreArgItems words at ys end → xs ≡ ys
-same_items words at [] [] end whole h k = refl
-same_items words at [] (y ∷ ys) end whole h (m, first, rest) = absurd (omega (arith, whole, h, item_within words at y m first))
-same_items words at (x ∷ xs) [] end whole (m, first, rest) k = absurd (omega (arith, whole, k, item_within words at x m first))
-same_items words at (x ∷ xs) (y ∷ ys) end whole (m, first, rest) (n, other, others) =
-    let e = one_item words at x y m n first other in
-    ap (λ (z : ArgItem). z ∷ xs) e.0 ∙ ap (λ (zs : List ArgItem). y ∷ zs) (same_items words n xs ys end whole (subst (λ (k : ℕ). AreArgItems words k xs end) e.1 rest) others)
+stop_within : (words : List (List ℕ)) (at : ℕ) (before : Option ModeName) (e : ArgError) → StopFault words at before e → at < length words
+stop_within words at before e (other (bare flag named differs) is) = slice_get_within words at _ named.here
+stop_within words at before e (other (with_value setting value named differs) is) = slice_get_within words at _ named.here
+stop_within words at before e (alone none fault) = fault_within words at e fault
 
-pub no_words_fault : (words : List (List ℕ)) (at : ℕ) (xs ys : List ArgItem) (end stop : ℕ) (e : ArgError) → end ≡ length words → AreArgItems words at xs end → AreArgItems words at ys stop → ItemFault words stop e → ⊥
-no_words_fault words at [] [] end stop e whole h k fault = absurd (omega (arith, whole, h, k, fault_within words stop e fault))
-no_words_fault words at [] (y ∷ ys) end stop e whole h (m, first, rest) fault = absurd (omega (arith, whole, h, item_within words at y m first))
-no_words_fault words at (x ∷ xs) [] end stop e whole (m, first, rest) k fault = no_fault words at x m e first (subst (λ (n : ℕ). ItemFault words n e) (sym k) fault)
-no_words_fault words at (x ∷ xs) (y ∷ ys) end stop e whole (m, first, rest) (n, other, others) fault =
-    let same = one_item words at x y m n first other in
-    no_words_fault words n xs ys end stop e whole (subst (λ (k : ℕ). AreArgItems words k xs end) same.1 rest) others fault
+-- what stands as an item of the mode before is no end
+no_stop : (words : List (List ℕ)) (at : ℕ) (before : Option ModeName) (x : ArgItem) (m : ℕ) (e : ArgError) → StandsAtWord words at x m → KeepsMode before (mode_of_item x) → StopFault words at before e → ⊥
+no_stop words at before x m e h keeps (other asks is) = item_no_other words at before x m h keeps asks
+no_stop words at before x m e h keeps (alone none fault) = no_fault words at x m e h fault
 
-pub one_words_fault : (words : List (List ℕ)) (at : ℕ) (xs ys : List ArgItem) (stop end : ℕ) (e f : ArgError) → AreArgItems words at xs stop → ItemFault words stop e → AreArgItems words at ys end → ItemFault words end f → e ≡ f
-one_words_fault words at [] [] stop end e f h fault k other = one_fault words at e f (subst (λ (n : ℕ). ItemFault words n e) (sym h) fault) (subst (λ (n : ℕ). ItemFault words n f) (sym k) other)
-one_words_fault words at [] (y ∷ ys) stop end e f h fault (m, first, rest) other = absurd (no_fault words at y m e first (subst (λ (n : ℕ). ItemFault words n e) (sym h) fault))
-one_words_fault words at (x ∷ xs) [] stop end e f (m, first, rest) fault k other = absurd (no_fault words at x m f first (subst (λ (n : ℕ). ItemFault words n f) (sym k) other))
-one_words_fault words at (x ∷ xs) (y ∷ ys) stop end e f (m, first, rest) fault (n, further, others) other =
+-- an end has one reason
+one_stop : (words : List (List ℕ)) (at : ℕ) (before : Option ModeName) (e f : ArgError) → StopFault words at before e → StopFault words at before f → e ≡ f
+one_stop words at before e f (other asks is) (other also same) = is ∙ sym same
+one_stop words at before e f (other asks is) (alone none fault) = absurd (none asks)
+one_stop words at before e f (alone none fault) (other asks is) = absurd (none asks)
+one_stop words at before e f (alone none fault) (alone also further) = one_fault words at e f fault further
+
+-- the rest behind one item is that behind the other, where the two are one
+abbrev rest_moved : (words : List (List ℕ)) (before : Option ModeName) (x y : ArgItem) (m n : ℕ) (xs : List ArgItem) (end : ℕ) → x ≡ y → m ≡ n → AreArgItems words m (option_or (mode_of_item x) before) xs end → AreArgItems words n (option_or (mode_of_item y) before) xs end
+rest_moved words before x y m n xs end same place rest =
+    subst (λ (z : ArgItem). AreArgItems words n (option_or (mode_of_item z) before) xs end) same (subst (λ (k : ℕ). AreArgItems words k (option_or (mode_of_item x) before) xs end) place rest)
+
+pub same_items : (words : List (List ℕ)) (at : ℕ) (before : Option ModeName) (xs ys : List ArgItem) (end : ℕ) → end ≡ length words → AreArgItems words at before xs end → AreArgItems words at before ys end → xs ≡ ys
+same_items words at before [] [] end whole h k = refl
+same_items words at before [] (y ∷ ys) end whole h (m, first, kept, rest) = absurd (omega (arith, whole, h, item_within words at y m first))
+same_items words at before (x ∷ xs) [] end whole (m, first, kept, rest) k = absurd (omega (arith, whole, k, item_within words at x m first))
+same_items words at before (x ∷ xs) (y ∷ ys) end whole (m, first, kept, rest) (n, second, keeps, others) =
+    let e = one_item words at x y m n first second in
+    ap (λ (z : ArgItem). z ∷ xs) e.0 ∙ ap (λ (zs : List ArgItem). y ∷ zs) (same_items words n (option_or (mode_of_item y) before) xs ys end whole (rest_moved words before x y m n xs end e.0 e.1 rest) others)
+
+pub no_words_fault : (words : List (List ℕ)) (at : ℕ) (before : Option ModeName) (xs ys : List ArgItem) (end stop : ℕ) (e : ArgError) → end ≡ length words → AreArgItems words at before xs end → AreArgItems words at before ys stop → StopFault words stop (mode_after before ys) e → ⊥
+no_words_fault words at before [] [] end stop e whole h k fault = absurd (omega (arith, whole, h, k, stop_within words stop before e fault))
+no_words_fault words at before [] (y ∷ ys) end stop e whole h (m, first, kept, rest) fault = absurd (omega (arith, whole, h, item_within words at y m first))
+no_words_fault words at before (x ∷ xs) [] end stop e whole (m, first, kept, rest) k fault = no_stop words at before x m e first kept (subst (λ (n : ℕ). StopFault words n before e) (sym k) fault)
+no_words_fault words at before (x ∷ xs) (y ∷ ys) end stop e whole (m, first, kept, rest) (n, second, keeps, others) fault =
+    let same = one_item words at x y m n first second in
+    no_words_fault words n (option_or (mode_of_item y) before) xs ys end stop e whole (rest_moved words before x y m n xs end same.0 same.1 rest) others fault
+
+pub one_words_fault : (words : List (List ℕ)) (at : ℕ) (before : Option ModeName) (xs ys : List ArgItem) (stop end : ℕ) (e f : ArgError) → AreArgItems words at before xs stop → StopFault words stop (mode_after before xs) e → AreArgItems words at before ys end → StopFault words end (mode_after before ys) f → e ≡ f
+one_words_fault words at before [] [] stop end e f h fault k last = one_stop words at before e f (subst (λ (n : ℕ). StopFault words n before e) (sym h) fault) (subst (λ (n : ℕ). StopFault words n before f) (sym k) last)
+one_words_fault words at before [] (y ∷ ys) stop end e f h fault (m, first, kept, rest) last = absurd (no_stop words at before y m e first kept (subst (λ (n : ℕ). StopFault words n before e) (sym h) fault))
+one_words_fault words at before (x ∷ xs) [] stop end e f (m, first, kept, rest) fault k last = absurd (no_stop words at before x m f first kept (subst (λ (n : ℕ). StopFault words n before f) (sym k) last))
+one_words_fault words at before (x ∷ xs) (y ∷ ys) stop end e f (m, first, kept, rest) fault (n, further, keeps, others) last =
     let same = one_item words at x y m n first further in
-    one_words_fault words n xs ys stop end e f (subst (λ (k : ℕ). AreArgItems words k xs stop) same.1 rest) fault others other
+    one_words_fault words n (option_or (mode_of_item y) before) xs ys stop end e f (rest_moved words before x y m n xs stop same.0 same.1 rest) (subst (λ (z : ArgItem). StopFault words stop (mode_after (option_or (mode_of_item z) before) xs) e) same.0 fault) others last

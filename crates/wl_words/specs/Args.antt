@@ -1,17 +1,20 @@
 -- What the words of the command line ask for.
-use Rattle.std.specs.Prelude.{◌≡◌, ◌||◌, not, ℕ, Bool, true, false, List, [], length, Option, Some, None, unwrap_or, codes, slice_get}
+use Rattle.std.specs.Prelude.{◌≡◌, ◌≢◌, ◌||◌, not, ℕ, Bool, true, false, if◌then◌else◌, nat_lt, List, [], length, Option, Some, None, option_map, unwrap_or, codes, slice_get}
 use Rattle.std.specs.Str.{bytes_eq}
 use Rattle.std.specs.List.{filter_map, last_or, list_any}
-use Rattle.wl_words.specs.Values.{number_of, stack_size, names_in, MemoryName, memory_name}
+use Rattle.wl_words.specs.Values.{number_of, stack_size, generated_count, names_in, MemoryName, memory_name}
+use Rattle.wl_words.specs.Modes.{generates}
 use Rattle.wl_words.specs.Items.{ArgItem, Object, Given, Set, Memory, AreArgItems}
-use Rattle.wl_words.specs.Faults.{WordsFault}
+use Rattle.wl_words.specs.Faults.{FrontFault}
 use Rattle.wl_words.specs.declared.options.Flag.TheVariants as flag
 use Rattle.wl_words.specs.declared.options.Setting.TheVariants as setting
 use Rattle.wl_words.specs.declared.options.MemoryOption.TheVariants as memory
+use Rattle.wl_words.specs.declared.modes.Mode.{Mode}
+use Rattle.wl_words.specs.declared.modes.Mode.TheVariants as mode
 use Rattle.wl_words.specs.declared.args.TheConstants.{DEFAULT_STACK_SIZE}
 use Rattle.wl_words.specs.declared.args.WasmArgs.{WasmArgs}
 use Rattle.wl_words.specs.declared.error.ArgError.{ArgError}
-use Rattle.wl_words.specs.declared.error.ArgError.TheVariants.{OutOfMemory, UnknownOption, MissingValue, BadNumber, NoInputs}
+use Rattle.wl_words.specs.declared.error.ArgError.TheVariants.{OutOfMemory, ExtraInput, NoInputs}
 
 -- ---- what an item says of a field
 
@@ -117,6 +120,13 @@ abbrev pub output_of : ArgItem → Option (List ℕ)
 output_of (Set setting.Output name) = Some name
 output_of _ = None
 
+-- the mode
+abbrev pub mode_of : ArgItem → Option Mode
+mode_of (Given flag.Why) = Some mode.Why
+mode_of (Given flag.Map) = Some mode.Map
+mode_of (Set setting.Generate value) = option_map mode.Generate (generated_count value)
+mode_of _ = None
+
 -- ---- the fields
 
 -- all that the items say, in their order
@@ -154,20 +164,45 @@ pub record AsksFor (items : List ArgItem) (args : WasmArgs) : Type 0 where
   pub strip_debug : args.strip_debug ≡ last_of strip_debug_of false items
   pub keep_sections : args.keep_sections ≡ all_of keep_section_of items
   pub output : args.output ≡ said_of output_of items
+  pub mode : args.mode ≡ last_of mode_of mode.Listing items
+
+-- ---- the words as a whole
+
+-- the first word that names an object, where the objects are generated
+abbrev pub extra_input : WasmArgs → Option ℕ
+extra_input args = if generates args.mode then slice_get args.inputs 0 else None
+
+-- what is wrong with words each of which is right
+abbrev pub WholeFault : WasmArgs → ArgError → Type 0
+WholeFault args (ExtraInput word) = extra_input args ≡ Some word
+WholeFault args _ = ⊥
 
 -- the words are items, and this is what they ask for
 pub record IsArgs (words : List (List ℕ)) (args : WasmArgs) : Type 0 where
   pub items : List ArgItem
-  pub spelled : AreArgItems words 0 items (length words)
+  pub spelled : AreArgItems words 0 None items (length words)
   pub asked : AsksFor items args
+  pub sound : (e : ArgError) → WholeFault args e → ⊥
 
--- the words are no items, or they are and none names an object
+-- the words are no items, or together they ask for what can't be
+pub data WordsFault (words : List (List ℕ)) (e : ArgError) : Type 0 where
+  front : FrontFault words e → WordsFault words e
+  whole : (items : List ArgItem) (args : WasmArgs) → AreArgItems words 0 None items (length words)
+      → AsksFor items args → WholeFault args e → WordsFault words e
+
+-- a refusal of words has its cause; want of memory is free
+pub record RefusesWords (words : List (List ℕ)) (e : ArgError) : Type 0 where
+  pub cause_is : e ≢ OutOfMemory → WordsFault words e
+
+-- there are objects to plan: a word names one, or they are generated
+abbrev pub has_work : WasmArgs → Bool
+has_work args = nat_lt 0 (length args.inputs) || generates args.mode
+
+-- the words are at fault, or they aren't and there is nothing to plan
 abbrev pub HasArgFault : List (List ℕ) → ArgError → Type 0
 HasArgFault words OutOfMemory = ⊥
-HasArgFault words (UnknownOption word) = WordsFault words (UnknownOption word)
-HasArgFault words (MissingValue word) = WordsFault words (MissingValue word)
-HasArgFault words (BadNumber word) = WordsFault words (BadNumber word)
-HasArgFault words NoInputs = (args : WasmArgs) × IsArgs words args × (args.inputs ≡ [])
+HasArgFault words NoInputs = (args : WasmArgs) × IsArgs words args × (has_work args ≡ false)
+HasArgFault words e = WordsFault words e
 
 -- the names of the files that are read, in the order in which they are read: those of the objects
 abbrev pub files_to_read : List (List ℕ) → WasmArgs → List (List ℕ)

@@ -1,14 +1,16 @@
 -- Words that are no items.
-use Rattle.std.specs.Prelude.{◌≡◌, ◌≢◌, ◌⊎◌, ℕ, ◌+◌, true, List, Some, None, slice_get}
+use Rattle.std.specs.Prelude.{◌≡◌, ◌≢◌, ◌⊎◌, ℕ, ◌+◌, true, List, Option, Some, None, slice_get}
 use Rattle.wl_words.specs.Options.{is_option, front_of, taken_by}
-use Rattle.wl_words.specs.Values.{number_of, stack_size_text}
-use Rattle.wl_words.specs.Items.{ArgItem, AreArgItems, NamesOption, HasValue}
+use Rattle.wl_words.specs.Values.{number_of, stack_size_text, generated_count}
+use Rattle.wl_words.specs.Modes.{mode_in, KeepsMode}
+use Rattle.wl_words.specs.Items.{ArgItem, AreArgItems, NamesOption, HasValue, mode_after}
+use Rattle.wl_words.specs.declared.modes.ModeName.{ModeName}
 use Rattle.wl_words.specs.declared.options.OptionKind.TheVariants.{Nothing, Value}
 use Rattle.wl_words.specs.declared.options.Flag.{Flag}
 use Rattle.wl_words.specs.declared.options.Setting.{Setting}
 use Rattle.wl_words.specs.declared.options.Setting.TheVariants as setting
 use Rattle.wl_words.specs.declared.error.ArgError.{ArgError}
-use Rattle.wl_words.specs.declared.error.ArgError.TheVariants.{OutOfMemory, UnknownOption, MissingValue, BadNumber}
+use Rattle.wl_words.specs.declared.error.ArgError.TheVariants.{OutOfMemory, UnknownOption, MissingValue, BadNumber, TwoModes}
 
 -- the word of this number is an option's, of which there is none, or which has a value and takes
 -- none
@@ -32,6 +34,8 @@ ValueFault setting.Keyword value place e =
     × (e ≡ BadNumber place))
 ValueFault setting.InitialMemory value place e = (number_of 64 value ≡ None) × (e ≡ BadNumber place)
 ValueFault setting.MaxMemory value place e = (number_of 64 value ≡ None) × (e ≡ BadNumber place)
+ValueFault setting.Generate value place e =
+    (generated_count value ≡ None) × (e ≡ BadNumber place)
 ValueFault _ value place e = ⊥
 
 -- no item stands at this word, and this is what is told of it
@@ -42,12 +46,28 @@ pub data ItemFault (words : List (List ℕ)) (at : ℕ) (e : ArgError) : Type 0 
       → HasValue words at setting value place → ValueFault setting value place e
       → ItemFault words at e
 
--- behind items, from the first word on, no item stands
-pub record WordsFault (words : List (List ℕ)) (e : ArgError) : Type 0 where
+-- the option in the word of this number asks for another mode than the one before; one that takes
+-- no value has none
+pub data AsksOtherMode (words : List (List ℕ)) (at : ℕ) (before : Option ModeName) : Type 0 where
+  bare : (flag : Flag) → NamesOption words at (Nothing flag) None
+      → (KeepsMode before (mode_in (Nothing flag)) → ⊥) → AsksOtherMode words at before
+  with_value : (setting : Setting) (value : Option (List ℕ))
+      → NamesOption words at (Value setting) value
+      → (KeepsMode before (mode_in (Value setting)) → ⊥) → AsksOtherMode words at before
+
+-- the words end here, as items of the mode before: another mode is reported before a value
+pub data StopFault (words : List (List ℕ)) (at : ℕ) (before : Option ModeName) (e : ArgError)
+    : Type 0 where
+  other : AsksOtherMode words at before → e ≡ TwoModes at → StopFault words at before e
+  alone : (AsksOtherMode words at before → ⊥) → ItemFault words at e
+      → StopFault words at before e
+
+-- after items, from the first word on, no item follows
+pub record FrontFault (words : List (List ℕ)) (e : ArgError) : Type 0 where
   pub items : List ArgItem
   pub at : ℕ
-  pub before : AreArgItems words 0 items at
-  pub fault : ItemFault words at e
+  pub before : AreArgItems words 0 None items at
+  pub fault : StopFault words at (mode_after None items) e
 
 -- a refusal of a value has its cause; want of memory is free
 pub record RefusesValue (setting : Setting) (value : List ℕ) (place : ℕ) (e : ArgError)
@@ -55,9 +75,6 @@ pub record RefusesValue (setting : Setting) (value : List ℕ) (place : ℕ) (e 
   pub cause_is : e ≢ OutOfMemory → ValueFault setting value place e
 
 -- a refusal of an item has its cause; want of memory is free
-pub record StopsAt (words : List (List ℕ)) (at : ℕ) (e : ArgError) : Type 0 where
-  pub cause_is : e ≢ OutOfMemory → ItemFault words at e
-
--- a refusal of words has its cause; want of memory is free
-pub record RefusesWords (words : List (List ℕ)) (e : ArgError) : Type 0 where
-  pub cause_is : e ≢ OutOfMemory → WordsFault words e
+pub record StopsAt (words : List (List ℕ)) (at : ℕ) (before : Option ModeName) (e : ArgError)
+    : Type 0 where
+  pub cause_is : e ≢ OutOfMemory → StopFault words at before e

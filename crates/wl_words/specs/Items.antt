@@ -1,7 +1,10 @@
 -- What the words of the command line are: items, each in one word or two.
 use Rattle.std.specs.Prelude.{◌≡◌, ℕ, ◌+◌, true, false, List, [], ◌∷◌, Option, Some, None, slice_get, ⊤}
 use Rattle.wl_words.specs.Options.{is_option, front_of, value_of, taken_by}
-use Rattle.wl_words.specs.Values.{number_of, stack_size}
+use Rattle.std.specs.Option.{option_or}
+use Rattle.wl_words.specs.Values.{number_of, stack_size, generated_count}
+use Rattle.wl_words.specs.Modes.{mode_in, KeepsMode}
+use Rattle.wl_words.specs.declared.modes.ModeName.{ModeName}
 use Rattle.wl_words.specs.declared.options.OptionKind.{OptionKind}
 use Rattle.wl_words.specs.declared.options.OptionKind.TheVariants.{Nothing, Value, OptionalValue}
 use Rattle.wl_words.specs.declared.options.Flag.{Flag}
@@ -52,6 +55,7 @@ IsSoundValue setting.MaxMemory value = (n : ℕ) × (number_of 64 value ≡ Some
 IsSoundValue setting.ExtraFeatures value = ⊤
 IsSoundValue setting.KeepSection value = ⊤
 IsSoundValue setting.Output value = ⊤
+IsSoundValue setting.Generate value = (n : ℕ) × (generated_count value ≡ Some n)
 
 -- the item stands at this word, and the next item at that one
 abbrev pub StandsAtWord : List (List ℕ) → ℕ → ArgItem → ℕ → Type 0
@@ -63,8 +67,22 @@ StandsAtWord words at (Set setting value) next =
 StandsAtWord words at (Memory option value) next =
     NamesOption words at (OptionalValue option) value × (next ≡ at + 1)
 
--- the items stand one behind the other, from this word to that one
-abbrev pub AreArgItems : List (List ℕ) → ℕ → List ArgItem → ℕ → Type 0
-AreArgItems words at [] end = at ≡ end
-AreArgItems words at (item ∷ items) end =
-    (next : ℕ) × StandsAtWord words at item next × AreArgItems words next items end
+-- the mode that an item asks for
+abbrev pub mode_of_item : ArgItem → Option ModeName
+mode_of_item (Object word) = None
+mode_of_item (Given flag) = mode_in (Nothing flag)
+mode_of_item (Set setting value) = mode_in (Value setting)
+mode_of_item (Memory option value) = None
+
+-- the mode that is asked for last
+abbrev pub mode_after : Option ModeName → List ArgItem → Option ModeName
+mode_after before [] = before
+mode_after before (item ∷ items) = mode_after (option_or (mode_of_item item) before) items
+
+-- the items follow one another, from this word to that one, and none asks for another mode than the
+-- one before it
+abbrev pub AreArgItems : List (List ℕ) → ℕ → Option ModeName → List ArgItem → ℕ → Type 0
+AreArgItems words at before [] end = at ≡ end
+AreArgItems words at before (item ∷ items) end =
+    (next : ℕ) × StandsAtWord words at item next × KeepsMode before (mode_of_item item)
+    × AreArgItems words next (option_or (mode_of_item item) before) items end

@@ -2,6 +2,7 @@ pub mod Options
 pub mod Rows
 pub mod Texts
 pub mod Values
+pub mod Modes
 pub mod Items
 pub mod Faults
 pub mod Args

@@ -42,6 +42,9 @@ options =
     ∷ option_row (codes "S") (Nothing flag.StripDebug)
     ∷ option_row (codes "keep-section") (Value setting.KeepSection)
     ∷ option_row (codes "o") (Value setting.Output)
+    ∷ option_row (codes "generate") (Value setting.Generate)
+    ∷ option_row (codes "why") (Nothing flag.Why)
+    ∷ option_row (codes "map") (Nothing flag.Map)
     ∷ []
 
 -- a word of two or more bytes, of which the first is a dash, is an option's; any other names an

@@ -1,9 +1,13 @@
 -- Items that are taken in, one by one.
-use Rattle.std.specs.Prelude.{◌≡◌, ℕ, List, [], ◌∷◌, ◌++◌, Option, Some, None, unwrap_or}
+use Rattle.std.specs.Prelude.{◌≡◌, ◌≢◌, ℕ, List, [], ◌∷◌, ◌++◌, length, Option, Some, None, unwrap_or}
 use Rattle.std.specs.Option.{option_or}
-use Rattle.wl_words.specs.Items.{ArgItem, StandsAtWord}
-use Rattle.wl_words.specs.Args.{input_of, export_symbol_of, required_export_symbol_of, export_dynamic_of, allow_undefined_of, shared_memory_of, stack_first_of, gc_sections_of, check_features_of, entry_of, z_stack_size_of, initial_memory_of, max_memory_of, import_memory_of, export_memory_of, extra_features_of, strip_all_of, strip_debug_of, keep_section_of, output_of}
+use Rattle.wl_words.specs.Modes.{mode_name, KeepsMode}
+use Rattle.wl_words.specs.Items.{ArgItem, StandsAtWord, AreArgItems, mode_of_item}
+use Rattle.wl_words.specs.Faults.{FrontFault}
+use Rattle.wl_words.specs.Args.{AsksFor, input_of, export_symbol_of, required_export_symbol_of, export_dynamic_of, allow_undefined_of, shared_memory_of, stack_first_of, gc_sections_of, check_features_of, entry_of, z_stack_size_of, initial_memory_of, max_memory_of, import_memory_of, export_memory_of, extra_features_of, strip_all_of, strip_debug_of, keep_section_of, output_of, mode_of}
 use Rattle.wl_words.specs.declared.args.WasmArgs.{WasmArgs}
+use Rattle.wl_words.specs.declared.error.ArgError.{ArgError}
+use Rattle.wl_words.specs.declared.error.ArgError.TheVariants.{OutOfMemory}
 
 -- a list, and behind it what there may be
 abbrev pub put_behind : {X : Type 0} → List X → Option X → List X
@@ -34,9 +38,21 @@ pub record AddsItem (item : ArgItem) (old new : WasmArgs) : Type 0 where
   pub strip_debug : new.strip_debug ≡ unwrap_or (strip_debug_of item) old.strip_debug
   pub keep_sections : new.keep_sections ≡ put_behind old.keep_sections (keep_section_of item)
   pub output : new.output ≡ option_or (output_of item) old.output
+  pub mode : new.mode ≡ unwrap_or (mode_of item) old.mode
 
 -- the item at this word is asked for, and the next item stands at that one
 pub record TakesItem (words : List (List ℕ)) (at : ℕ) (old new : WasmArgs) (next : ℕ) : Type 0 where
   pub item : ArgItem
   pub stands : StandsAtWord words at item next
+  pub keeps : KeepsMode (mode_name old.mode) (mode_of_item item)
   pub adds : AddsItem item old new
+
+-- the words are items to their end, and this is what they ask for
+pub record ParsesAll (words : List (List ℕ)) (args : WasmArgs) : Type 0 where
+  pub items : List ArgItem
+  pub spelled : AreArgItems words 0 None items (length words)
+  pub asked : AsksFor items args
+
+-- a refusal of a word has its cause; want of memory is free
+pub record RefusesFront (words : List (List ℕ)) (e : ArgError) : Type 0 where
+  pub cause_is : e ≢ OutOfMemory → FrontFault words e

@@ -1,11 +1,12 @@
 -- What the values of options say.
-use Rattle.std.specs.Prelude.{ℕ, ◌^◌, ◌==◌, ◌&&◌, Bool, if◌then◌else◌, nat_lt, List, length, Option, Some, None, codes}
+use Rattle.std.specs.Prelude.{ℕ, ◌^◌, ◌==◌, ◌&&◌, Bool, if◌then◌else◌, nat_lt, nat_le, List, length, Option, Some, None, codes}
 use Rattle.std.specs.Str.{bytes_eq, all_ascii_digits}
 use Rattle.std.specs.Str.Parse.{digits_value}
 use Rattle.std.specs.List.{position_or_len, before_first, after_first, slice_split}
 use Rattle.std.specs.Option.{option_and_then}
 use Rattle.wl_words.specs.Options.{front_of, value_of}
 use Rattle.wl_words.specs.Texts.{nonempty}
+use Rattle.wl_words.specs.declared.values.TheConstants.{MAX_GENERATED}
 
 -- ---- numbers
 
@@ -24,6 +25,13 @@ stack_size_text value =
 -- the bytes of the stack
 abbrev pub stack_size : List ℕ → Option ℕ
 stack_size value = option_and_then (number_of 32) (stack_size_text value)
+
+-- how many objects are generated: at least one
+abbrev pub generated_count : List ℕ → Option ℕ
+generated_count value =
+    option_and_then (λ count.
+    if nat_le 1 count && nat_le count MAX_GENERATED then Some count else None)
+    (number_of 32 value)
 
 -- ---- names
 

@@ -1,20 +1,24 @@
 //! What the words of the command line ask for.
 
-ghost use Rattle.std.specs.Prelude.{◌⊎◌, ℕ, List, ◌≡◌, ◌↔◌, ◌<◌, ◌≤◌, [], All, length, Some, None, option_map, slice_get, IfOk, OnOk, OnErr, IfErr, IfSome, IfNone, IsErr, MatchOption};
+ghost use Rattle.std.specs.Prelude.{◌⊎◌, ℕ, List, ◌≡◌, ◌↔◌, ◌<◌, ◌≤◌, [], false, All, length, Some, None, option_map, slice_get, IfOk, OnOk, OnErr, IfErr, IfSome, IfNone, IsErr, MatchOption};
 ghost use Rattle.wl_words.specs.Texts.{texts};
 ghost use Rattle.wl_words.specs.Items.{Given, Set, Memory, IsSoundValue, NamesOption, HasValue};
-ghost use Rattle.wl_words.specs.Faults.{WordsFault, RefusesWords, RefusesValue, StopsAt, LacksValue};
-ghost use Rattle.wl_words.specs.Args.{IsArgs, AsksFor, emits_stripped_section, export_name};
-ghost use Rattle.wl_words.specs.Values.{number_of};
-ghost use Rattle.wl_words.specs.Taking.{AddsItem, TakesItem};
+ghost use Rattle.wl_words.specs.Faults.{RefusesValue, StopsAt, LacksValue};
+ghost use Rattle.wl_words.specs.Modes.{KeepsMode, mode_in, mode_name, IsFitMode};
+ghost use Rattle.wl_words.specs.Args.{IsArgs, AsksFor, WordsFault, RefusesWords, has_work, extra_input, emits_stripped_section, export_name};
+ghost use Rattle.wl_words.specs.Values.{number_of, generated_count};
+ghost use Rattle.wl_words.specs.Taking.{AddsItem, TakesItem, ParsesAll, RefusesFront};
 ghost use Rattle.wl_words.specs.declared.args.WasmArgs.{WasmArgs as SpecArgs};
 ghost use Rattle.wl_words.specs.declared.error.ArgError.{ArgError as SpecError};
 ghost use Rattle.wl_words.specs.declared.options.OptionKind.TheVariants.{Value};
 
 use crate::error::ArgError;
+use crate::modes::Mode;
 use crate::options::{Flag, MemoryOption, OptionKind, Setting, is_option, parts_of, taken_by};
 use crate::texts::Texts;
-use crate::values::{MemoryName, copy_of, memory_name, names_in, number_of, stack_size};
+use crate::values::{
+    MemoryName, copy_of, generated_count, memory_name, names_in, number_of, stack_size,
+};
 use std::alloc::{AllocError, Global};
 use wl_lists::{ItemList, Text};
 
@@ -64,6 +68,8 @@ pub struct WasmArgs {
     pub keep_sections: Texts,
     /// The name of a file. Nothing is written to it.
     pub output: Option<Text>,
+    /// What is written of the plan.
+    pub mode: Mode,
 }
 
 /// The word of this number.
@@ -109,6 +115,15 @@ fn memory_size(value: &str, place: usize) -> Result<u64, ArgError>
     number_of(value).ok_or(ArgError::BadNumber(place))
 }
 
+/// How many objects are generated, by the option's value in the word of this place.
+fn object_count(value: &str, place: usize) -> Result<u32, ArgError>
+    ensures ok { IfOk result (λ n. generated_count value.now ≡ Some n) }
+    ensures none { OnErr result (generated_count value.now ≡ None) }
+    ensures err { IfErr result (λ e. e ≡ ArgError.BadNumber place) }
+{
+    generated_count(value).ok_or(ArgError::BadNumber(place))
+}
+
 impl WasmArgs {
     /// What no words ask for.
     fn new(alloc: Global) -> Result<WasmArgs, AllocError>
@@ -135,6 +150,7 @@ impl WasmArgs {
             strip_debug: false,
             keep_sections: Texts::new(alloc),
             output: None,
+            mode: Mode::Listing,
         })
     }
 
@@ -152,6 +168,8 @@ impl WasmArgs {
             Flag::NoEntry => self.entry = None,
             Flag::StripAll => self.strip_all = true,
             Flag::StripDebug => self.strip_debug = true,
+            Flag::Why => self.mode = Mode::Why,
+            Flag::Map => self.mode = Mode::Map,
         }
     }
 
@@ -180,6 +198,7 @@ impl WasmArgs {
             Setting::ExtraFeatures => self.extra_features = names_in(alloc, value)?,
             Setting::KeepSection => self.keep_sections.push(alloc, value)?,
             Setting::Output => self.output = Some(copy_of(alloc, value)?),
+            Setting::Generate => self.mode = Mode::Generate(object_count(value, place)?),
         }
         Ok(())
     }
@@ -203,6 +222,82 @@ impl WasmArgs {
         Ok(())
     }
 
+    /// Refuses an option, in the word of this number, that asks for another mode than the one that
+    /// is asked for already.
+    fn keep_mode(&self, option: OptionKind, at: usize) -> Result<(), ArgError>
+        ensures kept { OnOk result (KeepsMode (mode_name self.now.mode) (mode_in option)) }
+        ensures other { OnErr result (KeepsMode (mode_name self.now.mode) (mode_in option) → ⊥) }
+        ensures err { IfErr result (λ e. e ≡ ArgError.TwoModes at) }
+    {
+        match (self.mode.name(), option.mode()) {
+            (Some(old), Some(new)) if old != new => Err(ArgError::TwoModes(at)),
+            _ => Ok(()),
+        }
+    }
+
+    /// Takes in an option that takes a value, with that value.
+    fn take_value(
+        &mut self,
+        alloc: Global,
+        words: &[String],
+        at: usize,
+        setting: Setting,
+        behind: Option<&str>,
+    ) -> Result<usize, ArgError>
+        requires within { at < length words.now }
+        requires option { NamesOption (texts words.now) at (Value setting)
+            (option_map (λ v. v.now) behind) }
+        requires keeps { KeepsMode (mode_name self.old.mode) (mode_in (Value setting)) }
+        ensures ok { IfOk result (TakesItem (texts words.now) at self.old self.new) }
+        ensures next { IfOk result (λ next. next ≤ length words.now) }
+        ensures err { IfErr result (StopsAt (texts words.now) at (mode_name self.old.mode)) }
+    {
+        match value_at(words, at, setting, behind) {
+            None => Err(ArgError::MissingValue(at)),
+            Some((value, place)) => {
+                self.take_setting(alloc, setting, value, place)?;
+                Ok(place + 1)
+            }
+        }
+    }
+
+    /// Takes in the option in the word of this number, after whose equals sign this value stands.
+    fn take_option(
+        &mut self,
+        alloc: Global,
+        words: &[String],
+        at: usize,
+        option: OptionKind,
+        behind: Option<&str>,
+    ) -> Result<usize, ArgError>
+        requires within { at < length words.now }
+        requires option { NamesOption (texts words.now) at option
+            (option_map (λ v. v.now) behind) }
+        ensures ok { IfOk result (TakesItem (texts words.now) at self.old self.new) }
+        ensures next { IfOk result (λ next. next ≤ length words.now) }
+        ensures err { IfErr result (StopsAt (texts words.now) at (mode_name self.old.mode)) }
+    {
+        match option {
+            OptionKind::Nothing(flag) => match behind {
+                Some(_) => Err(ArgError::UnknownOption(at)),
+                None => {
+                    self.keep_mode(option, at)?;
+                    self.take_flag(flag);
+                    Ok(at + 1)
+                }
+            },
+            OptionKind::Value(setting) => {
+                // Another mode is reported before a fault of its value.
+                self.keep_mode(option, at)?;
+                self.take_value(alloc, words, at, setting, behind)
+            }
+            OptionKind::OptionalValue(memory) => {
+                self.take_memory(alloc, memory, behind)?;
+                Ok(at + 1)
+            }
+        }
+    }
+
     /// Takes in the item that stands at this word; the next one stands at the word of the number
     /// that it answers.
     fn take_item(
@@ -216,7 +311,7 @@ impl WasmArgs {
         requires word { slice_get (texts words.now) at ≡ Some word.now }
         ensures ok { IfOk result (TakesItem (texts words.now) at self.old self.new) }
         ensures next { IfOk result (λ next. next ≤ length words.now) }
-        ensures err { IfErr result (StopsAt (texts words.now) at) }
+        ensures err { IfErr result (StopsAt (texts words.now) at (mode_name self.old.mode)) }
     {
         if !is_option(word) {
             self.inputs.push(at)?;
@@ -225,38 +320,38 @@ impl WasmArgs {
         let parts = parts_of(word);
         match taken_by(parts.front) {
             None => Err(ArgError::UnknownOption(at)),
-            Some(OptionKind::Nothing(flag)) => match parts.value {
-                Some(_) => Err(ArgError::UnknownOption(at)),
-                None => {
-                    self.take_flag(flag);
-                    Ok(at + 1)
-                }
-            },
-            Some(OptionKind::Value(setting)) => match value_at(words, at, setting, parts.value) {
-                None => Err(ArgError::MissingValue(at)),
-                Some((value, place)) => {
-                    self.take_setting(alloc, setting, value, place)?;
-                    Ok(place + 1)
-                }
-            },
-            Some(OptionKind::OptionalValue(option)) => {
-                self.take_memory(alloc, option, parts.value)?;
-                Ok(at + 1)
-            }
+            Some(option) => self.take_option(alloc, words, at, option, parts.value),
         }
     }
 
     /// Reads the words from left to right, and stops at the first at fault.
     ///
-    /// An option may stand again: of a field with one value the last counts. Whether the words name
-    /// an object is left to [`WasmArgs::require_inputs`].
+    /// An option may stand again: of a field with one value the last counts. Whether there is an
+    /// object is left to [`WasmArgs::require_inputs`].
     ///
     /// # Errors
-    /// `UnknownOption`, `MissingValue` or `BadNumber` of the first word at fault from the left.
+    /// `UnknownOption`, `TwoModes`, `MissingValue` or `BadNumber` of the first word at fault from
+    /// the left; where there is none, `ExtraInput` of the first word that names an object, if
+    /// objects are generated.
     pub fn parse(alloc: Global, words: &[String]) -> Result<WasmArgs, ArgError>
         ensures ok { IfOk result (IsArgs (texts words.now)) }
         ensures within { IfOk result (λ args. All (λ i. i < length words.now) args.inputs) }
+        ensures count { IfOk result (λ args. IsFitMode args.mode) }
         ensures err { IfErr result (RefusesWords (texts words.now)) }
+    {
+        let args = WasmArgs::parse_items(alloc, words)?;
+        match args.extra_input() {
+            Some(word) => Err(ArgError::ExtraInput(word)),
+            None => Ok(args),
+        }
+    }
+
+    /// Reads the words from left to right, and stops at the first at fault.
+    fn parse_items(alloc: Global, words: &[String]) -> Result<WasmArgs, ArgError>
+        ensures ok { IfOk result (ParsesAll (texts words.now)) }
+        ensures within { IfOk result (λ args. All (λ i. i < length words.now) args.inputs) }
+        ensures count { IfOk result (λ args. IsFitMode args.mode) }
+        ensures err { IfErr result (RefusesFront (texts words.now)) }
     {
         let mut args = WasmArgs::new(alloc)?;
         let mut at = 0;
@@ -266,15 +361,26 @@ impl WasmArgs {
         Ok(args)
     }
 
-    /// Refuses words that name no object.
+    /// The first word that names an object, where the objects are generated.
+    fn extra_input(&self) -> Option<usize>
+        ensures { result ≡ extra_input self.now }
+    {
+        if self.mode.generates() {
+            self.inputs.as_slice().first().copied()
+        } else {
+            None
+        }
+    }
+
+    /// Refuses words that leave nothing to plan.
     ///
     /// # Errors
-    /// `NoInputs` where no word names an object.
+    /// `NoInputs` where no word names an object, and none are generated.
     pub fn require_inputs(&self) -> Result<(), ArgError>
-        ensures none { IsErr result ↔ (self.now.inputs ≡ []) }
+        ensures none { IsErr result ↔ (has_work self.now ≡ false) }
         ensures err { IfErr result (λ e. e ≡ ArgError.NoInputs) }
     {
-        if self.inputs.as_slice().is_empty() {
+        if self.inputs.as_slice().is_empty() && !self.mode.generates() {
             return Err(ArgError::NoInputs);
         }
         Ok(())

@@ -6,12 +6,14 @@
 
 mod args;
 mod error;
+mod modes;
 mod options;
 mod texts;
 mod values;
 
 pub use args::{DEFAULT_STACK_SIZE, WasmArgs, args_or_fault};
 pub use error::ArgError;
+pub use modes::{Mode, ModeName};
 pub use options::{Flag, MemoryOption, OptionKind, Setting};
 pub use texts::Texts;
-pub use values::MemoryName;
+pub use values::{MAX_GENERATED, MemoryName};

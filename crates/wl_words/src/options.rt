@@ -2,7 +2,9 @@
 
 ghost use Rattle.std.specs.Prelude.{◌≡◌, MatchOption};
 ghost use Rattle.wl_words.specs.Options.{is_option, front_of, value_of, is_spelled, taken_in, taken_by};
+ghost use Rattle.wl_words.specs.Modes.{mode_in};
 
+use crate::modes::ModeName;
 use std::marker::Model;
 
 /// An option that takes no value.
@@ -26,6 +28,10 @@ pub enum Flag {
     StripAll,
     /// Debug sections are left out.
     StripDebug,
+    /// What keeps each unit is written.
+    Why,
+    /// The sizes of what is kept are written.
+    Map,
 }
 
 /// An option that takes a value.
@@ -49,6 +55,8 @@ pub enum Setting {
     KeepSection,
     /// The name of a file; nothing is written to it.
     Output,
+    /// How many objects are generated.
+    Generate,
 }
 
 /// An option of the memory, which may have a value behind an equals sign.
@@ -71,6 +79,20 @@ pub enum OptionKind {
     OptionalValue(MemoryOption),
 }
 
+impl OptionKind {
+    /// The mode that the option asks for, if it asks for one.
+    pub(crate) fn mode(self) -> Option<ModeName>
+        ensures { result ≡ mode_in self }
+    {
+        match self {
+            OptionKind::Nothing(Flag::Why) => Some(ModeName::Why),
+            OptionKind::Nothing(Flag::Map) => Some(ModeName::Map),
+            OptionKind::Value(Setting::Generate) => Some(ModeName::Generate),
+            OptionKind::Nothing(_) | OptionKind::Value(_) | OptionKind::OptionalValue(_) => None,
+        }
+    }
+}
+
 /// A row of the table of options: a name and what the option is.
 struct OptionRow {
     name: &'static str,
@@ -86,7 +108,7 @@ impl Model for OptionRow {
 }
 
 /// The table of options.
-const OPTIONS: [OptionRow; 26] = [
+const OPTIONS: [OptionRow; 29] = [
     OptionRow {
         name: "export",
         takes: OptionKind::Value(Setting::Export),
@@ -190,6 +212,18 @@ const OPTIONS: [OptionRow; 26] = [
     OptionRow {
         name: "o",
         takes: OptionKind::Value(Setting::Output),
+    },
+    OptionRow {
+        name: "generate",
+        takes: OptionKind::Value(Setting::Generate),
+    },
+    OptionRow {
+        name: "why",
+        takes: OptionKind::Nothing(Flag::Why),
+    },
+    OptionRow {
+        name: "map",
+        takes: OptionKind::Nothing(Flag::Map),
     },
 ];
 

@@ -1,7 +1,7 @@
 //! What the values of options say.
 
 ghost use Rattle.std.specs.Prelude.{◌≡◌, IfOk, IfErr, Some, None, option_map, MatchOption};
-ghost use Rattle.wl_words.specs.Values.{number_of, stack_size_text, stack_size, names_in, memory_name};
+ghost use Rattle.wl_words.specs.Values.{number_of, stack_size_text, stack_size, generated_count, names_in, memory_name};
 ghost use Rattle.wl_words.specs.Faults.{RefusesValue};
 ghost use Rattle.wl_words.specs.declared.options.Setting.TheVariants.{Keyword};
 
@@ -11,6 +11,9 @@ use crate::texts::Texts;
 use std::alloc::{AllocError, Global};
 use std::marker::Model;
 use wl_lists::Text;
+
+/// The greatest number of objects that are generated.
+pub const MAX_GENERATED: u32 = 10_000;
 
 /// The name of an imported memory: a module, and a name there.
 #[derive(Drop)]
@@ -76,6 +79,13 @@ pub(crate) fn stack_size(value: &str, place: usize) -> Result<u32, ArgError>
         None => Err(ArgError::UnknownOption(place)),
         Some(text) => small_number_of(text).ok_or(ArgError::BadNumber(place)),
     }
+}
+
+/// How many objects are generated, by the option's value.
+pub(crate) fn generated_count(value: &str) -> Option<u32>
+    ensures { result ≡ generated_count value.now }
+{
+    small_number_of(value).filter(|count| 1 <= *count && *count <= MAX_GENERATED)
 }
 
 /// The names between the commas of a value.

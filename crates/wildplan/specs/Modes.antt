@@ -1,0 +1,63 @@
+-- What is planned and what is written, by the mode that the words ask for.
+use Rattle.std.specs.Prelude.{◌≡◌, ℕ, List, Option, Some, codes, if◌then◌else◌}
+use Rattle.wl_words.specs.Modes.{generates}
+use Rattle.wl_words.specs.declared.args.WasmArgs.{WasmArgs}
+use Rattle.wl_words.specs.declared.modes.Mode.{Mode}
+use Rattle.wl_words.specs.declared.modes.Mode.TheVariants as mode
+use Rattle.wl_symbols.specs.Link.{Link, link_of}
+use Rattle.wl_plan.specs.LinkPlan.{IsLinkPlan}
+use Rattle.wl_plan.specs.declared.layout.LinkPlan.{LinkPlan}
+use Rattle.wl_generate.specs.Generated.{generated}
+use Rattle.wl_why.specs.Text.{IsWhyText}
+use Rattle.wildplan.specs.Generated.{summary_text}
+use Rattle.wildplan.specs.Listing.{listing_text}
+use Rattle.wildplan.specs.Map.{IsMapText}
+
+-- the same words with this entry
+abbrev pub with_entry : Option (List ℕ) → WasmArgs → WasmArgs
+with_entry entry args = record {
+  inputs = args.inputs;
+  export_symbols = args.export_symbols;
+  required_export_symbols = args.required_export_symbols;
+  export_dynamic = args.export_dynamic;
+  allow_undefined = args.allow_undefined;
+  shared_memory = args.shared_memory;
+  stack_first = args.stack_first;
+  gc_sections = args.gc_sections;
+  check_features = args.check_features;
+  entry = entry;
+  z_stack_size = args.z_stack_size;
+  initial_memory = args.initial_memory;
+  max_memory = args.max_memory;
+  import_memory = args.import_memory;
+  export_memory = args.export_memory;
+  extra_features = args.extra_features;
+  strip_all = args.strip_all;
+  strip_debug = args.strip_debug;
+  keep_sections = args.keep_sections;
+  output = args.output;
+  mode = args.mode;
+}
+
+-- the words that are planned: the first of generated objects is the entry
+abbrev pub planned_args : WasmArgs → WasmArgs
+planned_args args =
+    if generates args.mode then with_entry (Some (codes "f0")) args else args
+
+-- the objects that are planned: those that were read, or generated ones
+abbrev pub objects_in : Mode → List (List ℕ) → List (List ℕ)
+objects_in (mode.Generate count) read = generated count
+objects_in _ read = read
+
+-- what is written of the plan of a link
+abbrev pub IsTextOf : Mode → Link → LinkPlan → List ℕ → Type 0
+IsTextOf mode.Listing link plan text = text ≡ listing_text plan
+IsTextOf (mode.Generate count) link plan text = text ≡ summary_text plan
+IsTextOf mode.Why link plan text = IsWhyText link text
+IsTextOf mode.Map link plan text = IsMapText plan text
+
+-- objects have a plan, and this is what is written of it
+pub record IsPlanText (objects : List (List ℕ)) (args : WasmArgs) (text : List ℕ) : Type 0 where
+  pub plan : LinkPlan
+  pub is_plan : IsLinkPlan objects args plan
+  pub is_text : IsTextOf args.mode (link_of is_plan.files args) plan text

@@ -1,0 +1,81 @@
+//! What is planned and what is written, by the mode that the words ask for.
+
+ghost use Rattle.std.specs.Prelude.{◌≡◌, IfOk, IfErr};
+ghost use Rattle.wl_linking.specs.Steps.{Clear, Refuses};
+ghost use Rattle.wl_symbols.specs.Link.{link_of};
+ghost use Rattle.wl_plan.specs.Faults.{link_fault};
+ghost use Rattle.wl_plan.specs.LinkPlan.{HasLinkFault, IsPlanOf};
+ghost use Rattle.wl_why.specs.Text.{IsWhyText};
+ghost use Rattle.wildplan.specs.Modes.{planned_args, IsTextOf, IsPlanText};
+
+use crate::listing::listing;
+use crate::map::link_map;
+use crate::summary::summary;
+use std::alloc::{AllocError, Global};
+use wl_linking::{FileList, LinkError};
+use wl_lists::Text;
+use wl_live::collect_live;
+use wl_plan::{LinkPlan, ObjectList, parse_objects, plan_files};
+use wl_symbols::SymbolTable;
+use wl_why::why_text;
+use wl_words::{Mode, WasmArgs};
+
+/// The words that are planned: where objects are generated, the first of them is the entry.
+pub(crate) fn planned_args(alloc: Global, args: WasmArgs) -> Result<WasmArgs, AllocError>
+    ensures { IfOk result (λ planned. planned ≡ planned_args args) }
+{
+    let mut planned = args;
+    if planned.mode.generates() {
+        planned.entry = Some(Text::new(String::from_str(alloc, "f0")?));
+    }
+    Ok(planned)
+}
+
+/// Why the units of objects that have a plan are kept. What is kept is found once more, for a plan
+/// doesn't hold it.
+fn why_planned(alloc: Global, files: &FileList<'_>, args: &WasmArgs) -> Result<Vec<u8>, LinkError>
+    requires { Clear (link_fault (link_of files.now args.now)) }
+    ensures ok { IfOk result (λ text. IsWhyText (link_of files.now args.now) text.items) }
+    ensures err { IfErr result (Refuses (λ _. ⊥)) }
+{
+    let symbols = SymbolTable::build(alloc, files, args)?;
+    let live = collect_live(alloc, files, &symbols, args)?;
+    Ok(why_text(alloc, files, &symbols, args, &live)?)
+}
+
+/// What is written of the plan of objects.
+fn mode_text(
+    alloc: Global,
+    files: &FileList<'_>,
+    args: &WasmArgs,
+    plan: &LinkPlan<'_>,
+) -> Result<Vec<u8>, LinkError>
+    requires { IsPlanOf (link_of files.now args.now) plan.now }
+    ensures ok { IfOk result
+        (λ text. IsTextOf args.now.mode (link_of files.now args.now) plan.now text.items) }
+    ensures err { IfErr result (Refuses (λ _. ⊥)) }
+{
+    match args.mode {
+        Mode::Listing => Ok(listing(alloc, plan)?),
+        Mode::Generate(_) => Ok(summary(alloc, plan)?),
+        Mode::Why => why_planned(alloc, files, args),
+        Mode::Map => Ok(link_map(alloc, plan)?),
+    }
+}
+
+/// What is written of the plan of the objects that some bytes are.
+///
+/// # Errors
+/// What `plan_link` refuses, in each mode.
+pub(crate) fn plan_text(
+    alloc: Global,
+    objects: &ObjectList,
+    args: &WasmArgs,
+) -> Result<Vec<u8>, LinkError>
+    ensures ok { IfOk result (λ text. IsPlanText objects.now args.now text.items) }
+    ensures err { IfErr result (Refuses (HasLinkFault objects.now args.now)) }
+{
+    let files = parse_objects(alloc, objects)?;
+    let plan = plan_files(alloc, &files, args)?;
+    mode_text(alloc, &files, args, &plan)
+}

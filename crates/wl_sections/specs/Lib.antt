@@ -1,0 +1,4 @@
+pub mod Outcomes
+pub mod OutputSections
+pub mod BuiltIn
+pub mod Segments
