@@ -47,11 +47,12 @@ CONSTANTS = {
     "TARGET_FEATURE_BULK_MEMORY": ("wl_features/src/taken.rt", '"bulk-memory"'),
     "TARGET_FEATURE_MUTABLE_GLOBALS": ("wl_features/src/taken.rt", '"mutable-globals"'),
 }
-# Where 65536 is something else: bytes that are read at once, the default of an option, the third byte of a number;
-# and where 1024 is: the most pages of an image.
+# Where 65536 is something else: bytes that are read at once, the default of an option, the help that shows it, the
+# third byte of a number; and where 1024 is: the most pages of an image.
 OTHER_CONSTANTS = {
     "wl_files/src/read.rt",
     "wl_words/src/args.rt",
+    "wildplan/src/help.rt",
     "wl_synth/specs/Machine.antt",
     "wl_load/src/memory.rt",
 }
@@ -153,20 +154,14 @@ def modes(folder):
     """What is written in place of the listing; where objects have no plan the line is that without a mode."""
     made = EXAMPLES / "two_functions.o"
     summed = [
-        (["--generate", "1"], "objects 1 functions 1 dropped 1 fixups 0"),
         (["--generate", "3", "--no-entry"], "objects 3 functions 3 dropped 3 fixups 2"),
         (["--entry", "b", "--generate", "2", "--generate=3"], "objects 3 functions 3 dropped 3 fixups 2"),
-        (["--no-gc-sections", "--generate", "3"], "objects 3 functions 6 dropped 0 fixups 2"),
-        (["--generate", "10000"], "objects 10000 functions 10000 dropped 10000 fixups 9999"),
+        (["--generate=10000"], "objects 10000 functions 10000 dropped 10000 fixups 9999"),
     ]
     for given, line in summed:
         check(f"words {given}", run(given), 0, line.encode() + b"\n")
-    kept = b"why 0 function 1 root\ndrop 0 function 0\n"
-    check("why one function is kept", run(["--entry", "b", "--why", made]), 0, kept)
     whole = b"why 0 function 0 off\nwhy 0 function 1 off\n"
     check("why all is kept", run([*FLAGS, "--why", "--why", made]), 0, whole)
-    sizes = b"code 0 9\ncode 1 3\ntotal code 15\ntotal data 0\n"
-    check("the sizes of two functions", run([*FLAGS, "--map", made]), 0, sizes)
     sizes = b"total code 0\ntotal data 0\n"
     check("the sizes of nothing", run(["--no-entry", "--map", made]), 0, sizes)
     names = ["--export", "count", "--export", "last", "--export", "chosen"]
@@ -264,9 +259,10 @@ def named_stretches():
     """The stretches of bytes that rows call by a name."""
     sound = (EXAMPLES / "two_functions.o").read_bytes()
     stretches = {"a": sound, "header": sound[:8]}
-    names = ["linking", "producers", "target_features", ".debug_str", ".debug_info", ".debug_x", "reloc..debug_x"]
+    names = ["linking", "producers", "target_features", "reloc.CODE", "reloc.DATA"]
+    names += [".debug_str", ".debug_info", ".debug_x", "reloc..debug_x"]
     for name in names:
-        word = name.replace("..", "_").lstrip(".")
+        word = re.sub(r"\.+", "_", name.lstrip("."))
         stretches[word] = bytes([len(name)]) + name.encode()
     return stretches
 
@@ -277,7 +273,8 @@ def object_of(text, stretches):
     for term in text.split():
         stretch = re.fullmatch(r"(\w+?)(?:\[(\d*):(\d*)\]|\{(.*)\})?", term)
         if stretch is None or stretch[1] not in stretches:
-            content += bytes.fromhex(term)
+            times, _, bytes_of_term = term.rpartition("*")
+            content += bytes.fromhex(bytes_of_term) * int(times or 1)
             continue
         part = bytearray(stretches[stretch[1]])
         for change in filter(None, (stretch[4] or "").split(",")):
@@ -296,6 +293,26 @@ def rows_of(text):
     return [f"{text[:lengths.start()]}[:{n}]{text[lengths.end():]}" for n in range(first, last + 1)]
 
 
+def lines_of(text):
+    """A line of a listing for each number that is asked for, as in {0-127}."""
+    numbers = re.search(r"\{(\d+)-(\d+)\}", text)
+    if numbers is None:
+        return [text]
+    first, last = int(numbers[1]), int(numbers[2])
+    return [text.replace(numbers[0], str(number)) for number in range(first, last + 1)]
+
+
+def files_of(text, stretches, folder):
+    """The files that a row names: its objects, none, or one that doesn't exist."""
+    if text in ("no objects", "no file"):
+        return [] if text == "no objects" else [folder / "none.o"]
+    files = []
+    for i, written in enumerate(text.split(" & ")):
+        files.append(folder / f"{i}.o")
+        files[-1].write_bytes(object_of(written, stretches))
+    return files
+
+
 def rows(folder):
     """The table of objects and answers."""
     stretches, listings, words, rule, listing = named_stretches(), {}, [], "", ""
@@ -309,15 +326,12 @@ def rows(folder):
             listing = rest
             listings[listing] = ""
         elif kind == ">":
-            listings[listing] += rest + "\n"
+            listings[listing] += "".join(line + "\n" for line in lines_of(rest))
         elif kind and kind != "#":
             objects, answer = line.split(" = ")
             status, told = answer.split(" ", 1)
             for row in rows_of(objects):
-                files = []
-                for i, text in enumerate(row.split(" & ")):
-                    files.append(folder / f"{i}.o")
-                    files[-1].write_bytes(object_of(text, stretches))
+                files = files_of(row, stretches, folder)
                 out, err = (listings[told], "") if status == "0" else ("", f"error: {told}\n")
                 check(f"{rule}: {row}", run([*words, *files]), int(status), out.encode(), err.encode())
 
@@ -743,6 +757,7 @@ def main():
             launched(folder)
     writes()
     joined("tools/make_pages.py", "--check")
+    joined("tests/worked_rows.py")
     joined("tests/listing.py")
     joined("tests/pages.py", PROGRAM)
     joined("tests/install.py", PROGRAM)

@@ -5,7 +5,7 @@ use std::test::Fail;
 use wl_check::{Line, ListingError, push_line, read_listing};
 
 /// A listing of one object that has most kinds of lines.
-const LISTING: &[u8] = b"wildplan 1
+pub(crate) const LISTING: &[u8] = b"wildplan 1
 type 0 ()->()
 func 0 type 0 object 0 unit 0
 func 1 type 0 object 0 unit 1

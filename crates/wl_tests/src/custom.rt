@@ -2,7 +2,10 @@
 
 use std::test::Fail;
 use wl_bytes::Reader;
-use wl_custom::{RelocationType, Target, read_held_entries, read_linking};
+use wl_custom::{
+    RelocationType, Target, parse_target_features_payload, read_held_entries, read_linking,
+};
+use wl_module::{ReadError, Why};
 
 #[test]
 fn reads_what_is_said_of_segments(rt: HostRuntime) -> Result<(), Fail> {
@@ -22,5 +25,20 @@ fn reads_relocations(rt: HostRuntime) -> Result<(), Fail> {
     let entry = entries.as_slice()[0];
     assert_eq!(rt; entry.ty, RelocationType::FunctionIndexLeb);
     assert_eq!(rt; (entry.offset, entry.index), (3, 5));
+    Ok(())
+}
+
+#[test]
+fn reads_features(rt: HostRuntime) -> Result<(), Fail> {
+    let alloc = rt.alloc();
+    let features = parse_target_features_payload(alloc, b"\x02+\x0bbulk-memory-\x07atomics")?;
+    assert_eq!(rt; features.len(), 2);
+    assert_eq!(rt;
+        (features[0].prefix, features[0].name),
+        (b'+', "bulk-memory")
+    );
+    assert_eq!(rt; (features[1].prefix, features[1].name), (b'-', "atomics"));
+    let cut = parse_target_features_payload(alloc, b"\x03+\x0bbulk-memory-\x07atomics");
+    assert!(rt; matches!(&cut, Err(ReadError::Malformed(Why::Truncated))));
     Ok(())
 }

@@ -5,6 +5,8 @@
 #![tactic(auto)]
 
 #[cfg(test)]
+mod bind;
+#[cfg(test)]
 mod bytes;
 #[cfg(test)]
 mod check;
@@ -31,11 +33,15 @@ mod ops;
 #[cfg(test)]
 mod reach;
 #[cfg(test)]
+mod reloc;
+#[cfg(test)]
 mod sections;
 #[cfg(test)]
 mod session;
 #[cfg(test)]
 mod steps;
+#[cfg(test)]
+mod symbols;
 #[cfg(test)]
 mod synth;
 #[cfg(test)]

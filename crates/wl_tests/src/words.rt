@@ -58,3 +58,49 @@ fn words_ask_for_their_fields(rt: HostRuntime) -> Result<(), Fail> {
     assert!(rt; !args.gc_sections && args.require_inputs().is_ok());
     Ok(())
 }
+
+#[test]
+fn the_last_list_of_features_counts(rt: HostRuntime) -> Result<(), Fail> {
+    let alloc = rt.alloc();
+    let words = words_of(alloc, &["--extra-features=a", "--extra-features=b"])?;
+    let features = WasmArgs::parse(alloc, &words)?.extra_features;
+    assert!(rt; features.contains("b") && !features.contains("a"));
+    let words = words_of(alloc, &["--extra-features="])?;
+    let features = WasmArgs::parse(alloc, &words)?.extra_features;
+    assert!(rt; features.as_slice().is_empty());
+    Ok(())
+}
+
+#[test]
+fn a_name_of_the_memory_alone_is_one_of_env(rt: HostRuntime) -> Result<(), Fail> {
+    let alloc = rt.alloc();
+    let words = words_of(alloc, &["--import-memory=foo"])?;
+    let args = WasmArgs::parse(alloc, &words)?;
+    assert_eq!(rt; args.memory_import(), Some(("env", "foo")));
+    Ok(())
+}
+
+#[test]
+fn sections_are_kept_by_their_names(rt: HostRuntime) -> Result<(), Fail> {
+    let alloc = rt.alloc();
+    let words = words_of(
+        alloc,
+        &[
+            "--keep-section=a",
+            "--keep-section",
+            "name",
+            "-keep-section=c",
+            "--strip-all",
+        ],
+    )?;
+    let args = WasmArgs::parse(alloc, &words)?;
+    for (name, want) in [
+        ("a", true),
+        ("name", true),
+        ("c", true),
+        (".debug_info", false),
+    ] {
+        assert_eq!(rt; args.emit_stripped_section(name), want, "{name}");
+    }
+    Ok(())
+}

@@ -1,0 +1,264 @@
+#!/usr/bin/env python3
+"""Sees that each example worked out by hand is a test: a row of tests/rows.txt, a test of wl_tests, or a case of
+another script.
+
+    tests/worked_rows.py
+
+The last line is `N passed, M failed`."""
+
+import pathlib
+import re
+import sys
+
+ROOT = pathlib.Path(__file__).resolve().parent.parent
+ROWS = ROOT / "tests" / "rows.txt"
+TESTS = ROOT / "crates" / "wl_tests" / "src"
+
+# Words that many examples have.
+KEPT = "--no-entry"
+WHOLE = "--no-gc-sections --no-entry"
+SHARED = f"{WHOLE} --shared-memory --no-check-features"
+
+# Examples that go through the program: what each shows, and the headings in tests/rows.txt under which it stands. The
+# words before a heading stand there too, since one example may be tried with several.
+THROUGH_THE_PROGRAM = {
+    "no sections": [(KEPT, "What no chain of references leads to is left out")],
+    "seven bytes of a header": [
+        (KEPT, "Seven bytes are no header"),
+        ("", "The entry is judged once all objects are read"),
+        (WHOLE, "An object that is cut off has a plan only where a section has just ended and the "
+         "rest fits together"),
+    ],
+    "features of two objects": [
+        (KEPT, "A feature that one object uses twice and another once is listed once"),
+        (KEPT, "A feature that one object uses and another disallows"),
+    ],
+    "features that end too early": [(WHOLE, "A list of features ends before its count")],
+    "a stack of 1000 bytes": [
+        (f"{WHOLE} -z stack-size=1000", "The size of the stack is a multiple of 16"),
+    ],
+    "a memory of one page, which doesn't hold the stack": [
+        ("--no-entry --initial-memory 65536", "A first page alone doesn't hold the stack behind the data"),
+    ],
+    "the end of the heap": [
+        (f"{WHOLE} --export __heap_end", "The heap ends where the memory does at the start"),
+    ],
+    "a number of a segment that gets longer, and the field after it": [
+        (WHOLE, "A field after such a number moves with it"),
+        (WHOLE, "The number of a segment takes as many bytes as it needs"),
+    ],
+    "a padded number of a segment": [
+        (WHOLE, "A padded number of a segment is written in its shortest form"),
+    ],
+    "a weak function and a strong one": [
+        (WHOLE, "A strong function is called in place of a weak one; without collection both are "
+         "kept"),
+    ],
+    "a stub": [
+        (WHOLE, "A weak function that nothing defines has a stub, and its slot is 0"),
+    ],
+    "one name of two modules": [
+        (f"{WHOLE} --allow-undefined", "Two functions of the host with one name, of two modules, have "
+         "two slots"),
+    ],
+    "data that nothing defines": [
+        (WHOLE, "Data that nothing defines has no address: 0, or the distance from where memory "
+         "begins"),
+    ],
+    "the block of a thread": [
+        (SHARED, "The block of a thread is zeros, and over them "
+         "its template"),
+    ],
+    "shared memory with one segment": [
+        (SHARED, "one segment that all threads have in common"),
+    ],
+    "a call of what nothing defines": [
+        ("--entry caller", "A function that is kept calls what nothing defines"),
+        (WHOLE, "Without collection each call asks for what it calls"),
+        (KEPT, "A dropped function may call what nothing defines"),
+    ],
+    "words without an object": [
+        ("", "No word names an object"),
+        ("--entry", "The name of the entry is missing"),
+    ],
+    "two functions, of which the first calls the second": [
+        (WHOLE, "An object that is cut off has a plan only where a section has just ended and the "
+         "rest fits together"),
+        ("--entry b", "The entry is a function that an object defines, and is exported behind the memory"),
+    ],
+    "an object as clang writes it": [
+        ("", "An object as compilers write it: its stack pointer has no name, and its numbers are padded"),
+    ],
+    "one object twice": [
+        ("", "Two objects define the same functions"),
+        (WHOLE, "No two symbols that other objects see have one name, and the earliest that "
+         "repeats one is told"),
+    ],
+    "generated objects": [
+        ("--generate 3", "One line tells how many objects were made, and what became of them"),
+        ("--generate 1", "A single object calls nothing"),
+        ("--no-gc-sections --generate 3", "Without collection nothing is dropped"),
+        ("--generate 0", "No objects can't be made"),
+        ("--generate 10000", "As many objects as can be made"),
+    ],
+    "a file that isn't there": [(WHOLE, "A file that isn't there can't be read")],
+    "sections that are skipped, and debug sections": [
+        (WHOLE, "Debug sections are kept, other custom sections skipped"),
+    ],
+    "one import under two types": [
+        ("--allow-undefined --no-gc-sections --no-entry", "Two imports of one name have two types"),
+        ("--allow-undefined --no-gc-sections --no-entry", "The same of imports that no symbol names"),
+    ],
+    "a number of a segment where there is none": [
+        (WHOLE, "A body with 0xfc is decoded, and its numbers of segments name segments"),
+    ],
+    "two aligned segments": [(WHOLE, "Segments stand at multiples of their alignments")],
+    "data of one thread": [
+        (WHOLE, "Where there is one thread its data stands after all other"),
+    ],
+    "constructors of two objects": [
+        (WHOLE, "Constructors of two objects are called by priority, and their results dropped"),
+    ],
+    "bodies that aren't operators": [
+        (WHOLE, "A kept body is operators that are known"),
+        (KEPT, "A dropped function may have a body that is no sequence of operators"),
+    ],
+    "bad objects: magic, order, framing": [
+        (WHOLE, "The first eight bytes are fixed"),
+        (WHOLE, "Section ids end at 13, and the standard sections have an order"),
+        (WHOLE, "The frame is judged before any section, and in it the bytes of a section before "
+         "its order"),
+    ],
+    "bad objects: numbers, names, bytes too many": [
+        (WHOLE, "A number may be padded to five bytes, of which the last has four bits"),
+        (WHOLE, "Names are UTF-8, those of skipped sections too"),
+        (WHOLE, "Bytes behind a section's items are too many"),
+    ],
+    "bad objects: types, symbols, versions": [
+        (WHOLE, "Types are those of functions, of seven value types"),
+        (WHOLE, "The type of a function is there"),
+        (WHOLE, "A symbol's kind is judged before its flags, and what it stands for is there"),
+        (WHOLE, "The linking section is of version 2, and of each subsection that is read there is "
+         "one"),
+    ],
+    "bad objects: relocations": [
+        (WHOLE, "A section of relocations is for the code or the data, of which each has one, "
+         "wherever it stands"),
+        (WHOLE, "A relocation's type is judged before its offset, and what it names is there"),
+        (WHOLE, "A field lies in one body, has the form of its type, and shares no byte with "
+         "another"),
+    ],
+    "a function that is declared with another type": [
+        (WHOLE, "A function is known under another type than the one that it has."),
+        (KEPT, "Where nothing keeps the call, nobody looks at its type."),
+    ],
+    "absolute symbols": [
+        (WHOLE, "An absolute symbol has the address that it tells"),
+        (WHOLE, "An absolute address below the data of threads has no place in it"),
+    ],
+    "why one function is kept": [("--entry b --why", "A kept function has a cause, and the others are named")],
+    "the sizes of two functions": [(f"{WHOLE} --map", "Sizes of functions, and of the sections")],
+}
+
+# Examples at a call: what each shows, and the tests of wl_tests, as FILE/FUNCTION.
+AT_CALLS = {
+    "features of a payload, and one that ends too early": ["custom/reads_features"],
+    "addresses of the names that the linker makes": ["symbols/names_of_data_have_addresses"],
+    "the base of the heap behind data, where the stack comes first": [
+        "symbols/the_heap_begins_at_a_multiple_of_16",
+        "data/heap_begins_behind_the_data",
+    ],
+    "the start of the stack pointer": ["data/stack_pointer_is_aligned"],
+    "pages that hold the data and the stack": ["data/memory_holds_the_stack", "data/heap_begins_behind_the_data"],
+    "types that are used, and one that nothing uses": [
+        "bind/a_type_that_nothing_uses_has_no_index",
+        "bind/a_type_that_data_names_has_an_index",
+    ],
+    "bodies of calls and of wrappers": ["synth/calls_drop_their_results", "synth/wrapper_hands_on_its_parameters"],
+    "sizes of bodies and of segments": ["data/sizes_are_those_of_the_format"],
+    "a body with another number of a segment": ["ops/remaps_a_body"],
+    "a padded number in a body": ["ops/finds_a_padded_number"],
+    "the value of an address that there is not": ["reloc/no_address_is_0_or_counts_from_the_memory"],
+    "the value of an absolute address": [
+        "reloc/an_absolute_address_is_taken_as_it_is",
+        "reloc/an_address_below_the_data_of_threads_has_no_offset",
+    ],
+    "the body that fills a thread's block": ["synth/thread_block_is_copied"],
+    "the body that lays shared segments": ["synth/segments_are_laid"],
+    "what words ask for": [
+        "words/words_ask_for_their_fields",
+        "words/the_last_list_of_features_counts",
+        "words/a_name_of_the_memory_alone_is_one_of_env",
+        "words/sections_are_kept_by_their_names",
+    ],
+    "each call of a file that fails": ["files/each_failing_call_of_a_file_is_a_fault"],
+    "each write that fails": ["files/each_failing_write_leaves_a_front", "files/a_stream_that_takes_nothing_is_a_fault"],
+    "a file with a limit": ["files/a_file_has_a_limit"],
+    "generated objects, byte by byte": ["generated/makes_both_objects_of_a_chain"],
+    "certificates that aren't valid": ["why/certificates_are_valid_or_not"],
+    "texts that are no listings": ["check/bad_lines_are_told_by_their_number"],
+    "fuel of a run": ["load/fuel_is_a_step_for_each_operator"],
+    "names of objects that are replaced": ["session/a_name_follows_replacements"],
+}
+
+# Examples that stand in another script: what each shows, the script, and the function or the title of the case there.
+IN_SCRIPTS = {
+    "each read of the program that fails": ("failing_streams.py", "wrong_reads"),
+    "each write of the program that fails": ("failing_streams.py", "wrong_writes"),
+    "each allocation of the program that is refused": ("out_of_memory.py", "refuse_each"),
+    "a refused allocation where threads share the memory": ("out_of_memory.py", "threads"),
+    "a refused allocation of generated objects": ("out_of_memory.py", "generated objects"),
+    "streams that take nothing": ("cli.py", "writes"),
+    "files that can't be read to their end": ("cli.py", "reads"),
+}
+
+passed = 0
+failed = 0
+
+
+def note(title, sound):
+    """Counts an example."""
+    global passed, failed
+    passed, failed = (passed + 1, failed) if sound else (passed, failed + 1)
+    if not sound:
+        print(title)
+
+
+def headings():
+    """The headings of tests/rows.txt that have a row, each with the words before it."""
+    found, words, heading = set(), "", None
+    for line in ROWS.read_text().splitlines():
+        kind, _, rest = line.partition(" ")
+        if kind == "words":
+            words = rest
+        elif kind == "##":
+            heading = rest
+        elif heading and " = " in line and not line.startswith((">", "#")):
+            found.add((words, heading))
+    return found
+
+
+def tests_of(path):
+    """The tests of a file of wl_tests, where lib.rt names it."""
+    named = f"mod {path.stem};" in (TESTS / "lib.rt").read_text()
+    return set(re.findall(r"#\[test\]\s+fn (\w+)\(", path.read_text())) if named and path.is_file() else set()
+
+
+def main():
+    rows = headings()
+    for shown, places in THROUGH_THE_PROGRAM.items():
+        for place in places:
+            note(f"{shown}: no row {' '.join(place)}", place in rows)
+    for shown, places in AT_CALLS.items():
+        for place in places:
+            file, name = place.split("/")
+            note(f"{shown}: no test {place}", name in tests_of(TESTS / f"{file}.rt"))
+    for shown, (script, name) in IN_SCRIPTS.items():
+        text = (ROOT / "tests" / script).read_text()
+        note(f"{shown}: no {name} in {script}", f"def {name}(" in text or f'yield "{name}"' in text)
+    print(f"{passed} passed, {failed} failed")
+    sys.exit(1 if failed else 0)
+
+
+if __name__ == "__main__":
+    main()
