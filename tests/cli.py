@@ -692,6 +692,18 @@ def relocation_types():
             note(f"{path.relative_to(ROOT)} goes by cases on {', '.join(told)}", not told, "relocation types")
 
 
+def launcher_options():
+    """The options whose value is the next word are the same in the launcher, which makes the names of objects absolute,
+    as in docs/OPTIONS.md."""
+    cases = re.findall(r"^ *(-[^)]*)\) is_value=yes", (ROOT / "wildplan").read_text(), re.M)
+    known = {name for line in cases for name in line.split(" | ")}
+    wanted = set()
+    for names, value, *_ in table_of(OPTIONS, OPTIONS_TITLE):
+        if value not in ("none", "[name]"):
+            wanted |= {name for word in re.findall(r"`(-[\w-]+)`", names) for name in {word, re.sub("^--", "-", word)}}
+    note(f"the options with values in the launcher: {known ^ wanted}", known == wanted)
+
+
 def launched(folder):
     """The launcher runs the proved program, through symbolic links too, and where there is none the sources, and
     says so."""
@@ -737,6 +749,7 @@ def main():
     documented_names()
     documented_options()
     documented_words()
+    launcher_options()
     documented_refusals()
     listings()
     counter()
@@ -760,6 +773,7 @@ def main():
     joined("tests/worked_rows.py")
     joined("tests/listing.py")
     joined("tests/pages.py", PROGRAM)
+    joined("tests/claims.py")
     joined("tests/install.py", PROGRAM)
     joined("tests/wasm_ld.py", PROGRAM)
     joined("tests/tools.py", PROGRAM)

@@ -27,8 +27,6 @@ SOURCES = ["crates/*/src/**/*", "crates/*/specs/**/*", "crates/*/proofs/**/*", "
            "tools/*", "examples/**/*", ".ci/*", "wildplan", "crates.txt", "Makefile", "HANDLES"]
 # Names of others: conventions of toolchains, and what stands for any name in a rule.
 FOREIGN = {"__indirect_function_table", "__wasm_call_dtors", "basic_streambuf", "x_at", "xN"}
-# The parts of docs/CLAIMS.md that name wrong bodies which stand in no folder, as it says there.
-BY_HAND = {"Bindings", "The plan", "Kept relocations"}
 # Programs whose commands stand on pages, but for those of the repository.
 TOOLS = {"ar", "apt-get", "c++filt", "cat", "clang", "clang++", "curl", "git", "llvm-nm", "llvm-objcopy",
          "llvm-readobj", "man", "node", "printf", "rattle", "rustc", "rustup", "ulimit", "wasm-ld", "wasm-objdump",
@@ -79,22 +77,12 @@ def looks_like_code(word):
     return "_" in word.strip("_") or re.search(r"[a-z][A-Z]", word) is not None
 
 
-def by_hand(page):
-    """The names of wrong bodies on a page that needn't stand in a folder."""
-    if page.name != "CLAIMS.md":
-        return set()
-    parts = re.split(r"(?m)^## ", page.read_text())
-    named = [part for part in parts if re.split(r"[:\n]", part)[0] in BY_HAND]
-    return {name for part in named for name in re.findall(r"`(\w+)`", part)}
-
-
 def names(page, known):
     """Names of code on a page stand in the sources."""
-    allowed = known | by_hand(page)
     for span in documents.spans_of(page):
         for word in re.findall(r"[A-Za-z_]\w*", span):
             if looks_like_code(word) and not word.endswith("_NAME"):
-                note(page, f"the name {word} stands nowhere", word in allowed)
+                note(page, f"the name {word} stands nowhere", word in known)
 
 
 def is_path(span):

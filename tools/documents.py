@@ -32,14 +32,27 @@ def table_of(document, title):
 
 def tables_of(document):
     """All tables of a document: for each the cells of its first row, and those of the rows below."""
+    return tables_in(document.read_text())
+
+
+def tables_in(text):
+    """The same of a text."""
     tables, rows = [], []
-    for line in [*document.read_text().splitlines(), ""]:
+    for line in [*text.splitlines(), ""]:
         if line.startswith("|"):
             rows.append(cells_of(line))
         elif rows:
             tables.append((rows[0], rows[2:]))
             rows = []
     return tables
+
+
+def parts_of(document):
+    """The parts of a document that begin with a heading of the second rank: for each the heading, and its tables."""
+    parts = []
+    for part in re.split(r"(?m)^(?=## )", document.read_text())[1:]:
+        parts.append((part.splitlines()[0].removeprefix("## "), tables_in(part)))
+    return parts
 
 
 def block_at(lines, place):
