@@ -22,6 +22,27 @@ REFUSER = ROOT / "tests" / "refuse_calls.c"
 WHOLE = ["--no-gc-sections", "--no-entry"]
 SHARED = ["--shared-memory", "--export=begin_thread", "--export=advance"]
 NO_MEMORY = (5, b"", b"")
+# Two objects of tests/rows.txt: one with a segment of a shared memory, and one as compilers write them.
+ONE_SEGMENT = bytes.fromhex(
+    "0061736d01000000 02100103656e76066d656d6f727902030104 0b0a010041000b0461626364"
+    "0011076c696e6b696e67 020506010273300000"
+)
+COMPILED = bytes.fromhex(
+    "0061736d01000000 010401600000 022f0203656e760f5f5f6c696e6561725f6d656d6f727902000003656e760f5f5f737461636b5f706f696e"
+    "746572037f01 03020100 0a0b0109002380808080001a0b 0019076c696e6b696e67 02080e02000000065f7374617274021000"
+    "00100a72656c6f632e434f4445 0301070401 00220f7461726765745f6665617475726573 012b0f6d757461626c652d676c6f62616c73"
+)
+
+
+def listed(name):
+    """The listing of that name in tests/rows.txt."""
+    part = (ROOT / "tests" / "rows.txt").read_text().split(f"\nlisting {name}\n", 1)[1]
+    lines = []
+    for line in part.splitlines():
+        if not line.startswith("> "):
+            break
+        lines.append(line.removeprefix("> ") + "\n")
+    return "".join(lines).encode()
 
 
 def cases(folder):
@@ -35,6 +56,13 @@ def cases(folder):
     together = sorted(OBJECTS.glob("planned_*.o"))
     yield "several, whole", [*WHOLE, *together], 0, (OBJECTS / "planned_whole.plan").read_bytes()
     yield "several, what is kept", together, 0, (OBJECTS / "planned_kept.plan").read_bytes()
+    yield "a kept entry", ["--entry", "b", sound], 0, listed("entry b")
+    compiled, shared = folder / "compiled.o", folder / "shared.o"
+    compiled.write_bytes(COMPILED)
+    yield "an object as compilers write it", [compiled], 0, listed("as compilers write it")
+    shared.write_bytes(ONE_SEGMENT)
+    words = [*WHOLE, "--shared-memory", "--no-check-features", shared]
+    yield "shared memory", words, 0, listed("shared one segment that all threads have in common")
     threads = sorted(OBJECTS.glob("threads_*.o"))
     yield "threads", [*SHARED, *threads], 0, (OBJECTS / "threads.plan").read_bytes()
     for made in sorted(set(OBJECTS.glob("*.o")) - set(together)):
