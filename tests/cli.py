@@ -415,12 +415,12 @@ def documented_operators(folder):
         "a byte that is 70 or 6f": "70",
     }
     told = {}
-    for cell, what in table_of(FORMAT, "| first byte | behind it |"):
+    for cell, what in table_of(FORMAT, "| first byte | after it |"):
         firsts = numbers_in(cell, 16)
         each = what.split(", ") if what.startswith(("an s32", "four")) else [what] * len(firsts)
         told |= {bytes([first]): text for first, text in zip(firsts, each)}
     prefix = ""
-    for first, numbers, what in table_of(FORMAT, "| first byte | number | behind it |"):
+    for first, numbers, what in table_of(FORMAT, "| first byte | number | after it |"):
         prefix = first or prefix
         told |= {bytes.fromhex(prefix) + leb128(number): what for number in numbers_in(numbers, 10)}
     made = folder / "documented.o"
@@ -507,7 +507,7 @@ def documented_words():
 
 def documented_relocations(folder):
     """A type of relocation that docs/FORMAT.md has is read, with an addend where it says so; others are refused."""
-    rows = table_of(FORMAT, "| number | type | field | addend | index | stands in |")
+    rows = table_of(FORMAT, "| number | type | field | addend | index | is in |")
     addends = {int(number): addend == "yes" for number, _, _, addend, _, _ in rows}
     sound = (EXAMPLES / "two_functions.o").read_bytes()
     made = folder / "relocation.o"
