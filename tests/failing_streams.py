@@ -10,8 +10,10 @@ call the C library's read and write from its own code."""
 import re
 import sys
 
-from out_of_memory import ended, tried
+from out_of_memory import EXAMPLES, WHOLE, ended, tried
 
+SOUND = EXAMPLES / "two_functions.o"
+LISTING = SOUND.with_suffix(".plan").read_bytes()
 READ_FAULT = re.compile(rb"error: ReadFault (\d+)\n")
 
 
@@ -45,6 +47,39 @@ def wrong_writes(program, refuser, words, answer):
     return count, wrong
 
 
+def byte_by_byte(program, refuser, folder):
+    """Each read gives one byte: one for each byte of the object, and one at its end. Whichever fails, nothing is
+    written but the line."""
+    whole, count = ended(program, refuser, [*WHOLE, SOUND], 0, "read", 1)
+    wrong = [] if (whole, count) == ((0, LISTING, b""), len(SOUND.read_bytes()) + 1) else [f"{whole} by {count} reads"]
+    for number in range(1, count + 1):
+        got, _ = ended(program, refuser, [*WHOLE, SOUND], number, "read", 1)
+        if got != (3, b"", b"error: ReadFault 0\n"):
+            wrong.append(f"read {number}: {got}")
+    return f"{count} reads", wrong
+
+
+def piece_by_piece(program, refuser, folder):
+    """Each write takes 16 bytes. Where one fails the output has what the ones before it took."""
+    whole, count = ended(program, refuser, [*WHOLE, SOUND], 0, "write", 16)
+    wrong = [] if (whole, count) == ((0, LISTING, b""), -(-len(LISTING) // 16)) else [f"{whole} by {count} writes"]
+    for number in range(1, count + 1):
+        got, _ = ended(program, refuser, [*WHOLE, SOUND], number, "write", 16)
+        if got != (4, LISTING[: 16 * (number - 1)], b""):
+            wrong.append(f"write {number}: {got}")
+    return f"{count} writes", wrong
+
+
+def nothing_is_taken(program, refuser, folder):
+    """An output that takes no byte has failed, and so has one whose first write fails where a line is due."""
+    got, _ = ended(program, refuser, [*WHOLE, SOUND], 0, "write", 0)
+    wrong = [] if got == (4, b"", b"") else [f"no byte: {got}"]
+    front = folder / "front.o"
+    front.write_bytes(SOUND.read_bytes()[:7])
+    got, _ = ended(program, refuser, [*WHOLE, front], 1, "write")
+    return "2 runs", wrong + ([] if got == (4, b"", b"") else [f"no line: {got}"])
+
+
 def main():
     def each(*case):
         reads, wrong = wrong_reads(*case)
@@ -53,7 +88,12 @@ def main():
             more.append("it writes by other calls")
         return f"{reads} reads and {writes} writes", wrong + more
 
-    return tried("Lets each read and write of the program fail in turn.", each)
+    others = [
+        ("an object byte by byte", byte_by_byte),
+        ("a listing piece by piece", piece_by_piece),
+        ("an output that takes nothing", nothing_is_taken),
+    ]
+    return tried("Lets each read and write of the program fail in turn.", each, others)
 
 
 if __name__ == "__main__":

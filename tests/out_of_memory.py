@@ -96,10 +96,13 @@ def made_refuser(folder):
     return refuser
 
 
-def ended(program, refuser, words, number, calls="memory"):
-    """How the program ends where the call of that kind and number is refused, and how many calls it made."""
+def ended(program, refuser, words, number, calls="memory", piece=None):
+    """How the program ends where the call of that kind and number is refused, and how many calls it made. A piece is
+    the most bytes that a read or a write moves."""
     reader, writer = os.pipe()
     refusal = {"LD_PRELOAD": str(refuser), "CALLS": calls, "REFUSED": str(number), "COUNTED": str(writer)}
+    if piece is not None:
+        refusal["PIECE"] = str(piece)
     given = {**os.environ, **refusal}
     streams = {"stdin": subprocess.DEVNULL, "capture_output": True, "pass_fds": [writer]}
     run = subprocess.run([program, *words], env=given, timeout=120, **streams)
@@ -127,8 +130,9 @@ def refuse_each(program, refuser, words, answer):
     return count, wrong
 
 
-def tried(description, try_case):
-    """The status of a script that tries each case, by a call that answers what it saw and what is wrong."""
+def tried(description, try_case, others=()):
+    """The status of a script that tries each case, by a call that answers what it saw and what is wrong, and then the
+    others, each a title and such a call by itself."""
     parser = argparse.ArgumentParser(description=description)
     parser.add_argument("--program", type=pathlib.Path, default=PROGRAM)
     program = parser.parse_args().program
@@ -140,6 +144,10 @@ def tried(description, try_case):
         refuser = made_refuser(folder)
         for title, words, status, text in cases(folder):
             seen, wrong = try_case(program, refuser, words, usual(status, text))
+            print(f"{title}: {seen}, {len(wrong)} wrong", *wrong, sep="\n    ")
+            passed, failed = passed + (not wrong), failed + bool(wrong)
+        for title, try_other in others:
+            seen, wrong = try_other(program, refuser, folder)
             print(f"{title}: {seen}, {len(wrong)} wrong", *wrong, sep="\n    ")
             passed, failed = passed + (not wrong), failed + bool(wrong)
     print(f"{passed} passed, {failed} failed")

@@ -1,7 +1,8 @@
 // Loaded into a program in front of the C library, it refuses one of the program's calls: that of the number
 // REFUSED, counted from 1, among the calls of the kind CALLS, which is "memory", "read" or "write". Where the number
-// is 0, or beyond the last one, it refuses none. At the end it writes how many there were to the descriptor
-// COUNTED. Only calls from the program's own code count: those of the C library go through.
+// is 0, or beyond the last one, it refuses none. Where PIECE is given, each read or write of that kind moves at most so
+// many bytes. At the end it writes how many calls there were to the descriptor COUNTED. Only calls from the program's
+// own code count: those of the C library go through.
 #define _GNU_SOURCE
 #include <dlfcn.h>
 #include <errno.h>
@@ -22,6 +23,7 @@ static ssize_t (*real_write)(int, const void *, size_t);
 static uintptr_t first, behind;
 static const char *counted = "memory";
 static long seen, refused;
+static size_t piece = SIZE_MAX;
 
 // Of what is loaded the program is told first, and nothing else is asked for.
 static int note_program(struct dl_phdr_info *info, size_t size, void *unused) {
@@ -50,6 +52,8 @@ __attribute__((constructor)) static void begin(void) {
     const char *kind = getenv("CALLS"), *number = getenv("REFUSED");
     if (kind) counted = kind;
     refused = number ? atol(number) : 0;
+    const char *most = getenv("PIECE");
+    if (most) piece = strtoul(most, 0, 10);
     dl_iterate_phdr(note_program, 0);
 }
 
@@ -58,9 +62,17 @@ __attribute__((destructor)) static void end(void) {
     if (to) dprintf(atoi(to), "%ld\n", seen);
 }
 
-static int is_refused(const char *kind, void *caller) {
+static int is_counted(const char *kind, void *caller) {
     uintptr_t at = (uintptr_t)caller;
-    return first <= at && at < behind && !strcmp(kind, counted) && ++seen == refused;
+    return first <= at && at < behind && !strcmp(kind, counted);
+}
+
+static int is_refused(const char *kind, void *caller) {
+    return is_counted(kind, caller) && ++seen == refused;
+}
+
+static size_t moved(const char *kind, void *caller, size_t size) {
+    return is_counted(kind, caller) && size > piece ? piece : size;
 }
 
 void *malloc(size_t size) {
@@ -86,10 +98,14 @@ static ssize_t input_output_error(void) {
 
 ssize_t read(int from, void *room, size_t size) {
     if (!real_read) find_real();
-    return is_refused("read", __builtin_return_address(0)) ? input_output_error() : real_read(from, room, size);
+    void *caller = __builtin_return_address(0);
+    if (is_refused("read", caller)) return input_output_error();
+    return real_read(from, room, moved("read", caller, size));
 }
 
 ssize_t write(int to, const void *bytes, size_t size) {
     if (!real_write) find_real();
-    return is_refused("write", __builtin_return_address(0)) ? input_output_error() : real_write(to, bytes, size);
+    void *caller = __builtin_return_address(0);
+    if (is_refused("write", caller)) return input_output_error();
+    return real_write(to, bytes, moved("write", caller, size));
 }

@@ -205,6 +205,9 @@ AT_CALLS = {
 IN_SCRIPTS = {
     "each read of the program that fails": ("failing_streams.py", "wrong_reads"),
     "each write of the program that fails": ("failing_streams.py", "wrong_writes"),
+    "an object that is read byte by byte": ("failing_streams.py", "byte_by_byte"),
+    "a listing that is written 16 bytes at a time": ("failing_streams.py", "piece_by_piece"),
+    "an output that takes no byte": ("failing_streams.py", "nothing_is_taken"),
     "each allocation of the program that is refused": ("out_of_memory.py", "refuse_each"),
     "a refused allocation, with a kept entry": ("out_of_memory.py", "a kept entry"),
     "a refused allocation, of an object as clang writes it": ("out_of_memory.py", "an object as compilers write it"),
