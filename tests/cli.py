@@ -313,15 +313,28 @@ def files_of(text, stretches, folder):
     return files
 
 
+def words_of(text, listings, folder):
+    """The words of a line, and the files that they name: {NAME} stands for a file that has that listing."""
+    words, files = [], {}
+    for word in re.findall(r"(?:\{[^{}]*\}|[^\s{])+", text):
+        for name in re.findall(r"\{([^{}]*)\}", word):
+            path = folder / f"{len(files)}.txt"
+            path.write_text(listings[name])
+            files[path] = listings[name]
+            word = word.replace(f"{{{name}}}", str(path))
+        words.append(word)
+    return words, files
+
+
 def rows(folder):
     """The table of objects and answers."""
-    stretches, listings, words, rule, listing = named_stretches(), {}, [], "", ""
+    stretches, listings, words, given, rule, listing = named_stretches(), {}, [], {}, "", ""
     for line in ROWS.read_text().splitlines():
         kind, _, rest = line.partition(" ")
         if kind == "##":
             rule = rest
         elif kind == "words":
-            words = rest.split()
+            words, given = words_of(rest, listings, folder)
         elif kind == "listing":
             listing = rest
             listings[listing] = ""
@@ -334,6 +347,8 @@ def rows(folder):
                 files = files_of(row, stretches, folder)
                 out, err = (listings[told], "") if status == "0" else ("", f"error: {told}\n")
                 check(f"{rule}: {row}", run([*words, *files]), int(status), out.encode(), err.encode())
+                for path, text in given.items():
+                    note(f"{rule}: {row}: a file that words name has changed", path.read_text() == text, "rows")
 
 
 def runs_of(text):
