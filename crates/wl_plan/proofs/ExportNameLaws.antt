@@ -27,7 +27,7 @@ any_before : (test : ExportEntry → Bool) (xs ys : List ExportEntry)
     → list_any test (xs ++ ys) ≡ false → list_any test xs ≡ false
 any_before test xs ys none = elim (cases_Bool (list_any test xs)) [
   | inl some ↦ absurd (let bad : true ≡ false = sym (any_front test xs ys some) ∙ none in cc)
-  | inr no ↦ no
+  | inr fails ↦ fails
 ]
 
 not_in : (test : ExportEntry → Bool) (xs : List ExportEntry) (x : ExportEntry)
@@ -62,20 +62,21 @@ apart : (before xs : List ExportEntry) (i k : ℕ) (x y : ExportEntry) → i < k
 apart before [] i k x y lt here there = absurd cc
 apart before (z ∷ xs) i k x y lt here there = elim (cases_Bool (list_any (same_name z) before)) [
   | inl taken ↦ apart (before ++ z ∷ []) xs i k x y lt (rw taken at here) (rw taken at there)
-  | inr free ↦ at i k lt (rw free at here) (rw free at there)
+  | inr free ↦
+      at (λ j l less a b. apart (before ++ z ∷ []) xs j l x y less a b) i k lt (rw free at here)
+      (rw free at there)
 ]
   where
-    rest : List ExportEntry
-    rest = unless_taken (before ++ z ∷ []) xs
-
-    at : (i k : ℕ) → i < k → slice_get (z ∷ unless_taken (before ++ z ∷ []) xs) i ≡ Some x
+    at : ((j l : ℕ) → j < l → slice_get (unless_taken (before ++ z ∷ []) xs) j ≡ Some x
+        → slice_get (unless_taken (before ++ z ∷ []) xs) l ≡ Some y → same_name y x ≡ false)
+        → (i k : ℕ) → i < k → slice_get (z ∷ unless_taken (before ++ z ∷ []) xs) i ≡ Some x
         → slice_get (z ∷ unless_taken (before ++ z ∷ []) xs) k ≡ Some y → same_name y x ≡ false
-    at i zero lt here there = absurd (omega (arith, lt))
-    at zero (suc k) lt here there =
+    at rest i zero lt here there = absurd (omega (arith, lt))
+    at rest zero (suc k) lt here there =
         let none = untaken (before ++ z ∷ []) xs y (in_at (unless_taken (before ++ z ∷ []) xs) k y there) in
         let fails = not_in (same_name y) (before ++ z ∷ []) z none (in_last before z) in
         subst (λ (w : ExportEntry). same_name y w ≡ false) (same_Some z x here) fails
-    at (suc i) (suc k) lt here there = apart (before ++ z ∷ []) xs i k x y (omega (arith, lt)) here there
+    at rest (suc i) (suc k) lt here there = rest i k (omega (arith, lt)) here there
 
 named_same : (x y : ExportEntry) → x.name ≡ y.name → same_name y x ≡ true
 named_same x y is = (bytes_eq-Decides y.name x.name).1 (sym is)

@@ -55,6 +55,14 @@ filter_place p (y ∷ xs) (suc i) x here so = elim (cases_Bool (p y)) [
   | inr fails ↦ rw fails (filter_place p xs i x here so)
 ]
 
+-- where exports are wrapped, those are that can be
+filter_same : (input : Input) (es : List ExportEntry) → wraps input ≡ true
+    → filter (is_wrapped input) es ≡ filter can_wrap es
+filter_same input [] on = refl
+filter_same input (e ∷ es) on =
+    let here : is_wrapped input e ≡ can_wrap e = rw on refl in
+    rw (here, filter_same input es on) refl
+
 wrapped_place : (input : Input) (place : ℕ) (e : ExportEntry) → slice_get (exports input) place ≡ Some e
     → is_wrapped input e ≡ true
     → slice_get (wrapped input) (length (filter (is_wrapped input) (take place (exports input)))) ≡ Some e
@@ -63,7 +71,10 @@ wrapped_place input place e here is = at (wraps input) refl
     at : (b : Bool) → wraps input ≡ b
         → slice_get (wrapped input) (length (filter (is_wrapped input) (take place (exports input)))) ≡ Some e
     at false off = absurd (let bad : false ≡ true = rw off at is in cc)
-    at true on = rw on (filter_place can_wrap (exports input) place e here (rw on at is))
+    at true on =
+        let can : can_wrap e ≡ true = rw on at is in
+        rw (on, filter_same input (take place (exports input)) on)
+        (filter_place can_wrap (exports input) place e here can)
 
 -- ---- exports
 

@@ -48,3 +48,4 @@ pub mod PartLaws
 pub mod ClearLaws
 pub mod ExportNameLaws
 pub mod ExportPlaceLaws
+pub mod LayoutLaws

@@ -1,5 +1,5 @@
 -- The parts of a plan fit one another: types, bodies, numbers of segments, and slots.
-use Rattle.std.proofs.Common.{◌≡◌, ◌≢◌, ◌∙◌, ◌⊎◌, inl, inr, ℕ, ◌+◌, ◌-◌, ◌<◌, ◌||◌, ◌&&◌, Bool, true, false, max, List, [], ◌∷◌, ◌++◌, length, map, refl, sym, ap, subst, arith, Option, Some, None, slice_get, get_or, length-append, Contains, position}
+use Rattle.std.proofs.Common.{◌≡◌, ◌≢◌, ◌∙◌, ◌⊎◌, inl, inr, ℕ, zero, suc, ◌+◌, ◌-◌, ◌<◌, ◌≤◌, ◌||◌, ◌&&◌, Bool, true, false, max, List, [], ◌∷◌, ◌++◌, length, map, refl, sym, ap, subst, arith, Option, Some, None, slice_get, get_or, length-append, Contains, position}
 use Rattle.std.specs.List.{AllZip, filter_map, cons_option, list_any}
 use Rattle.std.specs.Option.{option_map, option_and_then, unwrap_or}
 use Rattle.std.proofs.Math.Nat.{le-max_left}
@@ -215,15 +215,17 @@ record Chosen {X Y : Type 0} (f : X → Option Y) (xs : List X) (y : Y) : Type 0
 chosen_from : {X Y : Type 0} (f : X → Option Y) (xs : List X) (y : Y) → IsIn (filter_map f xs) y
     → Chosen f xs y
 chosen_from f [] y h = absurd h
-chosen_from {X} {Y} f (x ∷ xs) y h = at (f x) refl h
+chosen_from {X} {Y} f (x ∷ xs) y h = at (f x) refl (chosen_from f xs y) h
   where
-    at : (o : Option Y) → f x ≡ o → IsIn (cons_option o (filter_map f xs)) y → Chosen f (x ∷ xs) y
-    at None e h =
-        let c = chosen_from f xs y h in
+    at : (o : Option Y) → f x ≡ o → (IsIn (filter_map f xs) y → Chosen f xs y)
+        → IsIn (cons_option o (filter_map f xs)) y → Chosen f (x ∷ xs) y
+    at None e rest h =
+        let c = rest h in
         record { from = c.from; there = inr c.there; gives = c.gives }
-    at (Some z) e (inl is) = record { from = x; there = inl refl; gives = e ∙ ap (λ (w : Y). Some w) is }
-    at (Some z) e (inr behind) =
-        let c = chosen_from f xs y behind in
+    at (Some z) e rest (inl is) =
+        record { from = x; there = inl refl; gives = e ∙ ap (λ (w : Y). Some w) is }
+    at (Some z) e rest (inr behind) =
+        let c = rest behind in
         record { from = c.from; there = inr c.there; gives = c.gives }
 
 asks_by : (a b m n : Bool) → ((a || b) && n) ≡ true → (a || m || (b && n)) ≡ true
@@ -340,7 +342,7 @@ slot_holds laws input plan index slot is here some not =
           let there : plan.layout.table ≡ Some t = is.entities.table ∙ (rw has refl) in
           let within : slot < table_size input =
           (let at = p.2.slot_is in let lt = e.2 in
-          let most = le-max_left (length (table_functions input) + 1) _ in omega (arith, at, lt, most)) in
-          (rw before e.0, t, there, within)
+          let most : length (table_functions input) + 1 ≤ table_size input = le-max_left (length (table_functions input) + 1) _ in omega (arith, at, lt, most)) in
+          (rw before e.0, (t, there, within))
       | inr behind ↦ absurd (not (all_wrappers_none (wrapped input) behind.0 slot behind.2))
     ]

@@ -1,9 +1,13 @@
 //! What someone may count on who writes a module by a plan: its parts fit one another. Functions
 //! with an empty body, each of which states a law.
 
-ghost use Rattle.std.specs.Prelude.{◌≡◌, ◌≢◌, ◌<◌, ◌-◌, ◌↔◌, ℕ, List, length, map, true, Some, Contains, slice_get};
+ghost use Rattle.std.specs.Prelude.{◌≡◌, ◌≢◌, ◌<◌, ◌-◌, ◌↔◌, ℕ, List, length, map, true, Some, Err, Contains, slice_get};
 ghost use Rattle.std.specs.List.{AllZip};
+ghost use Rattle.wl_linking.specs.Object.{Object as SpecObject};
 ghost use Rattle.wl_linking.specs.Steps.{Clear};
+ghost use Rattle.wl_reloc.specs.declared.error.RelocError.{RelocError as Why};
+ghost use Rattle.wl_index.specs.declared.index_map.WasmObjectIndexMap.{WasmObjectIndexMap as Map};
+ghost use Rattle.wl_symbols.specs.declared.relocated.Relocated.{Relocated as KeptRelocation};
 ghost use Rattle.wl_module.specs.Bodies.{Body as SpecBody};
 ghost use Rattle.wl_module.specs.Exports.{Exported};
 ghost use Rattle.wl_module.specs.declared.limits.TableType.{TableType as SpecTable};
@@ -34,9 +38,11 @@ ghost use Rattle.wl_plan.specs.LinkPlan.{IsPlanOf};
 ghost use Rattle.wl_plan.specs.Origins.{OfObject, PlannedFunction as FunctionOfPlan};
 ghost use Rattle.wl_plan.specs.Placing.{data_options};
 ghost use Rattle.wl_plan.specs.Plan.{IsPlan};
+ghost use Rattle.wl_plan.specs.Resolved.{HasNoAddress, IsNumbered, IsOf, answer_by};
 ghost use Rattle.wl_plan.specs.Running.{HasMadeBody};
 ghost use Rattle.wl_plan.specs.declared.layout.LinkPlan.{LinkPlan as SpecPlan};
 
+use crate::laws::only_addresses_are_refused;
 use wl_bind::{entries_stand_once, same_targets_are_one};
 use wl_data::{places_stand_apart, segments_have_layouts};
 use wl_ops::{numbers_are_one, rewriting_keeps_operators};
@@ -110,6 +116,17 @@ pub fn slots_hold_their_functions()
 {
     entries_stand_once();
     same_targets_are_one();
+}
+
+/// By the layout of a plan `resolve_reloc` refuses a kept relocation for its address alone: what it
+/// names has its index, its slot and its global there.
+pub fn layouts_refuse_addresses_alone()
+    ensures { (input : Input) (plan : SpecPlan) (is : IsPlan input plan) (r : KeptRelocation)
+        (o : SpecObject) (m : Map) (why : Why) → IsNumbered input
+        → IsOf input plan.layout.object_index_maps r o m → answer_by plan.layout o m r ≡ Err why
+        → HasNoAddress input is.placing r why }
+{
+    only_addresses_are_refused();
 }
 
 /// No two exports of a plan have one name.
