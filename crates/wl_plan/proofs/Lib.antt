@@ -44,3 +44,8 @@ pub mod RunningLaws
 pub mod BlockExportLaws
 pub mod ResolvedLaws
 pub mod WrapperLaws
+pub mod PartLaws
+pub mod ClearLaws
+pub mod ExportNameLaws
+pub mod ExportPlaceLaws
+pub mod LayoutLaws

@@ -97,7 +97,7 @@ pub record IsOwn (input : Input) (g : Placing) (f : PlannedFunction) (b : Body) 
   pub origin : origin_of input entry ≡ Some f.origin
   pub body : IsBodyOf input g entry b
 
-own_or_wrapper : (input : Input) (g : Placing) (functions : List PlannedFunction) (bodies : List Body)
+pub own_or_wrapper : (input : Input) (g : Placing) (functions : List PlannedFunction) (bodies : List Body)
     (place : ℕ) (f : PlannedFunction) (b : Body)
     → AreOutputFunctions input (output_types input) functions → AreBodies input g bodies
     → slice_get functions place ≡ Some f → slice_get bodies place ≡ Some b

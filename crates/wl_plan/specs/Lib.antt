@@ -36,3 +36,4 @@ pub mod Contents
 pub mod Running
 pub mod ThreadSteps
 pub mod Parsing
+pub mod Exported

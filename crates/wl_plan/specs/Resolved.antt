@@ -18,6 +18,7 @@ use Rattle.wl_symbols.specs.declared.relocated.Relocated.{Relocated}
 use Rattle.wl_plan.specs.Fixups.{address_taken, IsAddressReason}
 use Rattle.wl_plan.specs.Table.{space_slots}
 use Rattle.wl_plan.specs.Threads.{bases_of}
+use Rattle.wl_plan.specs.declared.layout.WasmLayout.{WasmLayout}
 use Rattle.wl_plan.specs.declared.placing.Placing.{Placing}
 
 -- a link of whole objects, of which this is kept, whose references are bound and whose things have
@@ -52,3 +53,14 @@ pub record HasNoAddress (input : Input) (g : Placing) (r : Relocated) (why : Rel
   pub takes : taking_of r.relocation.ty ≡ Address base
   pub fault : address_taken input g r base ≡ Err why
   pub reason : IsAddressReason why
+
+-- what is answered for the relocation by the layout of a plan, by the map and the symbols of its
+-- object
+abbrev pub answer_by : WasmLayout → Object → WasmObjectIndexMap → Relocated → Result ℕ RelocError
+answer_by layout o m r =
+    resolved (record {
+      map = m;
+      symbols = o.symbols;
+      slots = layout.function_table_slots;
+      bases = record { memory_base = layout.memory_base; tls_base = layout.tls_base };
+    }) r.relocation

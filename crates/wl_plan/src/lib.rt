@@ -19,6 +19,7 @@ mod module_layout;
 mod objects;
 mod outline;
 mod parsing;
+mod part_laws;
 mod placing;
 mod plan;
 mod positions;
@@ -40,6 +41,11 @@ pub use link::{plan_files, plan_link};
 pub use module_layout::build_output_module_layout;
 pub use objects::{MAX_OBJECT, ObjectList, PushError};
 pub use parsing::parse_objects;
+pub use part_laws::{
+    bodies_name_their_own_segments, exports_have_different_names, exports_lead_to_their_things,
+    functions_have_types_and_bodies, layouts_refuse_addresses_alone, places_of_plans_stand_apart,
+    plans_keep_their_promises, slots_hold_their_functions,
+};
 pub use running_laws::{
     block_exports_name_their_things, constructors_of_plans_are_called,
     deferred_fields_are_pointers, segments_of_plans_are_laid_once, stubs_of_plans_trap,
