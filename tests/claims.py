@@ -14,6 +14,7 @@ ROOT = pathlib.Path(__file__).resolve().parent.parent
 sys.path.insert(0, str(ROOT / "tools"))
 
 import clauses  # noqa: E402
+import counting  # noqa: E402
 import documents  # noqa: E402
 
 PAGE = documents.DOCS / "CLAIMS.md"
@@ -26,16 +27,8 @@ TYPE = re.compile(r"^ *pub (?:struct|enum|trait|const|static|type) (\w+)", re.M)
 CASES = re.compile(r"^pub enum \w+[^{]*\{", re.M)
 RECORD = re.compile(r"^pub record ([\w-]+)((?:\n(?!\n).*|.)*)", re.M)
 
-passed = 0
-failed = 0
-
-
-def note(title, sound):
-    """Counts a name."""
-    global passed, failed
-    passed, failed = (passed + 1, failed) if sound else (passed, failed + 1)
-    if not sound:
-        print(title)
+counts = counting.Counts()
+note = counts.note
 
 
 def stretches(code, pattern):
@@ -122,8 +115,7 @@ def main():
                     named.add(name)
     left = sorted(set(known) - named)
     print(f"wrong bodies that the page doesn't name: {len(left)}", *left, sep="\n    ")
-    print(f"{passed} passed, {failed} failed")
-    sys.exit(1 if failed else 0)
+    counts.end()
 
 
 if __name__ == "__main__":

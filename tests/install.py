@@ -16,6 +16,7 @@ import tempfile
 ROOT = pathlib.Path(__file__).resolve().parent.parent
 sys.path.insert(0, str(ROOT / "tools"))
 
+import counting  # noqa: E402
 import make_pages  # noqa: E402
 
 COMPLETIONS = {
@@ -26,16 +27,8 @@ COMPLETIONS = {
 PAGE = "share/man/man1/wildplan.1"
 LICENCES = ["LICENSE-MIT", "LICENSE-APACHE", "NOTICE"]
 
-passed = 0
-failed = 0
-
-
-def note(title, sound):
-    """Counts a test."""
-    global passed, failed
-    passed, failed = (passed + 1, failed) if sound else (passed, failed + 1)
-    if not sound:
-        print(title)
+counts = counting.Counts()
+note = counts.note
 
 
 def is_there(program):
@@ -148,8 +141,7 @@ def main():
         with tempfile.TemporaryDirectory() as name:
             folder = pathlib.Path(name)
             installed(folder, shutil.copy(sys.argv[1], folder / "program"))
-    print(f"{passed} passed, {failed} failed")
-    sys.exit(1 if failed else 0)
+    counts.end()
 
 
 if __name__ == "__main__":

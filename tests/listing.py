@@ -11,6 +11,7 @@ import sys
 ROOT = pathlib.Path(__file__).resolve().parent.parent
 sys.path.insert(0, str(ROOT / "tools"))
 
+import counting  # noqa: E402
 import listing  # noqa: E402
 from documents import table_of  # noqa: E402
 
@@ -70,16 +71,8 @@ LINES = [
     ('debug 1 ".debug_str" 75', listing.DebugSection(1, ".debug_str", 75)),
 ]
 
-passed = 0
-failed = 0
-
-
-def note(title, sound):
-    """Counts a test."""
-    global passed, failed
-    passed, failed = (passed + 1, failed) if sound else (passed, failed + 1)
-    if not sound:
-        print(f"tools/listing.py: {title}")
+counts = counting.Counts("tools/listing.py: ")
+note = counts.note
 
 
 def fault_of(text):
@@ -121,8 +114,7 @@ def main():
     note("lines of a class", [line.index for line in small.of(listing.Function)] == [0, 1])
     ended = subprocess.run([sys.executable, ROOT / "tools" / "listing.py"], input=SMALL.encode(), capture_output=True)
     note("the lines of JSON", ended.returncode == 0 and len(ended.stdout.splitlines()) == len(small.lines))
-    print(f"{passed} passed, {failed} failed")
-    sys.exit(1 if failed else 0)
+    counts.end()
 
 
 if __name__ == "__main__":

@@ -15,6 +15,7 @@ import sys
 ROOT = pathlib.Path(__file__).resolve().parent.parent
 sys.path.insert(0, str(ROOT / "tools"))
 
+import counting  # noqa: E402
 import documents  # noqa: E402
 import link_line  # noqa: E402
 import listing  # noqa: E402
@@ -43,16 +44,12 @@ SHOWN_UNKNOWN = {"--e", "--static", "-a", "-emain", "-entry", "-zstack-size"}
 # Options of compilers and of tools/wildplan-ld itself, which docs/LINKER.md shows.
 LINKER_WORDS = {"-C", "-fuse-ld", "--help", "--ld-path", "--no-wasm-opt", "--version"}
 
-passed = 0
-failed = 0
+counts = counting.Counts()
 
 
 def note(page, title, sound):
-    """Counts a comparison."""
-    global passed, failed
-    passed, failed = (passed + 1, failed) if sound else (passed, failed + 1)
-    if not sound:
-        print(f"{page.relative_to(ROOT)}: {title}")
+    """Counts a comparison of a page."""
+    counts.note(f"{page.relative_to(ROOT)}: {title}", sound)
 
 
 def sources():
@@ -291,8 +288,7 @@ def main():
         blocks(page)
         spans(page)
     man_page()
-    print(f"{passed} passed, {failed} failed")
-    sys.exit(1 if failed else 0)
+    counts.end()
 
 
 if __name__ == "__main__":

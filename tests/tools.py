@@ -23,6 +23,7 @@ ROOT = pathlib.Path(__file__).resolve().parent.parent
 sys.path[:0] = [str(ROOT / "tools"), str(ROOT / "tests")]
 
 import archives  # noqa: E402
+import counting  # noqa: E402
 import documents  # noqa: E402
 import link_line  # noqa: E402
 import made_objects  # noqa: E402
@@ -36,8 +37,8 @@ COUNTER = [str(EXAMPLES / "counter" / name) for name in ("counter.o", "setup.o")
 COUNTER_WORDS = ["--no-entry", "--export", "count", "--export", "last", "--export", "chosen"]
 ENVIRONMENT = {**os.environ, "WILDPLAN": PROGRAM}
 
-passed = 0
-failed = 0
+counts = counting.Counts()
+note = counts.note
 
 
 def script(path):
@@ -49,14 +50,6 @@ def script(path):
 
 
 linker = script(LINKER)
-
-
-def note(title, sound):
-    """Counts a test."""
-    global passed, failed
-    passed, failed = (passed + 1, failed) if sound else (passed, failed + 1)
-    if not sound:
-        print(title)
 
 
 def same(title, got, wanted):
@@ -517,8 +510,7 @@ def main():
         wrong_listings(folder)
         runs(folder)
         programs(folder)
-    print(f"{passed} passed, {failed} failed")
-    sys.exit(1 if failed else 0)
+    counts.end()
 
 
 if __name__ == "__main__":

@@ -16,6 +16,7 @@ import tempfile
 ROOT = pathlib.Path(__file__).resolve().parent.parent
 sys.path.insert(0, str(ROOT / "tools"))
 
+import counting  # noqa: E402
 import documents  # noqa: E402
 import listing  # noqa: E402
 from wasm_module import read_module  # noqa: E402
@@ -40,20 +41,12 @@ UNTRIED = {
 }
 
 CASES = {}
-passed = 0
-failed = 0
+counts = counting.Counts()
+note = counts.note
 untold = []
 linkers = {}
 program = None
 folder = None
-
-
-def note(title, sound):
-    """Counts a comparison."""
-    global passed, failed
-    passed, failed = (passed + 1, failed) if sound else (passed, failed + 1)
-    if not sound:
-        print(title)
 
 
 def case(row):
@@ -744,8 +737,7 @@ def main():
             tried()
     if linkers and untold:
         print(f"skipped: whether a newer wasm-ld knows {', '.join(untold)}")
-    print(f"{passed} passed, {failed} failed")
-    sys.exit(1 if failed else 0)
+    counts.end()
 
 
 if __name__ == "__main__":

@@ -8,7 +8,8 @@ The last line is `N passed, M failed`."""
 
 import pathlib
 import re
-import sys
+
+import counting
 
 ROOT = pathlib.Path(__file__).resolve().parent.parent
 ROWS = ROOT / "tests" / "rows.txt"
@@ -218,16 +219,8 @@ IN_SCRIPTS = {
     "files that can't be read to their end": ("cli.py", "reads"),
 }
 
-passed = 0
-failed = 0
-
-
-def note(title, sound):
-    """Counts an example."""
-    global passed, failed
-    passed, failed = (passed + 1, failed) if sound else (passed, failed + 1)
-    if not sound:
-        print(title)
+counts = counting.Counts()
+note = counts.note
 
 
 def headings():
@@ -263,8 +256,7 @@ def main():
         text = (ROOT / "tests" / script).read_text()
         stands = any(form in text for form in (f"def {name}(", f"fn {name}(", f'yield "{name}"'))
         note(f"{shown}: no {name} in {script}", stands)
-    print(f"{passed} passed, {failed} failed")
-    sys.exit(1 if failed else 0)
+    counts.end()
 
 
 if __name__ == "__main__":
