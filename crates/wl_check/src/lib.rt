@@ -25,10 +25,8 @@ pub use laws::{
     listing_or_bad_line, listings_differ, names_are_bounded, spellings_are_apart,
     spellings_are_stretches,
 };
-pub use line::{
-    Fixup, FixupTo, FunctionSource, GlobalOrigin, Line, MadeFunction, MadeGlobal,
-    OutputImportEntity, SegmentState,
-};
+pub use line::{FunctionSource, Line, MadeFunction, SegmentState};
 pub use listing::{ListingError, read_listing};
+pub use wl_output::{Fixup, FixupTo, GlobalOrigin, MadeGlobal, OutputImportEntity};
 pub use wl_symbols::FixupPlace;
 pub use writing::push_line;

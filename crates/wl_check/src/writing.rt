@@ -8,12 +8,11 @@ ghost use Rattle.wl_check.specs.Spelled.{Spelled};
 ghost use Rattle.wl_check.specs.declared.line.Line.TheVariants.{OutputType, Import, Function, Body, Global, Memory, Slot, Segment, Export, Fix, Feature, Debug};
 
 use crate::case::Case;
-use crate::line::{
-    Fixup, FixupTo, FunctionSource, GlobalOrigin, Line, OutputImportEntity, SegmentState,
-};
+use crate::line::{FunctionSource, Line, SegmentState};
 use crate::pieces::{BLANK, NEWLINE};
 use std::alloc::AllocError;
 use wl_module::{ExternalKind, FuncType, GlobalType, MemoryType, ValType};
+use wl_output::{Fixup, FixupTo, GlobalOrigin, OutputImportEntity};
 use wl_text::Page;
 
 // ---- pieces

@@ -33,8 +33,8 @@ pub use laws::{
     only_addresses_are_refused, plan_or_fault,
 };
 pub use layout::{
-    Fixup, FixupTo, FunctionOrigin, GlobalOrigin, LinkPlan, MadeGlobal, OutputFunction,
-    OutputImport, OutputImportEntity, PlannedGlobal, WasmLayout, count_output_imports,
+    FunctionOrigin, LinkPlan, OutputFunction, OutputImport, PlannedGlobal, WasmLayout,
+    count_output_imports,
 };
 pub use link::{plan_files, plan_link};
 pub use module_layout::build_output_module_layout;
@@ -47,6 +47,7 @@ pub use running_laws::{
 };
 pub use wl_bind::TypeMerger;
 pub use wl_index::{WASM_DEAD_INDEX, WasmObjectIndexMap};
+pub use wl_output::{Fixup, FixupTo, GlobalOrigin, MadeGlobal, OutputImportEntity};
 pub use wl_reloc::{RelocError, deferred_tls_template_pointer, resolve_reloc};
 pub use wl_sections::{
     BUILT_IN_SECTIONS, BuiltInSectionDetails, DynamicTagValues, NonAddressableIndexes,
