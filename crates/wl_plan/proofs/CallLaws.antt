@@ -95,7 +95,7 @@ no_memory input g = at input.link.args.import_memory
     at None = refl
     at (Some name) = refl
 
-imported_functions : (input : Input) (g : Placing) (imports : List PlannedImport)
+pub imported_functions : (input : Input) (g : Placing) (imports : List PlannedImport)
     → AreImports input (output_types input) g imports
     → count_by is_function_import imports ≡ length (host_function_part input)
 imported_functions input g imports are =

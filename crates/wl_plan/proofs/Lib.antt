@@ -44,3 +44,6 @@ pub mod RunningLaws
 pub mod BlockExportLaws
 pub mod ResolvedLaws
 pub mod WrapperLaws
+pub mod DebugBounds
+pub mod ListingLaws
+mod PlanLineLaws

@@ -36,3 +36,5 @@ pub mod Contents
 pub mod Running
 pub mod ThreadSteps
 pub mod Parsing
+pub mod ObjectSegments
+pub mod PlanLines
