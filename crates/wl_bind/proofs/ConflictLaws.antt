@@ -18,7 +18,9 @@ use Rattle.wl_linking.specs.Steps.{Clear, Refuses}
 use Rattle.wl_symbols.specs.ImportSlots.{ImportSlot}
 use Rattle.wl_symbols.specs.Left.{HostImport, same_field, same_import, first_imports, first_slot, place_of_name, place_of_import}
 use Rattle.wl_bind.specs.Conflicts.{same_function_type, global_type, same_global_type, same_slot_type, differs, IsConflict}
-use Rattle.wl_bind.specs.ConflictSteps.{SlotPair, slot_at, conflicting, with_first, conflict_from, conflict_of}
+use Rattle.wl_bind.specs.ConflictSteps.{SlotPair, slot_at, conflicting, with_first, conflict_from, conflict_of, same_slot, place_among, AreImportsOf}
+use Rattle.wl_bind.specs.declared.conflicts.SlotImports.{SlotImports}
+use Rattle.wl_bind.specs.declared.conflicts.SlotImports.TheVariants.{Stubs, Hosts}
 use Rattle.wl_bind.specs.FunctionTypes.{slot_type}
 use Rattle.wl_lists.proofs.Found.{position_map}
 use Rattle.wl_lists.proofs.In.{Contains-none}
@@ -241,17 +243,17 @@ refuses_by objects same laws slots p e =
       };
     }
 
-pub no_stub_conflict : (objects : List Object) (slots : List ImportSlot) → conflict_from objects same_field [] slots ≡ None → Clear (IsConflict objects same_field slots)
-no_stub_conflict objects slots none = clear_by objects same_field field_equiv slots none
+same_equiv : (imports : SlotImports) → IsEquivalence (same_slot imports)
+same_equiv (Stubs stubs) = field_equiv
+same_equiv (Hosts hosts) = import_equiv
 
-pub a_stub_conflict : (objects : List Object) (slots : List ImportSlot) (p : SlotPair) → conflict_from objects same_field [] slots ≡ Some p → Refuses (IsConflict objects same_field slots) (conflict_of p)
-a_stub_conflict objects slots p e = refuses_by objects same_field field_equiv slots p e
+pub no_conflict : (objects : List Object) (imports : SlotImports) (slots : List ImportSlot) → conflict_from objects (same_slot imports) [] slots ≡ None
+    → Clear (IsConflict objects (same_slot imports) slots)
+no_conflict objects imports slots none = clear_by objects (same_slot imports) (same_equiv imports) slots none
 
-pub no_host_conflict : (objects : List Object) (slots : List ImportSlot) → conflict_from objects same_import [] slots ≡ None → Clear (IsConflict objects same_import slots)
-no_host_conflict objects slots none = clear_by objects same_import import_equiv slots none
-
-pub a_host_conflict : (objects : List Object) (slots : List ImportSlot) (p : SlotPair) → conflict_from objects same_import [] slots ≡ Some p → Refuses (IsConflict objects same_import slots) (conflict_of p)
-a_host_conflict objects slots p e = refuses_by objects same_import import_equiv slots p e
+pub a_conflict : (objects : List Object) (imports : SlotImports) (slots : List ImportSlot) (p : SlotPair) → conflict_from objects (same_slot imports) [] slots ≡ Some p
+    → Refuses (IsConflict objects (same_slot imports) slots) (conflict_of p)
+a_conflict objects imports slots p e = refuses_by objects (same_slot imports) (same_equiv imports) slots p e
 
 -- ---- turns of the loops
 
@@ -260,45 +262,29 @@ pub record Met (objects : List Object) (same : ImportSlot → ImportSlot → Boo
   pub all : insert_all same firsts rest ≡ insert_all same [] slots
   pub conflict : conflict_from objects same firsts rest ≡ conflict_from objects same [] slots
 
--- the first slot of a stub, by the place of the stub
-pub first_of_stub : (slots firsts rest : List ImportSlot) (t : ImportSlot) (stubs : List HostImport) → stubs ≡ map first_slot (insert_all same_field [] slots)
+-- the first slot of an import, by the place of the import
+stub_first : (slots firsts rest : List ImportSlot) (t : ImportSlot) (stubs : List HostImport) → stubs ≡ map first_slot (insert_all same_field [] slots)
     → insert_all same_field firsts (t ∷ rest) ≡ insert_all same_field [] slots → slot_at firsts (place_of_name t.item.name stubs) ≡ find (same_field t) firsts
-first_of_stub slots firsts rest t stubs is all =
+stub_first slots firsts rest t stubs is all =
     let more = grown same_field firsts (t ∷ rest) in
     let whole : insert_all same_field [] slots ≡ firsts ++ more.0 = sym all ∙ more.1 in
     let stubs_are : stubs ≡ map first_slot (firsts ++ more.0) = is ∙ ap (map first_slot) whole in
     let place : place_of_name t.item.name stubs ≡ position (same_field t) (firsts ++ more.0) = ap (place_of_name t.item.name) stubs_are ∙ position_map first_slot _ (firsts ++ more.0) in
     ap (slot_at firsts) place ∙ at_position (same_field t) firsts more.0
 
-pub stub_first : (objects : List Object) (slots firsts rest : List ImportSlot) (t : ImportSlot) (stubs : List HostImport) → stubs ≡ map first_slot (insert_all same_field [] slots)
-    → Met objects same_field slots firsts (t ∷ rest) → slot_at firsts (place_of_name t.item.name stubs) ≡ find (same_field t) firsts
-stub_first objects slots firsts rest t stubs is met = first_of_stub slots firsts rest t stubs is met.all
-
--- the first slots with one more
-pub firsts_more : (slots firsts rest new : List ImportSlot) (t : ImportSlot) (first : Option ImportSlot)
-    → insert_all same_field firsts (t ∷ rest) ≡ insert_all same_field [] slots → first ≡ find (same_field t) firsts
-    → new ≡ with_first firsts first t → insert_all same_field new rest ≡ insert_all same_field [] slots
-firsts_more slots firsts rest new t first all is more =
-    ap (λ (l : List ImportSlot). insert_all same_field l rest)
-    (more ∙ (ap (λ (o : Option ImportSlot). with_first firsts o t) is ∙ sym (insert_first same_field firsts t)))
-    ∙ all
-
--- the next slot is the first of those to come
-pub firsts_next : (slots firsts : List ImportSlot) (k : ℕ) (t : ImportSlot) → k < length slots → t ≡ get_or slots k t
-    → insert_all same_field firsts (drop k slots) ≡ insert_all same_field [] slots
-    → insert_all same_field firsts (t ∷ drop (k + 1) slots) ≡ insert_all same_field [] slots
-firsts_next slots firsts k t lt at all =
-    let split : drop k slots ≡ t ∷ drop (k + 1) slots = rw (add-one, drop-cons slots k t lt, ← at) refl in
-    ap (insert_all same_field firsts) (sym split) ∙ all
-
-pub host_first : (objects : List Object) (slots firsts rest : List ImportSlot) (t : ImportSlot) (hosts : List HostImport) → hosts ≡ map first_slot (first_imports slots)
-    → Met objects same_import slots firsts (t ∷ rest) → slot_at firsts (place_of_import t.item.origin t.item.name hosts) ≡ find (same_import t) firsts
-host_first objects slots firsts rest t hosts is met =
+host_first : (slots firsts rest : List ImportSlot) (t : ImportSlot) (hosts : List HostImport) → hosts ≡ map first_slot (first_imports slots)
+    → insert_all same_import firsts (t ∷ rest) ≡ insert_all same_import [] slots → slot_at firsts (place_of_import t.item.origin t.item.name hosts) ≡ find (same_import t) firsts
+host_first slots firsts rest t hosts is all =
     let more = grown same_import firsts (t ∷ rest) in
-    let whole : insert_all same_import [] slots ≡ firsts ++ more.0 = sym met.all ∙ more.1 in
+    let whole : insert_all same_import [] slots ≡ firsts ++ more.0 = sym all ∙ more.1 in
     let hosts_are : hosts ≡ map first_slot (firsts ++ more.0) = is ∙ ap (map first_slot) whole in
     let place : place_of_import t.item.origin t.item.name hosts ≡ position (same_import t) (firsts ++ more.0) = ap (place_of_import t.item.origin t.item.name) hosts_are ∙ position_map first_slot _ (firsts ++ more.0) in
     ap (slot_at firsts) place ∙ at_position (same_import t) firsts more.0
+
+pub first_among : (objects : List Object) (imports : SlotImports) (slots firsts rest : List ImportSlot) (t : ImportSlot) → AreImportsOf slots imports
+    → Met objects (same_slot imports) slots firsts (t ∷ rest) → slot_at firsts (place_among imports t) ≡ find (same_slot imports t) firsts
+first_among objects (Stubs stubs) slots firsts rest t are met = stub_first slots firsts rest t stubs.now are met.all
+first_among objects (Hosts hosts) slots firsts rest t are met = host_first slots firsts rest t hosts.now are met.all
 
 -- the next slot is one of those to come
 pub met_next : (objects : List Object) (same : ImportSlot → ImportSlot → Bool) (slots firsts : List ImportSlot) (k : ℕ) (t : ImportSlot) → k < length slots → t ≡ get_or slots k t

@@ -20,7 +20,7 @@ use Rattle.wl_bind.specs.Made.{is_made, has_init_memory}
 use Rattle.wl_bind.specs.MadeIndices.{IsMadeIndex}
 use Rattle.wl_bind.specs.SharedSteps.{is_host_of}
 use Rattle.wl_symbols.specs.Relocations.{object_relocations}
-use Rattle.wl_bind.specs.OutputTypes.{is_type_of_function, is_type_of_host, names_type, is_live_type, types_if, local_types, live_types, made_type, init_memory_type, output_types, AreTypeIndices}
+use Rattle.wl_bind.specs.OutputTypes.{is_type_of_function, is_type_of_host, names_type, is_live_type, types_if, local_types, live_types, made_type, init_memory_type, made_types, output_types, AreTypeIndices}
 use Rattle.wl_bind.specs.Parts.{by_object, AreRows, IsIndexOf, AreIndicesOf}
 use Rattle.wl_types.specs.Types.{add_type, IsFull}
 use Rattle.wl_linking.specs.declared.error.LinkError.{LinkError}
@@ -629,62 +629,58 @@ abbrev pub objects_types : Input → List FunctionType
 objects_types input = by_object (live_types input) 0 input.link.objects
 
 all_types : (input : Input) → output_types input
-    ≡ insert_all same_type (insert_all same_type (insert_all same_type [] (objects_types input))
-    (made_functions input)) (stub_types input)
-all_types input =
-    insert_append [] (objects_types input) (made_functions input ++ stub_types input)
-    ∙ insert_append (insert_all same_type [] (objects_types input)) (made_functions input)
-    (stub_types input)
+    ≡ insert_all same_type (insert_all same_type [] (objects_types input)) (made_types input)
+all_types input = insert_append [] (objects_types input) (made_types input)
 
-pub output_is : (input : Input) (none first second third : List FunctionType) → none ≡ []
+pub output_is : (input : Input) (none first second : List FunctionType) → none ≡ []
     → first ≡ insert_all same_type none (objects_types input)
-    → second ≡ insert_all same_type first (made_functions input)
-    → third ≡ insert_all same_type second (stub_types input) → third ≡ output_types input
-output_is input none first second third z a b c =
+    → second ≡ insert_all same_type first (made_types input) → second ≡ output_types input
+output_is input none first second z a b =
     let first-is : first ≡ insert_all same_type [] (objects_types input) =
     a ∙ ap (λ (ts : List FunctionType). insert_all same_type ts (objects_types input)) z in
-    let second-is : second
-    ≡ insert_all same_type (insert_all same_type [] (objects_types input)) (made_functions input) =
-    b ∙ ap (λ (ts : List FunctionType). insert_all same_type ts (made_functions input)) first-is in
-    c ∙ (ap (λ (ts : List FunctionType). insert_all same_type ts (stub_types input)) second-is
+    b ∙ (ap (λ (ts : List FunctionType). insert_all same_type ts (made_types input)) first-is
     ∙ sym (all_types input))
 
 pub first_full : (input : Input) (e : LinkError)
     → IsFull (insert_all same_type [] (objects_types input)) e → IsFull (output_types input) e
 first_full input e full =
-    let first = insert_all same_type [] (objects_types input) in
-    still_full first (made_functions input ++ stub_types input) (output_types input) e
-    (insert_append first (made_functions input) (stub_types input) ∙ sym (all_types input)) full
+    still_full (insert_all same_type [] (objects_types input)) (made_types input)
+    (output_types input) e (sym (all_types input)) full
 
 pub second_full : (input : Input) (first : List FunctionType) (e : LinkError)
     → first ≡ insert_all same_type [] (objects_types input)
-    → IsFull (insert_all same_type first (made_functions input)) e → IsFull (output_types input) e
+    → IsFull (insert_all same_type first (made_types input)) e → IsFull (output_types input) e
 second_full input first e is full =
-    still_full (insert_all same_type first (made_functions input)) (stub_types input)
-    (output_types input) e
-    (ap (λ (ts : List FunctionType). insert_all same_type (insert_all same_type ts
-    (made_functions input)) (stub_types input)) is ∙ sym (all_types input)) full
-
-pub third_full : (input : Input) (first second : List FunctionType) (e : LinkError)
-    → first ≡ insert_all same_type [] (objects_types input)
-    → second ≡ insert_all same_type first (made_functions input)
-    → IsFull (insert_all same_type second (stub_types input)) e → IsFull (output_types input) e
-third_full input first second e a b full =
     subst (λ (ts : List FunctionType). IsFull ts e)
-    (output_is input [] first second (insert_all same_type second
-    (stub_types input)) refl a b refl) full
+    (output_is input [] first (insert_all same_type first (made_types input)) refl is refl) full
 
-pub rows_of_output : (input : Input) (first second third : List FunctionType) (rows : List (List ℕ))
-    → second ≡ insert_all same_type first (made_functions input)
-    → third ≡ insert_all same_type second (stub_types input)
-    → third ≡ output_types input → AreRows (AreOf input first) 0 input.link.objects rows
+pub rows_of_output : (input : Input) (first second : List FunctionType) (rows : List (List ℕ))
+    → second ≡ insert_all same_type first (made_types input) → second ≡ output_types input
+    → AreRows (AreOf input first) 0 input.link.objects rows
     → AreRows (AreTypeIndices input) 0 input.link.objects rows
-rows_of_output input first second third rows b c is are =
-    let one : Grows first second =
-    subst (λ (ts : List FunctionType). Grows first ts) (sym b)
-    (grows first (made_functions input)) in
-    let two : Grows second third =
-    subst (λ (ts : List FunctionType). Grows second ts) (sym c) (grows second (stub_types input)) in
+rows_of_output input first second rows b is are =
     let all : Grows first (output_types input) =
-    subst (λ (ts : List FunctionType). Grows first ts) is (λ k ty here. two k ty (one k ty here)) in
+    subst (λ (ts : List FunctionType). Grows first ts) (sym b ∙ is)
+    (grows first (made_types input)) in
     rows_grow input first (output_types input) 0 input.link.objects rows all are
+
+-- ---- the types of what the linker makes, those of stubs last
+
+pub stubs_last : (input : Input) (old second made stubs : List FunctionType)
+    → made ≡ made_functions input → stubs ≡ stub_types input
+    → second ≡ insert_all same_type old made
+    → insert_all same_type second stubs ≡ insert_all same_type old (made_types input)
+stubs_last input old second made stubs a b c =
+    ap (insert_all same_type second) b
+    ∙ (ap (λ (ts : List FunctionType). insert_all same_type ts (stub_types input))
+    (c ∙ ap (insert_all same_type old) a)
+    ∙ sym (insert_append old (made_functions input) (stub_types input)))
+
+pub made_full : (input : Input) (old made : List FunctionType) (e : LinkError)
+    → made ≡ made_functions input → IsFull (insert_all same_type old made) e
+    → IsFull (insert_all same_type old (made_types input)) e
+made_full input old made e a full =
+    still_full (insert_all same_type old (made_functions input)) (stub_types input)
+    (insert_all same_type old (made_types input)) e
+    (sym (insert_append old (made_functions input) (stub_types input)))
+    (subst (λ (ts : List FunctionType). IsFull (insert_all same_type old ts) e) a full)

@@ -1,7 +1,6 @@
 -- Slots and rows, object by object.
-use Rattle.std.proofs.Common.{◌≡◌, ◌∙◌, ℕ, zero, suc, ◌+◌, ◌<◌, ◌≤◌, List, [], ◌∷◌, ◌++◌, length, drop, map, refl, sym, ap, arith, append_assoc, append-nil, Option, slice_get, slice_index_or, Contains}
+use Rattle.std.proofs.Common.{◌≡◌, ◌∙◌, ℕ, zero, suc, ◌+◌, ◌<◌, List, [], ◌∷◌, ◌++◌, length, drop, map, refl, sym, ap, arith, append_assoc, Option, slice_get, slice_index_or, Contains}
 use Rattle.std.specs.Option.{option_map_or, option_and_then}
-use Rattle.std.proofs.lemmas.List.{drop_all}
 use Rattle.std.proofs.lemmas.List.Elements.{Contains-append_left, Contains-append_right}
 use Rattle.std.proofs.lemmas.Option.{get_or_from_slice_get}
 use Rattle.wl_linking.specs.Object.{Object}
@@ -49,12 +48,6 @@ row_pushed {X} f kind objects k row rows new all lt is pushed so =
     let rest : List (List X) = slot_rows f kind (k + 1) (drop (k + 1) objects) in
     let step : slot_rows f kind k (drop k objects) ≡ row ∷ rest = rw is (rows_more f kind objects k lt) in
     ap (λ (t : List (List X)). t ++ rest) pushed ∙ append_assoc rows (row ∷ []) rest ∙ (ap (λ (t : List (List X)). rows ++ t) (sym step) ∙ so)
-
--- behind the last object
-pub rows_end : {X : Type 0} (f : ImportSlot → X) (kind : WasmSymbolKind) (objects : List Object) (k : ℕ) (rows all : List (List X)) → length objects ≤ k
-    → rows ++ slot_rows f kind k (drop k objects) ≡ all → rows ≡ all
-rows_end {X} f kind objects k rows all le so =
-    sym (append-nil rows) ∙ (ap (λ (os : List Object). rows ++ slot_rows f kind k os) (sym (drop_all k objects le)) ∙ so)
 
 -- one more entry behind the others
 pub entry_pushed : {X Y : Type 0} (f : X → Y) (xs : List X) (k : ℕ) (x : X) (y : Y) (list new all : List Y) → k < length xs → x ≡ slice_index_or xs k x → y ≡ f x

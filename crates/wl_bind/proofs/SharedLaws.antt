@@ -119,29 +119,6 @@ left_global_placed input hosts t kept none =
     let place = place_of_import t.item.origin t.item.name hosts in
     ap (λ (h : Bool). if h then place else None) (left_by_lists input t ∙ sym host)
 
--- a slot that isn't kept, or that names bind, isn't the host's
-pub dropped_function : (input : Input) (hosts : List HostImport) (t : ImportSlot) → is_kept_slot input t ≡ false → None ≡ import_place input Func hosts t
-dropped_function input hosts t kept =
-    let host : is_host_slot input Func t ≡ false = is_function input t ∙ rw kept refl in
-    ap (λ (h : Bool). if h then place_of_import t.item.origin t.item.name hosts else None) (sym host)
-
-pub named_function_place : (input : Input) (hosts : List HostImport) (t : ImportSlot) (target : SlotTarget) → is_kept_slot input t ≡ true → slot_target input.link t ≡ Some target
-    → None ≡ import_place input Func hosts t
-named_function_place input hosts t target kept some =
-    let host : is_host_slot input Func t ≡ false = is_function input t ∙ rw (kept, some) refl in
-    ap (λ (h : Bool). if h then place_of_import t.item.origin t.item.name hosts else None) (sym host)
-
-pub dropped_global : (input : Input) (hosts : List HostImport) (t : ImportSlot) → is_kept_slot input t ≡ false → None ≡ import_place input Global hosts t
-dropped_global input hosts t kept =
-    let host : is_host_slot input Global t ≡ false = is_global input t ∙ rw kept refl in
-    ap (λ (h : Bool). if h then place_of_import t.item.origin t.item.name hosts else None) (sym host)
-
-pub named_global_place : (input : Input) (hosts : List HostImport) (t : ImportSlot) (target : SlotTarget) → is_kept_slot input t ≡ true → slot_target input.link t ≡ Some target
-    → None ≡ import_place input Global hosts t
-named_global_place input hosts t target kept some =
-    let host : is_host_slot input Global t ≡ false = is_global input t ∙ rw (kept, some) refl in
-    ap (λ (h : Bool). if h then place_of_import t.item.origin t.item.name hosts else None) (sym host)
-
 -- ---- conflicts
 
 pub no_conflict : (input : Input) → Clear (IsConflict input.link.objects same_import (host_functions input))

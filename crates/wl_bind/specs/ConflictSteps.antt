@@ -1,11 +1,34 @@
 -- Slots of one import, one after the other, each with the first of its import.
-use Rattle.std.specs.Prelude.{ℕ, Bool, List, [], ◌∷◌, ◌++◌, Option, Some, None, if◌then◌else◌, find, slice_get}
+use Rattle.std.specs.Prelude.{◌≡◌, ℕ, Bool, List, [], ◌∷◌, ◌++◌, map, Option, Some, None, if◌then◌else◌, find, slice_get}
 use Rattle.std.specs.Option.{option_or, option_and_then}
 use Rattle.wl_linking.specs.Object.{Object}
 use Rattle.wl_linking.specs.declared.error.LinkError.{LinkError}
 use Rattle.wl_linking.specs.declared.error.LinkError.TheVariants.{ConflictingTypes}
+use Rattle.indexmap.specs.IndexSet.{insert_all}
 use Rattle.wl_symbols.specs.ImportSlots.{ImportSlot}
+use Rattle.wl_symbols.specs.Left.{same_field, same_import, first_imports, first_slot, place_of_name, place_of_import}
 use Rattle.wl_bind.specs.Conflicts.{same_slot_type}
+use Rattle.wl_bind.specs.declared.conflicts.SlotImports.{SlotImports}
+use Rattle.wl_bind.specs.declared.conflicts.SlotImports.TheVariants.{Stubs, Hosts}
+
+-- ---- the imports that slots are
+
+-- two slots are of one import
+abbrev pub same_slot : SlotImports → ImportSlot → ImportSlot → Bool
+same_slot (Stubs stubs) = same_field
+same_slot (Hosts hosts) = same_import
+
+-- the place of the import that the slot is
+abbrev pub place_among : SlotImports → ImportSlot → Option ℕ
+place_among (Stubs stubs) t = place_of_name t.item.name stubs.now
+place_among (Hosts hosts) t = place_of_import t.item.origin t.item.name hosts.now
+
+-- the imports are those of these slots, each by its first slot
+abbrev pub AreImportsOf : List ImportSlot → SlotImports → Type 0
+AreImportsOf slots (Stubs stubs) = stubs.now ≡ map first_slot (insert_all same_field [] slots)
+AreImportsOf slots (Hosts hosts) = hosts.now ≡ map first_slot (first_imports slots)
+
+-- ---- conflicts
 
 -- two slots of one import
 pub record SlotPair : Type 0 where

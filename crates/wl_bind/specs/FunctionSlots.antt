@@ -16,8 +16,8 @@ pub record AreFunctionSlots (input : Input) (s : FunctionSlots) : Type 0 where
   pub bindings : s.bindings ≡ function_bindings input
   pub resolutions : map function_part s.resolutions.items
       ≡ slot_rows (function_resolution input) Func 0 input.link.objects
-  pub places : s.places.items ≡ import_places input Func (function_imports input)
-  pub stub_slots : s.stub_slots.items ≡ stub_slots input.link.objects (left_functions input)
-  pub stubs : s.stubs ≡ map first_slot (link_stubs input)
+  pub places : s.shared.places.items ≡ import_places input Func (function_imports input)
+  pub stub_slots : s.weak.slots.items ≡ stub_slots input.link.objects (left_functions input)
+  pub stubs : s.weak.stubs ≡ map first_slot (link_stubs input)
   pub host_slots : s.host_slots.items ≡ host_functions input
-  pub hosts : s.hosts ≡ function_imports input
+  pub hosts : s.shared.imports ≡ function_imports input

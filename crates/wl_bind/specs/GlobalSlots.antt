@@ -21,6 +21,6 @@ left_global_place scan hosts t =
 
 -- which import of the host each is, and the slots that are the host's
 pub record AreGlobalSlots (input : Input) (s : GlobalSlots) : Type 0 where
-  pub places : s.places.items ≡ import_places input Global (global_imports input)
+  pub places : s.shared.places.items ≡ import_places input Global (global_imports input)
   pub host_slots : s.host_slots.items ≡ host_globals input
-  pub hosts : s.hosts ≡ global_imports input
+  pub hosts : s.shared.imports ≡ global_imports input

@@ -1,7 +1,7 @@
 //! Binding by later rules of slots that names leave.
 
 ghost use Rattle.std.specs.Prelude.{◌≡◌};
-ghost use Rattle.wl_bind.specs.Stepped.{stepped, step_at};
+ghost use Rattle.wl_bind.specs.Stepped.{step_at};
 ghost use Rattle.wl_bind.specs.Scan.{scan_of};
 ghost use Rattle.wl_bind.specs.Later.{globals_walked};
 ghost use Rattle.wl_bind.specs.Resolutions.{resolutions, by_names, by_names_and_got};
@@ -34,20 +34,6 @@ fn absorb_globals_at(
     }
 }
 
-/// The global slots of all objects with the entries of the GOT lists.
-fn absorb_globals(
-    input: &LinkInput<'_, '_>,
-    scan: &RelocScan<'_>,
-    rows: &mut [ObjectImportResolutions],
-)
-    ensures { rows.new
-        ≡ stepped (globals_walked input.now scan.now) 0 input.now.link.objects rows.old }
-{
-    for (object, file) in input.files().as_slice().iter().enumerate() {
-        absorb_globals_at(input, scan, object, file, rows);
-    }
-}
-
 /// Binds the global slots that names leave by the GOT lists: a slot of the module `GOT.mem` or
 /// `GOT.func` to the first entry of that list whose definition has the field name.
 pub fn absorb_got_imports(
@@ -59,5 +45,7 @@ pub fn absorb_got_imports(
     requires rows { rows.old ≡ resolutions input.now (by_names input.now) }
     ensures { rows.new ≡ resolutions input.now (by_names_and_got input.now) }
 {
-    absorb_globals(input, scan, rows);
+    for (object, file) in input.files().as_slice().iter().enumerate() {
+        absorb_globals_at(input, scan, object, file, rows);
+    }
 }

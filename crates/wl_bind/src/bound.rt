@@ -1,18 +1,15 @@
 //! The references of a link, bound step by step.
 
 ghost use Rattle.std.specs.Prelude.{◌≡◌, OnOk, IfOk, IfErr};
-ghost use Rattle.wl_linking.specs.Steps.{Clear, Refuses, NoStep};
+ghost use Rattle.wl_linking.specs.Steps.{Clear, Refuses, Step, NoStep};
 ghost use Rattle.wl_bind.specs.Bound.{bound_of, slot_steps, bind_fault};
-ghost use Rattle.wl_bind.specs.FunctionTypes.{stub_types};
+ghost use Rattle.wl_bind.specs.Conflicts.{IsHostConflict};
 ghost use Rattle.wl_bind.specs.FunctionBinding.{host_functions};
-ghost use Rattle.wl_bind.specs.GlobalSlots.{AreGlobalSlots};
-ghost use Rattle.wl_bind.specs.Resolutions.{resolutions, by_all_rules};
-ghost use Rattle.wl_bind.specs.Shared.{function_imports, import_places};
-ghost use Rattle.wl_custom.specs.declared.symbols.WasmSymbolKind.TheVariants.{Func};
-ghost use Rattle.wl_bind.specs.Scan.{scan_of};
+ghost use Rattle.wl_bind.specs.GlobalBinding.{host_globals};
+ghost use Rattle.wl_bind.specs.Undefined.{IsUndefinedImport};
 
 use crate::function_slots::FunctionSlots;
-use crate::global_slots::{GlobalSlots, bind_globals};
+use crate::global_slots::bind_globals;
 use crate::report::report_disallowed_unresolved_imports;
 use crate::resolution::ObjectImportResolutions;
 use crate::scan::RelocScan;
@@ -24,7 +21,7 @@ use std::marker::Model;
 use wl_linking::LinkError;
 use wl_lists::ItemList;
 use wl_module::FuncType;
-use wl_symbols::LinkInput;
+use wl_symbols::{ImportSlot, LinkInput};
 
 /// What the references of a link are bound to. Clauses see it as a `Bound`.
 #[derive(Drop)]
@@ -52,13 +49,12 @@ impl<'a> Model for BoundReferences<'a> {
     } };
 }
 
-/// The slots of a link, what kept relocations ask for, and the types of the stubs.
+/// The references of a link, bound, with the slots that are left to the host.
 #[derive(Drop)]
-struct LinkSlots<'i, 'a> {
-    functions: FunctionSlots<'i, 'a>,
-    globals: GlobalSlots<'i, 'a>,
-    scan: RelocScan<'a>,
-    stubs: Vec<FuncType>,
+struct BoundSlots<'i, 'a> {
+    bound: BoundReferences<'a>,
+    function_hosts: Vec<ImportSlot<'i, 'a>>,
+    global_hosts: Vec<ImportSlot<'i, 'a>>,
 }
 
 /// Binds the slots of a link. Functions come first: what relocations ask for takes what these are
@@ -66,17 +62,10 @@ struct LinkSlots<'i, 'a> {
 fn bind_slots<'i, 'a>(
     alloc: Global,
     input: &LinkInput<'i, 'a>,
-) -> Result<LinkSlots<'i, 'a>, LinkError>
-    ensures rows { IfOk result
-        (λ s. s.functions.resolutions.items ≡ resolutions input.now (by_all_rules input.now)) }
-    ensures places { IfOk result (λ s. s.functions.places.items
-        ≡ import_places input.now Func (function_imports input.now)) }
-    ensures host_slots { IfOk result
-        (λ s. s.functions.host_slots.items ≡ host_functions input.now) }
-    ensures hosts { IfOk result (λ s. s.functions.hosts ≡ function_imports input.now) }
-    ensures globals { IfOk result (λ s. AreGlobalSlots input.now s.globals) }
-    ensures scan { IfOk result (λ s. s.scan ≡ scan_of input.now) }
-    ensures stubs { IfOk result (λ s. s.stubs.items ≡ stub_types input.now) }
+) -> Result<BoundSlots<'i, 'a>, LinkError>
+    ensures bound { IfOk result (λ s. s.bound ≡ bound_of input.now) }
+    ensures functions { IfOk result (λ s. s.function_hosts.items ≡ host_functions input.now) }
+    ensures globals { IfOk result (λ s. s.global_hosts.items ≡ host_globals input.now) }
     ensures clear { OnOk result (Clear (slot_steps input.now NoStep)) }
     ensures err { IfErr result (Refuses (slot_steps input.now NoStep)) }
 {
@@ -84,35 +73,46 @@ fn bind_slots<'i, 'a>(
     let scan = scan_with(alloc, input, &functions.bindings)?;
     let stubs = stub_types(alloc, input, &functions)?;
     let globals = bind_globals(alloc, input, &scan, functions.resolutions.as_mut_slice())?;
-    Ok(LinkSlots {
-        functions,
-        globals,
-        scan,
-        stubs,
+    Ok(BoundSlots {
+        bound: BoundReferences {
+            resolutions: ItemList::new(functions.resolutions),
+            scan,
+            stubs: ItemList::new(stubs),
+            shared: SharedUnresolvedImports::of(functions.shared, globals.shared),
+        },
+        function_hosts: functions.host_slots,
+        global_hosts: globals.host_slots,
     })
 }
 
-impl<'a> BoundReferences<'a> {
-    /// What these slots are bound to.
-    fn of(slots: LinkSlots<'_, 'a>) -> Self
-        ensures resolutions { result.resolutions ≡ slots.entry.functions.resolutions.items }
-        ensures scan { result.scan ≡ slots.entry.scan }
-        ensures stubs { result.stubs ≡ slots.entry.stubs.items }
-        ensures shared { result.shared ≡ record {
-          functions = slots.entry.functions.hosts;
-          globals = slots.entry.globals.hosts;
-          function_places = slots.entry.functions.places.items;
-          global_places = slots.entry.globals.places.items;
-        } }
-    {
-        let functions = slots.functions;
-        BoundReferences {
-            resolutions: ItemList::new(functions.resolutions),
-            scan: slots.scan,
-            stubs: ItemList::new(slots.stubs),
-            shared: SharedUnresolvedImports::of(functions.hosts, functions.places, slots.globals),
-        }
-    }
+/// Sees that the slots that are left to the host may be left to it.
+///
+/// # Errors
+/// `UndefinedSymbols` of functions and globals that have to be defined; then `ConflictingTypes` of
+/// the slots of a host import.
+fn check_left(
+    alloc: Global,
+    input: &LinkInput<'_, '_>,
+    slots: &BoundSlots<'_, '_>,
+) -> Result<(), LinkError>
+    requires bound { slots.now.bound ≡ bound_of input.now }
+    requires functions { slots.now.function_hosts.items ≡ host_functions input.now }
+    requires globals { slots.now.global_hosts.items ≡ host_globals input.now }
+    ensures clear { OnOk result
+        (Clear (Step (IsUndefinedImport input.now) (Step (IsHostConflict input.now) NoStep))) }
+    ensures err { IfErr result
+        (Refuses (Step (IsUndefinedImport input.now) (Step (IsHostConflict input.now) NoStep))) }
+{
+    let bound = &slots.bound;
+    report_disallowed_unresolved_imports(alloc, input, bound.resolutions.as_slice())?;
+    check_hosts(
+        alloc,
+        input,
+        &bound.shared,
+        &slots.function_hosts,
+        &slots.global_hosts,
+    )?;
+    Ok(())
 }
 
 /// Binds the references of a link: its import slots by the first rule that applies, and with them
@@ -133,7 +133,6 @@ pub fn bind_references<'a>(
     ensures err { IfErr result (Refuses (bind_fault input.now)) }
 {
     let slots = bind_slots(alloc, input)?;
-    report_disallowed_unresolved_imports(alloc, input, slots.functions.resolutions.as_slice())?;
-    check_hosts(alloc, input, &slots.functions, &slots.globals)?;
-    Ok(BoundReferences::of(slots))
+    check_left(alloc, input, &slots)?;
+    Ok(slots.bound)
 }

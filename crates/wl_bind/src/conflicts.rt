@@ -1,11 +1,10 @@
 //! Slots of one import with different types.
 
-ghost use Rattle.std.specs.Prelude.{◌≡◌, [], map, option_map, IfOk, OnOk, IfErr};
+ghost use Rattle.std.specs.Prelude.{◌≡◌, [], option_map, IfOk, OnOk, IfErr};
 ghost use Rattle.indexmap.specs.IndexSet.{insert_all};
 ghost use Rattle.wl_linking.specs.Steps.{Clear, Refuses};
-ghost use Rattle.wl_symbols.specs.Left.{same_field, same_import, first_imports, first_slot};
 ghost use Rattle.wl_bind.specs.Conflicts.{same_function_type, global_type, same_global_type, same_slot_type, IsConflict};
-ghost use Rattle.wl_bind.specs.ConflictSteps.{conflicting, conflict_from, conflict_of};
+ghost use Rattle.wl_bind.specs.ConflictSteps.{conflicting, conflict_of, same_slot, place_among, AreImportsOf};
 
 use crate::first_slots::FirstSlots;
 use crate::types::slot_type;
@@ -96,48 +95,25 @@ fn conflicting<'s, 'f, 'a>(
     }
 }
 
-// ---- stubs and host imports
+// ---- all slots
 
-/// The first slot, among those of stubs, whose type isn't that of the first of its stub.
-fn find_stub_conflict<'s, 'f, 'a>(
-    alloc: Global,
-    files: &FileList<'_>,
-    stubs: &Stubs<'_>,
-    slots: &'s [ImportSlot<'f, 'a>],
-) -> Result<Option<Conflict<'s, 'f, 'a>>, AllocError>
-    requires { stubs.now ≡ map first_slot (insert_all same_field [] slots.now) }
-    ensures { IfOk result (λ r. r ≡ conflict_from files.now same_field [] slots.now) }
-{
-    let mut firsts = FirstSlots::new(alloc);
-    for slot in slots {
-        let first = firsts.get(stubs.place(slot.field()));
-        if let Some(conflict) = conflicting(files, first, slot) {
-            return Ok(Some(conflict));
-        }
-        firsts.add(first, slot)?;
-    }
-    Ok(None)
+/// The imports that slots are: stubs, or imports of the host.
+#[derive(Clone, Copy)]
+pub(crate) enum SlotImports<'h, 'a> {
+    Stubs(&'h Stubs<'a>),
+    Hosts(&'h HostImports<'a>),
 }
 
-/// The first of these slots whose type isn't that of the first of its host import.
-fn find_host_conflict<'s, 'f, 'a>(
-    alloc: Global,
-    files: &FileList<'_>,
-    hosts: &HostImports<'_>,
-    slots: &'s [ImportSlot<'f, 'a>],
-) -> Result<Option<Conflict<'s, 'f, 'a>>, AllocError>
-    requires { hosts.now ≡ map first_slot (first_imports slots.now) }
-    ensures { IfOk result (λ r. r ≡ conflict_from files.now same_import [] slots.now) }
-{
-    let mut firsts = FirstSlots::new(alloc);
-    for slot in slots {
-        let first = firsts.get(hosts.place(slot.module(), slot.field()));
-        if let Some(conflict) = conflicting(files, first, slot) {
-            return Ok(Some(conflict));
+impl<'h, 'a> SlotImports<'h, 'a> {
+    /// The place of the import that a slot is.
+    fn place(self, slot: &ImportSlot<'_, '_>) -> Option<usize>
+        ensures { result ≡ place_among self.entry slot.now }
+    {
+        match self {
+            SlotImports::Stubs(stubs) => stubs.place(slot.field()),
+            SlotImports::Hosts(hosts) => hosts.place(slot.module(), slot.field()),
         }
-        firsts.add(first, slot)?;
     }
-    Ok(None)
 }
 
 /// The refusal of two slots of one import with different types.
@@ -155,46 +131,33 @@ fn refusal(alloc: Global, conflict: &Conflict<'_, '_, '_>) -> Result<LinkError, 
     })
 }
 
-/// Sees that the slots of each stub have one type.
+/// Sees that the slots of each import have one type, and answers the first slot of each.
 ///
 /// # Errors
-/// `ConflictingTypes` where a slot has another type than the first slot of its stub: it tells the
+/// `ConflictingTypes` where a slot has another type than the first slot of its import: it tells the
 /// first such slot.
-#[tactic(auto, using(crate::proofs::ConflictLaws::no_stub_conflict, crate::proofs::ConflictLaws::a_stub_conflict))]
-pub(crate) fn check_stub_types(
+pub(crate) fn check_types<'s, 'f, 'a>(
     alloc: Global,
     input: &LinkInput<'_, '_>,
-    stubs: &Stubs<'_>,
-    slots: &[ImportSlot<'_, '_>],
-) -> Result<(), LinkError>
-    requires { stubs.now ≡ map first_slot (insert_all same_field [] slots.now) }
-    ensures clear { OnOk result (Clear (IsConflict input.now.link.objects same_field slots.now)) }
-    ensures err { IfErr result (Refuses (IsConflict input.now.link.objects same_field slots.now)) }
+    imports: SlotImports<'_, '_>,
+    slots: &'s [ImportSlot<'f, 'a>],
+) -> Result<FirstSlots<'s, 'f, 'a>, LinkError>
+    requires { AreImportsOf slots.now imports }
+    ensures firsts { IfOk result
+        (λ firsts. firsts ≡ insert_all (same_slot imports.entry) [] slots.now) }
+    ensures clear { OnOk result
+        (Clear (IsConflict input.now.link.objects (same_slot imports.entry) slots.now)) }
+    ensures err { IfErr result
+        (Refuses (IsConflict input.now.link.objects (same_slot imports.entry) slots.now)) }
 {
-    match find_stub_conflict(alloc, input.files(), stubs, slots)? {
-        None => Ok(()),
-        Some(conflict) => Err(refusal(alloc, &conflict)?),
+    let files = input.files();
+    let mut firsts = FirstSlots::new(alloc);
+    for slot in slots {
+        let first = firsts.get(imports.place(slot));
+        if let Some(conflict) = conflicting(files, first, slot) {
+            return Err(refusal(alloc, &conflict)?);
+        }
+        firsts.add(first, slot)?;
     }
-}
-
-/// Sees that the slots of each host import have one type.
-///
-/// # Errors
-/// `ConflictingTypes` where a slot has another type than the first slot of its host import: it
-/// tells the first such slot.
-#[tactic(auto, using(crate::proofs::ConflictLaws::no_host_conflict, crate::proofs::ConflictLaws::a_host_conflict))]
-pub(crate) fn check_host_types(
-    alloc: Global,
-    input: &LinkInput<'_, '_>,
-    hosts: &HostImports<'_>,
-    slots: &[ImportSlot<'_, '_>],
-) -> Result<(), LinkError>
-    requires { hosts.now ≡ map first_slot (first_imports slots.now) }
-    ensures clear { OnOk result (Clear (IsConflict input.now.link.objects same_import slots.now)) }
-    ensures err { IfErr result (Refuses (IsConflict input.now.link.objects same_import slots.now)) }
-{
-    match find_host_conflict(alloc, input.files(), hosts, slots)? {
-        None => Ok(()),
-        Some(conflict) => Err(refusal(alloc, &conflict)?),
-    }
+    Ok(firsts)
 }

@@ -43,7 +43,12 @@ pub struct ExportedData {
 fn data_named(name: &str) -> Option<WasmLinkerSymbol>
     ensures { result ≡ data_named name.now }
 {
-    WasmLinkerSymbol::parse(name).filter(|made| made.exported_as_data_global(true))
+    let made = WasmLinkerSymbol::parse(name)?;
+    if made.exported_as_data_global(true) {
+        Some(made)
+    } else {
+        None
+    }
 }
 
 /// The data that the linker makes whose names are to be exported.

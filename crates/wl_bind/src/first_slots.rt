@@ -1,13 +1,11 @@
 //! The first slot of each import.
 
-ghost use Rattle.std.specs.Prelude.{◌≡◌, [], map, option_map, IfOk, OnOk};
-ghost use Rattle.indexmap.specs.IndexSet.{insert_all};
-ghost use Rattle.wl_symbols.specs.Left.{same_field, first_slot};
+ghost use Rattle.std.specs.Prelude.{◌≡◌, [], map, option_map, OnOk};
 ghost use Rattle.wl_bind.specs.ConflictSteps.{slot_at, with_first};
 
 use std::alloc::{AllocError, Global};
 use std::marker::Model;
-use wl_symbols::{ImportSlot, Stubs};
+use wl_symbols::ImportSlot;
 
 /// The first slots of imports that were met, in order. Clauses see them as a list.
 #[derive(Drop)]
@@ -65,21 +63,4 @@ impl<'s, 'f, 'a> FirstSlots<'s, 'f, 'a> {
             }
         }
     }
-}
-
-/// The first slot of each stub.
-pub(crate) fn first_stub_slots<'s, 'f, 'a>(
-    alloc: Global,
-    stubs: &Stubs<'_>,
-    slots: &'s [ImportSlot<'f, 'a>],
-) -> Result<FirstSlots<'s, 'f, 'a>, AllocError>
-    requires { stubs.now ≡ map first_slot (insert_all same_field [] slots.now) }
-    ensures { IfOk result (λ firsts. firsts ≡ insert_all same_field [] slots.now) }
-{
-    let mut firsts = FirstSlots::new(alloc);
-    for slot in slots {
-        let first = firsts.get(stubs.place(slot.field()));
-        firsts.add(first, slot)?;
-    }
-    Ok(firsts)
 }

@@ -18,6 +18,7 @@ ghost use Rattle.wl_bind.specs.declared.resolution.ImportResolution.TheVariants.
 use crate::binding::FunctionTarget;
 use crate::resolution::{ImportResolution, ObjectImportResolutions, ResolutionList};
 use crate::resolving::resolved;
+use crate::shared::SharedImports;
 use crate::targets::{FunctionBindings, named_function};
 use std::alloc::{AllocError, Global};
 use wl_linking::WasmSymbolKind;
@@ -68,8 +69,9 @@ fn divide_left<'i, 'a>(
 pub fn stub_imports<'a>(alloc: Global, input: &LinkInput<'_, 'a>) -> Result<Stubs<'a>, AllocError>
     ensures { IfOk result (λ stubs. stubs ≡ map first_slot (link_stubs input.now)) }
 {
-    let left = divide_left(alloc, input)?;
-    Ok(left.stubs)
+    let left = left_slots(alloc, input, WasmSymbolKind::Func)?;
+    let divided = divide_slots(alloc, input.symbols(), left)?;
+    Ok(divided.stubs)
 }
 
 // ---- a slot
@@ -307,6 +309,20 @@ fn bind_rows(
     Ok(rows)
 }
 
+/// The slots of stubs, and the stubs that they are.
+pub(crate) struct StubSlots<'i, 'a> {
+    /// The slots, in order.
+    pub(crate) slots: Vec<ImportSlot<'i, 'a>>,
+    /// The stubs, in order of their first slots.
+    pub(crate) stubs: Stubs<'a>,
+}
+
+impl<'i, 'a> Drop for StubSlots<'i, 'a> {
+    fn drop(self) {
+        let Self { slots: _, stubs: _ } = self;
+    }
+}
+
 /// The function slots of a link: what each is bound to, and the stubs and host imports that some of
 /// them are.
 #[derive(Drop)]
@@ -315,16 +331,12 @@ pub(crate) struct FunctionSlots<'i, 'a> {
     pub(crate) bindings: FunctionBindings,
     /// What each is resolved to. Those of globals aren't there yet.
     pub(crate) resolutions: Vec<ObjectImportResolutions>,
-    /// For each that is left to the host the place of its import.
-    pub(crate) places: Vec<ItemList<Option<usize>>>,
-    /// The slots of stubs, in order.
-    pub(crate) stub_slots: Vec<ImportSlot<'i, 'a>>,
-    /// The stubs.
-    pub(crate) stubs: Stubs<'a>,
-    /// The slots that are left to the host, in order.
+    /// Those that are stubs.
+    pub(crate) weak: StubSlots<'i, 'a>,
+    /// Those that are left to the host, in order.
     pub(crate) host_slots: Vec<ImportSlot<'i, 'a>>,
-    /// The imports that they are.
-    pub(crate) hosts: HostImports<'a>,
+    /// The imports that the latter are, and which of them each slot is.
+    pub(crate) shared: SharedImports<'a>,
 }
 
 impl<'i, 'a> FunctionSlots<'i, 'a> {
@@ -340,11 +352,15 @@ impl<'i, 'a> FunctionSlots<'i, 'a> {
         Ok(FunctionSlots {
             bindings: FunctionBindings::of(rows.targets),
             resolutions: rows.resolutions,
-            places: rows.places,
-            stub_slots: left.stub_slots,
-            stubs: left.stubs,
+            weak: StubSlots {
+                slots: left.stub_slots,
+                stubs: left.stubs,
+            },
             host_slots: left.host_slots,
-            hosts: left.hosts,
+            shared: SharedImports {
+                imports: left.hosts,
+                places: rows.places,
+            },
         })
     }
 }

@@ -16,6 +16,7 @@ use crate::later::got_resolution;
 use crate::resolution::{ImportResolution, ObjectImportResolutions, ResolutionList};
 use crate::resolving::resolved;
 use crate::scan::RelocScan;
+use crate::shared::SharedImports;
 use std::alloc::{AllocError, Global};
 use wl_linking::WasmSymbolKind;
 use wl_lists::ItemList;
@@ -27,12 +28,10 @@ use wl_symbols::{
 /// The global slots of a link that are left to the host.
 #[derive(Drop)]
 pub(crate) struct GlobalSlots<'i, 'a> {
-    /// For each slot that is left to the host the place of its import.
-    pub(crate) places: Vec<ItemList<Option<usize>>>,
     /// The slots that are left to the host, in order.
     pub(crate) host_slots: Vec<ImportSlot<'i, 'a>>,
-    /// The imports that they are.
-    pub(crate) hosts: HostImports<'a>,
+    /// The imports that they are, and which of them each slot is.
+    pub(crate) shared: SharedImports<'a>,
 }
 
 /// What a global slot is resolved to, and, where it is left to the host, the place of its import.
@@ -251,8 +250,10 @@ pub(crate) fn bind_globals<'i, 'a>(
     let bound = bind_rows(alloc, input, scan, &hosts)?;
     set_globals(rows, bound.resolutions);
     Ok(GlobalSlots {
-        places: bound.places,
         host_slots,
-        hosts,
+        shared: SharedImports {
+            imports: hosts,
+            places: bound.places,
+        },
     })
 }

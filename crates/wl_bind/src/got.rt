@@ -34,10 +34,18 @@ fn note_name<'a>(
 }
 
 /// Keys in the order in which they came first, each with a name, and the first place of each name.
-#[derive(Drop)]
 pub(crate) struct NamedKeys<'a, K: Copy + Eq + Hash + Drop> {
     entries: IndexMap<K, &'a [u8]>,
     places: HashMap<&'a [u8], usize>,
+}
+
+impl<'a, K: Copy + Eq + Hash + Drop> Drop for NamedKeys<'a, K> {
+    fn drop(self) {
+        let Self {
+            entries: _,
+            places: _,
+        } = self;
+    }
 }
 
 impl<'a, K: Copy + Eq + Hash + Drop> NamedKeys<'a, K> {
@@ -242,9 +250,14 @@ impl<'a> GotFunc<'a> {
 }
 
 /// The functions that the table holds, each once.
-#[derive(Drop)]
 pub struct TableFunctions {
     set: IndexSet<FunctionTarget>,
+}
+
+impl Drop for TableFunctions {
+    fn drop(self) {
+        let Self { set: _ } = self;
+    }
 }
 
 impl Model for TableFunctions {

@@ -66,8 +66,6 @@ fn index_map(
         type_indices: row_copy(alloc, sources.types, object)?,
         function_indices: row_copy(alloc, functions, object)?,
         global_indices: row_copy(alloc, sources.globals, object)?,
-        segment_indices: ItemList::empty(alloc),
-        data_addresses: ItemList::empty(alloc),
         function_symbol_redirects: function_redirects(
             alloc,
             numbering.input,
@@ -77,6 +75,8 @@ fn index_map(
         )?,
         got_mem_globals: got_mem_globals(alloc, numbering, object, file)?,
         got_func_globals: got_func_globals(alloc, numbering, sources.bindings, object, file)?,
+        segment_indices: ItemList::empty(alloc),
+        data_addresses: ItemList::empty(alloc),
     })
 }
 

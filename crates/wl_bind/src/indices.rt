@@ -30,7 +30,7 @@ use wl_module::FuncType;
 use wl_symbols::{LinkInput, WasmLinkerSymbol};
 
 /// The parts of the function space that come before the objects' functions, in order.
-#[derive(Clone, Copy, PartialEq, Eq)]
+#[derive(Clone, Copy)]
 enum FunctionPart {
     /// What the host is asked for.
     Hosts,
@@ -45,7 +45,7 @@ enum FunctionPart {
 }
 
 /// The parts of the global space that come before the objects' globals, in order.
-#[derive(Clone, Copy, PartialEq, Eq)]
+#[derive(Clone, Copy)]
 enum GlobalPart {
     /// What the host is asked for.
     Hosts,
@@ -74,12 +74,22 @@ enum GlobalPart {
 }
 
 /// Where the things that the linker makes stand in the spaces of the output.
-#[derive(Drop)]
 pub struct LinkerDefinedIndices {
     needs: LinkerImportAbsorption,
     functions: PartStarts,
     globals: PartStarts,
     exported: ExportedData,
+}
+
+impl Drop for LinkerDefinedIndices {
+    fn drop(self) {
+        let Self {
+            needs: _,
+            functions: _,
+            globals: _,
+            exported: _,
+        } = self;
+    }
 }
 
 /// One entry, or none.

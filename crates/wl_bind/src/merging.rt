@@ -8,7 +8,7 @@ ghost use Rattle.wl_bind.specs.FunctionTypes.{stub_types};
 ghost use Rattle.wl_symbols.specs.Input.{Input as Linked};
 ghost use Rattle.wl_bind.specs.MadeIndices.{AreMadeIndices};
 ghost use Rattle.wl_bind.specs.MergeSteps.{is_marked, entry_if, merged, type_where, made_functions};
-ghost use Rattle.wl_bind.specs.OutputTypes.{output_types, types_if, local_types, live_types, IsMerged};
+ghost use Rattle.wl_bind.specs.OutputTypes.{made_types, output_types, types_if, local_types, live_types, IsMerged};
 ghost use Rattle.wl_bind.specs.Parts.{by_object, AreRows, IsIndexOf, AreIndicesOf};
 ghost use Rattle.wl_bind.specs.Resolutions.{resolutions, by_all_rules};
 
@@ -164,6 +164,25 @@ fn made_functions(
     Ok(types)
 }
 
+/// Adds the types of what the linker makes, those of stubs last.
+fn merge_made(
+    alloc: Global,
+    merger: &mut TypeMerger,
+    indices: &LinkerDefinedIndices,
+    stubs: &[FuncType],
+) -> Result<(), LinkError>
+    ensures types { (input : Linked) → AreMadeIndices input indices.now
+        → stubs.now ≡ stub_types input
+        → OnOk result (merger.new ≡ insert_all same_type merger.old (made_types input)) }
+    ensures err { (input : Linked) → AreMadeIndices input indices.now
+        → stubs.now ≡ stub_types input
+        → IfErr result (IsFull (insert_all same_type merger.old (made_types input))) }
+{
+    let made = made_functions(alloc, indices)?;
+    merge_listed(merger, &made)?;
+    merge_listed(merger, stubs)
+}
+
 // ---- the types of the output
 
 /// Merges the types of kept functions, of what the host is asked for, and of what kept relocations
@@ -186,9 +205,7 @@ pub fn merge_live_output_types(
 {
     let mut types = TypeMerger::new(alloc);
     let rows = merge_objects(alloc, &mut types, input, rows)?;
-    let made = made_functions(alloc, indices)?;
-    merge_listed(&mut types, &made)?;
-    merge_listed(&mut types, stubs)?;
+    merge_made(alloc, &mut types, indices, stubs)?;
     Ok(MergedTypes {
         types,
         indices: rows,

@@ -151,7 +151,7 @@ fn is_asked_or_bound(
 
 /// Which segments are kept: some of which each thread has its own, and some with bytes that go into
 /// the memory, which all threads have in common.
-#[derive(Clone, Copy, PartialEq, Eq)]
+#[derive(Clone, Copy)]
 struct KeptData {
     thread: bool,
     common: bool,
@@ -268,7 +268,7 @@ fn has_shared_tls(
 // ---- all of it
 
 /// What the linker is asked for, and whether the first thread has data to copy.
-#[derive(Clone, Copy, PartialEq, Eq)]
+#[derive(Clone, Copy)]
 pub(crate) struct LinkerNeeds {
     /// What is asked for.
     pub(crate) absorption: LinkerImportAbsorption,

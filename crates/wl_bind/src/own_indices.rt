@@ -11,7 +11,7 @@ use wl_linking::{File, LinkError, WasmSymbolKind};
 use wl_symbols::{LinkInput, WasmGcUnit};
 
 /// What objects define that has a space.
-#[derive(Clone, Copy, PartialEq, Eq)]
+#[derive(Clone, Copy)]
 pub(crate) enum Own {
     Functions,
     Globals,

@@ -26,7 +26,6 @@ pub struct RelocNeeds {
 }
 
 /// What kept relocations ask for. Clauses see it as a `Scanned`, a record of the lists.
-#[derive(Drop)]
 pub struct RelocScan<'a> {
     /// The data whose address a global holds, each once.
     pub got_mem: GotMem<'a>,
@@ -49,6 +48,17 @@ impl<'a> Model for RelocScan<'a> {
       table_functions = s.table_functions;
       needs = s.needs;
     } };
+}
+
+impl<'a> Drop for RelocScan<'a> {
+    fn drop(self) {
+        let Self {
+            got_mem: _,
+            got_func: _,
+            table_functions: _,
+            needs: _,
+        } = self;
+    }
 }
 
 /// Whether a relocation names a data symbol.

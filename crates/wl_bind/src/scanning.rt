@@ -185,6 +185,28 @@ pub(crate) fn gather<'a>(
     Ok(walk_relocations(alloc, &check)?.into_scan())
 }
 
+/// Sees that nothing that was found refuses the link. Judged in this order: kinds, types, undefined
+/// data. The walk has noted the first of each.
+///
+/// # Errors
+/// As [`scan_layout_relocations`].
+fn check_found(
+    alloc: Global,
+    check: &TypeCheck<'_, '_, '_>,
+    found: &Walk<'_>,
+) -> Result<(), LinkError>
+    requires { found_by found.now ≡ found_in check.now.input.now }
+    ensures kinds { OnOk result (Clear (IsWrongKind check.now.input.now)) }
+    ensures signatures { OnOk result (Clear (IsMismatch check.now.input.now)) }
+    ensures undefined { OnOk result (Clear (IsUndefinedData check.now.input.now)) }
+    ensures err { IfErr result (Refuses (scan_fault check.now.input.now)) }
+{
+    check_kinds(check.input, check.bindings, found.wrong)?;
+    check.check(found.mismatch)?;
+    check_undefined_data(alloc, check.input, &found.undefined)?;
+    Ok(())
+}
+
 /// What the kept relocations ask for, where it is known what function slots are bound to.
 ///
 /// # Errors
@@ -203,10 +225,7 @@ pub(crate) fn scan_with<'a>(
 {
     let check = TypeCheck::new(alloc, input, bindings)?;
     let found = walk_relocations(alloc, &check)?;
-    // Judged in this order: kinds, types, undefined data. The walk has noted the first of each.
-    check_kinds(input, bindings, found.wrong)?;
-    check.check(found.mismatch)?;
-    check_undefined_data(alloc, input, &found.undefined)?;
+    check_found(alloc, &check, &found)?;
     Ok(found.into_scan())
 }
 

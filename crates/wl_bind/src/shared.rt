@@ -4,29 +4,43 @@ ghost use Rattle.std.specs.Prelude.{◌≡◌, IfOk, OnOk, IfErr};
 ghost use Rattle.wl_linking.specs.Steps.{Clear, Refuses};
 ghost use Rattle.wl_bind.specs.Conflicts.{IsHostConflict};
 ghost use Rattle.wl_bind.specs.FunctionBinding.{host_functions};
-ghost use Rattle.wl_bind.specs.GlobalSlots.{AreGlobalSlots};
+ghost use Rattle.wl_bind.specs.GlobalBinding.{host_globals};
 ghost use Rattle.wl_bind.specs.Resolutions.{resolutions, by_all_rules};
-ghost use Rattle.wl_bind.specs.Shared.{function_imports, shared_of, place_in, place_at};
+ghost use Rattle.wl_bind.specs.Shared.{shared_of, place_in, place_at};
 
-use crate::conflicts::check_host_types;
+use crate::conflicts::{SlotImports, check_types};
 use crate::function_slots::FunctionSlots;
-use crate::global_slots::{GlobalSlots, bind_globals};
+use crate::global_slots::bind_globals;
 use crate::resolution::ObjectImportResolutions;
 use crate::scanning::gather;
 use std::alloc::Global;
 use std::marker::Model;
 use wl_linking::{LinkError, WasmSymbolKind};
 use wl_lists::ItemList;
-use wl_symbols::{HostImport, HostImports, LinkInput};
+use wl_symbols::{HostImport, HostImports, ImportSlot, LinkInput};
+
+/// The imports of a kind that the host is asked for, and which of them each slot of that kind is.
+pub(crate) struct SharedImports<'a> {
+    /// One per module and field name, in order of their first slots.
+    pub(crate) imports: HostImports<'a>,
+    /// For each slot of each object that is left to the host the place of its import.
+    pub(crate) places: Vec<ItemList<Option<usize>>>,
+}
+
+impl<'a> Drop for SharedImports<'a> {
+    fn drop(self) {
+        let Self {
+            imports: _,
+            places: _,
+        } = self;
+    }
+}
 
 /// The functions and globals that the host is asked for, one per module and field name, and which
 /// of them each import slot is. Clauses see it as a `Shared`.
-#[derive(Drop)]
 pub struct SharedUnresolvedImports<'a> {
-    functions: HostImports<'a>,
-    globals: HostImports<'a>,
-    function_places: Vec<ItemList<Option<usize>>>,
-    global_places: Vec<ItemList<Option<usize>>>,
+    functions: SharedImports<'a>,
+    globals: SharedImports<'a>,
 }
 
 impl<'a> Model for SharedUnresolvedImports<'a> {
@@ -35,11 +49,20 @@ impl<'a> Model for SharedUnresolvedImports<'a> {
     ghost Value = { Shared };
 
     ghost view = { λ s. record {
-      functions = s.functions;
-      globals = s.globals;
-      function_places = s.function_places.items;
-      global_places = s.global_places.items;
+      functions = s.functions.imports;
+      globals = s.globals.imports;
+      function_places = s.functions.places.items;
+      global_places = s.globals.places.items;
     } };
+}
+
+impl<'a> Drop for SharedUnresolvedImports<'a> {
+    fn drop(self) {
+        let Self {
+            functions: _,
+            globals: _,
+        } = self;
+    }
 }
 
 impl<'a> SharedUnresolvedImports<'a> {
@@ -47,14 +70,14 @@ impl<'a> SharedUnresolvedImports<'a> {
     pub fn functions(&self) -> &[HostImport<'a>]
         ensures { result.now ≡ self.now.functions }
     {
-        self.functions.as_slice()
+        self.functions.imports.as_slice()
     }
 
     /// The globals that it is asked for, likewise.
     pub fn globals(&self) -> &[HostImport<'a>]
         ensures { result.now ≡ self.now.globals }
     {
-        self.globals.as_slice()
+        self.globals.imports.as_slice()
     }
 
     /// The place, among the imports of its kind, of the import that the slot of that kind and
@@ -63,8 +86,8 @@ impl<'a> SharedUnresolvedImports<'a> {
         ensures { result ≡ place_at self.now kind object slot }
     {
         match kind {
-            WasmSymbolKind::Func => place_in(self.function_places.as_slice(), object, slot),
-            WasmSymbolKind::Global => place_in(self.global_places.as_slice(), object, slot),
+            WasmSymbolKind::Func => place_in(self.functions.places.as_slice(), object, slot),
+            WasmSymbolKind::Global => place_in(self.globals.places.as_slice(), object, slot),
             WasmSymbolKind::Data
             | WasmSymbolKind::Section
             | WasmSymbolKind::Event
@@ -93,40 +116,34 @@ fn place_in(rows: &[ItemList<Option<usize>>], object: usize, slot: u32) -> Optio
 pub(crate) fn check_hosts(
     alloc: Global,
     input: &LinkInput<'_, '_>,
-    functions: &FunctionSlots<'_, '_>,
-    globals: &GlobalSlots<'_, '_>,
+    shared: &SharedUnresolvedImports<'_>,
+    functions: &[ImportSlot<'_, '_>],
+    globals: &[ImportSlot<'_, '_>],
 ) -> Result<(), LinkError>
-    requires functions { functions.now.host_slots.items ≡ host_functions input.now }
-    requires function_imports { functions.now.hosts ≡ function_imports input.now }
-    requires globals { AreGlobalSlots input.now globals.now }
+    requires shared { shared.now ≡ shared_of input.now }
+    requires functions { functions.now ≡ host_functions input.now }
+    requires globals { globals.now ≡ host_globals input.now }
     ensures clear { OnOk result (Clear (IsHostConflict input.now)) }
     ensures err { IfErr result (Refuses (IsHostConflict input.now)) }
 {
-    check_host_types(alloc, input, &functions.hosts, &functions.host_slots)?;
-    check_host_types(alloc, input, &globals.hosts, &globals.host_slots)?;
+    let imports = SlotImports::Hosts(&shared.functions.imports);
+    check_types(alloc, input, imports, functions)?;
+    let imports = SlotImports::Hosts(&shared.globals.imports);
+    check_types(alloc, input, imports, globals)?;
     Ok(())
 }
 
 impl<'a> SharedUnresolvedImports<'a> {
-    /// What the host is asked for: these functions, with the places of their slots, and globals.
-    pub(crate) fn of(
-        functions: HostImports<'a>,
-        function_places: Vec<ItemList<Option<usize>>>,
-        globals: GlobalSlots<'_, 'a>,
-    ) -> Self
+    /// What the host is asked for: these functions and these globals.
+    pub(crate) fn of(functions: SharedImports<'a>, globals: SharedImports<'a>) -> Self
         ensures { result ≡ record {
-          functions = functions.entry;
-          globals = globals.entry.hosts;
-          function_places = function_places.items;
+          functions = functions.entry.imports;
+          globals = globals.entry.imports;
+          function_places = functions.entry.places.items;
           global_places = globals.entry.places.items;
         } }
     {
-        SharedUnresolvedImports {
-            functions,
-            globals: globals.hosts,
-            function_places,
-            global_places: globals.places,
-        }
+        SharedUnresolvedImports { functions, globals }
     }
 }
 
@@ -148,6 +165,13 @@ pub fn collect_shared_unresolved_imports<'a>(
     let mut functions = FunctionSlots::new(alloc, input)?;
     let scan = gather(alloc, input, &functions.bindings)?;
     let globals = bind_globals(alloc, input, &scan, functions.resolutions.as_mut_slice())?;
-    check_hosts(alloc, input, &functions, &globals)?;
-    Ok(SharedUnresolvedImports::of(functions.hosts, functions.places, globals))
+    let shared = SharedUnresolvedImports::of(functions.shared, globals.shared);
+    check_hosts(
+        alloc,
+        input,
+        &shared,
+        &functions.host_slots,
+        &globals.host_slots,
+    )?;
+    Ok(shared)
 }

@@ -6,7 +6,7 @@ ghost use Rattle.wl_symbols.specs.Entries.{symbol_in};
 ghost use Rattle.wl_bind.specs.FunctionSymbols.{function_bindings};
 ghost use Rattle.wl_symbols.specs.Relocations.{relocations};
 ghost use Rattle.wl_bind.specs.Signatures.{NamedByRelocation, OnKeptSlot, NamedByInit, IsMismatch};
-ghost use Rattle.wl_bind.specs.BindingSteps.{slot_numbers, differs, is_mismatch, names_mismatch, TellsMismatch, AreOwnClear};
+ghost use Rattle.wl_bind.specs.BindingSteps.{slot_numbers, differs, is_mismatch, names_mismatch, mismatch_error, TellsMismatch, AreOwnClear};
 
 use crate::binding::FunctionTarget;
 use crate::targets::FunctionBindings;
@@ -14,6 +14,13 @@ use crate::types::{SlotTypes, declared_type, is_other_type};
 use std::alloc::{AllocError, Global};
 use wl_linking::{File, LinkError, WasmSymbol, WasmSymbolKind};
 use wl_symbols::{LinkInput, Relocated};
+
+/// A symbol that leads to a function of another type, by the number of its object and its own.
+#[derive(Clone, Copy)]
+struct Mismatch {
+    object: usize,
+    symbol: u32,
+}
 
 /// What types are compared by: what function slots are bound to, and their types.
 #[derive(Drop)]
@@ -83,12 +90,13 @@ impl<'c, 'i, 'a> TypeCheck<'c, 'i, 'a> {
     }
 
     /// Sees that a function symbol leads to no function of another type.
-    fn check_symbol(&self, object: usize, number: u32) -> Result<(), LinkError>
+    fn check_symbol(&self, object: usize, number: u32) -> Result<(), Mismatch>
         ensures clear { OnOk result (is_mismatch self.now.input.now object number ≡ false) }
-        ensures err { IfErr result (TellsMismatch self.now.input.now object number) }
+        ensures err { IfErr result
+            (λ m. TellsMismatch self.now.input.now object number (mismatch_error m)) }
     {
         if self.is_mismatch(object, number) {
-            Err(LinkError::SignatureMismatch {
+            Err(Mismatch {
                 object,
                 symbol: number,
             })
@@ -99,17 +107,17 @@ impl<'c, 'i, 'a> TypeCheck<'c, 'i, 'a> {
 
     /// Sees that kept relocations name no such symbol, where the first that does is known.
     #[tactic(auto, using(crate::proofs::MismatchLaws::no_relocation, crate::proofs::MismatchLaws::a_relocation))]
-    fn check_relocations(&self, mismatch: Option<Relocated>) -> Result<(), LinkError>
+    fn check_relocations(&self, mismatch: Option<Relocated>) -> Result<(), Mismatch>
         requires { mismatch
             ≡ find (names_mismatch self.now.input.now) (relocations self.now.input.now) }
         ensures clear { OnOk result ((object number : ℕ)
             → NamedByRelocation self.now.input.now object number
             → is_mismatch self.now.input.now object number ≡ false) }
-        ensures err { IfErr result (IsMismatch self.now.input.now) }
+        ensures err { IfErr result (λ m. IsMismatch self.now.input.now (mismatch_error m)) }
     {
         match mismatch {
             None => Ok(()),
-            Some(relocated) => Err(LinkError::SignatureMismatch {
+            Some(relocated) => Err(Mismatch {
                 object: relocated.object,
                 symbol: relocated.relocation.index,
             }),
@@ -122,11 +130,11 @@ impl<'c, 'i, 'a> TypeCheck<'c, 'i, 'a> {
         object: usize,
         number: u32,
         symbol: &WasmSymbol<'_>,
-    ) -> Result<(), LinkError>
+    ) -> Result<(), Mismatch>
         requires { symbol_in self.now.input.now.link.objects object number ≡ Some symbol.now }
         ensures clear { OnOk result (OnKeptSlot self.now.input.now object number
             → is_mismatch self.now.input.now object number ≡ false) }
-        ensures err { IfErr result (IsMismatch self.now.input.now) }
+        ensures err { IfErr result (λ m. IsMismatch self.now.input.now (mismatch_error m)) }
     {
         let input = self.input;
         if !symbol.is_undefined() {
@@ -139,11 +147,11 @@ impl<'c, 'i, 'a> TypeCheck<'c, 'i, 'a> {
     }
 
     /// The same of the undefined symbols of an object.
-    fn check_slots(&self, object: usize, file: &File<'_>) -> Result<(), LinkError>
+    fn check_slots(&self, object: usize, file: &File<'_>) -> Result<(), Mismatch>
         requires { slice_get self.now.input.now.link.objects object ≡ Some file.now }
         ensures clear { OnOk result ((number : ℕ) → OnKeptSlot self.now.input.now object number
             → is_mismatch self.now.input.now object number ≡ false) }
-        ensures err { IfErr result (IsMismatch self.now.input.now) }
+        ensures err { IfErr result (λ m. IsMismatch self.now.input.now (mismatch_error m)) }
     {
         file.stands_for_an_object();
         let symbols = file.symbols();
@@ -154,11 +162,11 @@ impl<'c, 'i, 'a> TypeCheck<'c, 'i, 'a> {
     }
 
     /// The same of the symbols of functions of an object that run at the start.
-    fn check_inits(&self, object: usize, file: &File<'_>) -> Result<(), LinkError>
+    fn check_inits(&self, object: usize, file: &File<'_>) -> Result<(), Mismatch>
         requires { slice_get self.now.input.now.link.objects object ≡ Some file.now }
         ensures clear { OnOk result ((number : ℕ) → NamedByInit self.now.input.now object number
             → is_mismatch self.now.input.now object number ≡ false) }
-        ensures err { IfErr result (IsMismatch self.now.input.now) }
+        ensures err { IfErr result (λ m. IsMismatch self.now.input.now (mismatch_error m)) }
     {
         for function in file.init_funcs() {
             self.check_symbol(object, function.symbol_index)?;
@@ -167,24 +175,36 @@ impl<'c, 'i, 'a> TypeCheck<'c, 'i, 'a> {
     }
 
     /// The same of the symbols that an object names without a relocation.
-    fn check_object(&self, object: usize, file: &File<'_>) -> Result<(), LinkError>
+    fn check_object(&self, object: usize, file: &File<'_>) -> Result<(), Mismatch>
         requires { slice_get self.now.input.now.link.objects object ≡ Some file.now }
         ensures clear { OnOk result (AreOwnClear self.now.input.now object) }
-        ensures err { IfErr result (IsMismatch self.now.input.now) }
+        ensures err { IfErr result (λ m. IsMismatch self.now.input.now (mismatch_error m)) }
     {
         self.check_slots(object, file)?;
         self.check_inits(object, file)
     }
 
     /// The same of all objects.
-    fn check_objects(&self) -> Result<(), LinkError>
+    fn check_objects(&self) -> Result<(), Mismatch>
         ensures clear { OnOk result ((object : ℕ) → AreOwnClear self.now.input.now object) }
-        ensures err { IfErr result (IsMismatch self.now.input.now) }
+        ensures err { IfErr result (λ m. IsMismatch self.now.input.now (mismatch_error m)) }
     {
         let files = self.input.files().as_slice();
         for (object, file) in files.iter().enumerate() {
             self.check_object(object, file)?;
         }
+        Ok(())
+    }
+
+    /// The same of all function symbols that are looked at.
+    fn check_all(&self, mismatch: Option<Relocated>) -> Result<(), Mismatch>
+        requires { mismatch
+            ≡ find (names_mismatch self.now.input.now) (relocations self.now.input.now) }
+        ensures clear { OnOk result (Clear (IsMismatch self.now.input.now)) }
+        ensures err { IfErr result (λ m. IsMismatch self.now.input.now (mismatch_error m)) }
+    {
+        self.check_relocations(mismatch)?;
+        self.check_objects()?;
         Ok(())
     }
 
@@ -200,8 +220,12 @@ impl<'c, 'i, 'a> TypeCheck<'c, 'i, 'a> {
         ensures clear { OnOk result (Clear (IsMismatch self.now.input.now)) }
         ensures err { IfErr result (IsMismatch self.now.input.now) }
     {
-        self.check_relocations(mismatch)?;
-        self.check_objects()?;
-        Ok(())
+        match self.check_all(mismatch) {
+            Ok(()) => Ok(()),
+            Err(found) => Err(LinkError::SignatureMismatch {
+                object: found.object,
+                symbol: found.symbol,
+            }),
+        }
     }
 }

@@ -11,8 +11,8 @@ ghost use Rattle.wl_bind.specs.Conflicts.{IsStubConflict};
 ghost use Rattle.wl_bind.specs.Later.{with_functions};
 ghost use Rattle.wl_bind.specs.Resolutions.{resolutions, by_names_and_got, by_all_rules};
 
-use crate::conflicts::check_stub_types;
-use crate::first_slots::{FirstSlots, first_stub_slots};
+use crate::conflicts::{SlotImports, check_types};
+use crate::first_slots::FirstSlots;
 use crate::function_slots::FunctionSlots;
 use crate::resolution::{ObjectImportResolutions, ResolutionList};
 use crate::types::slot_type;
@@ -68,8 +68,8 @@ pub(crate) fn stub_types(
     ensures clear { OnOk result (Clear (IsStubConflict input.now)) }
     ensures err { IfErr result (Refuses (IsStubConflict input.now)) }
 {
-    check_stub_types(alloc, input, &slots.stubs, &slots.stub_slots)?;
-    let firsts = first_stub_slots(alloc, &slots.stubs, &slots.stub_slots)?;
+    let weak = &slots.weak;
+    let firsts = check_types(alloc, input, SlotImports::Stubs(&weak.stubs), &weak.slots)?;
     Ok(slot_types(alloc, input.files(), &firsts)?)
 }
 

@@ -17,9 +17,14 @@ use wl_symbols::{Definition, LinkInput, Relocated};
 
 /// Names that nothing defines, each once with an object that refers to it, in order of first
 /// occurrence. Clauses see them as a list.
-#[derive(Drop)]
 pub(crate) struct UndefinedNames<'a> {
     names: IndexSet<(usize, &'a str)>,
+}
+
+impl<'a> Drop for UndefinedNames<'a> {
+    fn drop(self) {
+        let Self { names: _ } = self;
+    }
 }
 
 impl<'a> Model for UndefinedNames<'a> {

@@ -2,7 +2,7 @@ use Rattle.std.proofs.Common.{◌≡◌}
 use Rattle.wl_bind.specs.Stepped.{stepped}
 use Rattle.wl_bind.specs.Later.{globals_walked}
 use Rattle.wl_bind.proofs.SteppedLaws.{left_from}
-use Rattle.wl_bind.proofs.absorbing.absorb_globals.Given as goal
+use Rattle.wl_bind.proofs.absorbing.absorb_got_imports.Given as goal
 
 abbrev pub invariant-loop-object : goal.invariant-loop-object
 invariant-loop-object l =

@@ -1,7 +1,0 @@
-use Rattle.std.proofs.Common.{drop}
-use Rattle.wl_symbols.specs.Left.{same_field}
-use Rattle.wl_bind.proofs.ConflictLaws.{Met}
-use Rattle.wl_bind.proofs.conflicts.find_stub_conflict.Given as goal
-
-abbrev pub invariant-loop-slot : goal.invariant-loop-slot
-invariant-loop-slot l = Met l.files same_field l.slots l.firsts (drop l.slot-index l.slots)
