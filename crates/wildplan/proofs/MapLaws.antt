@@ -8,7 +8,7 @@ use Rattle.std.specs.List.{count_by}
 use Rattle.wl_text.specs.Pieces.{numbered}
 use Rattle.wl_plan.specs.PlannedImports.{is_function_import}
 use Rattle.wl_plan.specs.declared.layout.LinkPlan.{LinkPlan}
-use Rattle.wildplan.specs.ObjectSegments.{ObjectSegment, segments_from}
+use Rattle.wl_plan.specs.ObjectSegments.{ObjectSegment, segments_of_objects}
 use Rattle.wildplan.specs.Map.{size_line, AreCodeLines, data_line, total_lines, IsMapText}
 
 -- with one more body
@@ -35,11 +35,11 @@ code_step first i bodies b page old new size within is (text, lines, so_far) has
     )
 
 -- the lines of a whole map
-pub map_is : (plan : LinkPlan) (first : ℕ) (bodies : List Body) (segments : List ObjectSegment) (p0 p1 p2 p3 text : List ℕ) → p0 ≡ [] → first ≡ count_by is_function_import plan.layout.imports → bodies ≡ plan.layout.function_bodies → segments ≡ segments_from 0 plan.layout.object_data_layouts → (t : List ℕ) × AreCodeLines first bodies t × (p1 ≡ p0 ++ t) → p2 ≡ p1 ++ numbered data_line 0 segments → p3 ≡ p2 ++ total_lines plan → text ≡ p3 → IsMapText plan text
+pub map_is : (plan : LinkPlan) (first : ℕ) (bodies : List Body) (segments : List ObjectSegment) (p0 p1 p2 p3 text : List ℕ) → p0 ≡ [] → first ≡ count_by is_function_import plan.layout.imports → bodies ≡ plan.layout.function_bodies → segments ≡ segments_of_objects 0 plan.layout.object_data_layouts → (t : List ℕ) × AreCodeLines first bodies t × (p1 ≡ p0 ++ t) → p2 ≡ p1 ++ numbered data_line 0 segments → p3 ≡ p2 ++ total_lines plan → text ≡ p3 → IsMapText plan text
 map_is plan first bodies segments p0 p1 p2 p3 text none f b s (t, lines, begun) two three is =
     let one : p1 ≡ t = begun ∙ ap (λ (p : List ℕ). p ++ t) none in
     record {
       functions = t;
       sized = subst (λ (n : ℕ). AreCodeLines n plan.layout.function_bodies t) f (subst (λ (xs : List Body). AreCodeLines first xs t) b lines);
-      is = is ∙ three ∙ ap (λ (p : List ℕ). p ++ total_lines plan) (two ∙ ap (λ (p : List ℕ). p ++ numbered data_line 0 segments) one ∙ ap (λ (xs : List ObjectSegment). t ++ numbered data_line 0 xs) s) ∙ append_assoc t (numbered data_line 0 (segments_from 0 plan.layout.object_data_layouts)) (total_lines plan);
+      is = is ∙ three ∙ ap (λ (p : List ℕ). p ++ total_lines plan) (two ∙ ap (λ (p : List ℕ). p ++ numbered data_line 0 segments) one ∙ ap (λ (xs : List ObjectSegment). t ++ numbered data_line 0 xs) s) ∙ append_assoc t (numbered data_line 0 (segments_of_objects 0 plan.layout.object_data_layouts)) (total_lines plan);
     }

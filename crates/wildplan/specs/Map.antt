@@ -6,7 +6,7 @@ use Rattle.wl_data.specs.Sizes.{HasEntrySize}
 use Rattle.wl_text.specs.Pieces.{numbered}
 use Rattle.wl_plan.specs.PlannedImports.{is_function_import}
 use Rattle.wl_plan.specs.declared.layout.LinkPlan.{LinkPlan}
-use Rattle.wildplan.specs.ObjectSegments.{ObjectSegment, segments_from}
+use Rattle.wl_plan.specs.ObjectSegments.{ObjectSegment, segments_of_objects}
 
 -- a word, a number and a size
 abbrev pub size_line : List ℕ → ℕ → ℕ → List ℕ
@@ -37,5 +37,5 @@ pub record IsMapText (plan : LinkPlan) (text : List ℕ) : Type 0 where
   pub sized : AreCodeLines (count_by is_function_import plan.layout.imports)
       plan.layout.function_bodies functions
   pub is : text ≡ functions
-      ++ (numbered data_line 0 (segments_from 0 plan.layout.object_data_layouts)
+      ++ (numbered data_line 0 (segments_of_objects 0 plan.layout.object_data_layouts)
       ++ total_lines plan)

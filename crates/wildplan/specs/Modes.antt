@@ -10,7 +10,7 @@ use Rattle.wl_plan.specs.declared.layout.LinkPlan.{LinkPlan}
 use Rattle.wl_generate.specs.Generated.{generated}
 use Rattle.wl_why.specs.Text.{IsWhyText}
 use Rattle.wildplan.specs.Generated.{summary_text}
-use Rattle.wildplan.specs.Listing.{listing_text}
+use Rattle.wl_plan.specs.PlanLines.{listing_text}
 use Rattle.wildplan.specs.Map.{IsMapText}
 
 -- the same words with this entry

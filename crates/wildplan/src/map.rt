@@ -5,11 +5,10 @@ ghost use Rattle.wl_data.specs.Sizes.{HasEntrySize};
 ghost use Rattle.wl_text.specs.Pieces.{numbered};
 ghost use Rattle.wildplan.specs.Map.{size_line, AreCodeLines, data_line, total_lines, IsMapText};
 
-use crate::listing::{ObjectSegment, all_segments};
 use std::alloc::{AllocError, Global};
 use wl_bytes::uleb_len;
 use wl_module::WasmFunctionBody;
-use wl_plan::{LinkPlan, count_output_imports};
+use wl_plan::{LinkPlan, ObjectSegment, count_output_imports, output_segments};
 use wl_text::Page;
 
 /// How many bytes a body takes, with its length before it (core specification, "Code Section").
@@ -79,7 +78,7 @@ pub fn link_map(alloc: Global, plan: &LinkPlan<'_>) -> Result<Vec<u8>, AllocErro
     let (functions, _) = count_output_imports(layout);
     let mut page = Page::new(alloc);
     push_functions(&mut page, functions, layout.function_bodies.as_slice())?;
-    let segments = all_segments(alloc, layout.object_data_layouts.as_slice())?;
+    let segments = output_segments(alloc, layout.object_data_layouts.as_slice())?;
     push_segments(&mut page, &segments)?;
     push_totals(&mut page, plan)?;
     page.into_text()

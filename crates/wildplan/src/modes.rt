@@ -8,14 +8,13 @@ ghost use Rattle.wl_plan.specs.LinkPlan.{HasLinkFault, IsPlanOf};
 ghost use Rattle.wl_why.specs.Text.{IsWhyText};
 ghost use Rattle.wildplan.specs.Modes.{planned_args, IsTextOf, IsPlanText};
 
-use crate::listing::listing;
 use crate::map::link_map;
 use crate::summary::summary;
 use std::alloc::{AllocError, Global};
 use wl_linking::{FileList, LinkError};
 use wl_lists::Text;
 use wl_live::collect_live;
-use wl_plan::{LinkPlan, ObjectList, parse_objects, plan_files};
+use wl_plan::{LinkPlan, ObjectList, listing, parse_objects, plan_files};
 use wl_symbols::SymbolTable;
 use wl_why::why_text;
 use wl_words::{Mode, WasmArgs};

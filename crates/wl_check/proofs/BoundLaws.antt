@@ -10,8 +10,8 @@ use Rattle.wl_text.specs.Pieces.{is_escaped, escaped, quoted}
 use Rattle.wl_text.specs.Names.{value_type_name}
 use Rattle.wl_check.specs.declared.line.Line.{Line}
 use Rattle.wl_check.specs.declared.line.Line.TheVariants.{Version, OutputType, Import, Function, Body, Global, Memory, Table, Slot, Segment, Export, Start, Fix, Feature, Debug, End}
-use Rattle.wl_check.specs.declared.line.OutputImportEntity.{OutputImportEntity}
-use Rattle.wl_check.specs.declared.line.OutputImportEntity.TheVariants as entity
+use Rattle.wl_output.specs.declared.entities.OutputImportEntity.{OutputImportEntity}
+use Rattle.wl_output.specs.declared.entities.OutputImportEntity.TheVariants as entity
 use Rattle.wl_check.specs.declared.line.FunctionSource.{FunctionSource}
 use Rattle.wl_check.specs.declared.line.FunctionSource.TheVariants as source
 use Rattle.wl_check.specs.Texts.{further_type, types, source_text, import_word, entity_text, line_text, name}

@@ -19,8 +19,8 @@ use Rattle.wl_check.specs.declared.kinds.StateKind.{StateKind}
 use Rattle.wl_check.specs.declared.kinds.StateKind.TheVariants as state_kind
 use Rattle.wl_check.specs.declared.line.MadeFunction.{MadeFunction}
 use Rattle.wl_check.specs.declared.line.MadeFunction.TheVariants.{CallCtors, InitTls, InitMemory}
-use Rattle.wl_check.specs.declared.line.MadeGlobal.{MadeGlobal}
-use Rattle.wl_check.specs.declared.line.MadeGlobal.TheVariants.{MemoryBase, TableBase, StackPointer, TlsBase, TlsSize, TlsAlign, Address, GotMem, GotFunc, Data}
+use Rattle.wl_output.specs.declared.entities.MadeGlobal.{MadeGlobal}
+use Rattle.wl_output.specs.declared.entities.MadeGlobal.TheVariants.{MemoryBase, TableBase, StackPointer, TlsBase, TlsSize, TlsAlign, Address, GotMem, GotFunc, Data}
 use Rattle.wl_symbols.specs.declared.relocated.FixupPlace.{FixupPlace}
 use Rattle.wl_symbols.specs.declared.relocated.FixupPlace.TheVariants as place
 use Rattle.wl_check.specs.Texts.{made_function_name, made_global_name, place_name}

@@ -35,7 +35,7 @@ pub line_stretch : (x rest : List ℕ) (l : Line) → Spelled x l → first_stre
 line_stretch x rest l s =
     subst (λ (t : List ℕ). first_stretch (t ++ rest) ≡ t) (sym s.text) (line_code.stretch l s.in_range rest ∙ append-nil (line_text l))
 
-line_some : (l : Line) → InRange l → line_text l ≢ []
+pub line_some : (l : Line) → InRange l → line_text l ≢ []
 line_some l fits none =
     let same : [] ++ ([] ++ []) ≡ line_text l ++ [] = refl ∙ sym (append-nil (line_text l) ∙ none) in
     let e = line_stretch [] (10 ∷ []) l (record { in_range = fits; text = sym none }) in
@@ -118,7 +118,7 @@ line_shortens rest l behind e =
 pub read_all : (text : List ℕ) (ls : List Line) → IsRead text ls [] → IsListing ls text
 read_all text ls r = record { in_range = r.in_range; joined = r.parts ∙ append-nil (flat_map line_text ls) }
 
-front_stretch : (rest : List ℕ) → (more : List ℕ) × (rest ≡ first_stretch rest ++ more)
+pub front_stretch : (rest : List ℕ) → (more : List ℕ) × (rest ≡ first_stretch rest ++ more)
 front_stretch [] = ([], refl)
 front_stretch (b ∷ rest) = step (b == newline) (front_stretch rest)
   where

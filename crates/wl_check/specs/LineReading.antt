@@ -18,23 +18,23 @@ use Rattle.wl_check.specs.declared.kinds.StateKind.{StateKind}
 use Rattle.wl_check.specs.declared.kinds.StateKind.TheVariants as state_kind
 use Rattle.wl_check.specs.declared.line.Line.{Line}
 use Rattle.wl_check.specs.declared.line.Line.TheVariants.{Version, OutputType, Import, Function, Body, Global, Memory, Table, Slot, Segment, Export, Start, Fix, Feature, Debug, End}
-use Rattle.wl_check.specs.declared.line.OutputImportEntity.{OutputImportEntity}
-use Rattle.wl_check.specs.declared.line.OutputImportEntity.TheVariants as entity
+use Rattle.wl_output.specs.declared.entities.OutputImportEntity.{OutputImportEntity}
+use Rattle.wl_output.specs.declared.entities.OutputImportEntity.TheVariants as entity
 use Rattle.wl_check.specs.declared.line.FunctionSource.{FunctionSource}
 use Rattle.wl_check.specs.declared.line.FunctionSource.TheVariants as source
 use Rattle.wl_check.specs.declared.line.MadeFunction.{MadeFunction}
 use Rattle.wl_check.specs.declared.line.MadeFunction.TheVariants.{CallCtors, InitTls, InitMemory}
-use Rattle.wl_check.specs.declared.line.GlobalOrigin.{GlobalOrigin}
-use Rattle.wl_check.specs.declared.line.GlobalOrigin.TheVariants as origin
-use Rattle.wl_check.specs.declared.line.MadeGlobal.{MadeGlobal}
-use Rattle.wl_check.specs.declared.line.MadeGlobal.TheVariants.{MemoryBase, TableBase, StackPointer, TlsBase, TlsSize, TlsAlign, Address, GotMem, GotFunc, Data}
+use Rattle.wl_output.specs.declared.entities.GlobalOrigin.{GlobalOrigin}
+use Rattle.wl_output.specs.declared.entities.GlobalOrigin.TheVariants as origin
+use Rattle.wl_output.specs.declared.entities.MadeGlobal.{MadeGlobal}
+use Rattle.wl_output.specs.declared.entities.MadeGlobal.TheVariants.{MemoryBase, TableBase, StackPointer, TlsBase, TlsSize, TlsAlign, Address, GotMem, GotFunc, Data}
 use Rattle.wl_check.specs.declared.line.SegmentState.{SegmentState}
 use Rattle.wl_check.specs.declared.line.SegmentState.TheVariants as state
 use Rattle.wl_symbols.specs.declared.relocated.FixupPlace.{FixupPlace}
 use Rattle.wl_symbols.specs.declared.relocated.FixupPlace.TheVariants as place
-use Rattle.wl_check.specs.declared.line.FixupTo.{FixupTo}
-use Rattle.wl_check.specs.declared.line.FixupTo.TheVariants.{Value, Deferred}
-use Rattle.wl_check.specs.declared.line.Fixup.{Fixup}
+use Rattle.wl_output.specs.declared.fixups.FixupTo.{FixupTo}
+use Rattle.wl_output.specs.declared.fixups.FixupTo.TheVariants.{Value, Deferred}
+use Rattle.wl_output.specs.declared.fixups.Fixup.{Fixup}
 use Rattle.wl_check.specs.Texts.{blank, newline, made_function_name, made_global_name, place_name}
 use Rattle.wl_check.specs.Reading.{then_at, seen_at, word_at, behind_at, ended_at, either_at, flag_at, case_at, choice_at, number_at, signed_at, hex_at, name_at, value_type_at, types_at}
 

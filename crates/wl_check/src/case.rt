@@ -3,9 +3,10 @@
 ghost use Rattle.std.specs.Prelude.{◌≡◌, List, ℕ};
 
 use crate::kinds::{LineKind, OriginKind, SourceKind, StateKind};
-use crate::line::{MadeFunction, MadeGlobal};
+use crate::line::MadeFunction;
 use wl_custom::{RelocationType, relocation_type_to_string};
 use wl_module::{ExternalKind, ValType};
+use wl_output::MadeGlobal;
 use wl_symbols::FixupPlace;
 use wl_text::{kind_name, value_type_name};
 

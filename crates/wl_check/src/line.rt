@@ -1,20 +1,8 @@
 //! The lines of a listing, with their fields.
 
-use wl_custom::RelocationType;
 use wl_lists::ItemList;
 use wl_module::{ExternalKind, FuncType, GlobalType, MemoryType};
-use wl_symbols::FixupPlace;
-
-/// What an entity that the output imports is.
-#[derive(Clone, Copy, PartialEq, Eq)]
-pub enum OutputImportEntity {
-    /// A function, with its type among the output types.
-    Function { type_index: u32 },
-    /// A global.
-    Global(GlobalType),
-    /// The memory.
-    Memory(MemoryType),
-}
+use wl_output::{Fixup, GlobalOrigin, OutputImportEntity};
 
 /// A function that the linker makes under a name of its own.
 #[derive(Clone, Copy, PartialEq, Eq)]
@@ -41,41 +29,6 @@ pub enum FunctionSource {
     Wrap { name: ItemList<u8> },
 }
 
-/// What a global that the linker makes stands for.
-#[derive(Clone, Copy, PartialEq, Eq)]
-pub enum MadeGlobal {
-    /// Where data may begin.
-    MemoryBase,
-    /// The first slot of the table.
-    TableBase,
-    /// The top of the stack.
-    StackPointer,
-    /// Where the data of this thread begins.
-    TlsBase,
-    /// How many bytes the data of a thread takes.
-    TlsSize,
-    /// The greatest alignment of the data of a thread.
-    TlsAlign,
-    /// An address that the linker knows.
-    Address,
-    /// The address of a data symbol.
-    GotMem,
-    /// The slot of a function.
-    GotFunc,
-    /// The address of an exported data symbol.
-    Data,
-}
-
-/// Where a global of the output is from.
-#[derive(Clone, Copy, PartialEq, Eq)]
-pub enum GlobalOrigin {
-    /// A global that an object defines: the object's number, and the global's in it, where
-    /// definitions alone are counted.
-    Object { object: usize, unit: u32 },
-    /// A global that the linker makes.
-    Made(MadeGlobal),
-}
-
 /// Where a segment of the output goes.
 #[derive(Clone, Copy, PartialEq, Eq)]
 pub enum SegmentState {
@@ -87,33 +40,6 @@ pub enum SegmentState {
     Tls { offset: u32 },
     /// Nowhere by itself.
     Passive,
-}
-
-/// What a field takes.
-#[derive(Clone, Copy, PartialEq, Eq)]
-pub enum FixupTo {
-    /// This number, and what is still to be added to it.
-    Value { value: u32, addend_left: i32 },
-    /// An address in the data of a thread, so many bytes behind its front, which is known when the
-    /// thread starts.
-    Deferred { offset: i32 },
-}
-
-/// What a kept relocation becomes.
-#[derive(Clone, Copy, PartialEq, Eq)]
-pub struct Fixup {
-    /// The object that the relocation is from.
-    pub object: usize,
-    /// The function or the segment of that object that holds the field.
-    pub unit: u32,
-    /// The first byte of the field in its body or its payload.
-    pub position: u32,
-    /// What the field takes.
-    pub to: FixupTo,
-    /// What the field lies in.
-    pub place: FixupPlace,
-    /// The relocation's type.
-    pub ty: RelocationType,
 }
 
 /// A line of a listing. Clauses see names and bytes as lists.

@@ -66,7 +66,7 @@ impl<'a> Model for Words<'a> {
 }
 
 /// What is left of some bytes behind the word in front of them.
-fn strip<'a>(bytes: &'a [u8], word: &[u8]) -> Option<&'a [u8]>
+pub(crate) fn strip<'a>(bytes: &'a [u8], word: &[u8]) -> Option<&'a [u8]>
     ensures rest { MatchOption result
         (strip word.now bytes.now ≡ None)
         (λ rest. strip word.now bytes.now ≡ Some rest.now) }

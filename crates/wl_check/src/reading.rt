@@ -5,12 +5,11 @@ ghost use Rattle.wl_check.specs.LineReading.{large_at, global_type_at, maximum_a
 ghost use Rattle.wl_check.specs.declared.kinds.LineKind.TheVariants as kind;
 
 use crate::kinds::{LineKind, OriginKind, SourceKind, StateKind};
-use crate::line::{
-    Fixup, FixupTo, FunctionSource, GlobalOrigin, Line, OutputImportEntity, SegmentState,
-};
+use crate::line::{FunctionSource, Line, SegmentState};
 use crate::pieces::{BLANK, NEWLINE, Stop, Words};
 use std::alloc::Global;
 use wl_module::{FuncType, GlobalType, MemoryType};
+use wl_output::{Fixup, FixupTo, GlobalOrigin, OutputImportEntity};
 
 impl<'a> Words<'a> {
     // ---- types

@@ -35,9 +35,9 @@ use Rattle.wl_plan.specs.Resolved.{IsNumbered}
 use Rattle.wl_plan.specs.Running.{IsPointerOf, pointer_to, pointer_by}
 use Rattle.wl_plan.specs.ThreadSteps.{IsFixupOf}
 use Rattle.wl_plan.specs.Threads.{address_named, place_in_block, pointer_at, pointer_named, pointer_of, template_start, tls_pointers}
-use Rattle.wl_plan.specs.declared.layout.Fixup.{Fixup}
-use Rattle.wl_plan.specs.declared.layout.FixupTo.{FixupTo}
-use Rattle.wl_plan.specs.declared.layout.FixupTo.TheVariants.{Value, Deferred}
+use Rattle.wl_output.specs.declared.fixups.Fixup.{Fixup}
+use Rattle.wl_output.specs.declared.fixups.FixupTo.{FixupTo}
+use Rattle.wl_output.specs.declared.fixups.FixupTo.TheVariants.{Value, Deferred}
 use Rattle.wl_plan.specs.declared.layout.LinkPlan.{LinkPlan}
 use Rattle.wl_plan.specs.declared.placing.Placing.{Placing}
 use Rattle.wl_lists.proofs.In.{at_is_in}

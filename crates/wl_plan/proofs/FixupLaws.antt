@@ -51,7 +51,7 @@ use Rattle.wl_plan.specs.Fixups.{type_named, global_named, slot_named, address_t
 use Rattle.wl_plan.specs.IndexedMaps.{IsWholeMap, AreWholeMaps}
 use Rattle.wl_plan.specs.Table.{slot_of, slot_of_entry, space_slots}
 use Rattle.wl_plan.specs.Threads.{address_named, bases_of, template_start, pointer_named}
-use Rattle.wl_plan.specs.declared.layout.FixupTo.{FixupTo}
+use Rattle.wl_output.specs.declared.fixups.FixupTo.{FixupTo}
 use Rattle.wl_plan.specs.declared.fixups.FixupSources.{FixupSources}
 use Rattle.wl_plan.specs.declared.placing.Placing.{Placing}
 use Rattle.wl_lists.proofs.Rows.{rows_length, row_found}

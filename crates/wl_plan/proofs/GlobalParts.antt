@@ -31,8 +31,8 @@ use Rattle.wl_plan.specs.GlobalSteps.{AnswersStart, AddsMade, AddsPart, IsPartFa
 use Rattle.wl_plan.specs.Globals.{start_of_global, i32_global, origin_of_global, IsMadeGlobal, IsGlobalOf, IsPlannedGlobal, own_globals, ArePlannedGlobals, IsGlobalFault}
 use Rattle.wl_plan.specs.declared.global_starts.GlobalSources.{GlobalSources}
 use Rattle.wl_plan.specs.declared.global_starts.Start.{Start}
-use Rattle.wl_plan.specs.declared.layout.GlobalOrigin.TheVariants as origin
-use Rattle.wl_plan.specs.declared.layout.MadeGlobal.{MadeGlobal}
+use Rattle.wl_output.specs.declared.entities.GlobalOrigin.TheVariants as origin
+use Rattle.wl_output.specs.declared.entities.MadeGlobal.{MadeGlobal}
 use Rattle.wl_plan.specs.declared.layout.PlannedGlobal.{PlannedGlobal}
 use Rattle.wl_plan.specs.declared.placing.Placing.{Placing}
 use Rattle.wl_lists.proofs.Beside.{zip_joined}

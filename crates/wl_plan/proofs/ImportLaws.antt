@@ -31,7 +31,7 @@ use Rattle.wl_plan.specs.ImportSteps.{AddsImports, HasTypeIndexIn, HasRowType, g
 use Rattle.wl_plan.specs.Imports.{IsFunctionImport, IsGlobalImport, global_type_in, global_type_of_slot, memory_imports, AreImports}
 use Rattle.wl_plan.specs.IndexedMaps.{IsWholeMap, HaveTypeIndices}
 use Rattle.wl_plan.specs.PlannedImports.{PlannedImport}
-use Rattle.wl_plan.specs.declared.layout.OutputImportEntity.TheVariants.{Function, Global}
+use Rattle.wl_output.specs.declared.entities.OutputImportEntity.TheVariants.{Function, Global}
 use Rattle.wl_plan.specs.declared.placing.Placing.{Placing}
 use Rattle.wl_lists.proofs.Beside.{zip_joined}
 use Rattle.wl_lists.proofs.Firsts.{in_firsts}

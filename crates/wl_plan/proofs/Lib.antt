@@ -49,3 +49,6 @@ pub mod ClearLaws
 pub mod ExportNameLaws
 pub mod ExportPlaceLaws
 pub mod LayoutLaws
+pub mod DebugBounds
+pub mod ListingLaws
+mod PlanLineLaws

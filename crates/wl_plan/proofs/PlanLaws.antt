@@ -129,14 +129,14 @@ hosts_length input =
     length-map (first_imports (host_functions input)) first_slot
     ∙ sym (length-map (first_imports (host_functions input)) (λ (t : ImportSlot). FunctionOf (Host t.object t.number)))
 
-front_within : {X : Type 0} (xs : List X) (xss : List (List X)) (ys : List X)
+pub front_within : {X : Type 0} (xs : List X) (xss : List (List X)) (ys : List X)
     → length xs ≤ length (joined (xs ∷ xss) ++ ys)
 front_within xs xss ys =
     let all = length-append (xs ++ joined xss) ys in
     let front = length-append xs (joined xss) in
     omega (arith, all, front)
 
-hosts_within : (input : Input) → length (host_function_part input) ≤ length (function_space input)
+pub hosts_within : (input : Input) → length (host_function_part input) ≤ length (function_space input)
 hosts_within input =
     front_within (host_function_part input)
     (made_function_part input CallCtors ∷ made_function_part input InitTls ∷ init_memory_part input

@@ -21,7 +21,7 @@ use Rattle.wl_linking.proofs.StepLaws.{clear_end, clear_step, refuses_behind, re
 use Rattle.wl_plan.proofs.PlanLaws.{OnePlacing, at_most, index_is_row, index_row, place_is_row, place_row, placed_clear, placed_refuses}
 
 -- what is judged behind the numbering of things
-abbrev behind_index : Input → LinkError → Type 0
+abbrev pub behind_index : Input → LinkError → Type 0
 behind_index input = Step (AreTooManyWrappers input) (laid_fault input)
 
 pub index_refuses : (input : Input) (e : LinkError) → Refuses (index_fault input) e

@@ -44,9 +44,9 @@ use Rattle.wl_plan.specs.Bodies.{new_number, IsMovedBy, IsRenumbered, body_in, I
 use Rattle.wl_plan.specs.Fixups.{StandsAt, type_named, global_named, field_taken, IsTaken, IsFieldOf, IsFixup, AreFixups}
 use Rattle.wl_plan.specs.Functions.{own_functions}
 use Rattle.wl_plan.specs.Threads.{got_places, shared_copies, IsGotFixup, IsThreadBlock}
-use Rattle.wl_plan.specs.declared.layout.Fixup.{Fixup}
-use Rattle.wl_plan.specs.declared.layout.FixupTo.{FixupTo}
-use Rattle.wl_plan.specs.declared.layout.FixupTo.TheVariants.{Value, Deferred}
+use Rattle.wl_output.specs.declared.fixups.Fixup.{Fixup}
+use Rattle.wl_output.specs.declared.fixups.FixupTo.{FixupTo}
+use Rattle.wl_output.specs.declared.fixups.FixupTo.TheVariants.{Value, Deferred}
 use Rattle.wl_plan.specs.declared.placing.Placing.{Placing}
 use Rattle.wl_lists.proofs.Beside.{zip_right}
 use Rattle.wl_plan.proofs.PositionLaws.{stands as contained}

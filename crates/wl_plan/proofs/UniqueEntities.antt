@@ -29,9 +29,9 @@ use Rattle.wl_plan.specs.Imports.{IsFunctionImport, IsGlobalImport, global_type_
 use Rattle.wl_plan.specs.Origins.{Origin, PlannedFunction}
 use Rattle.wl_plan.specs.PlannedImports.{PlannedImport}
 use Rattle.wl_plan.specs.Table.{IsElement, AreElements}
-use Rattle.wl_plan.specs.declared.layout.GlobalOrigin.{GlobalOrigin}
-use Rattle.wl_plan.specs.declared.layout.OutputImportEntity.{OutputImportEntity}
-use Rattle.wl_plan.specs.declared.layout.OutputImportEntity.TheVariants as imported
+use Rattle.wl_output.specs.declared.entities.GlobalOrigin.{GlobalOrigin}
+use Rattle.wl_output.specs.declared.entities.OutputImportEntity.{OutputImportEntity}
+use Rattle.wl_output.specs.declared.entities.OutputImportEntity.TheVariants as imported
 use Rattle.wl_plan.specs.declared.layout.PlannedGlobal.{PlannedGlobal}
 use Rattle.wl_plan.specs.declared.placing.Placing.{Placing}
 use Rattle.wl_lists.proofs.In.{IsIn, in_at, in_split}

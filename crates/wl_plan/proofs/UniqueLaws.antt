@@ -26,7 +26,7 @@ use Rattle.wl_plan.specs.Origins.{PlannedFunction}
 use Rattle.wl_plan.specs.Placing.{data_input, placing_of, IsPlacing}
 use Rattle.wl_plan.specs.Plan.{HasEntities, HasPlaces, HasSpaces, HasCodeSize, HasBodies, IsPlan}
 use Rattle.wl_plan.specs.PlannedImports.{PlannedImport}
-use Rattle.wl_plan.specs.declared.layout.Fixup.{Fixup}
+use Rattle.wl_output.specs.declared.fixups.Fixup.{Fixup}
 use Rattle.wl_plan.specs.declared.layout.LinkPlan.{LinkPlan}
 use Rattle.wl_plan.specs.declared.layout.PlannedGlobal.{PlannedGlobal}
 use Rattle.wl_plan.specs.declared.layout.WasmLayout.{WasmLayout}

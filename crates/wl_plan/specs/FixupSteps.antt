@@ -27,8 +27,8 @@ use Rattle.wl_plan.specs.IndexedMaps.{AreWholeMaps}
 use Rattle.wl_plan.specs.Table.{space_slots}
 use Rattle.wl_plan.specs.Threads.{address_named}
 use Rattle.wl_plan.specs.declared.fixups.FixupSources.{FixupSources}
-use Rattle.wl_plan.specs.declared.layout.FixupTo.{FixupTo}
-use Rattle.wl_plan.specs.declared.layout.FixupTo.TheVariants.{Value}
+use Rattle.wl_output.specs.declared.fixups.FixupTo.{FixupTo}
+use Rattle.wl_output.specs.declared.fixups.FixupTo.TheVariants.{Value}
 use Rattle.wl_plan.specs.declared.placing.Placing.{Placing}
 
 -- there is room in the spaces of the output, and for the slots of the functions of the table

@@ -32,9 +32,9 @@ use Rattle.wl_symbols.specs.declared.relocated.Relocated.{Relocated}
 use Rattle.wl_plan.specs.Bodies.{IsMovedIn}
 use Rattle.wl_plan.specs.Table.{slot_of}
 use Rattle.wl_plan.specs.Threads.{address_named, bases_of, pointer_named}
-use Rattle.wl_plan.specs.declared.layout.Fixup.{Fixup}
-use Rattle.wl_plan.specs.declared.layout.FixupTo.{FixupTo}
-use Rattle.wl_plan.specs.declared.layout.FixupTo.TheVariants.{Value, Deferred}
+use Rattle.wl_output.specs.declared.fixups.Fixup.{Fixup}
+use Rattle.wl_output.specs.declared.fixups.FixupTo.{FixupTo}
+use Rattle.wl_output.specs.declared.fixups.FixupTo.TheVariants.{Value, Deferred}
 use Rattle.wl_plan.specs.declared.placing.Placing.{Placing}
 
 -- ---- what a relocation names

@@ -24,8 +24,8 @@ use Rattle.wl_plan.specs.IndexedMaps.{AreWholeMaps}
 use Rattle.wl_plan.specs.Table.{slot_of}
 use Rattle.wl_plan.specs.declared.global_starts.GlobalSources.{GlobalSources}
 use Rattle.wl_plan.specs.declared.global_starts.Start.{Start}
-use Rattle.wl_plan.specs.declared.layout.GlobalOrigin.TheVariants as origin
-use Rattle.wl_plan.specs.declared.layout.MadeGlobal.{MadeGlobal}
+use Rattle.wl_output.specs.declared.entities.GlobalOrigin.TheVariants as origin
+use Rattle.wl_output.specs.declared.entities.MadeGlobal.{MadeGlobal}
 use Rattle.wl_plan.specs.declared.layout.PlannedGlobal.{PlannedGlobal}
 
 -- ---- sources

@@ -37,3 +37,5 @@ pub mod Running
 pub mod ThreadSteps
 pub mod Parsing
 pub mod Exported
+pub mod ObjectSegments
+pub mod PlanLines

@@ -1,7 +1,7 @@
 -- Imports of the output as clauses see them.
 use Rattle.std.specs.Prelude.{ℕ, List, Bool, true, false}
-use Rattle.wl_plan.specs.declared.layout.OutputImportEntity.{OutputImportEntity}
-use Rattle.wl_plan.specs.declared.layout.OutputImportEntity.TheVariants.{Function, Global, Memory}
+use Rattle.wl_output.specs.declared.entities.OutputImportEntity.{OutputImportEntity}
+use Rattle.wl_output.specs.declared.entities.OutputImportEntity.TheVariants.{Function, Global, Memory}
 
 -- an import as clauses see it: from which module, under which name, and what
 pub record PlannedImport : Type 0 where

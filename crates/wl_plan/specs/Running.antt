@@ -29,11 +29,11 @@ use Rattle.wl_ctors.specs.declared.calls.InitCall.{InitCall}
 use Rattle.wl_symbols.specs.Input.{Input}
 use Rattle.wl_plan.specs.Bodies.{called}
 use Rattle.wl_plan.specs.Threads.{place_in_block, shared_copies, IsThreadBlock}
-use Rattle.wl_plan.specs.declared.layout.Fixup.{Fixup}
-use Rattle.wl_plan.specs.declared.layout.FixupTo.{FixupTo}
-use Rattle.wl_plan.specs.declared.layout.FixupTo.TheVariants.{Value, Deferred}
+use Rattle.wl_output.specs.declared.fixups.Fixup.{Fixup}
+use Rattle.wl_output.specs.declared.fixups.FixupTo.{FixupTo}
+use Rattle.wl_output.specs.declared.fixups.FixupTo.TheVariants.{Value, Deferred}
 use Rattle.wl_plan.specs.declared.layout.LinkPlan.{LinkPlan}
-use Rattle.wl_plan.specs.declared.layout.OutputImportEntity.TheVariants.{Function}
+use Rattle.wl_output.specs.declared.entities.OutputImportEntity.TheVariants.{Function}
 use Rattle.wl_plan.specs.declared.layout.PlannedGlobal.{PlannedGlobal}
 use Rattle.wl_plan.specs.declared.layout.WasmLayout.{WasmLayout}
 use Rattle.wl_plan.specs.declared.placing.Placing.{Placing}

@@ -19,7 +19,7 @@ use Rattle.wl_symbols.specs.declared.relocated.Relocated.{Relocated}
 use Rattle.wl_plan.specs.Bodies.{IsBodyFault}
 use Rattle.wl_plan.specs.Fixups.{IsFixup}
 use Rattle.wl_plan.specs.Threads.{is_filled_template, place_in_block, IsGotFixup}
-use Rattle.wl_plan.specs.declared.layout.Fixup.{Fixup}
+use Rattle.wl_output.specs.declared.fixups.Fixup.{Fixup}
 use Rattle.wl_plan.specs.declared.placing.Placing.{Placing}
 use Rattle.wl_plan.specs.declared.threads.Copied.{Copied}
 use Rattle.wl_plan.specs.declared.threads.Copied.TheVariants.{Shared, Template}

@@ -30,7 +30,6 @@ ghost use Rattle.wl_plan.specs.ThreadSteps.{body_error, IsBodyRefusal, IsSpelled
 
 use crate::bindings::Bindings;
 use crate::global_starts::GlobalSources;
-use crate::layout::Fixup;
 use crate::parsing::link_error;
 use crate::placing::Placing;
 use crate::threads::{Copied, all_copies, got_fixups, tls_pointers};
@@ -46,6 +45,7 @@ use wl_linking::{
 use wl_lists::ItemList;
 use wl_module::{WasmFunctionBody, copy_bytes};
 use wl_ops::remap_body_data_indices;
+use wl_output::Fixup;
 use wl_symbols::{
     LinkInput, WasmGcUnit, WasmLinkerSymbol, live_units_are_closed, unmarked_bodies_number_none,
 };

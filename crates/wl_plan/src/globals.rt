@@ -11,7 +11,7 @@ ghost use Rattle.wl_plan.specs.GlobalSteps.{AreSources, IsStarted, AddsMade, Add
 ghost use Rattle.wl_plan.specs.Globals.{IsConstant, word_of_made, global_in, ArePlannedGlobals, IsGlobalFault};
 
 use crate::global_starts::{GlobalSources, Start};
-use crate::layout::{GlobalOrigin, MadeGlobal, PlannedGlobal};
+use crate::layout::PlannedGlobal;
 use std::alloc::{AllocError, Global};
 use std::borrow::CowSlice;
 use wl_bind::DataSymbol;
@@ -19,6 +19,7 @@ use wl_bytes::push_sleb;
 use wl_linking::{File, LinkError};
 use wl_lists::ItemList;
 use wl_module::{GlobalType, OutputGlobal, ValType};
+use wl_output::{GlobalOrigin, MadeGlobal};
 use wl_symbols::{WasmGcUnit, WasmLinkerSymbol};
 
 // ---- constants

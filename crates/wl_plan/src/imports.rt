@@ -11,7 +11,7 @@ ghost use Rattle.wl_plan.specs.IndexedMaps.{AreWholeMaps, HaveTypeIndices};
 ghost use Rattle.wl_plan.specs.Imports.{IsFunctionImport, IsGlobalImport, global_type_in, memory_imports, AreImports};
 
 use crate::bindings::Bindings;
-use crate::layout::{OutputImport, OutputImportEntity};
+use crate::layout::OutputImport;
 use crate::placing::Placing;
 use std::alloc::{AllocError, Global};
 use wl_bind::{SlotTypes, types_have_indices};
@@ -19,6 +19,7 @@ use wl_index::{WASM_DEAD_INDEX, WasmObjectIndexMap};
 use wl_linking::{File, FileList};
 use wl_lists::ItemList;
 use wl_module::{GlobalType, ImportEntity};
+use wl_output::OutputImportEntity;
 use wl_symbols::{HostImport, LinkInput};
 use wl_words::WasmArgs;
 

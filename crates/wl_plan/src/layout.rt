@@ -9,23 +9,13 @@ use std::marker::Model;
 use wl_data::SegmentLayouts;
 use wl_features::FeatureList;
 use wl_index::WasmObjectIndexMap;
-use wl_linking::{DebugSectionInput, RelocationType};
+use wl_linking::DebugSectionInput;
 use wl_lists::ItemList;
 use wl_module::{
     FuncType, GlobalType, MemoryType, OutputExport, OutputGlobal, TableType, WasmFunctionBody,
 };
-use wl_symbols::{FixupPlace, WasmLinkerSymbol};
-
-/// What an entity that the output imports is.
-#[derive(Clone, Copy, PartialEq, Eq)]
-pub enum OutputImportEntity {
-    /// A function, with its type among the output types.
-    Function { type_index: u32 },
-    /// A global.
-    Global(GlobalType),
-    /// The memory.
-    Memory(MemoryType),
-}
+use wl_output::{Fixup, GlobalOrigin, OutputImportEntity};
+use wl_symbols::WasmLinkerSymbol;
 
 /// What the output takes from another module. Clauses see it as a `PlannedImport`.
 #[derive(Drop)]
@@ -80,41 +70,6 @@ impl<'a> Model for OutputFunction<'a> {
     ghost view = { λ f. record { type_index = f.type_index; origin = origin_seen f.origin } };
 }
 
-/// What a global that the linker makes stands for.
-#[derive(Clone, Copy, PartialEq, Eq)]
-pub enum MadeGlobal {
-    /// Where data may begin.
-    MemoryBase,
-    /// The first slot of the table.
-    TableBase,
-    /// The top of the stack.
-    StackPointer,
-    /// Where the data of this thread begins.
-    TlsBase,
-    /// How many bytes the data of a thread takes.
-    TlsSize,
-    /// The greatest alignment of the data of a thread.
-    TlsAlign,
-    /// An address that the linker knows.
-    Address,
-    /// The address of a data symbol.
-    GotMem,
-    /// The slot of a function.
-    GotFunc,
-    /// The address of an exported data symbol.
-    Data,
-}
-
-/// Where a global of the output is from.
-#[derive(Clone, Copy, PartialEq, Eq)]
-pub enum GlobalOrigin {
-    /// A global that an object defines: the object's number, and the global's in it, where
-    /// definitions alone are counted.
-    Object { object: usize, unit: u32 },
-    /// A global that the linker makes.
-    Made(MadeGlobal),
-}
-
 /// A global of the output that isn't imported.
 #[derive(Drop)]
 pub struct PlannedGlobal<'a> {
@@ -122,33 +77,6 @@ pub struct PlannedGlobal<'a> {
     pub global: OutputGlobal<'a>,
     /// Where it is from.
     pub origin: GlobalOrigin,
-}
-
-/// What a field takes.
-#[derive(Clone, Copy, PartialEq, Eq)]
-pub enum FixupTo {
-    /// This number, and what is still to be added to it.
-    Value { value: u32, addend_left: i32 },
-    /// An address in the data of a thread, so many bytes behind its front, which is known when the
-    /// thread starts.
-    Deferred { offset: i32 },
-}
-
-/// What a kept relocation becomes.
-#[derive(Clone, Copy, PartialEq, Eq)]
-pub struct Fixup {
-    /// The object that the relocation is from.
-    pub object: usize,
-    /// The function or the segment of that object that holds the field.
-    pub unit: u32,
-    /// The first byte of the field in its body or its payload.
-    pub position: u32,
-    /// What the field takes.
-    pub to: FixupTo,
-    /// What the field lies in.
-    pub place: FixupPlace,
-    /// The relocation's type.
-    pub ty: RelocationType,
 }
 
 /// What the output module holds, in the order of its spaces.

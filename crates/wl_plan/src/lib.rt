@@ -14,8 +14,11 @@ mod index_maps;
 mod kept_data;
 mod laws;
 mod layout;
+mod lines;
 mod link;
+mod listing_laws;
 mod module_layout;
+mod object_segments;
 mod objects;
 mod outline;
 mod parsing;
@@ -34,11 +37,14 @@ pub use laws::{
     only_addresses_are_refused, plan_or_fault,
 };
 pub use layout::{
-    Fixup, FixupTo, FunctionOrigin, GlobalOrigin, LinkPlan, MadeGlobal, OutputFunction,
-    OutputImport, OutputImportEntity, PlannedGlobal, WasmLayout, count_output_imports,
+    FunctionOrigin, LinkPlan, OutputFunction, OutputImport, PlannedGlobal, WasmLayout,
+    count_output_imports,
 };
+pub use lines::{listing, plan_lines};
 pub use link::{plan_files, plan_link};
+pub use listing_laws::{listings_of_plans_differ, plans_have_listings};
 pub use module_layout::build_output_module_layout;
+pub use object_segments::{ObjectSegment, output_segments};
 pub use objects::{MAX_OBJECT, ObjectList, PushError};
 pub use parsing::parse_objects;
 pub use part_laws::{
@@ -52,7 +58,9 @@ pub use running_laws::{
     thread_blocks_of_plans_are_made, wrappers_of_plans_call_twice,
 };
 pub use wl_bind::TypeMerger;
+pub use wl_check::Line;
 pub use wl_index::{WASM_DEAD_INDEX, WasmObjectIndexMap};
+pub use wl_output::{Fixup, FixupTo, GlobalOrigin, MadeGlobal, OutputImportEntity};
 pub use wl_reloc::{RelocError, deferred_tls_template_pointer, resolve_reloc};
 pub use wl_sections::{
     BUILT_IN_SECTIONS, BuiltInSectionDetails, DynamicTagValues, NonAddressableIndexes,

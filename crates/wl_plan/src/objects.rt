@@ -1,7 +1,7 @@
 //! The objects as they were read.
 
 ghost use Rattle.std.specs.Prelude.{◌≡◌, [], ◌∷◌, ◌++◌, ◌<◌, length, IfErr, OnOk, OnErr, IfSome, ◌≤◌, Some, slice_get, MatchOption, None};
-ghost use Rattle.wl_plan.specs.Contents.{HandsBack};
+ghost use Rattle.wl_plan.specs.Contents.{AllWithin, HandsBack};
 ghost use Rattle.wl_plan.specs.declared.objects.TheConstants.{MAX_OBJECT};
 
 use std::alloc::Global;
@@ -65,6 +65,13 @@ impl ObjectList {
             Ok(()) => Ok(()),
             Err(failed) => Err(PushError::OutOfMemory(failed.value)),
         }
+    }
+
+    /// No object has more than `MAX_OBJECT` bytes.
+    pub fn none_is_longer(&self)
+        ensures { AllWithin self.now }
+    {
+        let _objects = self.objects.as_slice();
     }
 
     /// The number of objects.

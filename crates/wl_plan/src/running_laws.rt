@@ -14,8 +14,8 @@ ghost use Rattle.wl_plan.specs.Plan.{IsPlan};
 ghost use Rattle.wl_plan.specs.Resolved.{IsNumbered};
 ghost use Rattle.wl_plan.specs.Running.{CallsConstructors, HasMadeBody, HasRoomFor, HoldsPlan, IsExported, IsPointerOf, LaysSegments, MakesBlock, WrapsFunction, pointer_by};
 ghost use Rattle.wl_plan.specs.Threads.{tls_pointers};
-ghost use Rattle.wl_plan.specs.declared.layout.Fixup.{Fixup as PlannedFixup};
-ghost use Rattle.wl_plan.specs.declared.layout.FixupTo.TheVariants.{Deferred};
+ghost use Rattle.wl_output.specs.declared.fixups.Fixup.{Fixup as PlannedFixup};
+ghost use Rattle.wl_output.specs.declared.fixups.FixupTo.TheVariants.{Deferred};
 ghost use Rattle.wl_plan.specs.declared.layout.LinkPlan.{LinkPlan as SpecPlan};
 
 use wl_data::{copied_segments_are_passive, places_end_in_time, segments_have_layouts};

@@ -20,11 +20,11 @@ ghost use Rattle.wl_plan.specs.Threads.{copy_of, copies_from, place_in_block, tl
 
 use crate::addresses::AddressBook;
 use crate::global_starts::GlobalSources;
-use crate::layout::{Fixup, FixupTo};
 use std::alloc::{AllocError, Global};
 use wl_data::{SegmentLayouts, WasmDataSegmentLayout, places_end_in_time, segments_have_layouts};
 use wl_index::WasmDataAddress;
 use wl_linking::{LinkError, whole_objects};
+use wl_output::{Fixup, FixupTo};
 use wl_synth::{PassiveSegmentCopy, TlsGotFixup, TlsPointerFixup};
 
 // ---- copies

@@ -1,5 +1,5 @@
 use Rattle.std.proofs.Common.{rules, ap}
-use Rattle.wl_plan.specs.declared.layout.OutputImportEntity.TheVariants.{Function}
+use Rattle.wl_output.specs.declared.entities.OutputImportEntity.TheVariants.{Function}
 use Rattle.wl_plan.proofs.ImportLaws.{imported_so}
 use Rattle.wl_plan.proofs.imports.function_import.Goals as goal
 

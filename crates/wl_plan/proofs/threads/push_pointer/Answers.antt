@@ -4,7 +4,7 @@ use Rattle.std.proofs.lemmas.Option.{same_Some}
 use Rattle.wl_synth.specs.declared.parts.TlsPointerFixup.{TlsPointerFixup}
 use Rattle.wl_plan.specs.Running.{pointer_to}
 use Rattle.wl_plan.specs.Threads.{place_in_block}
-use Rattle.wl_plan.specs.declared.layout.FixupTo.{FixupTo}
+use Rattle.wl_output.specs.declared.fixups.FixupTo.{FixupTo}
 use Rattle.wl_plan.proofs.DeferredLaws.{IsPlacedPointer, placed_pointer, start_there, value_has_no_pointer}
 use Rattle.wl_plan.proofs.threads.push_pointer.Goals as goal
 

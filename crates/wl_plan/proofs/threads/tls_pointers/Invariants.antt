@@ -2,7 +2,7 @@ use Rattle.std.proofs.Common.{◌≡◌, ◌++◌, drop}
 use Rattle.std.specs.List.{filter_map}
 use Rattle.wl_plan.specs.Running.{pointer_to}
 use Rattle.wl_plan.specs.Threads.{tls_pointers}
-use Rattle.wl_plan.specs.declared.layout.Fixup.{Fixup}
+use Rattle.wl_output.specs.declared.fixups.Fixup.{Fixup}
 use Rattle.wl_plan.proofs.DeferredLaws.{start_there}
 use Rattle.wl_plan.proofs.threads.tls_pointers.Given as goal
 

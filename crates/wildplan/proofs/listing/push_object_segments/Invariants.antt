@@ -1,6 +1,0 @@
-use Rattle.std.proofs.Common.{◌≡◌, ◌++◌, drop, map}
-use Rattle.wildplan.specs.ObjectSegments.{of_object}
-use Rattle.wildplan.proofs.listing.push_object_segments.Given as goal
-
-abbrev pub invariant-loop-layout : goal.invariant-loop-layout
-invariant-loop-layout l = l.segments.items ++ map (of_object l.object) (drop l.layout-index l.layouts) ≡ l.initial.segments.items ++ map (of_object l.object) l.layouts
