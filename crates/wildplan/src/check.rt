@@ -13,7 +13,7 @@ ghost use Rattle.wildplan.specs.declared.check.Verdict.{Verdict as Said};
 
 use std::alloc::{AllocError, Global};
 use wl_check::{
-    Line, ListingError, differences_are_one, first_difference, listing_or_bad_line, read_listing,
+    Line, ListingError, check_lines, differences_are_one, first_difference, listing_or_bad_line,
 };
 use wl_linking::LinkError;
 use wl_plan::{LinkPlan, ObjectList, link_plan_or_fault, listing, plan_link, plans_have_listings};
@@ -37,15 +37,19 @@ pub enum Verdict {
     },
 }
 
-/// What checking a text against a plan says.
-fn check_listing(alloc: Global, plan: &LinkPlan<'_>, text: &[u8]) -> Result<Verdict, AllocError>
+/// What checking a text against a plan says. Its lines are read one by one, and none is kept.
+pub(crate) fn check_listing(
+    alloc: Global,
+    plan: &LinkPlan<'_>,
+    text: &[u8],
+) -> Result<Verdict, AllocError>
     requires { HasListing plan.now }
     ensures in_range { IfOk result (λ _. AllByRecursion InRange (lines_of plan.now)) }
     ensures verdict { IfOk result (IsVerdict plan.now text.now) }
 {
     let want = listing(alloc, plan)?;
-    match read_listing(alloc, text) {
-        Ok(_) => {}
+    match check_lines(alloc, text) {
+        Ok(()) => {}
         Err(ListingError::OutOfMemory) => return Err(AllocError),
         Err(ListingError::Bad { line }) => return Ok(Verdict::Bad { line }),
     }

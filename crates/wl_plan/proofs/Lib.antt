@@ -51,4 +51,5 @@ pub mod ExportPlaceLaws
 pub mod LayoutLaws
 pub mod DebugBounds
 pub mod ListingLaws
+pub mod ListedNames
 mod PlanLineLaws
