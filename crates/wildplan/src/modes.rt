@@ -46,27 +46,20 @@ fn why_planned(alloc: Global, files: &FileList<'_>, args: &WasmArgs) -> Result<V
     Ok(why_text(alloc, files, &symbols, args, &live)?)
 }
 
-/// What a mode speaks of beside the plan.
-#[derive(Clone, Copy)]
-pub(crate) struct Subject<'a> {
-    /// The words of the command line, among which names stand.
-    pub(crate) words: &'a [String],
-    /// The text that is compared with the listing, if one is.
-    pub(crate) compared: Option<&'a [u8]>,
-}
-
-/// What is written of the plan of objects.
+/// What is written of the plan of objects, by the mode of the words, and the text that is compared
+/// with the listing, if one is.
 fn mode_text(
     alloc: Global,
     files: &FileList<'_>,
     args: &WasmArgs,
     plan: &LinkPlan<'_>,
-    subject: Subject<'_>,
+    words: &[String],
+    compared: Option<&[u8]>,
 ) -> Result<Vec<u8>, LinkError>
     requires planned { IsPlanOf (link_of files.now args.now) plan.now }
     requires listed { HasListing plan.now }
-    ensures ok { IfOk result (λ text. IsTextOf (texts subject.words.now)
-        (option_map (λ t. t.now) subject.compared) args.now.mode
+    ensures ok { IfOk result (λ text. IsTextOf (texts words.now)
+        (option_map (λ t. t.now) compared.entry) args.now.mode
         (link_of files.now args.now) plan.now text.items) }
     ensures err { IfErr result (Refuses (λ _. ⊥)) }
 {
@@ -75,9 +68,9 @@ fn mode_text(
         Mode::Generate(_) => Ok(summary(alloc, plan)?),
         Mode::Why => why_planned(alloc, files, args),
         Mode::Map => Ok(link_map(alloc, plan)?),
-        Mode::Check(_) => Ok(check_text(alloc, plan, subject.compared.unwrap_or(&[]))?),
+        Mode::Check(_) => Ok(check_text(alloc, plan, compared.unwrap_or(&[]))?),
         Mode::Run(function) => {
-            let name = function.value_in(subject.words).unwrap_or("");
+            let name = function.value_in(words).unwrap_or("");
             Ok(run_text(alloc, plan, name)?)
         }
     }
@@ -91,15 +84,16 @@ pub(crate) fn plan_text(
     alloc: Global,
     objects: &ObjectList,
     args: &WasmArgs,
-    subject: Subject<'_>,
+    words: &[String],
+    compared: Option<&[u8]>,
 ) -> Result<Vec<u8>, LinkError>
-    ensures ok { IfOk result (λ text. IsPlanText (texts subject.words.now)
-        (option_map (λ t. t.now) subject.compared) objects.now args.now text.items) }
+    ensures ok { IfOk result (λ text. IsPlanText (texts words.now)
+        (option_map (λ t. t.now) compared.entry) objects.now args.now text.items) }
     ensures err { IfErr result (Refuses (HasLinkFault objects.now args.now)) }
 {
     plans_have_listings();
     objects.none_is_longer();
     let files = parse_objects(alloc, objects)?;
     let plan = plan_files(alloc, &files, args)?;
-    mode_text(alloc, &files, args, &plan, subject)
+    mode_text(alloc, &files, args, &plan, words, compared)
 }
