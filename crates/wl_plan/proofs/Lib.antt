@@ -52,3 +52,4 @@ pub mod LayoutLaws
 pub mod DebugBounds
 pub mod ListingLaws
 mod PlanLineLaws
+pub mod SessionLaws
