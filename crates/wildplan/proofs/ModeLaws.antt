@@ -1,16 +1,13 @@
--- Objects that are generated, where no word names one, and objects that are read.
-use Rattle.std.proofs.Common.{◌≡◌, ◌≢◌, ◌⊎◌, ℕ, List, [], ◌∷◌, Bool, Some, None, true, false, refl, inl, inr}
-use Rattle.std.specs.List.{last_or}
+-- Objects that are generated, where no word names one.
+use Rattle.std.proofs.Common.{◌≡◌, ℕ, List, [], ◌∷◌, Bool, Some, None, true, false, refl}
 use Rattle.wl_files.specs.Files.{FilesState}
-use Rattle.wl_words.specs.Args.{IsArgs, WholeFault, files_to_read}
+use Rattle.wl_words.specs.Args.{IsArgs, WholeFault}
 use Rattle.wl_words.specs.declared.args.WasmArgs.{WasmArgs}
-use Rattle.wl_words.specs.declared.modes.Mode.{Mode}
-use Rattle.wl_words.specs.declared.modes.Mode.TheVariants.{Generate, Listing, Why, Map}
+use Rattle.wl_words.specs.declared.modes.Mode.TheVariants.{Generate}
 use Rattle.wl_words.specs.declared.error.ArgError.{ArgError}
 use Rattle.wl_words.specs.declared.error.ArgError.TheVariants.{ExtraInput}
 use Rattle.wl_generate.specs.Generated.{generated}
-use Rattle.wildplan.specs.Modes.{objects_in}
-use Rattle.wildplan.specs.Objects.{AreReadThrough, AreObjectsFor}
+use Rattle.wildplan.specs.Objects.{AreReadThrough, AreInputsFor}
 
 no_inputs : (args : WasmArgs) (count : ℕ) (inputs : List ℕ) → args.mode ≡ Generate count → args.inputs ≡ inputs → ((e : ArgError) → WholeFault args e → ⊥) → inputs ≡ []
 no_inputs args count [] mode is sound = refl
@@ -27,26 +24,15 @@ read_none old = record {
   untouched = λ none. refl;
 }
 
-pub generated_for : (words : List (List ℕ)) (args : WasmArgs) (count : ℕ) (old : FilesState) (objects : List (List ℕ)) → IsArgs words args → args.mode ≡ Generate count → objects ≡ generated count → AreObjectsFor words args old old objects
+pub generated_for : (words : List (List ℕ)) (args : WasmArgs) (count : ℕ) (old : FilesState) (objects : List (List ℕ)) → IsArgs words args → args.mode ≡ Generate count → objects ≡ generated count → AreInputsFor words args old old objects None
 generated_for words args count old objects h mode are =
     let none = no_inputs args count args.inputs mode refl h.sound in
     record {
       contents = [];
-      read = rw none (read_none old);
+      front = rw none tt;
+      read = rw (none, mode) (read_none old);
       are = rw mode are;
     }
-
--- in other modes the objects are those that were read
-abbrev ReadsFiles : Mode → Type 0
-ReadsFiles mode = (mode ≡ Listing) ⊎ ((mode ≡ Why) ⊎ (mode ≡ Map))
-
-objects_read : (mode : Mode) (read : List (List ℕ)) → ReadsFiles mode → read ≡ objects_in mode read
-objects_read mode read (inl is) = rw is refl
-objects_read mode read (inr (inl is)) = rw is refl
-objects_read mode read (inr (inr is)) = rw is refl
-
-pub read_for : (words : List (List ℕ)) (args : WasmArgs) (old new : FilesState) (objects : List (List ℕ)) → ReadsFiles args.mode → AreReadThrough (files_to_read words args) old new objects → AreObjectsFor words args old new objects
-read_for words args old new objects reads h = record { contents = objects; read = h; are = objects_read args.mode objects reads }
 
 -- what isn't false is true
 pub is_work : (work : Bool) → (work ≡ false → ⊥) → work ≡ true

@@ -1,5 +1,5 @@
 -- What checking a text against the listing of a plan says.
-use Rattle.std.specs.Prelude.{◌≡◌, ℕ, List}
+use Rattle.std.specs.Prelude.{◌≡◌, ℕ, List, ◌++◌, codes, decimal}
 use Rattle.std.specs.List.{AllByRecursion}
 use Rattle.wl_words.specs.declared.args.WasmArgs.{WasmArgs}
 use Rattle.wl_check.specs.Difference.{DiffersAt}
@@ -28,3 +28,13 @@ pub record IsChecked (objects : List (List ℕ)) (args : WasmArgs) (text : List 
   pub planned : IsLinkPlan objects args plan
   pub in_range : AllByRecursion InRange (lines_of plan)
   pub verdict : IsVerdict plan text v
+
+-- the line of a verdict: what it is, and the number of the line that it names
+abbrev pub verdict_text : Verdict → List ℕ
+verdict_text Same = codes "same\n"
+verdict_text (Bad line) = codes "bad " ++ decimal line ++ codes "\n"
+verdict_text (Differs line found want) = codes "differs " ++ decimal line ++ codes "\n"
+
+-- this is the line of the verdict on a text and a plan
+abbrev pub IsVerdictText : LinkPlan → List ℕ → List ℕ → Type 0
+IsVerdictText plan text line = (v : Verdict) × IsVerdict plan text v × (line ≡ verdict_text v)

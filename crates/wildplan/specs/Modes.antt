@@ -1,6 +1,6 @@
 -- What is planned and what is written, by the mode that the words ask for.
-use Rattle.std.specs.Prelude.{◌≡◌, ℕ, List, Option, Some, codes, if◌then◌else◌}
-use Rattle.wl_words.specs.Modes.{generates}
+use Rattle.std.specs.Prelude.{◌≡◌, ℕ, List, [], Option, Some, unwrap_or, codes, if◌then◌else◌}
+use Rattle.wl_words.specs.Modes.{generates, placed_value}
 use Rattle.wl_words.specs.declared.args.WasmArgs.{WasmArgs}
 use Rattle.wl_words.specs.declared.modes.Mode.{Mode}
 use Rattle.wl_words.specs.declared.modes.Mode.TheVariants as mode
@@ -12,6 +12,8 @@ use Rattle.wl_why.specs.Text.{IsWhyText}
 use Rattle.wildplan.specs.Generated.{summary_text}
 use Rattle.wl_plan.specs.PlanLines.{listing_text}
 use Rattle.wildplan.specs.Map.{IsMapText}
+use Rattle.wildplan.specs.Check.{IsVerdictText}
+use Rattle.wildplan.specs.RunText.{IsRunText}
 
 -- the same words with this entry
 abbrev pub with_entry : Option (List ℕ) → WasmArgs → WasmArgs
@@ -49,15 +51,21 @@ abbrev pub objects_in : Mode → List (List ℕ) → List (List ℕ)
 objects_in (mode.Generate count) read = generated count
 objects_in _ read = read
 
--- what is written of the plan of a link
-abbrev pub IsTextOf : Mode → Link → LinkPlan → List ℕ → Type 0
-IsTextOf mode.Listing link plan text = text ≡ listing_text plan
-IsTextOf (mode.Generate count) link plan text = text ≡ summary_text plan
-IsTextOf mode.Why link plan text = IsWhyText link text
-IsTextOf mode.Map link plan text = IsMapText plan text
+-- what is written of the plan of a link: where a text is compared, its verdict; and where a function
+-- is run, how that ends
+abbrev pub IsTextOf : List (List ℕ) → Option (List ℕ) → Mode → Link → LinkPlan → List ℕ → Type 0
+IsTextOf words compared mode.Listing link plan text = text ≡ listing_text plan
+IsTextOf words compared (mode.Generate count) link plan text = text ≡ summary_text plan
+IsTextOf words compared mode.Why link plan text = IsWhyText link text
+IsTextOf words compared mode.Map link plan text = IsMapText plan text
+IsTextOf words compared (mode.Check file) link plan text =
+    IsVerdictText plan (unwrap_or compared []) text
+IsTextOf words compared (mode.Run function) link plan text =
+    IsRunText plan (unwrap_or (placed_value words function) []) text
 
 -- objects have a plan, and this is what is written of it
-pub record IsPlanText (objects : List (List ℕ)) (args : WasmArgs) (text : List ℕ) : Type 0 where
+pub record IsPlanText (words : List (List ℕ)) (compared : Option (List ℕ))
+    (objects : List (List ℕ)) (args : WasmArgs) (text : List ℕ) : Type 0 where
   pub plan : LinkPlan
   pub is_plan : IsLinkPlan objects args plan
-  pub is_text : IsTextOf args.mode (link_of is_plan.files args) plan text
+  pub is_text : IsTextOf words compared args.mode (link_of is_plan.files args) plan text

@@ -8,12 +8,12 @@ ghost use Rattle.wl_check.specs.Ranges.{InRange};
 ghost use Rattle.wl_plan.specs.LinkPlan.{HasLinkFault};
 ghost use Rattle.wl_plan.specs.PlanLines.{HasListing, lines_of};
 ghost use Rattle.wl_plan.specs.declared.layout.LinkPlan.{LinkPlan as SpecPlan};
-ghost use Rattle.wildplan.specs.Check.{IsChecked, IsVerdict};
+ghost use Rattle.wildplan.specs.Check.{IsChecked, IsVerdict, verdict_text, IsVerdictText};
 ghost use Rattle.wildplan.specs.declared.check.Verdict.{Verdict as Said};
 
 use std::alloc::{AllocError, Global};
 use wl_check::{
-    Line, ListingError, differences_are_one, first_difference, listing_or_bad_line, read_listing,
+    Line, ListingError, check_lines, differences_are_one, first_difference, listing_or_bad_line,
 };
 use wl_linking::LinkError;
 use wl_plan::{LinkPlan, ObjectList, link_plan_or_fault, listing, plan_link, plans_have_listings};
@@ -37,15 +37,19 @@ pub enum Verdict {
     },
 }
 
-/// What checking a text against a plan says.
-fn check_listing(alloc: Global, plan: &LinkPlan<'_>, text: &[u8]) -> Result<Verdict, AllocError>
+/// What checking a text against a plan says. Its lines are read one by one, and none is kept.
+pub(crate) fn check_listing(
+    alloc: Global,
+    plan: &LinkPlan<'_>,
+    text: &[u8],
+) -> Result<Verdict, AllocError>
     requires { HasListing plan.now }
     ensures in_range { IfOk result (λ _. AllByRecursion InRange (lines_of plan.now)) }
     ensures verdict { IfOk result (IsVerdict plan.now text.now) }
 {
     let want = listing(alloc, plan)?;
-    match read_listing(alloc, text) {
-        Ok(_) => {}
+    match check_lines(alloc, text) {
+        Ok(()) => {}
         Err(ListingError::OutOfMemory) => return Err(AllocError),
         Err(ListingError::Bad { line }) => return Ok(Verdict::Bad { line }),
     }
@@ -57,6 +61,34 @@ fn check_listing(alloc: Global, plan: &LinkPlan<'_>, text: &[u8]) -> Result<Verd
             want: apart.want,
         }),
     }
+}
+
+/// The line of a verdict.
+fn verdict_text(alloc: Global, verdict: &Verdict) -> Result<Vec<u8>, AllocError>
+    ensures { IfOk result (λ text. text.items ≡ verdict_text verdict.now) }
+{
+    let text = match verdict {
+        Verdict::Same => String::from_str(alloc, "same\n")?,
+        Verdict::Bad { line } => format!(in alloc; "bad {line}\n")?,
+        Verdict::Differs { line, .. } => format!(in alloc; "differs {line}\n")?,
+    };
+    Ok(text.into_bytes())
+}
+
+/// The line of the verdict on a text and a plan.
+///
+/// # Errors
+/// `AllocError` where memory runs out.
+pub(crate) fn check_text(
+    alloc: Global,
+    plan: &LinkPlan<'_>,
+    text: &[u8],
+) -> Result<Vec<u8>, AllocError>
+    requires { HasListing plan.now }
+    ensures { IfOk result (λ line. IsVerdictText plan.now text.now line.items) }
+{
+    let verdict = check_listing(alloc, plan, text)?;
+    verdict_text(alloc, &verdict)
 }
 
 /// Whether a text is the listing of the plan of these objects, and else where it isn't: a text that

@@ -33,6 +33,8 @@ or two; its value follows an equals sign, or is the next argument where it isn't
   -o NAME                            nothing: no file is written
   --why                              write why each unit is kept
   --map                              write the sizes of what is kept
+  --check FILE                       write whether FILE holds the listing of the plan
+  --run NAME                         run the exported function NAME, and write how that ends
   --generate N                       plan generated objects, and write counts
   --help, --version                  this text, and the version, as the only argument
 ";

@@ -1,20 +1,24 @@
 //! What is planned and what is written, by the mode that the words ask for.
 
-ghost use Rattle.std.specs.Prelude.{◌≡◌, IfOk, IfErr};
+ghost use Rattle.std.specs.Prelude.{◌≡◌, option_map, IfOk, IfErr};
 ghost use Rattle.wl_linking.specs.Steps.{Clear, Refuses};
 ghost use Rattle.wl_symbols.specs.Link.{link_of};
 ghost use Rattle.wl_plan.specs.Faults.{link_fault};
 ghost use Rattle.wl_plan.specs.LinkPlan.{HasLinkFault, IsPlanOf};
+ghost use Rattle.wl_plan.specs.PlanLines.{HasListing};
 ghost use Rattle.wl_why.specs.Text.{IsWhyText};
+ghost use Rattle.wl_words.specs.Texts.{texts};
 ghost use Rattle.wildplan.specs.Modes.{planned_args, IsTextOf, IsPlanText};
 
+use crate::check::check_text;
 use crate::map::link_map;
+use crate::running::run_text;
 use crate::summary::summary;
 use std::alloc::{AllocError, Global};
 use wl_linking::{FileList, LinkError};
 use wl_lists::Text;
 use wl_live::collect_live;
-use wl_plan::{LinkPlan, ObjectList, listing, parse_objects, plan_files};
+use wl_plan::{LinkPlan, ObjectList, listing, parse_objects, plan_files, plans_have_listings};
 use wl_symbols::SymbolTable;
 use wl_why::why_text;
 use wl_words::{Mode, WasmArgs};
@@ -42,16 +46,21 @@ fn why_planned(alloc: Global, files: &FileList<'_>, args: &WasmArgs) -> Result<V
     Ok(why_text(alloc, files, &symbols, args, &live)?)
 }
 
-/// What is written of the plan of objects.
+/// What is written of the plan of objects, by the mode of the words, and the text that is compared
+/// with the listing, if one is.
 fn mode_text(
     alloc: Global,
     files: &FileList<'_>,
     args: &WasmArgs,
     plan: &LinkPlan<'_>,
+    words: &[String],
+    compared: Option<&[u8]>,
 ) -> Result<Vec<u8>, LinkError>
-    requires { IsPlanOf (link_of files.now args.now) plan.now }
-    ensures ok { IfOk result
-        (λ text. IsTextOf args.now.mode (link_of files.now args.now) plan.now text.items) }
+    requires planned { IsPlanOf (link_of files.now args.now) plan.now }
+    requires listed { HasListing plan.now }
+    ensures ok { IfOk result (λ text. IsTextOf (texts words.now)
+        (option_map (λ t. t.now) compared.entry) args.now.mode
+        (link_of files.now args.now) plan.now text.items) }
     ensures err { IfErr result (Refuses (λ _. ⊥)) }
 {
     match args.mode {
@@ -59,6 +68,11 @@ fn mode_text(
         Mode::Generate(_) => Ok(summary(alloc, plan)?),
         Mode::Why => why_planned(alloc, files, args),
         Mode::Map => Ok(link_map(alloc, plan)?),
+        Mode::Check(_) => Ok(check_text(alloc, plan, compared.unwrap_or(&[]))?),
+        Mode::Run(function) => {
+            let name = function.value_in(words).unwrap_or("");
+            Ok(run_text(alloc, plan, name)?)
+        }
     }
 }
 
@@ -70,11 +84,16 @@ pub(crate) fn plan_text(
     alloc: Global,
     objects: &ObjectList,
     args: &WasmArgs,
+    words: &[String],
+    compared: Option<&[u8]>,
 ) -> Result<Vec<u8>, LinkError>
-    ensures ok { IfOk result (λ text. IsPlanText objects.now args.now text.items) }
+    ensures ok { IfOk result (λ text. IsPlanText (texts words.now)
+        (option_map (λ t. t.now) compared.entry) objects.now args.now text.items) }
     ensures err { IfErr result (Refuses (HasLinkFault objects.now args.now)) }
 {
+    plans_have_listings();
+    objects.none_is_longer();
     let files = parse_objects(alloc, objects)?;
     let plan = plan_files(alloc, &files, args)?;
-    mode_text(alloc, &files, args, &plan)
+    mode_text(alloc, &files, args, &plan, words, compared)
 }

@@ -1,5 +1,5 @@
 -- What follows for listings from lines being a code.
-use Rattle.std.proofs.Common.{◌≡◌, ◌≢◌, ℕ, zero, suc, ◌<◌, ◌≤◌, ◌==◌, length, arith, Bool, true, false, cond, List, [], ◌∷◌, ◌++◌, Option, Some, None, Ok, Err, refl, sym, ap, subst, ◌∙◌, append_assoc, length-append, inl, inr}
+use Rattle.std.proofs.Common.{◌≡◌, ◌≢◌, ℕ, zero, suc, ◌+◌, ◌<◌, ◌≤◌, ◌==◌, length, arith, Bool, true, false, cond, List, [], ◌∷◌, ◌++◌, Option, Some, None, Ok, Err, refl, sym, ap, subst, ◌∙◌, append_assoc, length-append, inl, inr}
 use Rattle.std.specs.Prelude.{◌⊎◌}
 use Rattle.std.specs.List.{AllByRecursion, flat_map}
 use Rattle.std.proofs.lemmas.List.{append-nil}
@@ -141,6 +141,27 @@ read_bad text ls rest r some none = record {
       let found = ap line_at e ∙ line_code.again l s.in_range f.0 in
       cc;
 }
+
+-- the text is what so many lines spell, and the rest
+pub record AreRead (text : List ℕ) (n : ℕ) (rest : List ℕ) : Type 0 where
+  pub lines : List Line
+  pub read : IsRead text lines rest
+  pub count : length lines ≡ n
+  pub enough : n + length rest ≤ length text
+
+pub are_none : (text : List ℕ) → AreRead text 0 text
+are_none text = record { lines = []; read = read_none text; count = refl; enough = omega arith }
+
+pub are_more : (text : List ℕ) (n : ℕ) (rest : List ℕ) (l : Line) (behind : List ℕ) → AreRead text n rest → line_at rest ≡ Some (l, behind) → AreRead text (n + 1) behind
+are_more text n rest l behind r e =
+    let shorter = line_shortens rest l behind e in
+    let one = length-append r.lines (l ∷ []) in
+    record {
+      lines = r.lines ++ l ∷ [];
+      read = read_more text r.lines rest l behind r.read e;
+      count = omega (arith, one, r.count);
+      enough = omega (arith, shorter, r.enough);
+    }
 
 -- ---- always one of the two
 

@@ -30,7 +30,7 @@ pub use laws::{
     spellings_are_stretches,
 };
 pub use line::{FunctionSource, Line, MadeFunction, SegmentState};
-pub use listing::{ListingError, read_listing};
+pub use listing::{ListingError, check_lines, read_listing};
 pub use rows::{
     push_body_line, push_debug_line, push_end_line, push_export_line, push_feature_line,
     push_fixup_line, push_global_line, push_import_line, push_made_function_line, push_memory_line,

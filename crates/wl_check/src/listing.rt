@@ -1,6 +1,8 @@
 //! Listings.
 
-ghost use Rattle.wl_check.specs.Spelled.{ReadsListing};
+ghost use Rattle.std.specs.Prelude.{IfErr, OnOk};
+ghost use Rattle.wl_check.specs.Difference.{IsSomeListing};
+ghost use Rattle.wl_check.specs.Spelled.{HasListingFault, ReadsListing};
 
 use crate::line::Line;
 use crate::pieces::{Stop, Words};
@@ -48,4 +50,24 @@ pub fn read_listing(alloc: Global, text: &[u8]) -> Result<Vec<Line>, ListingErro
         }
     }
     Ok(lines)
+}
+
+/// Whether a text is a listing. Its lines are read one by one, and none is kept.
+///
+/// # Errors
+/// Those of [`read_listing`].
+pub fn check_lines(alloc: Global, text: &[u8]) -> Result<(), ListingError>
+    ensures listing { OnOk result (IsSomeListing text.now) }
+    ensures err { IfErr result (HasListingFault text.now) }
+{
+    let mut words = Words::new(text);
+    let mut lines: usize = 0;
+    while !words.is_empty() {
+        match words.line(alloc) {
+            Ok(_) => lines += 1,
+            Err(Stop::OutOfMemory) => return Err(ListingError::OutOfMemory),
+            Err(Stop::NoLine) => return Err(ListingError::Bad { line: lines }),
+        }
+    }
+    Ok(())
 }

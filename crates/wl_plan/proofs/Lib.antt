@@ -51,5 +51,6 @@ pub mod ExportPlaceLaws
 pub mod LayoutLaws
 pub mod DebugBounds
 pub mod ListingLaws
+pub mod ListedNames
 mod PlanLineLaws
 pub mod SessionLaws

@@ -136,7 +136,7 @@ own_or_wrapper input g functions bodies place f b are bodies_are at there =
           inr ((w.0).name, (w.2).origin)
     ]
 
-linker_entry : (input : Input) (entry : FunctionEntry) (m : WasmLinkerSymbol)
+pub linker_entry : (input : Input) (entry : FunctionEntry) (m : WasmLinkerSymbol)
     → origin_of input entry ≡ Some (OfLinker m) → entry ≡ FunctionOf (function.Made m)
 linker_entry input (FunctionOf (function.Defined object number)) m e = absurd cc
 linker_entry input (FunctionOf (function.Made n)) m e =
@@ -161,7 +161,7 @@ init_entry input (FunctionOf (function.Stub object slot)) e = absurd (at (functi
     at (Some t) h = absurd cc
 init_entry input InitMemory e = refl
 
-not_linker : (o : Origin) (m : WasmLinkerSymbol) (name : List ℕ) → o ≡ OfLinker m → o ≡ OfWrapper name → ⊥
+pub not_linker : (o : Origin) (m : WasmLinkerSymbol) (name : List ℕ) → o ≡ OfLinker m → o ≡ OfWrapper name → ⊥
 not_linker o m name a b = absurd (let e : OfLinker m ≡ OfWrapper name = sym a ∙ b in cc)
 
 not_init : (o : Origin) (name : List ℕ) → o ≡ OfInitMemory → o ≡ OfWrapper name → ⊥

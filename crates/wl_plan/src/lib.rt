@@ -43,7 +43,9 @@ pub use layout::{
 };
 pub use lines::{listing, plan_lines};
 pub use link::{plan_files, plan_link};
-pub use listing_laws::{listings_of_plans_differ, plans_have_listings};
+pub use listing_laws::{
+    listings_of_plans_differ, made_functions_are_listed_by_name, plans_have_listings,
+};
 pub use module_layout::build_output_module_layout;
 pub use object_segments::{ObjectSegment, output_segments};
 pub use objects::{MAX_OBJECT, ObjectList, PushError};

@@ -1,14 +1,18 @@
 //! What callers may count on of listings: functions with an empty body, each of which states a law.
 
-ghost use Rattle.std.specs.Prelude.{◌≡◌, ℕ, List};
+ghost use Rattle.std.specs.Prelude.{◌≡◌, ℕ, List, Contains};
 ghost use Rattle.std.specs.List.{AllByRecursion};
 ghost use Rattle.wl_linking.specs.Fitting.{IsWhole};
 ghost use Rattle.wl_symbols.specs.Link.{Link};
+ghost use Rattle.wl_symbols.specs.LinkerNames.{name_of};
+ghost use Rattle.wl_symbols.specs.declared.linker_symbol.WasmLinkerSymbol.{WasmLinkerSymbol as LinkerName};
 ghost use Rattle.wl_words.specs.declared.args.WasmArgs.{WasmArgs as SpecArgs};
 ghost use Rattle.wl_check.specs.Ranges.{InRange};
+ghost use Rattle.wl_check.specs.Texts.{made_function_name};
 ghost use Rattle.wl_plan.specs.Contents.{AllWithin};
 ghost use Rattle.wl_plan.specs.LinkPlan.{IsPlanOf, IsLinkPlan};
-ghost use Rattle.wl_plan.specs.PlanLines.{HasListing, lines_of, listing_text};
+ghost use Rattle.wl_plan.specs.Origins.{OfLinker, PlannedFunction as FunctionOfPlan};
+ghost use Rattle.wl_plan.specs.PlanLines.{HasListing, lines_of, listing_text, made_function};
 ghost use Rattle.wl_plan.specs.declared.layout.LinkPlan.{LinkPlan as SpecPlan};
 
 use wl_bind::{
@@ -45,3 +49,11 @@ pub fn listings_of_plans_differ()
 {
     listings_differ();
 }
+
+/// A function that the linker makes for a plan under a name is listed under that name. A line has
+/// names of functions alone, and the linker makes no function under any other name.
+pub fn made_functions_are_listed_by_name()
+    ensures { (link : Link) (plan : SpecPlan) (f : FunctionOfPlan) (m : LinkerName)
+        → IsPlanOf link plan → Contains plan.layout.function_type_indices f
+        → f.origin ≡ OfLinker m → made_function_name (made_function m) ≡ name_of m }
+{}

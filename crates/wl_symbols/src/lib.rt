@@ -78,5 +78,6 @@ pub use units::{
     unit_index, wasm_gc_unit_for_symbol,
 };
 pub use wl_words::{
-    ArgError, DEFAULT_STACK_SIZE, MAX_GENERATED, MemoryName, Mode, Texts, WasmArgs, args_or_fault,
+    ArgError, DEFAULT_STACK_SIZE, MAX_GENERATED, MemoryName, Mode, Texts, ValuePlace, WasmArgs,
+    args_or_fault,
 };

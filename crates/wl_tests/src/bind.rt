@@ -23,7 +23,32 @@ const NAMED: &[u8; 57] = b"\0asm\x01\0\0\0\
     \x0b\x08\x01\x01\x05\x81\x80\x80\x80\0\
     \0\x10\x0areloc.DATA\x03\x01\x06\x03\x01";
 
-/// Whether the types of the first object have these indices in the output.
+/// Whether the types of the first object have these indices in the output of a link.
+fn has_indices_in(
+    alloc: Global,
+    input: &LinkInput<'_, '_>,
+    want: &[u32],
+) -> Result<bool, LinkError> {
+    let bound = build_index_maps(alloc, input)?;
+    let indices = bound.types.indices.as_slice().first();
+    Ok(indices.is_some_and(|indices| indices.as_slice() == want))
+}
+
+/// The same, where what names stand for is known.
+fn has_indices_by<'i, 'a>(
+    alloc: Global,
+    files: &'i FileList<'a>,
+    symbols: &'i SymbolTable<'i, 'a>,
+    args: &'i WasmArgs,
+    want: &[u32],
+) -> Result<bool, LinkError> {
+    let live = collect_live(alloc, files, symbols, args)?;
+    has_indices_in(alloc, &LinkInput::new(files, symbols, &live, args), want)
+}
+
+/// Whether the types of the first of these objects have these indices in the output. What is made
+/// is owned by a function of its own each: a function that owns several records of lists is proved
+/// for each order in which they are dropped.
 fn has_indices(
     alloc: Global,
     files: &FileList<'_>,
@@ -31,11 +56,7 @@ fn has_indices(
     want: &[u32],
 ) -> Result<bool, LinkError> {
     let symbols = SymbolTable::build(alloc, files, args)?;
-    let live = collect_live(alloc, files, &symbols, args)?;
-    let input = LinkInput::new(files, &symbols, &live, args);
-    let bound = build_index_maps(alloc, &input)?;
-    let indices = bound.types.indices.as_slice().first();
-    Ok(indices.is_some_and(|indices| indices.as_slice() == want))
+    has_indices_by(alloc, files, &symbols, args, want)
 }
 
 #[test]

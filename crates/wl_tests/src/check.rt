@@ -1,8 +1,10 @@
 //! Lines of listings, as they are read and written again.
 
-use std::alloc::Global;
+use std::alloc::{AllocError, Global};
 use std::test::Fail;
-use wl_check::{Line, ListingError, push_line, read_listing};
+use wl_check::{
+    Difference, Line, ListingError, check_lines, first_difference, push_line, read_listing,
+};
 
 /// A listing of one object that has most kinds of lines.
 pub(crate) const LISTING: &[u8] = b"wildplan 1
@@ -140,6 +142,31 @@ const BAD: [(&[u8], usize); 50] = [
     (b"end\nend\nfeature \"\\\"\nend\n", 2),
 ];
 
+/// Two listings that differ, how many lines stand in front of the first at which they do, and that
+/// line of each, or nothing.
+type Apart = (
+    &'static [u8],
+    &'static [u8],
+    usize,
+    &'static [u8],
+    &'static [u8],
+);
+
+/// Listings that differ.
+const APART: [Apart; 5] = [
+    (b"", b"end\n", 0, b"", b"end\n"),
+    (b"end\n", b"", 0, b"end\n", b""),
+    (b"end\n", b"end\nstart 1\n", 1, b"", b"start 1\n"),
+    (b"end\nstart 1\n", b"end\n", 1, b"start 1\n", b""),
+    (
+        b"start 0\nslot 1 0\nend\n",
+        b"start 0\nslot 1 3\nstart 0\n",
+        1,
+        b"slot 1 0\n",
+        b"slot 1 3\n",
+    ),
+];
+
 /// The text of the lines that a text reads as.
 fn written_again(alloc: Global, text: &[u8]) -> Result<Vec<u8>, ListingError> {
     let lines = read_listing(alloc, text)?;
@@ -152,11 +179,35 @@ fn written_again(alloc: Global, text: &[u8]) -> Result<Vec<u8>, ListingError> {
     Ok(again)
 }
 
+/// Where two texts differ first, if both are listings.
+fn difference(
+    alloc: Global,
+    found: &[u8],
+    want: &[u8],
+) -> Result<Option<Difference>, ListingError> {
+    check_lines(alloc, found)?;
+    check_lines(alloc, want)?;
+    match first_difference(alloc, found, want) {
+        Ok(apart) => Ok(apart),
+        Err(AllocError) => Err(ListingError::OutOfMemory),
+    }
+}
+
+/// The text of a line, or nothing.
+fn text_of(alloc: Global, line: Option<Line>) -> Result<Vec<u8>, AllocError> {
+    let mut text = Vec::new(alloc);
+    if let Some(line) = line {
+        push_line(&mut text, &line)?;
+    }
+    Ok(text)
+}
+
 #[test]
 fn lines_are_read_and_written_again(rt: HostRuntime) -> Result<(), Fail> {
     for text in GOOD {
         let again = written_again(rt.alloc(), text).ok();
         assert!(rt; again.is_some_and(|again| again.as_slice() == text));
+        assert!(rt; check_lines(rt.alloc(), text).is_ok());
     }
     Ok(())
 }
@@ -166,6 +217,10 @@ fn bad_lines_are_told_by_their_number(rt: HostRuntime) -> Result<(), Fail> {
     for (text, line) in BAD {
         assert_eq!(rt;
             read_listing(rt.alloc(), text).err(),
+            Some(ListingError::Bad { line })
+        );
+        assert_eq!(rt;
+            check_lines(rt.alloc(), text).err(),
             Some(ListingError::Bad { line })
         );
     }
@@ -183,5 +238,22 @@ fn a_line_stands_behind_a_text(rt: HostRuntime) -> Result<(), Fail> {
         },
     )?;
     assert_eq!(rt; text.as_slice(), b"end\nslot 1 0\n".as_slice());
+    Ok(())
+}
+
+#[test]
+fn listings_differ_first_at_a_line(rt: HostRuntime) -> Result<(), Fail> {
+    let same = difference(rt.alloc(), LISTING, LISTING).ok();
+    assert!(rt; same.is_some_and(|apart| apart.is_none()));
+    for (first, second, line, found, want) in APART {
+        let apart = difference(rt.alloc(), first, second).ok().flatten();
+        let Some(apart) = apart else {
+            assert!(rt; false);
+            return Ok(());
+        };
+        assert_eq!(rt; apart.line, line);
+        assert_eq!(rt; text_of(rt.alloc(), apart.found)?.as_slice(), found);
+        assert_eq!(rt; text_of(rt.alloc(), apart.want)?.as_slice(), want);
+    }
     Ok(())
 }

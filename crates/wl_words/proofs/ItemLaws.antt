@@ -1,24 +1,25 @@
 -- Items one behind the other.
-use Rattle.std.proofs.Common.{rules, ℕ, ◌≡◌, ◌<◌, ◌≤◌, List, [], ◌∷◌, ◌++◌, Option, refl, sym, subst, arith, All}
+use Rattle.std.proofs.Common.{rules, ℕ, ◌≡◌, ◌<◌, ◌≤◌, List, [], ◌∷◌, ◌++◌, Option, refl, sym, ap, subst, arith, All}
 use Rattle.std.specs.Option.{option_or}
 use Rattle.std.specs.List.{filter_map}
 use Rattle.std.proofs.lemmas.List.Elements.{All-cons}
 use Rattle.wl_words.specs.Items.{ArgItem, Object, Given, Set, Memory, StandsAtWord, AreArgItems, HasValue, joined, parted, mode_of_item, mode_after}
 use Rattle.wl_words.specs.Modes.{KeepsMode}
 use Rattle.wl_words.specs.declared.modes.ModeName.{ModeName}
+use Rattle.wl_words.specs.declared.modes.ValuePlace.{ValuePlace}
 use Rattle.wl_words.specs.Args.{input_of}
 use Rattle.wl_words.specs.declared.options.Setting.{Setting}
 
 -- the value of an option stands at its word, or behind it
-pub value_from : (words : List (List ℕ)) (at : ℕ) (setting : Setting) (value : List ℕ) (place : ℕ) → HasValue words at setting value place → at ≤ place
-value_from words at setting value place (joined h is) = omega (arith, is)
-value_from words at setting value place (parted h next is) = omega (arith, is)
+pub value_from : (words : List (List ℕ)) (at : ℕ) (setting : Setting) (value : List ℕ) (place : ValuePlace) → HasValue words at setting value place → at ≤ place.word
+value_from words at setting value place (joined h is) = omega (arith, ap (λ (p : ValuePlace). p.word) is)
+value_from words at setting value place (parted h next is) = omega (arith, ap (λ (p : ValuePlace). p.word) is)
 
 -- the next item stands behind
 pub stands_on : (words : List (List ℕ)) (at : ℕ) (item : ArgItem) (next : ℕ) → StandsAtWord words at item next → at < next
 stands_on words at (Object place) next h = omega (arith, h.2)
 stands_on words at (Given flag) next h = omega (arith, h.1)
-stands_on words at (Set setting value) next h = omega (arith, value_from words at setting value h.0 h.1, h.3)
+stands_on words at (Set setting value place) next h = omega (arith, value_from words at setting value place h.0, h.2)
 stands_on words at (Memory option value) next h = omega (arith, h.1)
 
 -- one more item
@@ -42,5 +43,5 @@ inputs_below words at before [] end h = search rules
 inputs_below words at before (Object place ∷ items) end (next, first, kept, rest) =
     All-cons (λ i. i < end) place _ (omega (arith, first.1, first.2, items_on words next _ items end rest)) (inputs_below words next _ items end rest)
 inputs_below words at before (Given flag ∷ items) end (next, first, kept, rest) = inputs_below words next _ items end rest
-inputs_below words at before (Set setting value ∷ items) end (next, first, kept, rest) = inputs_below words next _ items end rest
+inputs_below words at before (Set setting value place ∷ items) end (next, first, kept, rest) = inputs_below words next _ items end rest
 inputs_below words at before (Memory option value ∷ items) end (next, first, kept, rest) = inputs_below words next _ items end rest

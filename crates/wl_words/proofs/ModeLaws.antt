@@ -4,17 +4,19 @@ use Rattle.std.specs.Option.{option_or, option_and_then}
 use Rattle.std.proofs.lemmas.Bool.{leb-true}
 use Rattle.wl_words.specs.Options.{front_of, taken_by}
 use Rattle.wl_words.specs.Values.{number_of, generated_count}
-use Rattle.wl_words.specs.Modes.{mode_in, mode_name, KeepsMode, IsFitMode}
-use Rattle.wl_words.specs.Items.{ArgItem, Object, Given, Set, Memory, NamesOption, StandsAtWord, mode_of_item}
+use Rattle.wl_words.specs.Modes.{mode_in, mode_name, KeepsMode, IsFitMode, placed_value}
+use Rattle.wl_words.specs.Items.{ArgItem, Object, Given, Set, Memory, NamesOption, HasValue, joined, parted, StandsAtWord, mode_of_item}
 use Rattle.wl_words.specs.Args.{mode_of}
 use Rattle.wl_words.specs.Faults.{AsksOtherMode, bare, with_value}
 use Rattle.wl_words.specs.declared.options.OptionKind.{OptionKind}
 use Rattle.wl_words.specs.declared.options.OptionKind.TheVariants.{Nothing}
 use Rattle.wl_words.specs.declared.options.Flag.{Flag}
 use Rattle.wl_words.specs.declared.options.Flag.TheVariants as flag
+use Rattle.wl_words.specs.declared.options.Setting.{Setting}
 use Rattle.wl_words.specs.declared.options.Setting.TheVariants as setting
 use Rattle.wl_words.specs.declared.modes.Mode.{Mode}
 use Rattle.wl_words.specs.declared.modes.ModeName.{ModeName}
+use Rattle.wl_words.specs.declared.modes.ValuePlace.{ValuePlace}
 use Rattle.wl_words.specs.declared.modes.ModeName.TheVariants as name
 use Rattle.wl_words.specs.declared.values.TheConstants.{MAX_GENERATED}
 use Rattle.wl_words.proofs.OptionLaws.{some_same, some_none, one_option, no_option, not_unnamed, flag_value, value_option}
@@ -25,12 +27,28 @@ same_name : (a b : ModeName) → (a ≡ b) ⊎ (a ≡ b → ⊥)
 same_name name.Generate name.Generate = inl refl
 same_name name.Generate name.Why = inr (λ is. absurd cc)
 same_name name.Generate name.Map = inr (λ is. absurd cc)
+same_name name.Generate name.Check = inr (λ is. absurd cc)
+same_name name.Generate name.Run = inr (λ is. absurd cc)
 same_name name.Why name.Generate = inr (λ is. absurd cc)
 same_name name.Why name.Why = inl refl
 same_name name.Why name.Map = inr (λ is. absurd cc)
+same_name name.Why name.Check = inr (λ is. absurd cc)
+same_name name.Why name.Run = inr (λ is. absurd cc)
 same_name name.Map name.Generate = inr (λ is. absurd cc)
 same_name name.Map name.Why = inr (λ is. absurd cc)
 same_name name.Map name.Map = inl refl
+same_name name.Map name.Check = inr (λ is. absurd cc)
+same_name name.Map name.Run = inr (λ is. absurd cc)
+same_name name.Check name.Generate = inr (λ is. absurd cc)
+same_name name.Check name.Why = inr (λ is. absurd cc)
+same_name name.Check name.Map = inr (λ is. absurd cc)
+same_name name.Check name.Check = inl refl
+same_name name.Check name.Run = inr (λ is. absurd cc)
+same_name name.Run name.Generate = inr (λ is. absurd cc)
+same_name name.Run name.Why = inr (λ is. absurd cc)
+same_name name.Run name.Map = inr (λ is. absurd cc)
+same_name name.Run name.Check = inr (λ is. absurd cc)
+same_name name.Run name.Run = inl refl
 
 pub keeps_none : (before : Option ModeName) → KeepsMode before None
 keeps_none None = tt
@@ -56,14 +74,19 @@ in_range (Some count) n is =
     subst (λ (k : ℕ). (1 ≤ k) × (k ≤ MAX_GENERATED)) p.2 (leb-true 1 count p.0, leb-true count MAX_GENERATED p.1)
 
 -- an item says nothing of the mode, or the mode of its name
-abbrev SaysMode : ArgItem → Option Mode → Type 0
-SaysMode item None = mode_of_item item ≡ None
-SaysMode item (Some m) = (new : ModeName) × (mode_of_item item ≡ Some new) × (mode_name m ≡ Some new) × IsFitMode m
+abbrev SaysMode : List (List ℕ) → ArgItem → Option Mode → Type 0
+SaysMode words item None = mode_of_item item ≡ None
+SaysMode words item (Some m) = (new : ModeName) × (mode_of_item item ≡ Some new) × (mode_name m ≡ Some new) × IsFitMode words m
 
-counted : (value : List ℕ) (n : ℕ) → generated_count value ≡ Some n → SaysMode (Set setting.Generate value) (mode_of (Set setting.Generate value))
-counted value n is = rw is (name.Generate, refl, refl, in_range (number_of 32 value) n is)
+counted : (words : List (List ℕ)) (value : List ℕ) (place : ValuePlace) (n : ℕ) → generated_count value ≡ Some n → SaysMode words (Set setting.Generate value place) (mode_of (Set setting.Generate value place))
+counted words value place n is = rw is (name.Generate, refl, refl, in_range (number_of 32 value) n is)
 
-says_mode : (words : List (List ℕ)) (at : ℕ) (item : ArgItem) (next : ℕ) → StandsAtWord words at item next → SaysMode item (mode_of item)
+-- the value of an option stands in its place
+stands_there : (words : List (List ℕ)) (at : ℕ) (s : Setting) (value : List ℕ) (place : ValuePlace) → HasValue words at s value place → placed_value words place ≡ Some value
+stands_there words at s value place (joined named is) = rw (is, named.here) named.value
+stands_there words at s value place (parted named next is) = rw (is, next) refl
+
+says_mode : (words : List (List ℕ)) (at : ℕ) (item : ArgItem) (next : ℕ) → StandsAtWord words at item next → SaysMode words item (mode_of item)
 says_mode words at (Object place) next h = refl
 says_mode words at (Memory option value) next h = refl
 says_mode words at (Given flag.ExportDynamic) next h = refl
@@ -77,24 +100,26 @@ says_mode words at (Given flag.StripAll) next h = refl
 says_mode words at (Given flag.StripDebug) next h = refl
 says_mode words at (Given flag.Why) next h = (name.Why, refl, refl, tt)
 says_mode words at (Given flag.Map) next h = (name.Map, refl, refl, tt)
-says_mode words at (Set setting.Export value) next h = refl
-says_mode words at (Set setting.ExportIfDefined value) next h = refl
-says_mode words at (Set setting.Entry value) next h = refl
-says_mode words at (Set setting.Keyword value) next h = refl
-says_mode words at (Set setting.InitialMemory value) next h = refl
-says_mode words at (Set setting.MaxMemory value) next h = refl
-says_mode words at (Set setting.ExtraFeatures value) next h = refl
-says_mode words at (Set setting.KeepSection value) next h = refl
-says_mode words at (Set setting.Output value) next h = refl
-says_mode words at (Set setting.Generate value) next (place, has, (n, is), on) = counted value n is
+says_mode words at (Set setting.Export value place) next h = refl
+says_mode words at (Set setting.ExportIfDefined value place) next h = refl
+says_mode words at (Set setting.Entry value place) next h = refl
+says_mode words at (Set setting.Keyword value place) next h = refl
+says_mode words at (Set setting.InitialMemory value place) next h = refl
+says_mode words at (Set setting.MaxMemory value place) next h = refl
+says_mode words at (Set setting.ExtraFeatures value place) next h = refl
+says_mode words at (Set setting.KeepSection value place) next h = refl
+says_mode words at (Set setting.Output value place) next h = refl
+says_mode words at (Set setting.Generate value place) next (has, (n, is), on) = counted words value place n is
+says_mode words at (Set setting.Check value place) next h = (name.Check, refl, refl, (value, stands_there words at setting.Check value place h.0))
+says_mode words at (Set setting.Run value place) next h = (name.Run, refl, refl, (value, stands_there words at setting.Run value place h.0))
 
 -- the mode with one more item, and that it fits
-mode_more : (item : ArgItem) (said : Option Mode) (old new : Mode) → SaysMode item said → new ≡ unwrap_or said old → IsFitMode old → (mode_name new ≡ option_or (mode_of_item item) (mode_name old)) × IsFitMode new
-mode_more item None old new says is fit = (ap mode_name is ∙ sym (ap (λ (o : Option ModeName). option_or o (mode_name old)) says), subst IsFitMode (sym is) fit)
-mode_more item (Some m) old new (next, asks, named, fits) is fit = (ap mode_name is ∙ named ∙ sym (ap (λ (o : Option ModeName). option_or o (mode_name old)) asks), subst IsFitMode (sym is) fits)
+mode_more : (words : List (List ℕ)) (item : ArgItem) (said : Option Mode) (old new : Mode) → SaysMode words item said → new ≡ unwrap_or said old → IsFitMode words old → (mode_name new ≡ option_or (mode_of_item item) (mode_name old)) × IsFitMode words new
+mode_more words item None old new says is fit = (ap mode_name is ∙ sym (ap (λ (o : Option ModeName). option_or o (mode_name old)) says), subst (IsFitMode words) (sym is) fit)
+mode_more words item (Some m) old new (next, asks, named, fits) is fit = (ap mode_name is ∙ named ∙ sym (ap (λ (o : Option ModeName). option_or o (mode_name old)) asks), subst (IsFitMode words) (sym is) fits)
 
-pub mode_step : (words : List (List ℕ)) (at : ℕ) (item : ArgItem) (next : ℕ) (old new : Mode) → StandsAtWord words at item next → new ≡ unwrap_or (mode_of item) old → IsFitMode old → (mode_name new ≡ option_or (mode_of_item item) (mode_name old)) × IsFitMode new
-mode_step words at item next old new h is fit = mode_more item (mode_of item) old new (says_mode words at item next h) is fit
+pub mode_step : (words : List (List ℕ)) (at : ℕ) (item : ArgItem) (next : ℕ) (old new : Mode) → StandsAtWord words at item next → new ≡ unwrap_or (mode_of item) old → IsFitMode words old → (mode_name new ≡ option_or (mode_of_item item) (mode_name old)) × IsFitMode words new
+mode_step words at item next old new h is fit = mode_more words item (mode_of item) old new (says_mode words at item next h) is fit
 
 -- ---- options that ask for another mode
 
@@ -118,8 +143,8 @@ pub item_no_other : (words : List (List ℕ)) (at : ℕ) (before : Option ModeNa
 item_no_other words at before (Object place) next h keeps (bare flag named differs) = no_option words at _ _ h.0 named
 item_no_other words at before (Object place) next h keeps (with_value setting value named differs) = no_option words at _ _ h.0 named
 item_no_other words at before (Given flag) next h keeps other = keeps_no_other words at before _ _ h.0 keeps other
-item_no_other words at before (Set setting value) next h keeps other =
-    let o = value_option words at setting value h.0 h.1 in
+item_no_other words at before (Set setting value place) next h keeps other =
+    let o = value_option words at setting value place h.0 in
     keeps_no_other words at before _ _ o.1 keeps other
 item_no_other words at before (Memory option value) next h keeps other = keeps_no_other words at before _ _ h.0 keeps other
 
@@ -127,7 +152,7 @@ item_no_other words at before (Memory option value) next h keeps other = keeps_n
 pub other_of_item : (words : List (List ℕ)) (at : ℕ) (before : Option ModeName) (item : ArgItem) (next : ℕ) → StandsAtWord words at item next → (KeepsMode before (mode_of_item item) → ⊥) → AsksOtherMode words at before
 other_of_item words at before (Object place) next h differs = absurd (differs (keeps_none before))
 other_of_item words at before (Given flag) next h differs = bare flag h.0 differs
-other_of_item words at before (Set setting value) next h differs =
-    let o = value_option words at setting value h.0 h.1 in
+other_of_item words at before (Set setting value place) next h differs =
+    let o = value_option words at setting value place h.0 in
     with_value setting o.0 o.1 differs
 other_of_item words at before (Memory option value) next h differs = absurd (differs (keeps_none before))

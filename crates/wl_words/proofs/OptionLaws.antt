@@ -1,5 +1,6 @@
 -- What a word names: one option, with one value.
 use Rattle.std.proofs.Common.{◌≡◌, ℕ, List, Option, Some, None, true≢false, sym, ap, ◌∙◌, slice_get}
+use Rattle.wl_words.specs.declared.modes.ValuePlace.{ValuePlace}
 use Rattle.wl_words.specs.Options.{front_of, value_of, taken_by, is_option}
 use Rattle.wl_words.specs.Items.{NamesObject, NamesOption, HasValue, joined, parted}
 use Rattle.wl_words.specs.declared.options.OptionKind.{OptionKind}
@@ -58,6 +59,6 @@ same_memory m n is = cc
 -- ---- an option and its value
 
 -- the option, whatever stands behind its equals sign
-pub value_option : (words : List (List ℕ)) (at : ℕ) (s : Setting) (v : List ℕ) (p : ℕ) → HasValue words at s v p → (behind : Option (List ℕ)) × NamesOption words at (Value s) behind
+pub value_option : (words : List (List ℕ)) (at : ℕ) (s : Setting) (v : List ℕ) (p : ValuePlace) → HasValue words at s v p → (behind : Option (List ℕ)) × NamesOption words at (Value s) behind
 value_option words at s v p (joined h is) = (Some v, h)
 value_option words at s v p (parted h next is) = (None, h)

@@ -11,5 +11,5 @@ pub record ParsesUpTo (words : List (List ℕ)) (at : ℕ) (args : WasmArgs) : T
   pub stand : AreArgItems words 0 None items at
   pub asked : AsksFor items args
   pub mode : mode_name args.mode ≡ mode_after None items
-  pub fit : IsFitMode args.mode
+  pub fit : IsFitMode words args.mode
   pub within : at ≤ length words

@@ -7,7 +7,8 @@ use Rattle.wl_words.specs.Options.{front_of, value_of, taken_by, is_option}
 use Rattle.wl_words.specs.Values.{number_of, stack_size_text, generated_count}
 use Rattle.wl_words.specs.Modes.{mode_in, KeepsMode}
 use Rattle.wl_words.specs.declared.modes.ModeName.{ModeName}
-use Rattle.wl_words.specs.Items.{ArgItem, Object, Given, Set, Memory, NamesOption, HasValue, joined, parted, IsSoundValue, StandsAtWord, AreArgItems, mode_of_item, mode_after}
+use Rattle.wl_words.specs.declared.modes.ValuePlace.{ValuePlace}
+use Rattle.wl_words.specs.Items.{ArgItem, Object, Given, Set, Memory, NamesOption, HasValue, joined, parted, joined_place, word_place, IsSoundValue, StandsAtWord, AreArgItems, mode_of_item, mode_after}
 use Rattle.wl_words.specs.Faults.{unnamed, valued, ValueFault, ItemFault, unknown, lacking, unsound, with_value, StopFault, other, alone}
 use Rattle.wl_words.specs.declared.options.OptionKind.{OptionKind}
 use Rattle.wl_words.specs.declared.options.OptionKind.TheVariants.{Nothing, Value, OptionalValue}
@@ -52,6 +53,8 @@ value_or_fault setting.MaxMemory v p = size (number_of 64 v) refl
 value_or_fault setting.ExtraFeatures v p = inl tt
 value_or_fault setting.KeepSection v p = inl tt
 value_or_fault setting.Output v p = inl tt
+value_or_fault setting.Check v p = inl tt
+value_or_fault setting.Run v p = inl tt
 value_or_fault setting.Generate v p = count (generated_count v) refl
   where
     count : (o : Option ℕ) → generated_count v ≡ o → IsSoundValue setting.Generate v ⊎ ((e : ArgError) × ValueFault setting.Generate v p e)
@@ -60,19 +63,19 @@ value_or_fault setting.Generate v p = count (generated_count v) refl
 
 -- ---- an item
 
-value_item : (words : List (List ℕ)) (at : ℕ) (s : Setting) (v : List ℕ) (p : ℕ) → HasValue words at s v p → p < length words → IsSoundValue s v ⊎ ((e : ArgError) × ValueFault s v p e) → ItemOrFault words at
-value_item words at s v p has within (inl sound) = inl (Set s v, p + 1, (p, has, sound, refl), omega (arith, within))
+value_item : (words : List (List ℕ)) (at : ℕ) (s : Setting) (v : List ℕ) (p : ValuePlace) → HasValue words at s v p → p.word < length words → IsSoundValue s v ⊎ ((e : ArgError) × ValueFault s v p.word e) → ItemOrFault words at
+value_item words at s v p has within (inl sound) = inl (Set s v p, p.word + 1, (has, sound, refl), omega (arith, within))
 value_item words at s v p has within (inr (e, fault)) = inr (e, unsound s v p has fault)
 
 with_next : (words : List (List ℕ)) (at : ℕ) (s : Setting) → NamesOption words at (Value s) None → (o : Option (List ℕ)) → slice_get words (at + 1) ≡ o → ItemOrFault words at
 with_next words at s named None last = inr (MissingValue at, lacking (record { setting = s; named = named; last = last }) refl)
-with_next words at s named (Some v) next = value_item words at s v (at + 1) (parted named next refl) (slice_get_within words (at + 1) v next) (value_or_fault s v (at + 1))
+with_next words at s named (Some v) next = value_item words at s v (word_place (at + 1)) (parted named next refl) (slice_get_within words (at + 1) v next) (value_or_fault s v (at + 1))
 
 with_option : (words : List (List ℕ)) (at : ℕ) (t : OptionKind) (behind : Option (List ℕ)) → at < length words → NamesOption words at t behind → ItemOrFault words at
 with_option words at (Nothing flag) None within named = inl (Given flag, at + 1, (named, refl), omega (arith, within))
 with_option words at (Nothing flag) (Some value) within named = inr (UnknownOption at, unknown (valued flag value named) refl)
 with_option words at (Value s) None within named = with_next words at s named (slice_get words (at + 1)) refl
-with_option words at (Value s) (Some value) within named = value_item words at s value at (joined named refl) within (value_or_fault s value at)
+with_option words at (Value s) (Some value) within named = value_item words at s value (joined_place at) (joined named refl) within (value_or_fault s value at)
 with_option words at (OptionalValue option) behind within named = inl (Memory option behind, at + 1, (named, refl), omega (arith, within))
 
 with_word : (words : List (List ℕ)) (at : ℕ) (word : List ℕ) → slice_get words at ≡ Some word → (dashed : Bool) → is_option word ≡ dashed → (t : Option OptionKind) → taken_by (front_of word) ≡ t → ItemOrFault words at

@@ -7,6 +7,7 @@ use Rattle.wl_words.specs.Values.{number_of}
 use Rattle.wl_words.specs.Items.{ArgItem, Object, Given, Set, Memory, NamesOption, HasValue, joined, parted, IsSoundValue, StandsAtWord, AreArgItems, mode_of_item, mode_after}
 use Rattle.wl_words.specs.Modes.{KeepsMode}
 use Rattle.wl_words.specs.declared.modes.ModeName.{ModeName}
+use Rattle.wl_words.specs.declared.modes.ValuePlace.{ValuePlace}
 use Rattle.wl_words.specs.Faults.{IsUnknownOption, unnamed, valued, LacksValue, ValueFault, ItemFault, unknown, lacking, unsound, bare, with_value, StopFault, other, alone}
 use Rattle.wl_words.proofs.ModeLaws.{item_no_other}
 use Rattle.wl_words.proofs.OptionLaws.{some_same, some_none, one_option, no_option, not_unnamed, flag_value, flag_memory, value_memory, same_flag, same_setting, same_memory, value_option}
@@ -18,7 +19,7 @@ use Rattle.wl_words.specs.declared.error.ArgError.{ArgError}
 
 -- ---- an option and its value
 
-one_value : (words : List (List ℕ)) (at : ℕ) (s t : Setting) (v w : List ℕ) (p q : ℕ) → HasValue words at s v p → HasValue words at t w q → (s ≡ t) × (v ≡ w) × (p ≡ q)
+one_value : (words : List (List ℕ)) (at : ℕ) (s t : Setting) (v w : List ℕ) (p q : ValuePlace) → HasValue words at s v p → HasValue words at t w q → (s ≡ t) × (v ≡ w) × (p ≡ q)
 one_value words at s t v w p q (joined h is) (joined k same) =
     let e = one_option words at (Value s) (Value t) (Some v) (Some w) h k in
     (same_setting s t e.0, some_same v w e.1, is ∙ sym same)
@@ -29,7 +30,7 @@ one_value words at s t v w p q (parted h next is) (parted k further same) =
     (same_setting s t e.0, some_same v w (sym next ∙ further), is ∙ sym same)
 
 -- a value that is there isn't lacking
-not_lacking : (words : List (List ℕ)) (at : ℕ) (s : Setting) (v : List ℕ) (p : ℕ) → HasValue words at s v p → LacksValue words at → ⊥
+not_lacking : (words : List (List ℕ)) (at : ℕ) (s : Setting) (v : List ℕ) (p : ValuePlace) → HasValue words at s v p → LacksValue words at → ⊥
 not_lacking words at s v p (joined h is) lacks = some_none v (one_option words at (Value s) (Value lacks.setting) (Some v) None h lacks.named).1
 not_lacking words at s v p (parted h next is) lacks = some_none v (sym next ∙ lacks.last)
 
@@ -45,6 +46,8 @@ no_value_fault setting.MaxMemory v p e (n, is) (none, told) = some_none n (sym i
 no_value_fault setting.ExtraFeatures v p e sound fault = fault
 no_value_fault setting.KeepSection v p e sound fault = fault
 no_value_fault setting.Output v p e sound fault = fault
+no_value_fault setting.Check v p e sound fault = fault
+no_value_fault setting.Run v p e sound fault = fault
 no_value_fault setting.Generate v p e (n, is) (none, told) = some_none n (sym is ∙ none)
 
 -- a value has one fault
@@ -61,6 +64,8 @@ one_value_fault setting.MaxMemory v p e f (none, told) (nothing, tells) = told �
 one_value_fault setting.ExtraFeatures v p e f h k = absurd h
 one_value_fault setting.KeepSection v p e f h k = absurd h
 one_value_fault setting.Output v p e f h k = absurd h
+one_value_fault setting.Check v p e f h k = absurd h
+one_value_fault setting.Run v p e f h k = absurd h
 one_value_fault setting.Generate v p e f (none, told) (nothing, tells) = told ∙ sym tells
 
 -- ---- one item
@@ -68,21 +73,21 @@ one_value_fault setting.Generate v p e f (none, told) (nothing, tells) = told �
 one_item : (words : List (List ℕ)) (at : ℕ) (x y : ArgItem) (m n : ℕ) → StandsAtWord words at x m → StandsAtWord words at y n → (x ≡ y) × (m ≡ n)
 one_item words at (Object p) (Object q) m n h k = (ap Object (h.1 ∙ sym k.1), h.2 ∙ sym k.2)
 one_item words at (Object p) (Given g) m n h k = absurd (no_option words at _ _ h.0 k.0)
-one_item words at (Object p) (Set t w) m n h k = let o = value_option words at t w k.0 k.1 in absurd (no_option words at _ _ h.0 o.1)
+one_item words at (Object p) (Set t w q) m n h k = let o = value_option words at t w q k.0 in absurd (no_option words at _ _ h.0 o.1)
 one_item words at (Object p) (Memory b w) m n h k = absurd (no_option words at _ _ h.0 k.0)
 one_item words at (Given f) (Object q) m n h k = absurd (no_option words at _ _ k.0 h.0)
 one_item words at (Given f) (Given g) m n h k = (ap Given (same_flag f g (one_option words at _ _ _ _ h.0 k.0).0), h.1 ∙ sym k.1)
-one_item words at (Given f) (Set t w) m n h k = let o = value_option words at t w k.0 k.1 in absurd (flag_value f t (one_option words at _ _ _ _ h.0 o.1).0)
+one_item words at (Given f) (Set t w q) m n h k = let o = value_option words at t w q k.0 in absurd (flag_value f t (one_option words at _ _ _ _ h.0 o.1).0)
 one_item words at (Given f) (Memory b w) m n h k = absurd (flag_memory f b (one_option words at _ _ _ _ h.0 k.0).0)
-one_item words at (Set s v) (Object q) m n h k = let o = value_option words at s v h.0 h.1 in absurd (no_option words at _ _ k.0 o.1)
-one_item words at (Set s v) (Given g) m n h k = let o = value_option words at s v h.0 h.1 in absurd (flag_value g s (one_option words at _ _ _ _ k.0 o.1).0)
-one_item words at (Set s v) (Set t w) m n h k =
-    let e = one_value words at s t v w h.0 k.0 h.1 k.1 in
-    (ap (λ (o : Setting). Set o v) e.0 ∙ ap (λ (x : List ℕ). Set t x) e.1, h.3 ∙ ap (λ (p : ℕ). p + 1) e.2 ∙ sym k.3)
-one_item words at (Set s v) (Memory b w) m n h k = let o = value_option words at s v h.0 h.1 in absurd (value_memory s b (one_option words at _ _ _ _ o.1 k.0).0)
+one_item words at (Set s v p) (Object q) m n h k = let o = value_option words at s v p h.0 in absurd (no_option words at _ _ k.0 o.1)
+one_item words at (Set s v p) (Given g) m n h k = let o = value_option words at s v p h.0 in absurd (flag_value g s (one_option words at _ _ _ _ k.0 o.1).0)
+one_item words at (Set s v p) (Set t w q) m n h k =
+    let e = one_value words at s t v w p q h.0 k.0 in
+    (ap (λ (o : Setting). Set o v p) e.0 ∙ ap (λ (x : List ℕ). Set t x p) e.1 ∙ ap (λ (o : ValuePlace). Set t w o) e.2, h.2 ∙ ap (λ (o : ValuePlace). o.word + 1) e.2 ∙ sym k.2)
+one_item words at (Set s v p) (Memory b w) m n h k = let o = value_option words at s v p h.0 in absurd (value_memory s b (one_option words at _ _ _ _ o.1 k.0).0)
 one_item words at (Memory a v) (Object q) m n h k = absurd (no_option words at _ _ k.0 h.0)
 one_item words at (Memory a v) (Given g) m n h k = absurd (flag_memory g a (one_option words at _ _ _ _ k.0 h.0).0)
-one_item words at (Memory a v) (Set t w) m n h k = let o = value_option words at t w k.0 k.1 in absurd (value_memory t a (one_option words at _ _ _ _ o.1 h.0).0)
+one_item words at (Memory a v) (Set t w q) m n h k = let o = value_option words at t w q k.0 in absurd (value_memory t a (one_option words at _ _ _ _ o.1 h.0).0)
 one_item words at (Memory a v) (Memory b w) m n h k =
     let e = one_option words at _ _ _ _ h.0 k.0 in
     (ap (λ (o : MemoryOption). Memory o v) (same_memory a b e.0) ∙ ap (λ (x : Option (List ℕ)). Memory b x) e.1, h.1 ∙ sym k.1)
@@ -97,8 +102,8 @@ no_unknown words at (Object p) m h (unnamed word here dashed none) =
 no_unknown words at (Object p) m h (valued flag value named) = no_option words at _ _ h.0 named
 no_unknown words at (Given f) m h (unnamed word here dashed none) = not_unnamed words at _ _ word h.0 here none
 no_unknown words at (Given f) m h (valued flag value named) = some_none value (one_option words at _ _ _ _ named h.0).1
-no_unknown words at (Set s v) m h (unnamed word here dashed none) = let o = value_option words at s v h.0 h.1 in not_unnamed words at _ _ word o.1 here none
-no_unknown words at (Set s v) m h (valued flag value named) = let o = value_option words at s v h.0 h.1 in flag_value flag s (one_option words at _ _ _ _ named o.1).0
+no_unknown words at (Set s v p) m h (unnamed word here dashed none) = let o = value_option words at s v p h.0 in not_unnamed words at _ _ word o.1 here none
+no_unknown words at (Set s v p) m h (valued flag value named) = let o = value_option words at s v p h.0 in flag_value flag s (one_option words at _ _ _ _ named o.1).0
 no_unknown words at (Memory a v) m h (unnamed word here dashed none) = not_unnamed words at _ _ word h.0 here none
 no_unknown words at (Memory a v) m h (valued flag value named) = flag_memory flag a (one_option words at _ _ _ _ named h.0).0
 
@@ -106,13 +111,13 @@ no_fault : (words : List (List ℕ)) (at : ℕ) (x : ArgItem) (m : ℕ) (e : Arg
 no_fault words at x m e h (unknown fault is) = no_unknown words at x m h fault
 no_fault words at (Object p) m e h (lacking fault is) = no_option words at _ _ h.0 fault.named
 no_fault words at (Given f) m e h (lacking fault is) = flag_value f fault.setting (one_option words at _ _ _ _ h.0 fault.named).0
-no_fault words at (Set s v) m e h (lacking fault is) = not_lacking words at s v h.0 h.1 fault
+no_fault words at (Set s v p) m e h (lacking fault is) = not_lacking words at s v p h.0 fault
 no_fault words at (Memory a v) m e h (lacking fault is) = value_memory fault.setting a (one_option words at _ _ _ _ fault.named h.0).0
 no_fault words at (Object p) m e h (unsound t w q has fault) = let o = value_option words at t w q has in no_option words at _ _ h.0 o.1
 no_fault words at (Given f) m e h (unsound t w q has fault) = let o = value_option words at t w q has in flag_value f t (one_option words at _ _ _ _ h.0 o.1).0
-no_fault words at (Set s v) m e h (unsound t w q has fault) =
-    let same = one_value words at s t v w h.0 q h.1 has in
-    no_value_fault t w q e (subst (λ (o : Setting). IsSoundValue o w) same.0 (subst (λ (x : List ℕ). IsSoundValue s x) same.1 h.2)) fault
+no_fault words at (Set s v p) m e h (unsound t w q has fault) =
+    let same = one_value words at s t v w p q h.0 has in
+    no_value_fault t w q.word e (subst (λ (o : Setting). IsSoundValue o w) same.0 (subst (λ (x : List ℕ). IsSoundValue s x) same.1 h.1)) fault
 no_fault words at (Memory a v) m e h (unsound t w q has fault) = let o = value_option words at t w q has in value_memory t a (one_option words at _ _ _ _ o.1 h.0).0
 
 -- ---- one fault
@@ -132,7 +137,7 @@ one_fault words at e f (unsound s v p has h) (unknown k same) = let o = value_op
 one_fault words at e f (unsound s v p has h) (lacking k same) = absurd (not_lacking words at s v p has k)
 one_fault words at e f (unsound s v p has h) (unsound t w q had k) =
     let same = one_value words at s t v w p q has had in
-    one_value_fault t w q e f (subst (λ (n : ℕ). ValueFault t w n e) same.2 (subst (λ (x : List ℕ). ValueFault t x p e) same.1 (subst (λ (o : Setting). ValueFault o v p e) same.0 h))) k
+    one_value_fault t w q.word e f (subst (λ (o : ValuePlace). ValueFault t w o.word e) same.2 (subst (λ (x : List ℕ). ValueFault t x p.word e) same.1 (subst (λ (o : Setting). ValueFault o v p.word e) same.0 h))) k
 
 -- ---- items and faults among the words
 
@@ -140,7 +145,7 @@ one_fault words at e f (unsound s v p has h) (unsound t w q had k) =
 item_within : (words : List (List ℕ)) (at : ℕ) (x : ArgItem) (m : ℕ) → StandsAtWord words at x m → at < length words
 item_within words at (Object p) m h = slice_get_within words at _ h.0.here
 item_within words at (Given f) m h = slice_get_within words at _ h.0.here
-item_within words at (Set s v) m h = let o = value_option words at s v h.0 h.1 in slice_get_within words at _ o.1.here
+item_within words at (Set s v p) m h = let o = value_option words at s v p h.0 in slice_get_within words at _ o.1.here
 item_within words at (Memory a v) m h = slice_get_within words at _ h.0.here
 
 fault_within : (words : List (List ℕ)) (at : ℕ) (e : ArgError) → ItemFault words at e → at < length words

@@ -1,9 +1,9 @@
 -- What the words of the command line ask for.
-use Rattle.std.specs.Prelude.{◌≡◌, ◌≢◌, ◌||◌, not, ℕ, Bool, true, false, if◌then◌else◌, nat_lt, List, [], length, Option, Some, None, option_map, unwrap_or, codes, slice_get}
+use Rattle.std.specs.Prelude.{◌≡◌, ◌≢◌, ◌||◌, not, ℕ, Bool, true, false, if◌then◌else◌, nat_lt, List, [], length, Option, Some, None, option_map, option_to_list, unwrap_or, codes, slice_get, ◌++◌}
 use Rattle.std.specs.Str.{bytes_eq}
 use Rattle.std.specs.List.{filter_map, last_or, list_any}
 use Rattle.wl_words.specs.Values.{number_of, stack_size, generated_count, names_in, MemoryName, memory_name}
-use Rattle.wl_words.specs.Modes.{generates}
+use Rattle.wl_words.specs.Modes.{generates, placed_value}
 use Rattle.wl_words.specs.Items.{ArgItem, Object, Given, Set, Memory, AreArgItems}
 use Rattle.wl_words.specs.Faults.{FrontFault}
 use Rattle.wl_words.specs.declared.options.Flag.TheVariants as flag
@@ -25,13 +25,13 @@ input_of _ = None
 
 -- a name that is exported where it is defined
 abbrev pub export_symbol_of : ArgItem → Option (List ℕ)
-export_symbol_of (Set setting.Export name) = Some name
-export_symbol_of (Set setting.ExportIfDefined name) = Some name
+export_symbol_of (Set setting.Export name place) = Some name
+export_symbol_of (Set setting.ExportIfDefined name place) = Some name
 export_symbol_of _ = None
 
 -- a name that is exported and has to be defined
 abbrev pub required_export_symbol_of : ArgItem → Option (List ℕ)
-required_export_symbol_of (Set setting.Export name) = Some name
+required_export_symbol_of (Set setting.Export name place) = Some name
 required_export_symbol_of _ = None
 
 -- that what objects define and don't hide is exported
@@ -67,22 +67,22 @@ check_features_of _ = None
 -- the entry function, or that there is none
 abbrev pub entry_of : ArgItem → Option (Option (List ℕ))
 entry_of (Given flag.NoEntry) = Some None
-entry_of (Set setting.Entry name) = Some (Some name)
+entry_of (Set setting.Entry name place) = Some (Some name)
 entry_of _ = None
 
 -- the bytes of the stack
 abbrev pub z_stack_size_of : ArgItem → Option ℕ
-z_stack_size_of (Set setting.Keyword value) = stack_size value
+z_stack_size_of (Set setting.Keyword value place) = stack_size value
 z_stack_size_of _ = None
 
 -- the bytes that the memory begins with
 abbrev pub initial_memory_of : ArgItem → Option ℕ
-initial_memory_of (Set setting.InitialMemory value) = number_of 64 value
+initial_memory_of (Set setting.InitialMemory value place) = number_of 64 value
 initial_memory_of _ = None
 
 -- the bytes that the memory may grow to
 abbrev pub max_memory_of : ArgItem → Option ℕ
-max_memory_of (Set setting.MaxMemory value) = number_of 64 value
+max_memory_of (Set setting.MaxMemory value place) = number_of 64 value
 max_memory_of _ = None
 
 -- the module and the name of an imported memory
@@ -97,7 +97,7 @@ export_memory_of _ = None
 
 -- the features that are used beside those of the objects
 abbrev pub extra_features_of : ArgItem → Option (List (List ℕ))
-extra_features_of (Set setting.ExtraFeatures value) = Some (names_in value)
+extra_features_of (Set setting.ExtraFeatures value place) = Some (names_in value)
 extra_features_of _ = None
 
 -- that sections that the program doesn't need are left out
@@ -112,19 +112,21 @@ strip_debug_of _ = None
 
 -- the name of a section that is left in
 abbrev pub keep_section_of : ArgItem → Option (List ℕ)
-keep_section_of (Set setting.KeepSection name) = Some name
+keep_section_of (Set setting.KeepSection name place) = Some name
 keep_section_of _ = None
 
 -- the name of a file
 abbrev pub output_of : ArgItem → Option (List ℕ)
-output_of (Set setting.Output name) = Some name
+output_of (Set setting.Output name place) = Some name
 output_of _ = None
 
 -- the mode
 abbrev pub mode_of : ArgItem → Option Mode
 mode_of (Given flag.Why) = Some mode.Why
 mode_of (Given flag.Map) = Some mode.Map
-mode_of (Set setting.Generate value) = option_map mode.Generate (generated_count value)
+mode_of (Set setting.Generate value place) = option_map mode.Generate (generated_count value)
+mode_of (Set setting.Check file place) = Some (mode.Check place)
+mode_of (Set setting.Run function place) = Some (mode.Run place)
 mode_of _ = None
 
 -- ---- the fields
@@ -204,9 +206,19 @@ HasArgFault words OutOfMemory = ⊥
 HasArgFault words NoInputs = (args : WasmArgs) × IsArgs words args × (has_work args ≡ false)
 HasArgFault words e = WordsFault words e
 
--- the names of the files that are read, in the order in which they are read: those of the objects
+-- the names of the objects that are read
+abbrev pub object_names : List (List ℕ) → WasmArgs → List (List ℕ)
+object_names words args = filter_map (slice_get words) args.inputs
+
+-- the name of the file that is compared with the listing, if one is
+abbrev pub compared_name : List (List ℕ) → Mode → Option (List ℕ)
+compared_name words (mode.Check file) = placed_value words file
+compared_name words _ = None
+
+-- the names of the files that are read, in the order in which they are read: those of the objects,
+-- and behind them that of the file which is compared
 abbrev pub files_to_read : List (List ℕ) → WasmArgs → List (List ℕ)
-files_to_read words args = filter_map (slice_get words) args.inputs
+files_to_read words args = object_names words args ++ option_to_list (compared_name words args.mode)
 
 -- a section that the program doesn't need is left in: no such section is left out, or its name is
 -- kept

@@ -5,6 +5,7 @@ use Rattle.wl_words.specs.Values.{number_of, stack_size_text, generated_count}
 use Rattle.wl_words.specs.Modes.{mode_in, KeepsMode}
 use Rattle.wl_words.specs.Items.{ArgItem, AreArgItems, NamesOption, HasValue, mode_after}
 use Rattle.wl_words.specs.declared.modes.ModeName.{ModeName}
+use Rattle.wl_words.specs.declared.modes.ValuePlace.{ValuePlace}
 use Rattle.wl_words.specs.declared.options.OptionKind.TheVariants.{Nothing, Value}
 use Rattle.wl_words.specs.declared.options.Flag.{Flag}
 use Rattle.wl_words.specs.declared.options.Setting.{Setting}
@@ -42,8 +43,8 @@ ValueFault _ value place e = ⊥
 pub data ItemFault (words : List (List ℕ)) (at : ℕ) (e : ArgError) : Type 0 where
   unknown : IsUnknownOption words at → e ≡ UnknownOption at → ItemFault words at e
   lacking : LacksValue words at → e ≡ MissingValue at → ItemFault words at e
-  unsound : (setting : Setting) (value : List ℕ) (place : ℕ)
-      → HasValue words at setting value place → ValueFault setting value place e
+  unsound : (setting : Setting) (value : List ℕ) (place : ValuePlace)
+      → HasValue words at setting value place → ValueFault setting value place.word e
       → ItemFault words at e
 
 -- the option in the word of this number asks for another mode than the one before; one that takes

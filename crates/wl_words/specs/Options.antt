@@ -45,6 +45,8 @@ options =
     ∷ option_row (codes "generate") (Value setting.Generate)
     ∷ option_row (codes "why") (Nothing flag.Why)
     ∷ option_row (codes "map") (Nothing flag.Map)
+    ∷ option_row (codes "check") (Value setting.Check)
+    ∷ option_row (codes "run") (Value setting.Run)
     ∷ []
 
 -- a word of two or more bytes, of which the first is a dash, is an option's; any other names an

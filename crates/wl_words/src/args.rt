@@ -13,7 +13,7 @@ ghost use Rattle.wl_words.specs.declared.error.ArgError.{ArgError as SpecError};
 ghost use Rattle.wl_words.specs.declared.options.OptionKind.TheVariants.{Value};
 
 use crate::error::ArgError;
-use crate::modes::Mode;
+use crate::modes::{Mode, ValuePlace};
 use crate::options::{Flag, MemoryOption, OptionKind, Setting, is_option, parts_of, taken_by};
 use crate::texts::Texts;
 use crate::values::{
@@ -85,24 +85,36 @@ fn get_word(words: &[String], at: usize) -> Option<&str>
     }
 }
 
-/// The value of the option in the word of this number, behind which this value stands, and the
-/// number of the word that has it.
+/// The value of the option in the word of this number, behind which this value stands, and where
+/// it stands.
 fn value_at<'a>(
     words: &'a [String],
     at: usize,
     setting: Setting,
     behind: Option<&'a str>,
-) -> Option<(&'a str, usize)>
+) -> Option<(&'a str, ValuePlace)>
     requires within { at < length words.now }
     requires option { NamesOption (texts words.now) at (Value setting)
         (option_map (λ v. v.now) behind) }
     ensures value { IfSome result (λ v. HasValue (texts words.now) at setting v.0.now v.1) }
-    ensures place { IfSome result (λ v. v.1 < length words.now) }
+    ensures place { IfSome result (λ v. v.1.word < length words.now) }
     ensures none { IfNone result (LacksValue (texts words.now) at) }
 {
     match behind {
-        Some(value) => Some((value, at)),
-        None => Some((get_word(words, at + 1)?, at + 1)),
+        Some(value) => Some((
+            value,
+            ValuePlace {
+                word: at,
+                joined: true,
+            },
+        )),
+        None => {
+            let place = ValuePlace {
+                word: at + 1,
+                joined: false,
+            };
+            Some((get_word(words, place.word)?, place))
+        }
     }
 }
 
@@ -173,17 +185,17 @@ impl WasmArgs {
         }
     }
 
-    /// Takes in an option and its value, which stands in the word of this place.
+    /// Takes in an option and its value, which stands in this place.
     fn take_setting(
         &mut self,
         alloc: Global,
         setting: Setting,
         value: &str,
-        place: usize,
+        place: ValuePlace,
     ) -> Result<(), ArgError>
         ensures sound { OnOk result (IsSoundValue setting value.now) }
-        ensures ok { OnOk result (AddsItem (Set setting value.now) self.old self.new) }
-        ensures err { IfErr result (RefusesValue setting value.now place) }
+        ensures ok { OnOk result (AddsItem (Set setting value.now place) self.old self.new) }
+        ensures err { IfErr result (RefusesValue setting value.now place.word) }
     {
         match setting {
             Setting::Export => {
@@ -192,13 +204,15 @@ impl WasmArgs {
             }
             Setting::ExportIfDefined => self.export_symbols.push(alloc, value)?,
             Setting::Entry => self.entry = Some(copy_of(alloc, value)?),
-            Setting::Keyword => self.z_stack_size = stack_size(value, place)?,
-            Setting::InitialMemory => self.initial_memory = Some(memory_size(value, place)?),
-            Setting::MaxMemory => self.max_memory = Some(memory_size(value, place)?),
+            Setting::Keyword => self.z_stack_size = stack_size(value, place.word)?,
+            Setting::InitialMemory => self.initial_memory = Some(memory_size(value, place.word)?),
+            Setting::MaxMemory => self.max_memory = Some(memory_size(value, place.word)?),
             Setting::ExtraFeatures => self.extra_features = names_in(alloc, value)?,
             Setting::KeepSection => self.keep_sections.push(alloc, value)?,
             Setting::Output => self.output = Some(copy_of(alloc, value)?),
-            Setting::Generate => self.mode = Mode::Generate(object_count(value, place)?),
+            Setting::Generate => self.mode = Mode::Generate(object_count(value, place.word)?),
+            Setting::Check => self.mode = Mode::Check(place),
+            Setting::Run => self.mode = Mode::Run(place),
         }
         Ok(())
     }
@@ -256,7 +270,7 @@ impl WasmArgs {
             None => Err(ArgError::MissingValue(at)),
             Some((value, place)) => {
                 self.take_setting(alloc, setting, value, place)?;
-                Ok(place + 1)
+                Ok(place.word + 1)
             }
         }
     }
@@ -336,7 +350,7 @@ impl WasmArgs {
     pub fn parse(alloc: Global, words: &[String]) -> Result<WasmArgs, ArgError>
         ensures ok { IfOk result (IsArgs (texts words.now)) }
         ensures within { IfOk result (λ args. All (λ i. i < length words.now) args.inputs) }
-        ensures count { IfOk result (λ args. IsFitMode args.mode) }
+        ensures mode { IfOk result (λ args. IsFitMode (texts words.now) args.mode) }
         ensures err { IfErr result (RefusesWords (texts words.now)) }
     {
         let args = WasmArgs::parse_items(alloc, words)?;
@@ -350,7 +364,7 @@ impl WasmArgs {
     fn parse_items(alloc: Global, words: &[String]) -> Result<WasmArgs, ArgError>
         ensures ok { IfOk result (ParsesAll (texts words.now)) }
         ensures within { IfOk result (λ args. All (λ i. i < length words.now) args.inputs) }
-        ensures count { IfOk result (λ args. IsFitMode args.mode) }
+        ensures mode { IfOk result (λ args. IsFitMode (texts words.now) args.mode) }
         ensures err { IfErr result (RefusesFront (texts words.now)) }
     {
         let mut args = WasmArgs::new(alloc)?;

@@ -13,7 +13,7 @@ mod values;
 
 pub use args::{DEFAULT_STACK_SIZE, WasmArgs, args_or_fault};
 pub use error::ArgError;
-pub use modes::{Mode, ModeName};
+pub use modes::{Mode, ModeName, ValuePlace};
 pub use options::{Flag, MemoryOption, OptionKind, Setting};
 pub use texts::Texts;
 pub use values::{MAX_GENERATED, MemoryName};

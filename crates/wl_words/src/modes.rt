@@ -1,7 +1,10 @@
 //! Modes: what the program writes in place of the listing.
 
-ghost use Rattle.std.specs.Prelude.{◌≡◌};
-ghost use Rattle.wl_words.specs.Modes.{mode_name, generates};
+ghost use Rattle.std.specs.Prelude.{◌≡◌, None, Some, MatchOption};
+ghost use Rattle.wl_words.specs.Modes.{mode_name, generates, placed_value};
+ghost use Rattle.wl_words.specs.Texts.{texts};
+
+use crate::options::parts_of;
 
 /// A mode by its name, whatever its value.
 #[derive(Clone, Copy, PartialEq, Eq)]
@@ -12,6 +15,36 @@ pub enum ModeName {
     Why,
     /// `--map`.
     Map,
+    /// `--check`.
+    Check,
+    /// `--run`.
+    Run,
+}
+
+/// Where the value of an option stands on the command line.
+#[derive(Clone, Copy, PartialEq, Eq)]
+pub struct ValuePlace {
+    /// The number, from 0, of the word that holds it.
+    pub word: usize,
+    /// Whether it stands in the option's own word, behind its equals sign; else it is a word of
+    /// its own.
+    pub joined: bool,
+}
+
+impl ValuePlace {
+    /// The value that stands there in these words.
+    pub fn value_in(self, words: &[String]) -> Option<&str>
+        ensures { MatchOption result
+            (placed_value (texts words.now) self ≡ None)
+            (λ v. placed_value (texts words.now) self ≡ Some v.now) }
+    {
+        let word = words.get(self.word)?.as_str();
+        if self.joined {
+            parts_of(word).value
+        } else {
+            Some(word)
+        }
+    }
 }
 
 /// What the program writes of a plan.
@@ -25,6 +58,10 @@ pub enum Mode {
     Why,
     /// The sizes of what is kept.
     Map,
+    /// Whether the file of this name holds the listing, or where it differs from it first.
+    Check(ValuePlace),
+    /// How a run of the function ends that is exported by this name.
+    Run(ValuePlace),
 }
 
 impl Mode {
@@ -37,6 +74,8 @@ impl Mode {
             Mode::Generate(_) => Some(ModeName::Generate),
             Mode::Why => Some(ModeName::Why),
             Mode::Map => Some(ModeName::Map),
+            Mode::Check(_) => Some(ModeName::Check),
+            Mode::Run(_) => Some(ModeName::Run),
         }
     }
 

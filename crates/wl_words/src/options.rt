@@ -57,6 +57,10 @@ pub enum Setting {
     Output,
     /// How many objects are generated.
     Generate,
+    /// The name of a file that is compared with the listing.
+    Check,
+    /// The name of an exported function that is run.
+    Run,
 }
 
 /// An option of the memory, which may have a value behind an equals sign.
@@ -88,6 +92,8 @@ impl OptionKind {
             OptionKind::Nothing(Flag::Why) => Some(ModeName::Why),
             OptionKind::Nothing(Flag::Map) => Some(ModeName::Map),
             OptionKind::Value(Setting::Generate) => Some(ModeName::Generate),
+            OptionKind::Value(Setting::Check) => Some(ModeName::Check),
+            OptionKind::Value(Setting::Run) => Some(ModeName::Run),
             OptionKind::Nothing(_) | OptionKind::Value(_) | OptionKind::OptionalValue(_) => None,
         }
     }
@@ -108,7 +114,7 @@ impl Model for OptionRow {
 }
 
 /// The table of options.
-const OPTIONS: [OptionRow; 29] = [
+const OPTIONS: [OptionRow; 31] = [
     OptionRow {
         name: "export",
         takes: OptionKind::Value(Setting::Export),
@@ -224,6 +230,14 @@ const OPTIONS: [OptionRow; 29] = [
     OptionRow {
         name: "map",
         takes: OptionKind::Nothing(Flag::Map),
+    },
+    OptionRow {
+        name: "check",
+        takes: OptionKind::Value(Setting::Check),
+    },
+    OptionRow {
+        name: "run",
+        takes: OptionKind::Value(Setting::Run),
     },
 ];
 
