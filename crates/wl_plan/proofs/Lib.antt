@@ -53,3 +53,4 @@ pub mod DebugBounds
 pub mod ListingLaws
 pub mod ListedNames
 mod PlanLineLaws
+pub mod SessionLaws

@@ -39,3 +39,4 @@ pub mod Parsing
 pub mod Exported
 pub mod ObjectSegments
 pub mod PlanLines
+pub mod Session

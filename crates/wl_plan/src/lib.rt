@@ -27,6 +27,7 @@ mod placing;
 mod plan;
 mod positions;
 mod running_laws;
+mod session;
 mod sizes;
 mod table;
 mod threads;
@@ -59,6 +60,7 @@ pub use running_laws::{
     deferred_fields_are_pointers, segments_of_plans_are_laid_once, stubs_of_plans_trap,
     thread_blocks_of_plans_are_made, wrappers_of_plans_call_twice,
 };
+pub use session::{Session, replaced_sessions_are_planned_anew};
 pub use wl_bind::TypeMerger;
 pub use wl_check::Line;
 pub use wl_index::{WASM_DEAD_INDEX, WasmObjectIndexMap};

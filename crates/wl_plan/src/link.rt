@@ -1,10 +1,12 @@
 //! From the bytes of objects to the plan of one module, step by step.
 
-ghost use Rattle.std.specs.Prelude.{IfOk, IfErr};
+ghost use Rattle.std.specs.Prelude.{◌≡◌, IfOk, IfErr};
 ghost use Rattle.std.specs.List.{AllByRecursion};
 ghost use Rattle.wl_linking.specs.Fitting.{IsWhole};
-ghost use Rattle.wl_linking.specs.Steps.{Refuses};
+ghost use Rattle.wl_linking.specs.Steps.{Clear, Refuses};
 ghost use Rattle.wl_symbols.specs.Link.{link_of};
+ghost use Rattle.wl_symbols.specs.Repeats.{IsDuplicate};
+ghost use Rattle.wl_live.specs.Facts.{AreAllFacts};
 ghost use Rattle.wl_plan.specs.Faults.{link_fault};
 ghost use Rattle.wl_plan.specs.LinkPlan.{HasLinkFault, IsPlanOf, IsLinkPlan};
 
@@ -15,25 +17,55 @@ use crate::plan::plan_kept;
 use std::alloc::Global;
 use wl_features::check_features;
 use wl_linking::{FileList, LinkError};
-use wl_live::{check_entry, collect_live};
+use wl_live::{ObjectFacts, all_facts, check_entry, collect_live_from};
 use wl_symbols::{LinkInput, SymbolTable, live_sets_are_one};
 use wl_words::WasmArgs;
 
 /// Each object of a list is whole.
-fn objects_are_whole(files: &FileList<'_>)
+pub(crate) fn objects_are_whole(files: &FileList<'_>)
     ensures { AllByRecursion IsWhole files.now }
 {
     let _objects = files.as_slice();
 }
 
-/// The plan of one module of these objects. Each step refuses only where none before it does.
+/// The plan of one module of these objects, where it is known what their names stand for and what
+/// each says of its units. Each step refuses only where none before it does.
+///
+/// # Errors
+/// What [`check_features`] refuses; then `EntryNotDefined` where an entry is asked for that no
+/// object defines; then what [`collect_live_from`] refuses; then why references can't be bound,
+/// things numbered or data placed, why a global, a field or a body of the linker's can't take its
+/// value, or why there can't be the exports.
+pub(crate) fn plan_known<'a>(
+    alloc: Global,
+    files: &FileList<'a>,
+    symbols: &SymbolTable<'_, 'a>,
+    facts: &[ObjectFacts],
+    args: &'a WasmArgs,
+) -> Result<LinkPlan<'a>, LinkError>
+    requires fit { symbols.now ≡ link_of files.now args.now }
+    requires names { Clear (IsDuplicate files.now) }
+    requires facts { AreAllFacts files.now facts.now }
+    ensures ok { IfOk result (IsPlanOf (link_of files.now args.now)) }
+    ensures err { IfErr result (Refuses (link_fault (link_of files.now args.now))) }
+{
+    live_sets_are_one();
+    objects_are_whole(files);
+    let features = check_features(alloc, files, args)?;
+    check_entry(alloc, symbols)?;
+    let live = collect_live_from(alloc, files, facts, symbols, args)?;
+    let input = LinkInput::new(files, symbols, &live, args);
+    plan_kept(alloc, &input, args, features)
+}
+
+/// The plan of one module of these objects.
 ///
 /// # Errors
 /// `DuplicateSymbol` where two symbols that other objects can name have one name; then what
 /// [`check_features`] refuses; then `EntryNotDefined` where an entry is asked for that no object
-/// defines; then what [`collect_live`] refuses; then why references can't be bound, things numbered
-/// or data placed, why a global, a field or a body of the linker's can't take its value, or why
-/// there can't be the exports.
+/// defines; then what [`collect_live_from`] refuses; then why references can't be bound, things
+/// numbered or data placed, why a global, a field or a body of the linker's can't take its value,
+/// or why there can't be the exports.
 pub fn plan_files<'a>(
     alloc: Global,
     files: &FileList<'a>,
@@ -42,14 +74,9 @@ pub fn plan_files<'a>(
     ensures ok { IfOk result (IsPlanOf (link_of files.now args.now)) }
     ensures err { IfErr result (Refuses (link_fault (link_of files.now args.now))) }
 {
-    live_sets_are_one();
-    objects_are_whole(files);
     let symbols = SymbolTable::build(alloc, files, args)?;
-    let features = check_features(alloc, files, args)?;
-    check_entry(alloc, &symbols)?;
-    let live = collect_live(alloc, files, &symbols, args)?;
-    let input = LinkInput::new(files, &symbols, &live, args);
-    plan_kept(alloc, &input, args, features)
+    let facts = all_facts(alloc, files)?;
+    plan_known(alloc, files, &symbols, &facts, args)
 }
 
 /// The plan of one module of the objects that some bytes are.

@@ -31,6 +31,8 @@ mod numeric;
 #[cfg(test)]
 mod ops;
 #[cfg(test)]
+mod plan;
+#[cfg(test)]
 mod reach;
 #[cfg(test)]
 mod reloc;

@@ -14,17 +14,17 @@ use wl_symbols::Definition;
 use wl_words::WasmArgs;
 
 /// No sections.
-const NOTHING: &[u8; 8] = b"\0asm\x01\0\0\0";
+pub(crate) const NOTHING: &[u8; 8] = b"\0asm\x01\0\0\0";
 
 /// A function `a`.
-const STRONG: &[u8; 43] = b"\0asm\x01\0\0\0\
+pub(crate) const STRONG: &[u8; 43] = b"\0asm\x01\0\0\0\
     \x01\x04\x01\x60\0\0\
     \x03\x02\x01\0\
     \x0a\x04\x01\x02\0\x0b\
     \0\x11\x07linking\x02\x08\x06\x01\0\0\0\x01a";
 
 /// A weak function `a`.
-const WEAK: &[u8; 43] = b"\0asm\x01\0\0\0\
+pub(crate) const WEAK: &[u8; 43] = b"\0asm\x01\0\0\0\
     \x01\x04\x01\x60\0\0\
     \x03\x02\x01\0\
     \x0a\x04\x01\x02\0\x0b\

@@ -1,0 +1,100 @@
+-- What a session holds follows its objects, and what it refuses has its cause.
+use Rattle.std.proofs.Common.{◌≡◌, ◌∙◌, ℕ, zero, suc, List, [], ◌∷◌, ◌++◌, length, set, refl, sym, ap, subst}
+use Rattle.std.specs.List.{AllByRecursion}
+use Rattle.wl_bytes.specs.Outcome.{HasCause}
+use Rattle.wl_bytes.specs.declared.read_error.ReadError.{ReadError}
+use Rattle.wl_bytes.specs.declared.read_error.ReadError.TheVariants as read
+use Rattle.wl_linking.specs.Object.{Object}
+use Rattle.wl_linking.specs.Fitting.{IsObject, IsWhole, ObjectFault}
+use Rattle.wl_linking.specs.Steps.{Clear, Refuses}
+use Rattle.wl_linking.specs.declared.error.LinkError.{LinkError}
+use Rattle.wl_linking.specs.declared.error.LinkError.TheVariants.{OutOfMemory, Malformed, Unsupported}
+use Rattle.wl_words.specs.declared.args.WasmArgs.{WasmArgs}
+use Rattle.wl_session.specs.After.{Replacement, replaced, after}
+use Rattle.wl_plan.specs.Objects.{AreObjects}
+use Rattle.wl_plan.specs.Parsing.{link_error_of}
+use Rattle.wl_plan.specs.Session.{Held, held_of, bytes_of, holding, IsBadBytes, IsReplaced, AreReplaced}
+use Rattle.wl_plan.proofs.UniqueFiles.{ObjectOrFault}
+use Rattle.wl_linking.proofs.StepLaws.{refuses_for, refuses_memory}
+
+-- ---- the bytes of objects
+
+bytes_pushed : (files : List Object) (o : Object)
+    → bytes_of (files ++ o ∷ []) ≡ bytes_of files ++ o.bytes ∷ []
+bytes_pushed [] o = refl
+bytes_pushed (x ∷ files) o = ap (λ (bs : List (List ℕ)). x.bytes ∷ bs) (bytes_pushed files o)
+
+bytes_replaced : (files : List Object) (k : ℕ) (o : Object)
+    → bytes_of (set files k o) ≡ set (bytes_of files) k o.bytes
+bytes_replaced [] k o = refl
+bytes_replaced (x ∷ files) zero o = refl
+bytes_replaced (x ∷ files) (suc k) o =
+    ap (λ (bs : List (List ℕ)). x.bytes ∷ bs) (bytes_replaced files k o)
+
+pub bytes_as_many : (files : List Object) → length (bytes_of files) ≡ length files
+bytes_as_many [] = refl
+bytes_as_many (x ∷ files) = ap suc (bytes_as_many files)
+
+-- objects that are whole are those of their bytes
+pub objects_of_bytes : (files : List Object) → AllByRecursion IsWhole files
+    → AreObjects files (bytes_of files)
+objects_of_bytes [] whole = tt
+objects_of_bytes (o ∷ files) whole = (whole.0.object, objects_of_bytes files whole.1)
+
+-- ---- what is held
+
+-- the object of some bytes has these bytes
+bytes_are : (o : Object) (bytes : List ℕ) → IsObject o bytes → o.bytes ≡ bytes
+bytes_are o bytes is = ap (λ (x : Object). x.bytes) is.items.items
+
+pub one_more_held : (held : Held) (files : List Object) (args : WasmArgs) (o : Object)
+    (bytes : List ℕ) → held_of files args ≡ held → IsObject o bytes
+    → held_of (files ++ o ∷ []) args ≡ holding held (held.objects ++ bytes ∷ [])
+one_more_held held files args o bytes is object =
+    rw (← is, bytes_pushed files o, bytes_are o bytes object) refl
+
+pub one_replaced_held : (held : Held) (files : List Object) (args : WasmArgs) (k : ℕ) (o : Object)
+    (bytes : List ℕ) → held_of files args ≡ held → IsObject o bytes
+    → held_of (set files k o) args ≡ holding held (set held.objects k bytes)
+one_replaced_held held files args k o bytes is object =
+    rw (← is, bytes_replaced files k o, bytes_are o bytes object) refl
+
+pub held_as_many : (held : Held) (files : List Object) (args : WasmArgs) → held_of files args ≡ held
+    → length held.objects ≡ length files
+held_as_many held files args is = rw (← is) (bytes_as_many files)
+
+-- ---- refusals
+
+pub bad_bytes : (place : ℕ) (bytes : List ℕ) (e : ReadError) → HasCause (λ e. ObjectFault e bytes) e
+    → Refuses (IsBadBytes place bytes) (link_error_of place e)
+bad_bytes place bytes read.OutOfMemory f = refuses_memory (IsBadBytes place bytes) OutOfMemory refl
+bad_bytes place bytes (read.Malformed why) f =
+    refuses_for (IsBadBytes place bytes) (Malformed place why) (refl, f)
+bad_bytes place bytes (read.Unsupported form) f =
+    refuses_for (IsBadBytes place bytes) (Unsupported place form) (refl, f)
+
+not_bad_bytes : ObjectOrFault → (place : ℕ) (bytes : List ℕ) (o : Object) (e : LinkError)
+    → IsObject o bytes → IsBadBytes place bytes e → ⊥
+not_bad_bytes either place bytes o (Malformed object why) is bad =
+    either bytes o (read.Malformed why) is bad.1
+not_bad_bytes either place bytes o (Unsupported object form) is bad =
+    either bytes o (read.Unsupported form) is bad.1
+not_bad_bytes either place bytes o _ is bad = bad
+
+-- bytes that are an object aren't refused
+pub no_bad_bytes : ObjectOrFault → (place : ℕ) (bytes : List ℕ) (o : Object) → IsObject o bytes
+    → Clear (IsBadBytes place bytes)
+no_bad_bytes either place bytes o is = record {
+  none = λ e bad. not_bad_bytes either place bytes o e is bad;
+}
+
+-- ---- replacements
+
+pub replaced_in_order : (old new : Held) (done : List (Replacement (List ℕ)))
+    → AreReplaced old done new → new ≡ holding old (after old.objects done)
+replaced_in_order old new [] same = same
+replaced_in_order old new (r ∷ done) h =
+    let next : Held = h.0 in
+    let one : IsReplaced old r next = h.1 in
+    replaced_in_order next new done h.2
+    ∙ ap (λ (x : Held). holding x (after x.objects done)) one.changed
