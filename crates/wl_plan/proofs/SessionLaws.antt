@@ -1,6 +1,7 @@
 -- What a session holds follows its objects, and what it refuses has its cause.
 use Rattle.std.proofs.Common.{◌≡◌, ◌∙◌, ℕ, zero, suc, List, [], ◌∷◌, ◌++◌, length, set, refl, sym, ap, subst}
 use Rattle.std.specs.List.{AllByRecursion}
+use Rattle.std.specs.Prelude.{IfErr, IfOk, Result, Ok, Err}
 use Rattle.wl_bytes.specs.Outcome.{HasCause}
 use Rattle.wl_bytes.specs.declared.read_error.ReadError.{ReadError}
 use Rattle.wl_bytes.specs.declared.read_error.ReadError.TheVariants as read
@@ -9,13 +10,19 @@ use Rattle.wl_linking.specs.Fitting.{IsObject, IsWhole, ObjectFault}
 use Rattle.wl_linking.specs.Steps.{Clear, Refuses}
 use Rattle.wl_linking.specs.declared.error.LinkError.{LinkError}
 use Rattle.wl_linking.specs.declared.error.LinkError.TheVariants.{OutOfMemory, Malformed, Unsupported}
+use Rattle.wl_symbols.specs.Link.{link_of}
+use Rattle.wl_symbols.specs.Repeats.{IsDuplicate}
 use Rattle.wl_words.specs.declared.args.WasmArgs.{WasmArgs}
 use Rattle.wl_session.specs.After.{Replacement, replaced, after}
+use Rattle.wl_plan.specs.Faults.{link_fault}
+use Rattle.wl_plan.specs.LinkPlan.{HasLinkFault, IsLinkPlan, IsPlanOf}
+use Rattle.wl_plan.specs.declared.layout.LinkPlan.{LinkPlan}
 use Rattle.wl_plan.specs.Objects.{AreObjects}
 use Rattle.wl_plan.specs.Parsing.{link_error_of}
 use Rattle.wl_plan.specs.Session.{Held, held_of, bytes_of, holding, IsBadBytes, IsReplaced, AreReplaced}
+use Rattle.wl_plan.proofs.LinkLaws.{link_err, link_ok}
 use Rattle.wl_plan.proofs.UniqueFiles.{ObjectOrFault}
-use Rattle.wl_linking.proofs.StepLaws.{refuses_for, refuses_memory}
+use Rattle.wl_linking.proofs.StepLaws.{refuses_for, refuses_here, refuses_memory}
 
 -- ---- the bytes of objects
 
@@ -87,6 +94,30 @@ pub no_bad_bytes : ObjectOrFault → (place : ℕ) (bytes : List ℕ) (o : Objec
 no_bad_bytes either place bytes o is = record {
   none = λ e bad. not_bad_bytes either place bytes o e is bad;
 }
+
+-- ---- plans
+
+pub session_ok : (held : Held) (kept files : List Object) (args : WasmArgs)
+    (r : Result LinkPlan LinkError) → held_of kept args ≡ held → files ≡ kept
+    → AllByRecursion IsWhole files → IfOk r (IsPlanOf (link_of files args))
+    → IfOk r (IsLinkPlan held.objects held.args)
+session_ok held kept files args r is same whole h =
+    rw (← is, ← same) (link_ok (bytes_of files) args files r (objects_of_bytes files whole) h)
+
+pub session_err : (held : Held) (kept files : List Object) (args : WasmArgs)
+    (r : Result LinkPlan LinkError) → held_of kept args ≡ held → files ≡ kept
+    → AllByRecursion IsWhole files → IfErr r (Refuses (link_fault (link_of files args)))
+    → IfErr r (Refuses (HasLinkFault held.objects held.args))
+session_err held kept files args r is same whole h =
+    rw (← is, ← same) (link_err (bytes_of files) args files r (objects_of_bytes files whole) h)
+
+-- the names of the objects refuse
+pub session_repeats : (held : Held) (kept files : List Object) (args : WasmArgs) (e : LinkError)
+    → held_of kept args ≡ held → files ≡ kept → AllByRecursion IsWhole files
+    → Refuses (IsDuplicate files) e → Refuses (HasLinkFault held.objects held.args) e
+session_repeats held kept files args e is same whole h =
+    let failed : Result LinkPlan LinkError = Err e in
+    session_err held kept files args failed is same whole (refuses_here (IsDuplicate files) _ e h)
 
 -- ---- replacements
 

@@ -10,7 +10,7 @@ use Rattle.wl_symbols.specs.Input.{Input}
 use Rattle.wl_plan.specs.Faults.{input_of}
 use Rattle.wl_linking.proofs.StepLaws.{refuses_here, refuses_behind, row_behind, row_refuses}
 use Rattle.wl_plan.proofs.LinkLaws.{AreClear, feature_is_row, feature_row, features_by, files_err, files_ok, sound_by}
-use Rattle.wl_plan.proofs.link.plan_files.Goals as goal
+use Rattle.wl_plan.proofs.link.plan_known.Goals as goal
 
 pub returns-in_err-check_entry-clause-err : goal.returns-in_err-check_entry-clause-err
 returns-in_err-check_entry-clause-err c =
@@ -19,8 +19,8 @@ returns-in_err-check_entry-clause-err c =
     let link : Link = link_of c.args.files.now c.args.args.now in
     let e = c.in_err-check_entry.field-0.0 in
     let cause : Refuses (IsEntryFault link) e =
-    rw c.in_ok-symbols.ensures.ok at c.in_err-check_entry.ensures.err in
-    rw (p.1, p.2) (refuses_behind (IsDuplicate link.objects) _ e c.in_ok-symbols.ensures.clear
+    rw c.requires.fit at c.in_err-check_entry.ensures.err in
+    rw (p.1, p.2) (refuses_behind (IsDuplicate link.objects) _ e c.requires.names
     (row_behind (feature_row link) (feature_is_row link) _ e c.in_ok-features.ensures.clear
     (refuses_here (IsEntryFault link) _ e cause)))
 
@@ -31,21 +31,21 @@ returns-in_err-live-clause-err c =
     let link : Link = link_of c.args.files.now c.args.args.now in
     let e = c.in_err-live.field-0.0 in
     let clear : Clear (IsEntryFault link) =
-    rw c.in_ok-symbols.ensures.ok at c.in_ok-check_entry.ensures.clear in
+    rw c.requires.fit at c.in_ok-check_entry.ensures.clear in
     let cause : Refuses (IsKeptFault link) e =
-    rw c.in_ok-symbols.ensures.ok at c.in_err-live.ensures.err in
-    rw (p.1, p.2) (refuses_behind (IsDuplicate link.objects) _ e c.in_ok-symbols.ensures.clear
+    rw c.requires.fit at c.in_err-live.ensures.err in
+    rw (p.1, p.2) (refuses_behind (IsDuplicate link.objects) _ e c.requires.names
     (row_behind (feature_row link) (feature_is_row link) _ e c.in_ok-features.ensures.clear
     (refuses_behind (IsEntryFault link) _ e clear
     (refuses_here (IsKeptFault link) _ e cause))))
 
 pub returns-in_err-features-clause-err : goal.returns-in_err-features-clause-err
 returns-in_err-features-clause-err c =
-    let residual = c.from_residual-in_err-features in
+    let residual = c.from_residual in
     let p = err_from_is_err_and residual.result residual.ensures.1 in
     let link : Link = link_of c.args.files.now c.args.args.now in
     let e = c.in_err-features.field-0.0 in
-    rw (p.1, p.2) (refuses_behind (IsDuplicate link.objects) _ e c.in_ok-symbols.ensures.clear
+    rw (p.1, p.2) (refuses_behind (IsDuplicate link.objects) _ e c.requires.names
     (row_refuses (feature_row link) (feature_is_row link) _ e c.in_err-features.ensures.err))
 
 pub plan_kept-requires-clause-features : goal.plan_kept-requires-clause-features
@@ -54,7 +54,7 @@ plan_kept-requires-clause-features c =
     let live = c.in_ok-live.live in
     let input : Input = c.new-input.result in
     let same : input ≡ input_of link live =
-    c.new-input.ensures ∙ ap (λ (l : Link). input_of l live) c.in_ok-symbols.ensures.ok in
+    c.new-input.ensures ∙ ap (λ (l : Link). input_of l live) c.requires.fit in
     features_by link live input c.in_ok-features.features same c.in_ok-features.ensures.ok
 
 pub plan_kept-requires-clause-sound : goal.plan_kept-requires-clause-sound
@@ -63,11 +63,11 @@ plan_kept-requires-clause-sound c =
     let live = c.in_ok-live.live in
     let input : Input = c.new-input.result in
     let same : input ≡ input_of link live =
-    c.new-input.ensures ∙ ap (λ (l : Link). input_of l live) c.in_ok-symbols.ensures.ok in
+    c.new-input.ensures ∙ ap (λ (l : Link). input_of l live) c.requires.fit in
     let kept : IsLiveOf link live =
-    rw c.in_ok-symbols.ensures.ok at c.in_ok-live.ensures.live in
+    rw c.requires.fit at c.in_ok-live.ensures.live in
     let faults : Clear (IsKeptFault link) =
-    rw c.in_ok-symbols.ensures.ok at c.in_ok-live.ensures.clear in
+    rw c.requires.fit at c.in_ok-live.ensures.clear in
     sound_by link live input same c.objects_are_whole.ensures kept faults
 
 pub returns-clause-ok : goal.returns-clause-ok
@@ -76,15 +76,15 @@ returns-clause-ok c =
     let live = c.in_ok-live.live in
     let input : Input = c.new-input.result in
     let same : input ≡ input_of link live =
-    c.new-input.ensures ∙ ap (λ (l : Link). input_of l live) c.in_ok-symbols.ensures.ok in
+    c.new-input.ensures ∙ ap (λ (l : Link). input_of l live) c.requires.fit in
     let kept : IsLiveOf link live =
-    rw c.in_ok-symbols.ensures.ok at c.in_ok-live.ensures.live in
+    rw c.requires.fit at c.in_ok-live.ensures.live in
     let entry : Clear (IsEntryFault link) =
-    rw c.in_ok-symbols.ensures.ok at c.in_ok-check_entry.ensures.clear in
+    rw c.requires.fit at c.in_ok-check_entry.ensures.clear in
     let faults : Clear (IsKeptFault link) =
-    rw c.in_ok-symbols.ensures.ok at c.in_ok-live.ensures.clear in
+    rw c.requires.fit at c.in_ok-live.ensures.clear in
     let clear : AreClear link = record {
-      names = c.in_ok-symbols.ensures.clear;
+      names = c.requires.names;
       features = c.in_ok-features.ensures.clear;
       entry = entry;
       kept = faults;
@@ -98,15 +98,15 @@ returns-clause-err c =
     let live = c.in_ok-live.live in
     let input : Input = c.new-input.result in
     let same : input ≡ input_of link live =
-    c.new-input.ensures ∙ ap (λ (l : Link). input_of l live) c.in_ok-symbols.ensures.ok in
+    c.new-input.ensures ∙ ap (λ (l : Link). input_of l live) c.requires.fit in
     let kept : IsLiveOf link live =
-    rw c.in_ok-symbols.ensures.ok at c.in_ok-live.ensures.live in
+    rw c.requires.fit at c.in_ok-live.ensures.live in
     let entry : Clear (IsEntryFault link) =
-    rw c.in_ok-symbols.ensures.ok at c.in_ok-check_entry.ensures.clear in
+    rw c.requires.fit at c.in_ok-check_entry.ensures.clear in
     let faults : Clear (IsKeptFault link) =
-    rw c.in_ok-symbols.ensures.ok at c.in_ok-live.ensures.clear in
+    rw c.requires.fit at c.in_ok-live.ensures.clear in
     let clear : AreClear link = record {
-      names = c.in_ok-symbols.ensures.clear;
+      names = c.requires.names;
       features = c.in_ok-features.ensures.clear;
       entry = entry;
       kept = faults;
