@@ -1,6 +1,6 @@
 //! The line that tells how a run has ended, or why there was none.
 
-ghost use Rattle.std.specs.Prelude.{◌≡◌, ◌++◌, codes, map, OnOk, IfOk};
+ghost use Rattle.std.specs.Prelude.{◌≡◌, ◌++◌, decimal, map, List, ℕ, OnOk, IfOk, IfSome};
 ghost use Rattle.wl_numeric.specs.Values.{number_of};
 ghost use Rattle.wl_text.specs.Pieces.{numbers_text};
 ghost use Rattle.wl_run.specs.Lines.{trap_name, line, place_text, IsEndLine, IsLoadLine};
