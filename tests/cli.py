@@ -787,6 +787,7 @@ def main():
     joined("tools/make_pages.py", "--check")
     joined("tests/worked_rows.py")
     joined("tests/listing.py")
+    joined("tests/listing_grammar.py", PROGRAM)
     joined("tests/pages.py", PROGRAM)
     joined("tests/claims.py")
     joined("tests/install.py", PROGRAM)

@@ -1,12 +1,13 @@
 //! What is planned and what is written, by the mode that the words ask for.
 
-ghost use Rattle.std.specs.Prelude.{◌≡◌, option_map, IfOk, IfErr};
+ghost use Rattle.std.specs.Prelude.{◌≡◌, [], option_map, unwrap_or, IfOk, IfErr};
 ghost use Rattle.wl_linking.specs.Steps.{Clear, Refuses};
 ghost use Rattle.wl_symbols.specs.Link.{link_of};
 ghost use Rattle.wl_plan.specs.Faults.{link_fault};
 ghost use Rattle.wl_plan.specs.LinkPlan.{HasLinkFault, IsPlanOf};
 ghost use Rattle.wl_plan.specs.PlanLines.{HasListing};
 ghost use Rattle.wl_why.specs.Text.{IsWhyText};
+ghost use Rattle.wl_words.specs.Modes.{placed_value};
 ghost use Rattle.wl_words.specs.Texts.{texts};
 ghost use Rattle.wildplan.specs.Modes.{planned_args, IsTextOf, IsPlanText};
 
@@ -21,7 +22,7 @@ use wl_live::collect_live;
 use wl_plan::{LinkPlan, ObjectList, listing, parse_objects, plan_files, plans_have_listings};
 use wl_symbols::SymbolTable;
 use wl_why::why_text;
-use wl_words::{Mode, WasmArgs};
+use wl_words::{Mode, ValuePlace, WasmArgs};
 
 /// The words that are planned: where objects are generated, the first of them is the entry.
 pub(crate) fn planned_args(alloc: Global, args: WasmArgs) -> Result<WasmArgs, AllocError>
@@ -46,6 +47,20 @@ fn why_planned(alloc: Global, files: &FileList<'_>, args: &WasmArgs) -> Result<V
     Ok(why_text(alloc, files, &symbols, args, &live)?)
 }
 
+/// The name that stands in this place of the words.
+fn name_at(words: &[String], place: ValuePlace) -> &str
+    ensures { result.now ≡ unwrap_or (placed_value (texts words.now) place) [] }
+{
+    place.value_in(words).unwrap_or("")
+}
+
+/// The text that is compared with the listing.
+fn text_of(compared: Option<&[u8]>) -> &[u8]
+    ensures { result.now ≡ unwrap_or (option_map (λ t. t.now) compared.entry) [] }
+{
+    compared.unwrap_or(&[])
+}
+
 /// What is written of the plan of objects, by the mode of the words, and the text that is compared
 /// with the listing, if one is.
 fn mode_text(
@@ -68,11 +83,8 @@ fn mode_text(
         Mode::Generate(_) => Ok(summary(alloc, plan)?),
         Mode::Why => why_planned(alloc, files, args),
         Mode::Map => Ok(link_map(alloc, plan)?),
-        Mode::Check(_) => Ok(check_text(alloc, plan, compared.unwrap_or(&[]))?),
-        Mode::Run(function) => {
-            let name = function.value_in(words).unwrap_or("");
-            Ok(run_text(alloc, plan, name)?)
-        }
+        Mode::Check(_) => Ok(check_text(alloc, plan, text_of(compared))?),
+        Mode::Run(function) => Ok(run_text(alloc, plan, name_at(words, function))?),
     }
 }
 

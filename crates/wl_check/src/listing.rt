@@ -64,7 +64,10 @@ pub fn check_lines(alloc: Global, text: &[u8]) -> Result<(), ListingError>
     let mut lines: usize = 0;
     while !words.is_empty() {
         match words.line(alloc) {
-            Ok(_) => lines += 1,
+            Ok(line) => {
+                drop(line);
+                lines += 1;
+            }
             Err(Stop::OutOfMemory) => return Err(ListingError::OutOfMemory),
             Err(Stop::NoLine) => return Err(ListingError::Bad { line: lines }),
         }

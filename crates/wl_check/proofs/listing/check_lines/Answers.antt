@@ -1,17 +1,16 @@
 use Rattle.std.proofs.Common.{◌≡◌, ◌≢◌, List, [], ℕ, refl, subst}
-use Rattle.wl_check.specs.Spelled.{IsBadLine}
-use Rattle.wl_check.proofs.ListingLaws.{AreRead, IsRead, are_more, are_none, line_shortens, read_all, read_bad}
+use Rattle.wl_check.proofs.ListingLaws.{IsRead, are_more, are_none, line_shortens, read_all, read_bad}
 use Rattle.wl_check.proofs.listing.check_lines.Goals as goal
 
 pub loop-words-init : goal.loop-words-init
-loop-words-init c = rw c.new.ensures (are_none c.args.text.now)
+loop-words-init c = rw c.new-words.ensures (are_none c.args.text.now)
 
 pub loop-words-smaller : goal.loop-words-smaller
-loop-words-smaller c = line_shortens c.loop-words.words c.in-Ok.field-0 c.line.new.self c.in-Ok.ensures
+loop-words-smaller c = line_shortens c.loop-words.words c.in-Ok.line c.line.new.self c.in-Ok.ensures
 
 pub loop-words-preserved : goal.loop-words-preserved
 loop-words-preserved c =
-    are_more c.args.text.now c.loop-words.lines c.loop-words.words c.in-Ok.field-0 c.line.new.self c.loop-words.invariant c.in-Ok.ensures
+    are_more c.args.text.now c.loop-words.lines c.loop-words.words c.in-Ok.line c.line.new.self c.loop-words.invariant c.in-Ok.ensures
 
 pub returns-in-Err-NoLine-clause-err : goal.returns-in-Err-NoLine-clause-err
 returns-in-Err-NoLine-clause-err c =
