@@ -68,7 +68,7 @@ fn change<'a>(
     ensures { OnOk result (vec_len objects.new ≡ length session.new.objects) }
 {
     let bytes = object_of(number >> 16);
-    let object = (number >> 20) as usize % 6;
+    let object = (number >> 20) as usize % 4;
     if object < session.len() {
         session.replace(object, bytes)?;
         objects[object] = bytes;
@@ -79,8 +79,9 @@ fn change<'a>(
     Ok(())
 }
 
-/// The first of so many changes after which the plan of the session isn't that from nothing, and how
-/// many of them leave a plan. What changes goes by a row of numbers that always is the same.
+/// The first of so many changes after which the plan of the session isn't that from nothing, and
+/// after how many of those before it there is a plan. What changes goes by a row of numbers that is
+/// always the same.
 fn replay(alloc: Global, args: &WasmArgs, changes: u32) -> Result<(Option<u32>, u32), LinkError> {
     let mut session = Session::new(alloc, args);
     let mut objects = Vec::new(alloc);
@@ -111,12 +112,8 @@ fn plain_args(alloc: Global) -> Result<WasmArgs, Fail> {
 fn plans_follow_replacements(rt: HostRuntime) -> Result<(), Fail> {
     let alloc = rt.alloc();
     let args = plain_args(alloc)?;
-    let (different, plans) = match replay(alloc, &args, 1000) {
-        Ok(told) => told,
-        Err(_) => (Some(0), 0),
-    };
-    assert_eq!(rt; different, None);
-    assert!(rt; plans > 100);
+    // After 503 of the changes no name is defined twice, and `a` is defined where it is called.
+    assert_eq!(rt; replay(alloc, &args, 1000).ok(), Some((None, 503)));
     Ok(())
 }
 
