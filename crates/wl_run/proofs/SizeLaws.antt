@@ -1,5 +1,5 @@
 -- Segments don't change the size of memory.
-use Rattle.std.proofs.Common.{◌≡◌, ◌∙◌, ℕ, ◌+◌, ◌*◌, ◌≤◌, true, false, nat_le, cond, List, [], ◌∷◌, ◌++◌, length, take, drop, refl, arith, length-append, length-drop}
+use Rattle.std.proofs.Common.{◌≡◌, ◌∙◌, ℕ, ◌+◌, ◌*◌, ◌≤◌, true, false, cond, List, [], ◌∷◌, ◌++◌, length, take, drop, refl, arith, length-append, length-drop}
 use Rattle.std.proofs.lemmas.Bool.Decides.{nat_tests}
 use Rattle.std.proofs.lemmas.List.{length-take, length-replicate}
 use Rattle.wl_module.specs.declared.limits.TheConstants.{WASM_PAGE_SIZE}
@@ -18,9 +18,9 @@ laid_length place bytes under = grind (arith, nat_tests, overlay_length place by
 
 segment_length : (fixups : List Fixup) (object : ℕ) (l : SegmentLayout) (memory : List ℕ) → length (with_segment fixups object l memory) ≡ length memory
 segment_length fixups object l memory = elim l.passive as (λ p. length (cond p memory (laid l.output_memory_offset (filled_payload fixups object l) memory)) ≡ length memory) [
-    true ↦ refl
-    | false ↦ laid_length l.output_memory_offset (filled_payload fixups object l) memory
-  ]
+  | true ↦ refl
+  | false ↦ laid_length l.output_memory_offset (filled_payload fixups object l) memory
+]
 
 segments_length : (fixups : List Fixup) (object : ℕ) (ls : List SegmentLayout) (memory : List ℕ) → length (with_segments fixups object ls memory) ≡ length memory
 segments_length fixups object [] memory = refl

@@ -22,6 +22,6 @@ pub use filling::FixupList;
 pub use lines::{end_line, load_line};
 pub use sites::Site;
 pub use tables::first_table;
-pub use types::copy_types;
 pub use turns::{FUEL, run_in_turn};
+pub use types::copy_types;
 pub use values::{I32_CONST, I64_CONST, first_value};

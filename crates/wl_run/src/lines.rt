@@ -36,12 +36,7 @@ fn push_results(page: &mut Page, results: &[Value]) -> Result<(), AllocError>
 }
 
 /// A word, and the numbers of a function and of an operator in it.
-fn push_place(
-    page: &mut Page,
-    word: &[u8],
-    function: u32,
-    operator: u32,
-) -> Result<(), AllocError>
+fn push_place(page: &mut Page, word: &[u8], function: u32, operator: u32) -> Result<(), AllocError>
     ensures { OnOk result (page.new ≡ page.old ++ place_text word.now function operator) }
 {
     page.push_decimal(word, u64::from(function))?;
