@@ -118,7 +118,8 @@ def trap_of(message):
 class Script:
     """The commands of a file."""
 
-    def __init__(self):
+    def __init__(self, title):
+        self.title = title
         self.instances, self.named, self.left_out = [], {}, collections.Counter()
         self.current = "no module"
 
@@ -155,7 +156,7 @@ class Script:
             self.lose_all()
             self.current = str(left_out)
         except (Fault, IndexError, TypeError, ValueError) as fault:
-            print(f"line {form.line}: the module isn't read: {fault}")
+            print(f"{self.title}:{form.line}: the module isn't read: {fault}")
             self.lose_all()
             self.current = "modules that aren't read"
         if len(form) > 1 and is_name(form[1]):
@@ -271,7 +272,7 @@ def summary(passed, failed, left_out):
 
 def run_file(title, path, program, pool, counts):
     """Tries a file, prints what came out, and answers that line."""
-    script = Script()
+    script = Script(title)
     try:
         script.read(read_forms(path.read_bytes().decode("utf-8", "surrogateescape")))
     except Fault as fault:

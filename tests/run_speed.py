@@ -220,7 +220,7 @@ def main():
         for title, small, make in SHAPES:
             sizes = (small, small * TIMES)
             figures = [for_an_operator(title, tried, make, size, SHORTER, wanted, counts)[0] for size in sizes]
-            growth = figures[1] / figures[0]
+            growth = figures[1] / figures[0] if figures[0] > 0 else float("inf")
             line = f"{title:24}{sizes[0]:8}{figures[0]:17.1f}{sizes[1]:8}{figures[1]:17.1f}{growth:8.3f}"
             print(line, flush=True)
             counts.note(f"{title}: it grows by more than {GROWTH}", growth <= GROWTH)

@@ -47,7 +47,7 @@ PLAIN = {
 }
 # Operators with a memory argument.
 LOADS_AND_STORES = numbered(0x28, "", ACCESSES)
-# Operators with the numbers of memories behind them, which are the first where they aren't written: how many, and the code.
+# Operators with the numbers of memories behind them, which are the first where they aren't written: how many, the code.
 OF_MEMORIES = {
     "memory.size": (1, b"\x3f\x00"),
     "memory.grow": (1, b"\x40\x00"),
