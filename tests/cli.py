@@ -143,7 +143,14 @@ def words():
         (["--generate", "2", "a.o", "--bad"], "UnknownOption 3"),
         (["a.o", "--generate", "0"], "BadNumber 2"),
         (["--generate", "10001"], "BadNumber 1"),
+        (["--check", "a.txt", "--run", "a", "a.o"], "TwoModes 2"),
+        (["--run", "a", "--check"], "TwoModes 2"),
+        (["a.o", "--check"], "MissingValue 1"),
+        (["a.o", "--run"], "MissingValue 1"),
+        (["--generate=2", "--check=a.txt"], "TwoModes 1"),
         (["--why"], "NoInputs"),
+        (["--check", "a.txt"], "NoInputs"),
+        (["--run=a"], "NoInputs"),
         ([b"\xff.o"], "NotUtf8"),
     ]
     for given, fault in faults:
@@ -172,10 +179,11 @@ def modes(folder):
     check("why parts of the counter are kept", run(["--why", "--no-entry", *names, *objects]), 0, wanted)
     cut = folder / "cut.o"
     cut.write_bytes(made.read_bytes()[:-1])
-    for mode in ["--why", "--map"]:
-        check(f"{mode} of a cut object", run([mode, cut]), 1, err=b"error: Malformed 0 Truncated\n")
-        check(f"{mode} without an entry", run([mode, made]), 1, err=b'error: EntryNotDefined "_start"\n')
-        check(f"{mode} of no file", run([mode, folder / "none.o"]), 3, err=b"error: ReadFault 0\n")
+    for mode in [["--why"], ["--map"], ["--check", cut], ["--run", "a"]]:
+        check(f"{mode} of a cut object", run([*mode, cut]), 1, err=b"error: Malformed 0 Truncated\n")
+        check(f"{mode} without an entry", run([*mode, made]), 1, err=b'error: EntryNotDefined "_start"\n')
+        check(f"{mode} of no file", run([*mode, folder / "none.o"]), 3, err=b"error: ReadFault 0\n")
+    check("a verdict on a folder", run([*FLAGS, "--check", folder, made]), 3, err=b"error: ReadFault 1\n")
 
 
 def about():

@@ -36,7 +36,7 @@ TOOLS = {"ar", "apt-get", "c++filt", "cat", "clang", "clang++", "curl", "git", "
 RT = {"check", "ci", "doc", "expand", "fmt", "lemma", "lib", "must-fail", "plant", "run", "test", "tidy", "try",
       "version"}
 # Options of others than wildplan and wasm-ld, and words that a page shows as unknown.
-OTHERS = {"--anew", "--check", "--incremental", "--jobs", "--only", "--symbols", "--target", "--test", "-O1", "-c",
+OTHERS = {"--anew", "--check", "--incremental", "--jobs", "--only", "--self", "--symbols", "--target", "--test", "-O1", "-c",
           "-fvisibility",
           "-fno-exceptions", "-fno-rtti", "-fprofile-instr-generate", "-fwasm-exceptions", "-matomics", "-mcpu",
           "-pthread", "-v", "-x"}

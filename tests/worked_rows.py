@@ -159,6 +159,12 @@ THROUGH_THE_PROGRAM = {
     ],
     "why one function is kept": [("--entry b --why", "A kept function has a cause, and the others are named")],
     "the sizes of two functions": [(f"{WHOLE} --map", "Sizes of functions, and of the sections")],
+    "a listing that is compared with that of the plan": [
+        (f"{WHOLE} --check {{a calls b}}", "A text is the listing of the plan"),
+        (f"{WHOLE} --check={{a calls b, where a has another type}}", "A text is another listing, by one number"),
+        (f"{WHOLE} --check {{a calls b, with a number of two zeros}}", "A number is written in one way"),
+        (f"{WHOLE} --check {{no line}}", "A text without a line is a listing, of no plan"),
+    ],
 }
 
 # Examples at a call: what each shows, and the tests of wl_tests, as FILE/FUNCTION.

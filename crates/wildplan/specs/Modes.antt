@@ -13,7 +13,7 @@ use Rattle.wildplan.specs.Generated.{summary_text}
 use Rattle.wl_plan.specs.PlanLines.{listing_text}
 use Rattle.wildplan.specs.Map.{IsMapText}
 use Rattle.wildplan.specs.Check.{IsVerdictText}
-use Rattle.wildplan.specs.RunText.{IsRunText}
+use Rattle.wildplan.specs.Running.{IsRunText}
 
 -- the same words with this entry
 abbrev pub with_entry : Option (List ℕ) → WasmArgs → WasmArgs

@@ -9,9 +9,11 @@ ghost use Rattle.wl_plan.specs.PlanLines.{HasListing};
 ghost use Rattle.wl_why.specs.Text.{IsWhyText};
 ghost use Rattle.wl_words.specs.Modes.{placed_value};
 ghost use Rattle.wl_words.specs.Texts.{texts};
+ghost use Rattle.wildplan.specs.Loading.{CanBeLoaded};
 ghost use Rattle.wildplan.specs.Modes.{planned_args, IsTextOf, IsPlanText};
 
 use crate::check::check_text;
+use crate::loadable::plans_can_be_loaded;
 use crate::map::link_map;
 use crate::running::run_text;
 use crate::summary::summary;
@@ -73,6 +75,7 @@ fn mode_text(
 ) -> Result<Vec<u8>, LinkError>
     requires planned { IsPlanOf (link_of files.now args.now) plan.now }
     requires listed { HasListing plan.now }
+    requires loadable { CanBeLoaded plan.now }
     ensures ok { IfOk result (λ text. IsTextOf (texts words.now)
         (option_map (λ t. t.now) compared.entry) args.now.mode
         (link_of files.now args.now) plan.now text.items) }
@@ -104,6 +107,7 @@ pub(crate) fn plan_text(
     ensures err { IfErr result (Refuses (HasLinkFault objects.now args.now)) }
 {
     plans_have_listings();
+    plans_can_be_loaded();
     objects.none_is_longer();
     let files = parse_objects(alloc, objects)?;
     let plan = plan_files(alloc, &files, args)?;

@@ -1,5 +1,5 @@
 -- Numbers that are all of some bytes.
-use Rattle.std.proofs.Common.{◌≡◌, ◌≢◌, ◌==◌, ℕ, ◌+◌, true, false, Result, Ok, Err, ℤ, List, [], ◌∷◌, ◌++◌, length, get_or, refl, append-nil, ap, sym, subst, ◌∙◌, arith}
+use Rattle.std.proofs.Common.{◌≡◌, ◌≢◌, ◌==◌, ℕ, true, false, Result, Ok, Err, ℤ, List, [], ◌∷◌, ◌++◌, length, get_or, refl, append-nil, ap, sym, subst, ◌∙◌, arith}
 use Rattle.wl_bytes.specs.Cursor.{Cursor}
 use Rattle.wl_bytes.specs.Leb.{NumberForm, IsSigned, SignedFault, s32_form, s64_form}
 use Rattle.wl_bytes.specs.Parse.{Takes, Reads}

@@ -26,7 +26,12 @@ fn put_fixup(bytes: &mut Vec<u8>, fixup: &Fixup)
     match fixup.to {
         FixupTo::Value { value, addend_left } => {
             let number = number_taken(value, addend_left);
-            put_field(bytes, fixup.position as usize, fixup.ty.field_form(), number);
+            put_field(
+                bytes,
+                fixup.position as usize,
+                fixup.ty.field_form(),
+                number,
+            );
         }
         FixupTo::Deferred { .. } => {}
     }

@@ -10,6 +10,7 @@ mod data;
 mod filling;
 mod sites;
 mod tables;
+mod types;
 mod values;
 
 // Runs, and their ends.
@@ -22,4 +23,5 @@ pub use lines::{end_line, load_line};
 pub use sites::Site;
 pub use tables::first_table;
 pub use turns::{FUEL, run_in_turn};
+pub use types::copy_types;
 pub use values::{I32_CONST, I64_CONST, first_value};

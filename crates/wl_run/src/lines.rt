@@ -1,6 +1,6 @@
 //! The line that tells how a run has ended, or why there was none.
 
-ghost use Rattle.std.specs.Prelude.{◌≡◌, ◌++◌, codes, map, OnOk, IfOk};
+ghost use Rattle.std.specs.Prelude.{◌≡◌, ◌++◌, decimal, map, List, ℕ, OnOk, IfOk, IfSome};
 ghost use Rattle.wl_numeric.specs.Values.{number_of};
 ghost use Rattle.wl_text.specs.Pieces.{numbers_text};
 ghost use Rattle.wl_run.specs.Lines.{trap_name, line, place_text, IsEndLine, IsLoadLine};
@@ -36,12 +36,7 @@ fn push_results(page: &mut Page, results: &[Value]) -> Result<(), AllocError>
 }
 
 /// A word, and the numbers of a function and of an operator in it.
-fn push_place(
-    page: &mut Page,
-    word: &[u8],
-    function: u32,
-    operator: u32,
-) -> Result<(), AllocError>
+fn push_place(page: &mut Page, word: &[u8], function: u32, operator: u32) -> Result<(), AllocError>
     ensures { OnOk result (page.new ≡ page.old ++ place_text word.now function operator) }
 {
     page.push_decimal(word, u64::from(function))?;

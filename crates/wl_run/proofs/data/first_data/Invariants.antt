@@ -1,4 +1,4 @@
-use Rattle.std.proofs.Common.{◌≡◌, ◌++◌, drop, take}
+use Rattle.std.proofs.Common.{◌≡◌, ◌++◌, drop}
 use Rattle.wl_lists.specs.Rows.{by_number}
 use Rattle.wl_run.specs.Data.{with_objects, kept_of_object, kept_segments}
 use Rattle.wl_run.proofs.data.first_data.Given as goal

@@ -1,5 +1,4 @@
-use Rattle.std.proofs.Common.{◌≤◌, length, arith}
-use Rattle.std.specs.List.{AllAdjacentBelow}
+use Rattle.std.proofs.Common.{arith}
 use Rattle.std.proofs.lemmas.List.Sorted.{IsNonDecreasingBy-from_all_adjacent}
 use Rattle.wl_run.specs.Sites.{fixup_rank}
 use Rattle.wl_run.proofs.filling.are_in_order.Goals as goal

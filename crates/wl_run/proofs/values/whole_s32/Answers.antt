@@ -1,6 +1,6 @@
-use Rattle.std.proofs.Common.{◌≡◌, ◌≢◌, ◌∙◌, sym, rules, w32, SFits, [], subst, ℤ, List, ℕ}
+use Rattle.std.proofs.Common.{◌≡◌, ◌∙◌, sym, rules, w32, SFits, []}
 use Rattle.std.proofs.lemmas.Int.{to_z-of_z}
-use Rattle.wl_bytes.specs.Leb.{IsSigned, s32_form}
+use Rattle.wl_bytes.specs.Leb.{s32_form}
 use Rattle.wl_run.proofs.ValueLaws.{none_left, some_left, refused, taken, left_over}
 use Rattle.wl_run.proofs.values.whole_s32.Goals as goal
 

@@ -1,6 +1,6 @@
-use Rattle.std.proofs.Common.{◌≡◌, ◌≢◌, ◌∙◌, sym, rules, w64, SFits, [], subst, ℤ, List, ℕ}
+use Rattle.std.proofs.Common.{◌≡◌, ◌∙◌, sym, rules, w64, SFits, []}
 use Rattle.std.proofs.lemmas.Int.{to_z-of_z}
-use Rattle.wl_bytes.specs.Leb.{IsSigned, s64_form}
+use Rattle.wl_bytes.specs.Leb.{s64_form}
 use Rattle.wl_run.proofs.ValueLaws.{none_left, some_left, refused, taken, left_over}
 use Rattle.wl_run.proofs.values.whole_s64.Goals as goal
 
