@@ -1,15 +1,13 @@
 -- What checking a text against a plan says.
 use Rattle.std.proofs.Common.{◌≡◌, ◌∙◌, ℕ, List, Option, Some, None, refl, sym, ap, subst}
-use Rattle.std.specs.Prelude.{IfOk, Result, Ok}
 use Rattle.std.specs.List.{AllByRecursion, flat_map}
 use Rattle.wl_words.specs.declared.args.WasmArgs.{WasmArgs}
 use Rattle.wl_check.specs.Difference.{DiffersAt, IsDifference}
 use Rattle.wl_check.specs.Ranges.{InRange}
-use Rattle.wl_check.specs.Spelled.{IsBadLine, IsListing, ReadsListing}
+use Rattle.wl_check.specs.Spelled.{IsBadLine, IsListing}
 use Rattle.wl_check.specs.Texts.{line_text}
 use Rattle.wl_check.specs.declared.difference.Difference.{Difference}
 use Rattle.wl_check.specs.declared.line.Line.{Line}
-use Rattle.wl_check.specs.declared.listing.ListingError.{ListingError}
 use Rattle.wl_plan.specs.LinkPlan.{IsLinkPlan}
 use Rattle.wl_plan.specs.PlanLines.{lines_of, listing_text}
 use Rattle.wl_plan.specs.declared.layout.LinkPlan.{LinkPlan}
@@ -67,7 +65,3 @@ one_check laws plans objects args text a b h g =
 -- what is told where the lines of a text are those of the plan
 pub told : (plan : LinkPlan) (text : List ℕ) (lines : List Line) → IsListing lines text → lines ≡ lines_of plan → text ≡ listing_text plan
 told plan text lines h same = h.joined ∙ ap (λ (xs : List Line). flat_map line_text xs) same
-
--- what was read of a text are its lines
-pub read_sound : {X : Type 0} (view : X → List Line) (text : List ℕ) (r : Result X ListingError) (x : X) → r ≡ Ok x → ReadsListing view text r → IsListing (view x) text
-read_sound {X} view text r x is h = subst (λ (y : Result X ListingError). IfOk y (λ z. IsListing (view z) text)) is h.sound
