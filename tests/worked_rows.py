@@ -159,6 +159,11 @@ THROUGH_THE_PROGRAM = {
     ],
     "why one function is kept": [("--entry b --why", "A kept function has a cause, and the others are named")],
     "the sizes of two functions": [(f"{WHOLE} --map", "Sizes of functions, and of the sections")],
+    "a run of one function": [("--entry a --run a", "A function runs that calls another")],
+    "runs behind the one that lays the shared segment": [
+        (f"{SHARED} --run segment_word", "The function at the start lays the segment that all threads have in common"),
+        (f"{SHARED} --run flag_word", "And it leaves that it is done"),
+    ],
     "a listing that is compared with that of the plan": [
         (f"{WHOLE} --check {{a calls b}}", "A text is the listing of the plan"),
         (f"{WHOLE} --check={{a calls b, where a has another type}}", "A text is another listing, by one number"),

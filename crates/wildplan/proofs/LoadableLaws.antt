@@ -1,11 +1,11 @@
 -- A plan of objects can be loaded: what it tells by numbers is there.
-use Rattle.std.proofs.Common.{◌≡◌, ◌∙◌, ℕ, ◌+◌, ◌*◌, ◌<◌, ◌≤◌, ◌/◌, Bool, true, false, max, List, [], ◌∷◌, ◌++◌, length, map, drop, refl, sym, ap, subst, arith, inl, inr, Option, Some, None, unwrap_or, slice_get, append-nil, append_assoc, length-map, length-append, suc, add-one}
+use Rattle.std.proofs.Common.{◌≡◌, ◌∙◌, ℕ, ◌+◌, ◌*◌, ◌<◌, ◌≤◌, ◌/◌, Bool, true, false, max, List, [], ◌∷◌, ◌++◌, length, map, drop, refl, sym, ap, subst, arith, inl, inr, Option, Some, None, unwrap_or, slice_get, append-nil, append_assoc, length-append, suc, add-one}
 use Rattle.std.specs.Prelude.{IfSome, Contains}
 use Rattle.std.specs.Option.{option_or, option_map_or}
 use Rattle.std.specs.List.{AllByRecursion, AllZip, flat_map}
 use Rattle.std.proofs.Math.Nat.{le-div_iff_mul-le, le-max_right}
 use Rattle.std.proofs.lemmas.Bool.{cases_lt}
-use Rattle.std.proofs.lemmas.List.{length-drop}
+use Rattle.std.proofs.lemmas.List.{length-drop, length-map}
 use Rattle.std.proofs.lemmas.Grind.{flat_map-append}
 use Rattle.std.proofs.lemmas.Option.{slice_get_within}
 use Rattle.wl_lists.proofs.Beside.{zip_length}
@@ -34,11 +34,10 @@ use Rattle.wl_plan.specs.Imports.{AreImports, IsFunctionImport, IsGlobalImport, 
 use Rattle.wl_plan.specs.LinkPlan.{IsPlanOf}
 use Rattle.wl_plan.specs.Origins.{PlannedFunction}
 use Rattle.wl_plan.specs.Placing.{IsMemoryFault, first_pages, memory_needs, memory_pages, memory_steps, output_memory, placing_of}
-use Rattle.wl_plan.specs.Plan.{HasEntities, HasPlaces, IsPlan}
+use Rattle.wl_plan.specs.Plan.{IsPlan}
 use Rattle.wl_plan.specs.PlannedImports.{PlannedImport}
 use Rattle.wl_plan.specs.Table.{IsElement}
 use Rattle.wl_plan.specs.declared.layout.LinkPlan.{LinkPlan}
-use Rattle.wl_plan.specs.declared.placing.Placing.{Placing}
 use Rattle.wildplan.specs.Loading.{CanBeLoaded, HasFunction, HasType, host_type, host_types, imported_memory, memory_in, memory_of, no_memory}
 
 -- ---- lists
@@ -84,23 +83,24 @@ no_hosts input [] (i ∷ is) all = absurd all
 no_hosts input (h ∷ hs) [] all = absurd all
 no_hosts input (h ∷ hs) (i ∷ is) all = rw (all.0).entity (no_hosts input hs is all.1)
 
-no_memory_host : (g : Placing) (o : Option MemoryName)
-    → host_types (option_map_or (λ (name : MemoryName). memory_import g.memory name ∷ []) o []) ≡ []
-no_memory_host g None = refl
-no_memory_host g (Some name) = refl
+no_memory_host : (m : MemoryType) (o : Option MemoryName)
+    → host_types (option_map_or (λ (name : MemoryName). memory_import m name ∷ []) o []) ≡ []
+no_memory_host m None = refl
+no_memory_host m (Some name) = refl
 
 -- those of all imports are those of the functions
-hosts_are : (input : Input) (g : Placing) (imports : List PlannedImport)
-    → (h : AreImports input (output_types input) g imports) → host_types imports ≡ host_types h.functions
-hosts_are input g imports h =
+hosts_are : (input : Input) (plan : LinkPlan) (p : IsPlan input plan)
+    → host_types plan.layout.imports ≡ host_types p.entities.imports.functions
+hosts_are input plan p =
+    let h = p.entities.imports in
     let types = λ (i : PlannedImport). host_type i.entity in
-    let memory = no_memory_host g input.link.args.import_memory in
+    let memory = no_memory_host p.placing.memory input.link.args.import_memory in
     let globals = no_hosts input (global_imports input) h.globals h.are_globals in
     let front : host_types (h.functions ++ h.globals) ≡ host_types h.functions =
     flat_map-append types h.functions h.globals ∙ ap (λ (ns : List ℕ). host_types h.functions ++ ns) globals
     ∙ append-nil (host_types h.functions) in
     ap (λ (is : List PlannedImport). host_types is) h.all
-    ∙ flat_map-append types (h.functions ++ h.globals) (memory_imports input g)
+    ∙ flat_map-append types (h.functions ++ h.globals) (memory_imports input p.placing)
     ∙ ap (λ (ns : List ℕ). host_types (h.functions ++ h.globals) ++ ns) memory
     ∙ append-nil (host_types (h.functions ++ h.globals)) ∙ front
 
@@ -120,27 +120,26 @@ behind_globals input [] (i ∷ is) rest all = absurd all
 behind_globals input (h ∷ hs) [] rest all = absurd all
 behind_globals input (h ∷ hs) (i ∷ is) rest all = rw (all.0).entity (behind_globals input hs is rest all.1)
 
-memory_among : (input : Input) (g : Placing) (imports : List PlannedImport)
-    → AreImports input (output_types input) g imports
-    → imported_memory imports ≡ imported_memory (memory_imports input g)
-memory_among input g imports h =
-    ap (λ (is : List PlannedImport). imported_memory is) (h.all ∙ append_assoc h.functions h.globals (memory_imports input g))
-    ∙ behind_functions input (output_types input) (function_imports input) h.functions (h.globals ++ memory_imports input g) h.are_functions
-    ∙ behind_globals input (global_imports input) h.globals (memory_imports input g) h.are_globals
+memory_among : (input : Input) (plan : LinkPlan) (p : IsPlan input plan)
+    → imported_memory plan.layout.imports ≡ imported_memory (memory_imports input p.placing)
+memory_among input plan p =
+    let h = p.entities.imports in
+    let rest = memory_imports input p.placing in
+    ap (λ (is : List PlannedImport). imported_memory is) (h.all ∙ append_assoc h.functions h.globals rest)
+    ∙ behind_functions input (output_types input) (function_imports input) h.functions (h.globals ++ rest) h.are_functions
+    ∙ behind_globals input (global_imports input) h.globals rest h.are_globals
 
 -- the plan's own memory, or the imported one, is that of the placing
-memory_is : (input : Input) (g : Placing) (plan : LinkPlan) → HasEntities input g plan.layout
-    → HasPlaces input g plan.layout → memory_of plan ≡ g.memory
-memory_is input g plan e p = at input.link.args.import_memory refl
+memory_is : (input : Input) (plan : LinkPlan) (p : IsPlan input plan) → memory_of plan ≡ p.placing.memory
+memory_is input plan p = at input.link.args.import_memory refl
   where
-    at : (o : Option MemoryName) → input.link.args.import_memory ≡ o → memory_of plan ≡ g.memory
+    at : (o : Option MemoryName) → input.link.args.import_memory ≡ o → memory_of plan ≡ p.placing.memory
     at None is =
-        let own : plan.layout.memory ≡ Some g.memory = p.memory ∙ rw is refl in
+        let own : plan.layout.memory ≡ Some p.placing.memory = p.places.memory ∙ rw is refl in
         rw own refl
     at (Some name) is =
-        let own : plan.layout.memory ≡ None = p.memory ∙ rw is refl in
-        let among : imported_memory plan.layout.imports ≡ Some g.memory =
-        memory_among input g plan.layout.imports e.imports ∙ rw is refl in
+        let own : plan.layout.memory ≡ None = p.places.memory ∙ rw is refl in
+        let among : imported_memory plan.layout.imports ≡ Some p.placing.memory = memory_among input plan p ∙ rw is refl in
         rw (own, among) refl
 
 -- its maximum isn't below its size at the start
@@ -170,7 +169,7 @@ most_asked : (link : Link) (plan : LinkPlan) (is : IsPlanOf link plan) (m : ℕ)
     → memory_pages (input_of link is.live) is.is_plan.placing.places * WASM_PAGE_SIZE ≤ m
 most_asked link plan is m asked =
     let input : Input = input_of link is.live in
-    let g : Placing = is.is_plan.placing in
+    let g = is.is_plan.placing in
     let clear = memory_clear link plan is in
     let steps : Clear (memory_steps input g.places) = record {
       none = λ e h. clear.none e (record { laid = g.places; places = is.is_plan.placed.laid; fault = h });
@@ -193,16 +192,16 @@ pub loadable : (link : Link) (plan : LinkPlan) → IsPlanOf link plan
 loadable link plan is bodies typed =
     let input : Input = input_of link is.live in
     let p : IsPlan input plan = is.is_plan in
-    let g : Placing = p.placing in
+    let g = p.placing in
     let imports = p.entities.imports in
-    let hosts = hosts_are input g plan.layout.imports imports in
+    let hosts = hosts_are input plan p in
     let count = hosts_count input (output_types input) (function_imports input) imports.functions imports.are_functions in
     let same : length (function_imports input) ≡ length (host_function_part input) = length-map _ _ ∙ sym (length-map _ _) in
     let own = zip_length (IsOutputFunction input (output_types input)) (own_functions input) p.spaces.functions.own p.spaces.functions.are_own in
     let left = length-drop (length (host_function_part input)) (function_space input) in
     let whole = ap (λ (xs : List PlannedFunction). length xs) p.spaces.functions.parts ∙ length-append p.spaces.functions.own p.spaces.functions.wrappers in
-    let memory = memory_is input g plan p.entities p.places in
-    let placed : g.memory ≡ output_memory input g.places = ap (λ (q : Placing). q.memory) p.placed.whole in
+    let memory = memory_is input plan p in
+    let placed : g.memory ≡ output_memory input g.places = ap (λ (q : _). q.memory) p.placed.whole in
     record {
       hosts = rw hosts (hosts_typed input (output_types input) (HasType plan) (function_imports input) imports.functions (λ n within. rw p.spaces.types within) imports.are_functions);
       functions = each_of (λ (f : PlannedFunction). HasType plan f.type_index) plan.layout.function_type_indices (λ i f here. typed f (at_is_in plan.layout.function_type_indices i f here));

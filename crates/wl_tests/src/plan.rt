@@ -80,8 +80,8 @@ fn change<'a>(
 }
 
 /// The first of so many changes after which the plan of the session isn't that from nothing, and
-/// after how many of those before it there is a plan. What changes goes by a row of numbers that is
-/// always the same.
+/// how many plans there were before it. Each tenth change is looked at. What changes goes by a row
+/// of numbers that is always the same.
 fn replay(alloc: Global, args: &WasmArgs, changes: u32) -> Result<(Option<u32>, u32), LinkError> {
     let mut session = Session::new(alloc, args);
     let mut objects = Vec::new(alloc);
@@ -90,11 +90,13 @@ fn replay(alloc: Global, args: &WasmArgs, changes: u32) -> Result<(Option<u32>, 
     for place in 0..changes {
         number = number.wrapping_mul(1_664_525).wrapping_add(1_013_904_223);
         change(&mut session, &mut objects, number)?;
-        let kept = listed(alloc, session.plan(alloc))?;
-        if kept != listed_from_nothing(alloc, &objects, args)? {
-            return Ok((Some(place), plans));
+        if place % 10 == 0 {
+            let kept = listed(alloc, session.plan(alloc))?;
+            if kept != listed_from_nothing(alloc, &objects, args)? {
+                return Ok((Some(place), plans));
+            }
+            plans += u32::from(kept.is_some());
         }
-        plans += u32::from(kept.is_some());
     }
     Ok((None, plans))
 }
@@ -112,8 +114,8 @@ fn plain_args(alloc: Global) -> Result<WasmArgs, Fail> {
 fn plans_follow_replacements(rt: HostRuntime) -> Result<(), Fail> {
     let alloc = rt.alloc();
     let args = plain_args(alloc)?;
-    // After 503 of the changes no name is defined twice, and `a` is defined where it is called.
-    assert_eq!(rt; replay(alloc, &args, 1000).ok(), Some((None, 503)));
+    // In 47 of 100 cases no name is defined twice, and `a` is defined where it is called.
+    assert_eq!(rt; replay(alloc, &args, 1000).ok(), Some((None, 47)));
     Ok(())
 }
 

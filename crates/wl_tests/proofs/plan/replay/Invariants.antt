@@ -1,4 +1,4 @@
-use Rattle.std.proofs.Common.{◌≡◌, ◌≤◌, ◌×◌, length, vec_len}
+use Rattle.std.proofs.Common.{◌≡◌, ◌≤◌, length, vec_len}
 use Rattle.wl_tests.proofs.plan.replay.Given as goal
 
 abbrev pub invariant-loop-place : goal.invariant-loop-place
