@@ -722,7 +722,8 @@ def launcher_options():
     known = {name for line in cases for name in line.split(" | ")}
     wanted = set()
     for names, value, *_ in table_of(OPTIONS, OPTIONS_TITLE):
-        if value not in ("none", "[name]"):
+        # The name of a file is made absolute as those of objects are.
+        if value not in ("none", "[name]", "file"):
             wanted |= {name for word in re.findall(r"`(-[\w-]+)`", names) for name in {word, re.sub("^--", "-", word)}}
     note(f"the options with values in the launcher: {known ^ wanted}", known == wanted)
 

@@ -34,6 +34,7 @@ no-check-features | none | passed |
 no-entry | none | passed |
 no-gc-sections | none | passed |
 no-stack-first | none | passed |
+run | value | passed |
 S | none | passed |
 s | none | passed |
 shared-memory | none | passed |
@@ -117,6 +118,7 @@ why-extract | value | idle | --trace names the members that are taken
 y | joined | idle | no symbol is traced
 allow-multiple-definition | none | refused | make all definitions of a name but one weak
 allow-undefined-file | value | refused | give --allow-undefined, which is for all names at once
+check | value | refused | give it to wildplan itself, with the words and in the folder of the kept objects
 emit-relocs | none | refused | leave it out: the `fix` lines of the listing are what came of relocations
 experimental-pic | none | refused | leave it out: the addresses of a plan are final
 export-all | none | refused | give --export-dynamic, or --export for each name
