@@ -71,6 +71,15 @@ def cases(folder):
     yield "why one is kept", ["--entry", "b", "--why", sound], 0, b"why 0 function 1 root\ndrop 0 function 0\n"
     sizes = b"code 0 9\ncode 1 3\ntotal code 15\ntotal data 0\n"
     yield "the sizes", [*WHOLE, "--map", sound], 0, sizes
+    same, other = folder / "same.txt", folder / "other.txt"
+    same.write_bytes(listed("a calls b"))
+    other.write_bytes(listed("functions"))
+    yield "a listing that is the plan's", [*WHOLE, "--check", same, sound], 0, b"same\n"
+    yield "a listing that differs", [*WHOLE, f"--check={other}", sound], 0, b"differs 9\n"
+    yield "a text that is no listing", [*WHOLE, "--check", compiled, sound], 0, b"bad 0\n"
+    yield "a run", ["--entry", "a", "--run", "a", sound], 0, b"done\n"
+    yield "a run of no function", ["--entry", "a", "--run", "b", sound], 0, b"none\n"
+    yield "a run with shared memory", [*words, "--run", "none"], 0, b"none\n"
     cut, odd = folder / "cut.o", folder / "odd.o"
     content = sound.read_bytes()
     cut.write_bytes(content[:-1])
@@ -78,6 +87,7 @@ def cases(folder):
     # The object ends with its one relocation: type, offset and index.
     odd.write_bytes(content[:-3] + b"\xff" + content[-2:])
     yield "a relocation of no type", [*WHOLE, odd], 1, b"error: Malformed 0 RelocType\n"
+    yield "a cut object that is run", [*WHOLE, "--run", "a", cut], 1, b"error: Malformed 0 Truncated\n"
     yield "a name twice", [*WHOLE, sound, sound], 1, b'error: DuplicateSymbol "a" 0 0 1 0\n'
     yield "two modes", ["--why", sound, "--map"], 2, b"error: BadWords TwoModes 2\n"
     yield "an object beside generated ones", ["--generate=2", sound], 2, b"error: BadWords ExtraInput 1\n"
