@@ -211,6 +211,8 @@ AT_CALLS = {
     "texts that are no listings": ["check/bad_lines_are_told_by_their_number"],
     "fuel of a run": ["load/fuel_is_a_step_for_each_operator"],
     "names of objects that are replaced": ["session/a_name_follows_replacements"],
+    "plans of objects that are replaced": ["plan/plans_follow_replacements"],
+    "objects that a session refuses": ["plan/a_refused_object_changes_nothing"],
 }
 
 # Examples that stand in another script: what each shows, the script, and the function or the title of the case there.

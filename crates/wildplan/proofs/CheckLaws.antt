@@ -1,5 +1,5 @@
 -- What checking a text against a plan says.
-use Rattle.std.proofs.Common.{◌≡◌, ◌∙◌, ℕ, List, Option, Some, None, refl, sym, ap, subst}
+use Rattle.std.proofs.Common.{◌≡◌, ◌∙◌, ℕ, List, Option, Some, None, refl, ap, subst}
 use Rattle.std.specs.List.{AllByRecursion, flat_map}
 use Rattle.wl_words.specs.declared.args.WasmArgs.{WasmArgs}
 use Rattle.wl_check.specs.Difference.{DiffersAt, IsDifference}

@@ -1,8 +1,8 @@
 -- A plan of objects can be loaded: what it tells by numbers is there.
-use Rattle.std.proofs.Common.{◌≡◌, ◌∙◌, ℕ, ◌+◌, ◌*◌, ◌<◌, ◌≤◌, ◌/◌, Bool, true, false, max, List, [], ◌∷◌, ◌++◌, length, map, drop, refl, sym, ap, subst, arith, inl, inr, Option, Some, None, unwrap_or, slice_get, append-nil, append_assoc, length-append, suc, add-one}
+use Rattle.std.proofs.Common.{◌≡◌, ◌∙◌, ℕ, ◌+◌, ◌*◌, ◌<◌, ◌≤◌, Bool, true, false, List, [], ◌∷◌, ◌++◌, length, refl, sym, ap, arith, inl, inr, Option, Some, None, slice_get, append-nil, append_assoc, length-append, suc, add-one}
 use Rattle.std.specs.Prelude.{IfSome, Contains}
-use Rattle.std.specs.Option.{option_or, option_map_or}
-use Rattle.std.specs.List.{AllByRecursion, AllZip, flat_map}
+use Rattle.std.specs.Option.{option_map_or}
+use Rattle.std.specs.List.{AllByRecursion, AllZip}
 use Rattle.std.proofs.Math.Nat.{le-div_iff_mul-le, le-max_right}
 use Rattle.std.proofs.lemmas.Bool.{cases_lt}
 use Rattle.std.proofs.lemmas.List.{length-drop, length-map}
@@ -10,8 +10,7 @@ use Rattle.std.proofs.lemmas.Grind.{flat_map-append}
 use Rattle.std.proofs.lemmas.Option.{slice_get_within}
 use Rattle.wl_lists.proofs.Beside.{zip_length}
 use Rattle.wl_lists.proofs.In.{at_is_in}
-use Rattle.wl_linking.specs.Steps.{Clear, Step, NoStep}
-use Rattle.wl_linking.specs.declared.error.LinkError.{LinkError}
+use Rattle.wl_linking.specs.Steps.{Clear, NoStep}
 use Rattle.wl_linking.specs.declared.error.LinkError.TheVariants.{BadMemorySize}
 use Rattle.wl_linking.specs.declared.error.MemoryBound.TheVariants.{Maximum}
 use Rattle.wl_linking.proofs.StepLaws.{first_clear, rest_clear}
@@ -22,23 +21,22 @@ use Rattle.wl_words.specs.Values.{MemoryName}
 use Rattle.wl_symbols.specs.Input.{Input}
 use Rattle.wl_symbols.specs.Left.{HostImport}
 use Rattle.wl_symbols.specs.Link.{Link}
-use Rattle.wl_data.specs.MemorySize.{IsMaximumRefused, needed_bytes, new_maximum, raised_pages}
-use Rattle.wl_bind.specs.FunctionSpace.{FunctionEntry, function_space, host_function_part}
+use Rattle.wl_data.specs.MemorySize.{IsMaximumRefused, new_maximum}
+use Rattle.wl_bind.specs.FunctionSpace.{function_space, host_function_part}
 use Rattle.wl_bind.specs.OutputTypes.{output_types}
 use Rattle.wl_bind.specs.Scan.{table_functions}
 use Rattle.wl_bind.specs.Shared.{function_imports, global_imports}
-use Rattle.wl_exports.specs.Wrappers.{wrapped}
 use Rattle.wl_plan.specs.Faults.{input_of, kept_fault}
-use Rattle.wl_plan.specs.Functions.{IsOutputFunction, IsWrapperFunction, own_functions}
-use Rattle.wl_plan.specs.Imports.{AreImports, IsFunctionImport, IsGlobalImport, memory_import, memory_imports, own_memory}
+use Rattle.wl_plan.specs.Functions.{IsOutputFunction, own_functions}
+use Rattle.wl_plan.specs.Imports.{IsFunctionImport, IsGlobalImport, memory_import, memory_imports}
 use Rattle.wl_plan.specs.LinkPlan.{IsPlanOf}
 use Rattle.wl_plan.specs.Origins.{PlannedFunction}
-use Rattle.wl_plan.specs.Placing.{IsMemoryFault, first_pages, memory_needs, memory_pages, memory_steps, output_memory, placing_of}
+use Rattle.wl_plan.specs.Placing.{IsMemoryFault, memory_pages, memory_steps, output_memory}
 use Rattle.wl_plan.specs.Plan.{IsPlan}
 use Rattle.wl_plan.specs.PlannedImports.{PlannedImport}
 use Rattle.wl_plan.specs.Table.{IsElement}
 use Rattle.wl_plan.specs.declared.layout.LinkPlan.{LinkPlan}
-use Rattle.wildplan.specs.Loading.{CanBeLoaded, HasFunction, HasType, host_type, host_types, imported_memory, memory_in, memory_of, no_memory}
+use Rattle.wildplan.specs.Loading.{CanBeLoaded, HasFunction, HasType, host_type, host_types, imported_memory, memory_of}
 
 -- ---- lists
 

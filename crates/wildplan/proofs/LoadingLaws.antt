@@ -1,5 +1,5 @@
 -- First values of globals, and parts that fit.
-use Rattle.std.proofs.Common.{◌≡◌, ◌∙◌, ◌⊎◌, ℕ, zero, suc, ◌+◌, ◌*◌, ◌%◌, ◌<◌, ◌≤◌, List, [], ◌∷◌, ◌++◌, length, map, replicate, get_or, take, drop, Option, Some, None, IfSome, inl, inr, refl, ap, sym, subst, arith}
+use Rattle.std.proofs.Common.{◌≡◌, ◌∙◌, ◌⊎◌, ℕ, zero, suc, ◌+◌, ◌*◌, ◌<◌, ◌≤◌, List, [], ◌∷◌, ◌++◌, length, map, replicate, get_or, take, drop, Option, Some, None, IfSome, inl, inr, refl, ap, sym, subst, arith}
 use Rattle.std.specs.List.{AllByRecursion, AllZip}
 use Rattle.std.proofs.Math.Seq.{drop-cons}
 use Rattle.wl_module.specs.Bodies.{Body}
@@ -7,7 +7,6 @@ use Rattle.wl_module.specs.Types.{FunctionType}
 use Rattle.wl_module.specs.declared.limits.TheConstants.{WASM_PAGE_SIZE}
 use Rattle.wl_module.specs.declared.limits.TableType.{TableType}
 use Rattle.wl_numeric.specs.declared.value.Value.{Value}
-use Rattle.wl_load.specs.Pages.{AreWholePages}
 use Rattle.wl_load.specs.Loading.{AreFit}
 use Rattle.wl_load.specs.declared.error.LoadError.{LoadError}
 use Rattle.wl_load.specs.declared.error.LoadError.TheVariants as load
@@ -18,10 +17,9 @@ use Rattle.wl_output.specs.declared.fixups.Fixup.{Fixup}
 use Rattle.wl_plan.specs.Origins.{PlannedFunction}
 use Rattle.wl_plan.specs.declared.layout.LinkPlan.{LinkPlan}
 use Rattle.wl_plan.specs.declared.layout.PlannedGlobal.{PlannedGlobal}
-use Rattle.wl_run.specs.Data.{first_memory}
 use Rattle.wl_run.specs.Tables.{first_table}
 use Rattle.wl_run.proofs.SizeLaws.{memory_length}
-use Rattle.wildplan.specs.Loading.{StartsWith, HasStart, IsFirstUnread, IsInitFault, host_types, image_functions, memory_of, IsParts, CanBeLoaded, HasType, HasFunction}
+use Rattle.wildplan.specs.Loading.{StartsWith, HasStart, IsFirstUnread, IsInitFault, host_types, image_functions, memory_of, IsParts, CanBeLoaded}
 
 -- ---- globals
 

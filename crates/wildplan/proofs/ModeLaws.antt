@@ -1,5 +1,5 @@
 -- Objects that are generated, where no word names one.
-use Rattle.std.proofs.Common.{◌≡◌, ℕ, List, [], ◌∷◌, Bool, Some, None, true, false, refl}
+use Rattle.std.proofs.Common.{◌≡◌, ℕ, List, [], ◌∷◌, Bool, None, true, false, refl}
 use Rattle.wl_files.specs.Files.{FilesState}
 use Rattle.wl_words.specs.Args.{IsArgs, WholeFault}
 use Rattle.wl_words.specs.declared.args.WasmArgs.{WasmArgs}

@@ -55,7 +55,15 @@ fn image_function(
     let body = match function.origin {
         FunctionOrigin::Object { object, unit } => {
             let place = FixupPlace::Code;
-            fixups.filled(alloc, Site { object, place, unit }, bytes)?
+            fixups.filled(
+                alloc,
+                Site {
+                    object,
+                    place,
+                    unit,
+                },
+                bytes,
+            )?
         }
         FunctionOrigin::Made(_)
         | FunctionOrigin::InitMemory
@@ -131,10 +139,7 @@ fn value_of(global: &PlannedGlobal<'_>) -> Option<Value>
 ///
 /// # Errors
 /// `Init` for the first one that doesn't start with a constant integer.
-fn first_values(
-    alloc: Global,
-    globals: &[PlannedGlobal<'_>],
-) -> Result<ItemList<Value>, LoadError>
+fn first_values(alloc: Global, globals: &[PlannedGlobal<'_>]) -> Result<ItemList<Value>, LoadError>
     ensures values { IfOk result (λ values. AllZip StartsWith globals.now values) }
     ensures fault { IfErr result (IsInitFault globals.now) }
 {

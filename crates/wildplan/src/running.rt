@@ -1,7 +1,11 @@
 //! What is told of a run of a function of a plan.
 
-ghost use Rattle.std.specs.Prelude.{◌≡◌, codes, IfOk};
-ghost use Rattle.wildplan.specs.Loading.{CanBeLoaded};
+ghost use Rattle.std.specs.Prelude.{◌≡◌, codes, IfOk, true};
+ghost use Rattle.wl_symbols.specs.Link.{Link as SpecLink};
+ghost use Rattle.wl_load.specs.Images.{LoadedImage};
+ghost use Rattle.wl_plan.specs.LinkPlan.{IsPlanOf};
+ghost use Rattle.wl_plan.specs.declared.layout.LinkPlan.{LinkPlan as SpecPlan};
+ghost use Rattle.wildplan.specs.Loading.{CanBeLoaded, IsLoaded};
 ghost use Rattle.wildplan.specs.Running.{is_function_named, exported_function, can_start, can_take_turns, IsRunText};
 
 use crate::loading::load;
@@ -76,3 +80,11 @@ pub fn run_text(alloc: Global, plan: &LinkPlan<'_>, name: &str) -> Result<Vec<u8
     let end = run_in_turn(&mut image, start, function);
     end_line(alloc, &end)
 }
+
+/// The function at the start of a plan takes no arguments, so that `arguments` tells of the one that
+/// is exported.
+pub fn starts_take_no_arguments()
+    ensures { (link : SpecLink) (plan : SpecPlan) (image : LoadedImage) → IsPlanOf link plan
+        → CanBeLoaded plan → IsLoaded plan image
+        → can_start image plan.layout.start_function ≡ true }
+{}

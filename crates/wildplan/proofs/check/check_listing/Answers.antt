@@ -1,7 +1,7 @@
-use Rattle.std.proofs.Common.{◌≡◌, ◌∙◌, List, Option, subst}
+use Rattle.std.proofs.Common.{◌∙◌, Option, subst}
 use Rattle.wl_check.specs.Difference.{IsDifference, IsSomeListing}
 use Rattle.wl_check.specs.declared.difference.Difference.{Difference}
-use Rattle.wl_plan.specs.PlanLines.{lines_of, listing_text}
+use Rattle.wl_plan.specs.PlanLines.{lines_of}
 use Rattle.wildplan.proofs.CheckLaws.{plan_is, told}
 use Rattle.wildplan.proofs.check.check_listing.Goals as goal
 

@@ -1,6 +1,4 @@
-use Rattle.std.proofs.Common.{◌≡◌, Some, sym, ◌∙◌}
 use Rattle.wl_words.specs.Texts.{texts}
-use Rattle.wl_words.specs.Args.{compared_name}
 use Rattle.wildplan.proofs.Gathering.{inputs_with, stops_behind}
 use Rattle.wildplan.proofs.run.read_inputs.Goals as goal
 

@@ -1,4 +1,4 @@
-use Rattle.std.proofs.Common.{◌≡◌, sym, rules}
+use Rattle.std.proofs.Common.{sym}
 use Rattle.std.proofs.lemmas.Result.{IfOk-weaker}
 use Rattle.wildplan.specs.Running.{refused, missing, taking, ran}
 use Rattle.wildplan.proofs.running.run_text.Goals as goal
