@@ -164,12 +164,50 @@ def tried(description, try_case, others=()):
     return 1 if failed else 0
 
 
+def counted(number):
+    """An unsigned number as objects write it."""
+    low, rest = number & 0x7F, number >> 7
+    return bytes([low | 0x80]) + counted(rest) if rest else bytes([low])
+
+
+def sized(content):
+    """Bytes behind their number."""
+    return counted(len(content)) + content
+
+
+def with_function(imports, body):
+    """An object with these imports and a function `a` of this body, which takes and gives nothing."""
+    sections = [(1, b"\1\x60\0\0"), (2, imports), (3, b"\1\0"), (10, b"\1" + sized(body))]
+    symbols = sized(b"linking") + b"\2\x08" + sized(b"\1\0\0\0" + sized(b"a"))
+    return b"\0asm\1\0\0\0" + b"".join(bytes([n]) + sized(held) for n, held in [*sections, (0, symbols)])
+
+
+def beyond_a_limit(program, _refuser, folder):
+    """Runs that ask for more memory than a limit leaves: a function with 4294967295 locals, and a table of as many
+    entries. Both are planned, and neither can be run."""
+    most = counted(2**32 - 1)
+    objects = {
+        "locals.o": with_function(b"\0", b"\1" + most + b"\x7f\x0b"),
+        "table.o": with_function(b"\1" + sized(b"env") + sized(b"t") + b"\1\x70\0" + most, b"\0\x0b"),
+    }
+    wrong = []
+    for name, content in objects.items():
+        (folder / name).write_bytes(content)
+        for words, status in (([], 0), (["--run", "a"], 5)):
+            command = ["sh", "-c", 'ulimit -v 4194304; exec "$@"', "sh", program, "--entry", "a", *words, folder / name]
+            ended = subprocess.run(command, stdin=subprocess.DEVNULL, capture_output=True, timeout=120)
+            if ended.returncode != status or (status and (ended.stdout or ended.stderr)):
+                wrong.append(f"{name} {words}: status {ended.returncode}")
+    return f"{len(objects)} objects", wrong
+
+
 def main():
     def each(*case):
         count, wrong = refuse_each(*case)
         return f"{count} allocations", wrong
 
-    return tried("Refuses each allocation of the program in turn.", each)
+    others = [("runs beyond a limit", beyond_a_limit)]
+    return tried("Refuses each allocation of the program in turn.", each, others)
 
 
 if __name__ == "__main__":
