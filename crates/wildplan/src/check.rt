@@ -48,6 +48,10 @@ pub(crate) fn check_listing(
     ensures verdict { IfOk result (IsVerdict plan.now text.now) }
 {
     let want = listing(alloc, plan)?;
+    // A text that is the listing isn't read again: its lines are known to be lines.
+    if text == want.as_slice() {
+        return Ok(Verdict::Same);
+    }
     match check_lines(alloc, text) {
         Ok(()) => {}
         Err(ListingError::OutOfMemory) => return Err(AllocError),
