@@ -5,8 +5,6 @@
 #![tactic(auto)]
 
 #[cfg(test)]
-mod bind;
-#[cfg(test)]
 mod bytes;
 #[cfg(test)]
 mod check;
