@@ -157,6 +157,10 @@ THROUGH_THE_PROGRAM = {
         (WHOLE, "An absolute symbol has the address that it tells"),
         (WHOLE, "An absolute address below the data of threads has no place in it"),
     ],
+    "types that are used, and one that nothing uses": [
+        (WHOLE, "Of the types of an object the output has those that are used"),
+        (WHOLE, "A type that data names by its number is used"),
+    ],
     "why one function is kept": [("--entry b --why", "A kept function has a cause, and the others are named")],
     "the sizes of two functions": [(f"{WHOLE} --map", "Sizes of functions, and of the sections")],
     "a run of one function": [("--entry a --run a", "A function runs that calls another")],
@@ -182,10 +186,6 @@ AT_CALLS = {
     ],
     "the start of the stack pointer": ["data/stack_pointer_is_aligned"],
     "pages that hold the data and the stack": ["data/memory_holds_the_stack", "data/heap_begins_behind_the_data"],
-    "types that are used, and one that nothing uses": [
-        "bind/a_type_that_nothing_uses_has_no_index",
-        "bind/a_type_that_data_names_has_an_index",
-    ],
     "bodies of calls and of wrappers": ["synth/calls_drop_their_results", "synth/wrapper_hands_on_its_parameters"],
     "sizes of bodies and of segments": ["data/sizes_are_those_of_the_format"],
     "a body with another number of a segment": ["ops/remaps_a_body"],
