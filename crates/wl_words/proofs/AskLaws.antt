@@ -4,7 +4,7 @@ use Rattle.std.specs.List.{last_or}
 use Rattle.std.specs.Option.{option_or}
 use Rattle.std.proofs.lemmas.List.Elements.{filter_map-append}
 use Rattle.wl_words.specs.Items.{ArgItem}
-use Rattle.wl_words.specs.Args.{AsksFor, all_of, said_of, last_of, input_of, export_symbol_of, required_export_symbol_of, export_dynamic_of, allow_undefined_of, shared_memory_of, stack_first_of, gc_sections_of, check_features_of, entry_of, z_stack_size_of, initial_memory_of, max_memory_of, import_memory_of, export_memory_of, extra_features_of, strip_all_of, strip_debug_of, keep_section_of, output_of, mode_of}
+use Rattle.wl_words.specs.Args.{AsksFor, all_of, said_of, last_of, input_of, replacement_of, export_symbol_of, required_export_symbol_of, export_dynamic_of, allow_undefined_of, shared_memory_of, stack_first_of, gc_sections_of, check_features_of, entry_of, z_stack_size_of, initial_memory_of, max_memory_of, import_memory_of, export_memory_of, extra_features_of, strip_all_of, strip_debug_of, keep_section_of, output_of, mode_of}
 use Rattle.wl_words.specs.Taking.{put_behind, AddsItem}
 use Rattle.wl_words.specs.declared.modes.Mode.TheVariants.{Listing}
 use Rattle.wl_words.specs.declared.args.TheConstants.{DEFAULT_STACK_SIZE}
@@ -41,6 +41,7 @@ last_field says default items item old new was is = is ∙ ap (λ x. unwrap_or (
 pub asks_more : (items : List ArgItem) (item : ArgItem) (old new : WasmArgs) → AsksFor items old → AddsItem item old new → AsksFor (items ++ item ∷ []) new
 asks_more items item old new h adds = record {
   inputs = all_field input_of items item old.inputs new.inputs h.inputs adds.inputs;
+  replacements = all_field replacement_of items item old.replacements new.replacements h.replacements adds.replacements;
   export_symbols = all_field export_symbol_of items item old.export_symbols new.export_symbols h.export_symbols adds.export_symbols;
   required_export_symbols = all_field required_export_symbol_of items item old.required_export_symbols new.required_export_symbols h.required_export_symbols adds.required_export_symbols;
   export_dynamic = last_field export_dynamic_of false items item old.export_dynamic new.export_dynamic h.export_dynamic adds.export_dynamic;
@@ -67,6 +68,7 @@ asks_more items item old new h adds = record {
 pub args_of : List ArgItem → WasmArgs
 args_of items = record {
   inputs = all_of input_of items;
+  replacements = all_of replacement_of items;
   export_symbols = all_of export_symbol_of items;
   required_export_symbols = all_of required_export_symbol_of items;
   export_dynamic = last_of export_dynamic_of false items;
@@ -93,6 +95,7 @@ pub asks_args : (items : List ArgItem) → AsksFor items (args_of items)
 unfolding args_of
 asks_args items = record {
   inputs = refl;
+  replacements = refl;
   export_symbols = refl;
   required_export_symbols = refl;
   export_dynamic = refl;
@@ -120,6 +123,7 @@ asks_one : (items : List ArgItem) (args : WasmArgs) → AsksFor items args → a
 unfolding args_of
 asks_one items args h = λ i. record {
   inputs = h.inputs i;
+  replacements = h.replacements i;
   export_symbols = h.export_symbols i;
   required_export_symbols = h.required_export_symbols i;
   export_dynamic = h.export_dynamic i;

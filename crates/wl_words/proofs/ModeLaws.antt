@@ -111,6 +111,7 @@ says_mode words at (Set setting.KeepSection value place) next h = refl
 says_mode words at (Set setting.Output value place) next h = refl
 says_mode words at (Set setting.Generate value place) next (has, (n, is), on) = counted words value place n is
 says_mode words at (Set setting.Check value place) next h = (name.Check, refl, refl, (value, stands_there words at setting.Check value place h.0))
+says_mode words at (Set setting.Replace value place) next h = refl
 says_mode words at (Set setting.Run value place) next h = (name.Run, refl, refl, (value, stands_there words at setting.Run value place h.0))
 
 -- the mode with one more item, and that it fits

@@ -5,6 +5,7 @@ use Rattle.std.specs.Option.{option_and_then, option_or}
 use Rattle.std.proofs.lemmas.Option.{slice_get_within, slice_get_cases}
 use Rattle.wl_words.specs.Options.{front_of, value_of, taken_by, is_option}
 use Rattle.wl_words.specs.Values.{number_of, stack_size_text, generated_count}
+use Rattle.wl_words.specs.Replacing.{replaced_object}
 use Rattle.wl_words.specs.Modes.{mode_in, KeepsMode}
 use Rattle.wl_words.specs.declared.modes.ModeName.{ModeName}
 use Rattle.wl_words.specs.declared.modes.ValuePlace.{ValuePlace}
@@ -60,6 +61,11 @@ value_or_fault setting.Generate v p = count (generated_count v) refl
     count : (o : Option ℕ) → generated_count v ≡ o → IsSoundValue setting.Generate v ⊎ ((e : ArgError) × ValueFault setting.Generate v p e)
     count None is = inr (BadNumber p, (is, refl))
     count (Some n) is = inl (n, is)
+value_or_fault setting.Replace v p = object (replaced_object v) refl
+  where
+    object : (o : Option ℕ) → replaced_object v ≡ o → IsSoundValue setting.Replace v ⊎ ((e : ArgError) × ValueFault setting.Replace v p e)
+    object None is = inr (BadNumber p, (is, refl))
+    object (Some n) is = inl (n, is)
 
 -- ---- an item
 

@@ -49,6 +49,7 @@ no_value_fault setting.Output v p e sound fault = fault
 no_value_fault setting.Check v p e sound fault = fault
 no_value_fault setting.Run v p e sound fault = fault
 no_value_fault setting.Generate v p e (n, is) (none, told) = some_none n (sym is ∙ none)
+no_value_fault setting.Replace v p e (n, is) (none, told) = some_none n (sym is ∙ none)
 
 -- a value has one fault
 one_value_fault : (s : Setting) (v : List ℕ) (p : ℕ) (e f : ArgError) → ValueFault s v p e → ValueFault s v p f → e ≡ f
@@ -67,6 +68,7 @@ one_value_fault setting.Output v p e f h k = absurd h
 one_value_fault setting.Check v p e f h k = absurd h
 one_value_fault setting.Run v p e f h k = absurd h
 one_value_fault setting.Generate v p e f (none, told) (nothing, tells) = told ∙ sym tells
+one_value_fault setting.Replace v p e f (none, told) (nothing, tells) = told ∙ sym tells
 
 -- ---- one item
 

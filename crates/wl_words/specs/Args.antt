@@ -1,9 +1,11 @@
 -- What the words of the command line ask for.
-use Rattle.std.specs.Prelude.{◌≡◌, ◌≢◌, ◌||◌, not, ℕ, Bool, true, false, if◌then◌else◌, nat_lt, List, [], length, Option, Some, None, option_map, option_to_list, unwrap_or, codes, slice_get, ◌++◌}
+use Rattle.std.specs.Prelude.{◌≡◌, ◌≢◌, ◌||◌, not, ℕ, Bool, true, false, if◌then◌else◌, nat_lt, List, [], length, Option, Some, None, option_map, option_to_list, unwrap_or, codes, slice_get, ◌++◌, nat_le, find, map}
 use Rattle.std.specs.Str.{bytes_eq}
 use Rattle.std.specs.List.{filter_map, last_or, list_any}
 use Rattle.wl_words.specs.Values.{number_of, stack_size, generated_count, names_in, MemoryName, memory_name}
 use Rattle.wl_words.specs.Modes.{generates, placed_value}
+use Rattle.wl_words.specs.Replacing.{replaced_object, replacing_name}
+use Rattle.wl_words.specs.declared.replacing.ObjectReplacement.{ObjectReplacement}
 use Rattle.wl_words.specs.Items.{ArgItem, Object, Given, Set, Memory, AreArgItems}
 use Rattle.wl_words.specs.Faults.{FrontFault}
 use Rattle.wl_words.specs.declared.options.Flag.TheVariants as flag
@@ -14,7 +16,7 @@ use Rattle.wl_words.specs.declared.modes.Mode.TheVariants as mode
 use Rattle.wl_words.specs.declared.args.TheConstants.{DEFAULT_STACK_SIZE}
 use Rattle.wl_words.specs.declared.args.WasmArgs.{WasmArgs}
 use Rattle.wl_words.specs.declared.error.ArgError.{ArgError}
-use Rattle.wl_words.specs.declared.error.ArgError.TheVariants.{OutOfMemory, ExtraInput, NoInputs}
+use Rattle.wl_words.specs.declared.error.ArgError.TheVariants.{OutOfMemory, BadNumber, ExtraInput, NoInputs}
 
 -- ---- what an item says of a field
 
@@ -22,6 +24,12 @@ use Rattle.wl_words.specs.declared.error.ArgError.TheVariants.{OutOfMemory, Extr
 abbrev pub input_of : ArgItem → Option ℕ
 input_of (Object word) = Some word
 input_of _ = None
+
+-- an object that a file replaces
+abbrev pub replacement_of : ArgItem → Option ObjectReplacement
+replacement_of (Set setting.Replace value place) =
+    option_map (λ object. record { object = object; place = place }) (replaced_object value)
+replacement_of _ = None
 
 -- a name that is exported where it is defined
 abbrev pub export_symbol_of : ArgItem → Option (List ℕ)
@@ -146,6 +154,7 @@ last_of says default items = unwrap_or (said_of says items) default
 -- what the items ask for
 pub record AsksFor (items : List ArgItem) (args : WasmArgs) : Type 0 where
   pub inputs : args.inputs ≡ all_of input_of items
+  pub replacements : args.replacements ≡ all_of replacement_of items
   pub export_symbols : args.export_symbols ≡ all_of export_symbol_of items
   pub required_export_symbols : args.required_export_symbols
       ≡ all_of required_export_symbol_of items
@@ -170,14 +179,39 @@ pub record AsksFor (items : List ArgItem) (args : WasmArgs) : Type 0 where
 
 -- ---- the words as a whole
 
--- the first word that names an object, where the objects are generated
-abbrev pub extra_input : WasmArgs → Option ℕ
-extra_input args = if generates args.mode then slice_get args.inputs 0 else None
+-- the lesser of two numbers that may be there
+abbrev pub earlier : Option ℕ → Option ℕ → Option ℕ
+earlier (Some a) (Some b) = Some (if nat_le a b then a else b)
+earlier (Some a) None = Some a
+earlier None (Some b) = Some b
+earlier None None = None
 
--- what is wrong with words each of which is right
+-- the first word that names an object, or a file in the place of one
+abbrev pub first_input : WasmArgs → Option ℕ
+first_input args =
+    earlier (slice_get args.inputs 0)
+    (option_map (λ (r : ObjectReplacement). r.place.word) (slice_get args.replacements 0))
+
+-- the word of the first replacement of an object that no word names
+abbrev pub lost_in : ℕ → List ObjectReplacement → Option ℕ
+lost_in objects replacements =
+    option_map (λ (r : ObjectReplacement). r.place.word)
+    (find (λ (r : ObjectReplacement). nat_le objects r.object) replacements)
+
+abbrev pub lost_replacement : WasmArgs → Option ℕ
+lost_replacement args = lost_in (length args.inputs) args.replacements
+
+-- What is wrong with words each of which is right, if anything is: beside generated objects no word
+-- names an object or a replacement, and else each replacement is of an object that a word names.
+abbrev pub whole_fault : WasmArgs → Option ArgError
+whole_fault args =
+    if generates args.mode
+    then option_map ExtraInput (first_input args)
+    else option_map BadNumber (lost_replacement args)
+
+-- this is what is wrong with them
 abbrev pub WholeFault : WasmArgs → ArgError → Type 0
-WholeFault args (ExtraInput word) = extra_input args ≡ Some word
-WholeFault args _ = ⊥
+WholeFault args e = whole_fault args ≡ Some e
 
 -- the words are items, and this is what they ask for
 pub record IsArgs (words : List (List ℕ)) (args : WasmArgs) : Type 0 where
@@ -210,15 +244,24 @@ HasArgFault words e = WordsFault words e
 abbrev pub object_names : List (List ℕ) → WasmArgs → List (List ℕ)
 object_names words args = filter_map (slice_get words) args.inputs
 
+-- the names of the files that replace objects
+abbrev pub replacing_names : List (List ℕ) → WasmArgs → List (List ℕ)
+replacing_names words args = map (replacing_name words) args.replacements
+
 -- the name of the file that is compared with the listing, if one is
 abbrev pub compared_name : List (List ℕ) → Mode → Option (List ℕ)
 compared_name words (mode.Check file) = placed_value words file
 compared_name words _ = None
 
--- the names of the files that are read, in the order in which they are read: those of the objects,
--- and behind them that of the file which is compared
+-- the names of the files that hold objects, in the order in which they are read: those of the
+-- objects, and behind them those of the files that replace some
+abbrev pub object_files : List (List ℕ) → WasmArgs → List (List ℕ)
+object_files words args = object_names words args ++ replacing_names words args
+
+-- the names of the files that are read, in order: behind those that hold objects that of the file
+-- which is compared
 abbrev pub files_to_read : List (List ℕ) → WasmArgs → List (List ℕ)
-files_to_read words args = object_names words args ++ option_to_list (compared_name words args.mode)
+files_to_read words args = object_files words args ++ option_to_list (compared_name words args.mode)
 
 -- a section that the program doesn't need is left in: no such section is left out, or its name is
 -- kept

@@ -3,6 +3,7 @@ use Rattle.std.specs.Prelude.{◌≡◌, ◌≢◌, ◌⊎◌, ℕ, ◌+◌, tru
 use Rattle.wl_words.specs.Options.{is_option, front_of, taken_by}
 use Rattle.wl_words.specs.Values.{number_of, stack_size_text, generated_count}
 use Rattle.wl_words.specs.Modes.{mode_in, KeepsMode}
+use Rattle.wl_words.specs.Replacing.{replaced_object}
 use Rattle.wl_words.specs.Items.{ArgItem, AreArgItems, NamesOption, HasValue, mode_after}
 use Rattle.wl_words.specs.declared.modes.ModeName.{ModeName}
 use Rattle.wl_words.specs.declared.modes.ValuePlace.{ValuePlace}
@@ -37,6 +38,7 @@ ValueFault setting.InitialMemory value place e = (number_of 64 value ≡ None) �
 ValueFault setting.MaxMemory value place e = (number_of 64 value ≡ None) × (e ≡ BadNumber place)
 ValueFault setting.Generate value place e =
     (generated_count value ≡ None) × (e ≡ BadNumber place)
+ValueFault setting.Replace value place e = (replaced_object value ≡ None) × (e ≡ BadNumber place)
 ValueFault _ value place e = ⊥
 
 -- no item stands at this word, and this is what is told of it

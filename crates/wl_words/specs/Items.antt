@@ -4,6 +4,7 @@ use Rattle.wl_words.specs.Options.{is_option, front_of, value_of, taken_by}
 use Rattle.std.specs.Option.{option_or}
 use Rattle.wl_words.specs.Values.{number_of, stack_size, generated_count}
 use Rattle.wl_words.specs.Modes.{mode_in, KeepsMode}
+use Rattle.wl_words.specs.Replacing.{replaced_object}
 use Rattle.wl_words.specs.declared.modes.ModeName.{ModeName}
 use Rattle.wl_words.specs.declared.modes.ValuePlace.{ValuePlace}
 use Rattle.wl_words.specs.declared.options.OptionKind.{OptionKind}
@@ -67,6 +68,7 @@ IsSoundValue setting.Output value = ⊤
 IsSoundValue setting.Generate value = (n : ℕ) × (generated_count value ≡ Some n)
 IsSoundValue setting.Check value = ⊤
 IsSoundValue setting.Run value = ⊤
+IsSoundValue setting.Replace value = (n : ℕ) × (replaced_object value ≡ Some n)
 
 -- the item stands at this word, and the next item at that one
 abbrev pub StandsAtWord : List (List ℕ) → ℕ → ArgItem → ℕ → Type 0

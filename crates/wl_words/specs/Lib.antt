@@ -3,6 +3,7 @@ pub mod Rows
 pub mod Texts
 pub mod Values
 pub mod Modes
+pub mod Replacing
 pub mod Items
 pub mod Faults
 pub mod Args

@@ -47,6 +47,7 @@ options =
     ∷ option_row (codes "map") (Nothing flag.Map)
     ∷ option_row (codes "check") (Value setting.Check)
     ∷ option_row (codes "run") (Value setting.Run)
+    ∷ option_row (codes "replace") (Value setting.Replace)
     ∷ []
 
 -- a word of two or more bytes, of which the first is a dash, is an option's; any other names an

@@ -4,7 +4,7 @@ use Rattle.std.specs.Option.{option_or}
 use Rattle.wl_words.specs.Modes.{mode_name, KeepsMode}
 use Rattle.wl_words.specs.Items.{ArgItem, StandsAtWord, AreArgItems, mode_of_item}
 use Rattle.wl_words.specs.Faults.{FrontFault}
-use Rattle.wl_words.specs.Args.{AsksFor, input_of, export_symbol_of, required_export_symbol_of, export_dynamic_of, allow_undefined_of, shared_memory_of, stack_first_of, gc_sections_of, check_features_of, entry_of, z_stack_size_of, initial_memory_of, max_memory_of, import_memory_of, export_memory_of, extra_features_of, strip_all_of, strip_debug_of, keep_section_of, output_of, mode_of}
+use Rattle.wl_words.specs.Args.{AsksFor, input_of, replacement_of, export_symbol_of, required_export_symbol_of, export_dynamic_of, allow_undefined_of, shared_memory_of, stack_first_of, gc_sections_of, check_features_of, entry_of, z_stack_size_of, initial_memory_of, max_memory_of, import_memory_of, export_memory_of, extra_features_of, strip_all_of, strip_debug_of, keep_section_of, output_of, mode_of}
 use Rattle.wl_words.specs.declared.args.WasmArgs.{WasmArgs}
 use Rattle.wl_words.specs.declared.error.ArgError.{ArgError}
 use Rattle.wl_words.specs.declared.error.ArgError.TheVariants.{OutOfMemory}
@@ -17,6 +17,7 @@ put_behind xs (Some x) = xs ++ x ∷ []
 -- one more item is asked for
 pub record AddsItem (item : ArgItem) (old new : WasmArgs) : Type 0 where
   pub inputs : new.inputs ≡ put_behind old.inputs (input_of item)
+  pub replacements : new.replacements ≡ put_behind old.replacements (replacement_of item)
   pub export_symbols : new.export_symbols ≡ put_behind old.export_symbols (export_symbol_of item)
   pub required_export_symbols : new.required_export_symbols
       ≡ put_behind old.required_export_symbols (required_export_symbol_of item)

@@ -5,8 +5,9 @@ ghost use Rattle.wl_words.specs.Texts.{texts};
 ghost use Rattle.wl_words.specs.Items.{Given, Set, Memory, IsSoundValue, NamesOption, HasValue};
 ghost use Rattle.wl_words.specs.Faults.{RefusesValue, StopsAt, LacksValue};
 ghost use Rattle.wl_words.specs.Modes.{KeepsMode, mode_in, mode_name, IsFitMode};
-ghost use Rattle.wl_words.specs.Args.{IsArgs, AsksFor, WordsFault, RefusesWords, has_work, extra_input, emits_stripped_section, export_name};
+ghost use Rattle.wl_words.specs.Args.{IsArgs, AsksFor, WordsFault, RefusesWords, has_work, earlier, first_input, lost_replacement, whole_fault, emits_stripped_section, export_name};
 ghost use Rattle.wl_words.specs.Values.{number_of, generated_count};
+ghost use Rattle.wl_words.specs.Replacing.{replaced_object};
 ghost use Rattle.wl_words.specs.Taking.{AddsItem, TakesItem, ParsesAll, RefusesFront};
 ghost use Rattle.wl_words.specs.declared.args.WasmArgs.{WasmArgs as SpecArgs};
 ghost use Rattle.wl_words.specs.declared.error.ArgError.{ArgError as SpecError};
@@ -15,6 +16,7 @@ ghost use Rattle.wl_words.specs.declared.options.OptionKind.TheVariants.{Value};
 use crate::error::ArgError;
 use crate::modes::{Mode, ValuePlace};
 use crate::options::{Flag, MemoryOption, OptionKind, Setting, is_option, parts_of, taken_by};
+use crate::replacing::{ObjectReplacement, replaced_object};
 use crate::texts::Texts;
 use crate::values::{
     MemoryName, copy_of, generated_count, memory_name, names_in, number_of, stack_size,
@@ -30,6 +32,8 @@ pub const DEFAULT_STACK_SIZE: u32 = 65_536;
 pub struct WasmArgs {
     /// The numbers, from 0, of the words that name objects.
     pub inputs: ItemList<usize>,
+    /// The objects that are replaced, in the order of the words: one may be replaced again.
+    pub replacements: ItemList<ObjectReplacement>,
     /// The names that are exported where they are defined.
     pub export_symbols: Texts,
     /// Those of them that have to be defined.
@@ -136,6 +140,26 @@ fn object_count(value: &str, place: usize) -> Result<u32, ArgError>
     generated_count(value).ok_or(ArgError::BadNumber(place))
 }
 
+/// Which object is replaced, by the option's value in the word of this place.
+fn object_number(value: &str, place: usize) -> Result<usize, ArgError>
+    ensures ok { IfOk result (λ n. replaced_object value.now ≡ Some n) }
+    ensures none { OnErr result (replaced_object value.now ≡ None) }
+    ensures err { IfErr result (λ e. e ≡ ArgError.BadNumber place) }
+{
+    replaced_object(value).ok_or(ArgError::BadNumber(place))
+}
+
+/// The lesser of two numbers that may be there.
+fn earlier(a: Option<usize>, b: Option<usize>) -> Option<usize>
+    ensures { result ≡ earlier a b }
+{
+    match (a, b) {
+        (Some(a), Some(b)) => Some(a.min(b)),
+        (Some(word), None) | (None, Some(word)) => Some(word),
+        (None, None) => None,
+    }
+}
+
 impl WasmArgs {
     /// What no words ask for.
     fn new(alloc: Global) -> Result<WasmArgs, AllocError>
@@ -143,6 +167,7 @@ impl WasmArgs {
     {
         Ok(WasmArgs {
             inputs: ItemList::empty(alloc),
+            replacements: ItemList::empty(alloc),
             export_symbols: Texts::new(alloc),
             required_export_symbols: Texts::new(alloc),
             export_dynamic: false,
@@ -213,6 +238,10 @@ impl WasmArgs {
             Setting::Generate => self.mode = Mode::Generate(object_count(value, place.word)?),
             Setting::Check => self.mode = Mode::Check(place),
             Setting::Run => self.mode = Mode::Run(place),
+            Setting::Replace => {
+                let object = object_number(value, place.word)?;
+                self.replacements.push(ObjectReplacement { object, place })?;
+            }
         }
         Ok(())
     }
@@ -345,17 +374,20 @@ impl WasmArgs {
     ///
     /// # Errors
     /// `UnknownOption`, `TwoModes`, `MissingValue` or `BadNumber` of the first word at fault from
-    /// the left; where there is none, `ExtraInput` of the first word that names an object, if
-    /// objects are generated.
+    /// the left. Where there is none, `ExtraInput` of the first word that names an object or a
+    /// replacement, if objects are generated, and else `BadNumber` of the first replacement of an
+    /// object that there is not.
     pub fn parse(alloc: Global, words: &[String]) -> Result<WasmArgs, ArgError>
         ensures ok { IfOk result (IsArgs (texts words.now)) }
         ensures within { IfOk result (λ args. All (λ i. i < length words.now) args.inputs) }
+        ensures replaced { IfOk result
+            (λ args. All (λ r. r.object < length args.inputs) args.replacements) }
         ensures mode { IfOk result (λ args. IsFitMode (texts words.now) args.mode) }
         ensures err { IfErr result (RefusesWords (texts words.now)) }
     {
         let args = WasmArgs::parse_items(alloc, words)?;
-        match args.extra_input() {
-            Some(word) => Err(ArgError::ExtraInput(word)),
+        match args.whole_fault() {
+            Some(error) => Err(error),
             None => Ok(args),
         }
     }
@@ -375,15 +407,37 @@ impl WasmArgs {
         Ok(args)
     }
 
-    /// The first word that names an object, where the objects are generated.
-    fn extra_input(&self) -> Option<usize>
-        ensures { result ≡ extra_input self.now }
+    /// What is wrong with words each of which is right, if anything is.
+    fn whole_fault(&self) -> Option<ArgError>
+        ensures { result ≡ whole_fault self.now }
     {
         if self.mode.generates() {
-            self.inputs.as_slice().first().copied()
+            Some(ArgError::ExtraInput(self.first_input()?))
         } else {
-            None
+            Some(ArgError::BadNumber(self.lost_replacement()?))
         }
+    }
+
+    /// The first word that names an object, or a file in the place of one.
+    fn first_input(&self) -> Option<usize>
+        ensures { result ≡ first_input self.now }
+    {
+        let object = self.inputs.as_slice().first().copied();
+        let replacement = self.replacements.as_slice().first().copied();
+        earlier(object, replacement.map(|r| r.place.word))
+    }
+
+    /// The word of the first replacement of an object that no word names.
+    fn lost_replacement(&self) -> Option<usize>
+        ensures { result ≡ lost_replacement self.now }
+    {
+        let objects = self.inputs.as_slice().len();
+        for replacement in self.replacements.as_slice() {
+            if objects <= replacement.object {
+                return Some(replacement.place.word);
+            }
+        }
+        None
     }
 
     /// Refuses words that leave nothing to plan.

@@ -12,11 +12,13 @@ pub enum ArgError {
     UnknownOption(usize),
     /// The option in the word of this number takes a value, and the words end.
     MissingValue(usize),
-    /// The value in the word of this number isn't decimal digits, or is out of its range.
+    /// The value in the word of this number isn't decimal digits, or is out of its range; or it
+    /// replaces an object that no word names.
     BadNumber(usize),
     /// The option in the word of this number asks for another mode than an option before it.
     TwoModes(usize),
-    /// The word of this number is the first that names an object, where the objects are generated.
+    /// The word of this number is the first that names an object or a replacement, where the
+    /// objects are generated.
     ExtraInput(usize),
     /// No word names an object, and none are generated.
     NoInputs,

@@ -8,6 +8,7 @@ mod args;
 mod error;
 mod modes;
 mod options;
+mod replacing;
 mod texts;
 mod values;
 
@@ -15,5 +16,6 @@ pub use args::{DEFAULT_STACK_SIZE, WasmArgs, args_or_fault};
 pub use error::ArgError;
 pub use modes::{Mode, ModeName, ValuePlace};
 pub use options::{Flag, MemoryOption, OptionKind, Setting};
+pub use replacing::ObjectReplacement;
 pub use texts::Texts;
 pub use values::{MAX_GENERATED, MemoryName};

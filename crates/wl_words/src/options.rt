@@ -61,6 +61,8 @@ pub enum Setting {
     Check,
     /// The name of an exported function that is run.
     Run,
+    /// The number of an object, a colon, and the name of a file that is planned in its place.
+    Replace,
 }
 
 /// An option of the memory, which may have a value behind an equals sign.
@@ -114,7 +116,7 @@ impl Model for OptionRow {
 }
 
 /// The table of options.
-const OPTIONS: [OptionRow; 31] = [
+const OPTIONS: [OptionRow; 32] = [
     OptionRow {
         name: "export",
         takes: OptionKind::Value(Setting::Export),
@@ -238,6 +240,10 @@ const OPTIONS: [OptionRow; 31] = [
     OptionRow {
         name: "run",
         takes: OptionKind::Value(Setting::Run),
+    },
+    OptionRow {
+        name: "replace",
+        takes: OptionKind::Value(Setting::Replace),
     },
 ];
 
