@@ -551,6 +551,16 @@ def documented_words():
                     ends([word], none)
                     ends([word + "=a"], none)
                     ends([word, ""], "ReadFault 0")
+                elif value.startswith("`I:FILE`"):
+                    ends([word], "BadWords MissingValue 0")
+                    ends([word, "0"], "BadWords BadNumber 1")
+                    ends([f"{word}=0x:a"], "BadWords BadNumber 0")
+                    # A number that is right by itself is one of an object only once the words end.
+                    bound = 2 ** int(re.search(r"a number below 2\^(\d+)", value)[1])
+                    ends([word, f"{bound - 1}:a", "--static"], "BadWords UnknownOption 2")
+                    ends([word, f"{bound}:a", "--static"], "BadWords BadNumber 1")
+                    ends([f"{word}=1:a", ""], "BadWords BadNumber 0")
+                    ends([f"{word}=0:a", ""], "ReadFault 0")
                 elif span := re.search(r"a number from (\d+) to (\d+)", value):
                     ends([word], "BadWords MissingValue 0")
                     for beyond in [int(span[1]) - 1, int(span[2]) + 1]:
@@ -768,8 +778,8 @@ def launcher_options():
     known = {name for line in cases for name in line.split(" | ")}
     wanted = set()
     for names, value, *_ in table_of(OPTIONS, OPTIONS_TITLE):
-        # The name of a file is made absolute as those of objects are.
-        if value not in ("none", "[name]", "file"):
+        # The name of a file is made absolute as those of objects are, and so is that in the value of --replace.
+        if value not in ("none", "[name]", "file") and not value.startswith("`I:FILE`"):
             wanted |= {name for word in re.findall(r"`(-[\w-]+)`", names) for name in {word, re.sub("^--", "-", word)}}
     note(f"the options with values in the launcher: {known ^ wanted}", known == wanted)
 
@@ -787,7 +797,7 @@ def launched(folder):
     shutil.copytree(ROOT / "crates", copy / "crates", ignore=shutil.ignore_patterns("out"))
     for name in ["crates.txt", "wildplan", "examples/two_functions.o"]:
         shutil.copy(ROOT / name, copy)
-    command = ["./wildplan", *FLAGS, "two_functions.o"]
+    command = ["./wildplan", *FLAGS, "--replace", "0:two_functions.o", "two_functions.o"]
     ended = subprocess.run(command, cwd=copy, stdin=subprocess.DEVNULL, capture_output=True, timeout=600)
     notice = b"wildplan: running unproved, which takes a while; .ci/run proves and builds it\n"
     check("no proved program", ended, 0, (EXAMPLES / "two_functions.plan").read_bytes(), notice)
