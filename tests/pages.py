@@ -243,11 +243,11 @@ def printed_by(line):
 def transcript(page, number, block):
     """A block of commands after a dollar sign, each with all that it prints."""
     for part in re.split(r"(?m)^\$ ", "\n".join(block))[1:]:
-        line, _, shown = part.partition("\n")
+        line, *shown = part.rstrip("\n").split("\n")
         command(page, line)
         ended = ended_by(line)
-        printed = shown if ended is None else (ended.stdout + ended.stderr).decode().rstrip("\n")
-        note(page, f"{number}: {line} prints {printed}", printed == shown.rstrip("\n"))
+        printed = shown if ended is None else (ended.stdout + ended.stderr).decode().splitlines()
+        note(page, f"{number}: {line} prints {printed}", printed == shown)
 
 
 def is_listing(block):
