@@ -26,7 +26,7 @@ INTRODUCTION = [
 ]
 OPTIONS_TEXT = "Options and objects stand in any order. A name of more than one letter takes one dash or two. A " \
     "value follows an equals sign, or is the next argument; one in brackets may be left out, and follows an equals " \
-    "sign alone. Numbers are decimal."
+    "sign only. Numbers are decimal."
 DIAGNOSTICS_TEXT = "O and P are numbers of objects, S and T of symbols, and N of an argument, all counted from 0."
 EXAMPLES = [
     ("wildplan --no-entry --export run a.o b.o", "Plan a module of two objects that exports the function run."),
