@@ -66,12 +66,25 @@ fn add_features<'a>(
     Ok(())
 }
 
+/// For how many names room is made at once: for all that these objects disallow.
+fn first_room(files: &FileList<'_>) -> usize {
+    let mut room: usize = 0;
+    for file in files.as_slice() {
+        for feature in file.target_features() {
+            if feature.prefix == TARGET_FEATURE_PREFIX_DISALLOWED {
+                room = room.saturating_add(1);
+            }
+        }
+    }
+    room
+}
+
 impl<'f, 'a> DisallowedFeatures<'f, 'a> {
     /// The features that these objects disallow.
     pub(crate) fn of(alloc: Global, files: &'f FileList<'a>) -> Result<Self, AllocError>
         ensures { IfOk result (λ d. d ≡ files.now) }
     {
-        let mut firsts = HashMap::new(alloc);
+        let mut firsts = HashMap::with_capacity(alloc, first_room(files))?;
         for (object, file) in files.as_slice().iter().enumerate() {
             add_features(&mut firsts, object, file.target_features())?;
         }

@@ -80,6 +80,15 @@ fn push_texts<'a>(names: &mut Vec<&'a str>, texts: &'a Texts) -> Result<(), Allo
     Ok(())
 }
 
+/// For how many names room is made at once: for all of the objects'.
+fn name_room(files: &FileList<'_>) -> usize {
+    let mut room: usize = 0;
+    for file in files.as_slice() {
+        room = room.saturating_add(file.target_features().len());
+    }
+    room
+}
+
 /// The features that the output has: those that an object uses, and those that the words add, each
 /// once, in the order of their bytes.
 ///
@@ -92,7 +101,7 @@ pub fn taken_features<'a>(
 ) -> Result<FeatureList<'a>, AllocError>
     ensures { IfOk result (λ names. AreTaken (link_of files.now args.now) names) }
 {
-    let mut names = Vec::new(alloc);
+    let mut names = Vec::with_capacity(alloc, name_room(files))?;
     for file in files.as_slice() {
         push_used(&mut names, file.target_features())?;
     }

@@ -1,9 +1,9 @@
 -- Where the fields of kept relocations stand.
-use Rattle.std.proofs.Common.{◌≡◌, ◌∙◌, ◌≤◌, ◌<◌, ℕ, zero, suc, ◌+◌, Bool, true, false, ◌&&◌, ◌==◌, List, [], ◌∷◌, ◌++◌, length, map, take, drop, refl, sym, ap, append-nil, append_assoc, subst, arith, inl, inr, Option, Some, slice_get, if◌then◌else◌, eqb-true, Contains}
+use Rattle.std.proofs.Common.{◌≡◌, ◌∙◌, ◌≤◌, ◌<◌, ℕ, zero, suc, ◌+◌, Bool, true, false, not, ◌&&◌, ◌==◌, List, [], ◌∷◌, ◌++◌, length, get_or, map, take, drop, refl, sym, ap, append-nil, append_assoc, subst, arith, inl, inr, Option, Some, slice_get, if◌then◌else◌, eqb-true, Contains}
 use Rattle.std.specs.List.{AllByRecursion, AllZip}
 use Rattle.std.proofs.lemmas.Bool.{cases_lt, and_parts}
 use Rattle.std.proofs.lemmas.List.{drop_all}
-use Rattle.std.proofs.lemmas.Option.{slice_get_within}
+use Rattle.std.proofs.lemmas.Option.{slice_get-get_or, slice_get_within}
 use Rattle.std.proofs.lemmas.List.Elements.{Contains-append_left, Contains-append_right}
 use Rattle.wl_module.specs.Bodies.{Body}
 use Rattle.wl_linking.specs.Fitting.{IsWhole, IsFitting, code_pieces}
@@ -26,8 +26,8 @@ use Rattle.wl_symbols.specs.declared.relocated.FixupPlace.{FixupPlace}
 use Rattle.wl_symbols.specs.declared.relocated.FixupPlace.TheVariants.{Code, Segment}
 use Rattle.wl_symbols.specs.declared.relocated.Relocated.{Relocated}
 use Rattle.wl_plan.specs.Bodies.{body_in, new_number, IsMovedBy, IsMovedAt, IsMovedIn}
-use Rattle.wl_plan.specs.BodySteps.{AreNewNumbers, AreSoundBodies, HasSoundBody}
-use Rattle.wl_plan.specs.PositionSteps.{is_code, share_body, goes_on, AreOfOneBody, AreKept, IsThere}
+use Rattle.wl_plan.specs.BodySteps.{AreNewNumbers, AreAllNumbers, AreSoundBodies, HasSoundBody}
+use Rattle.wl_plan.specs.PositionSteps.{is_code, share_body, goes_on, AreOfOneBody, AreKept, IsThere, stays, AddsMoved}
 use Rattle.wl_plan.specs.declared.placing.Placing.{Placing}
 use Rattle.wl_lists.proofs.In.{at_is_in}
 use Rattle.wl_lists.proofs.Places.{came_at, all_at, append_split}
@@ -379,9 +379,9 @@ positions_within input object body (r ∷ rs) all =
     ((all.0).within, positions_within input object body rs all.1)
 
 -- in data nothing moves
-stays : (input : Input) (g : Placing) (r : Relocated) → r.place ≡ Segment
+one_stays : (input : Input) (g : Placing) (r : Relocated) → r.place ≡ Segment
     → AllZip (IsMovedIn input g) (r ∷ []) (position_of r ∷ [])
-stays input g r is =
+one_stays input g r is =
     (subst (λ (p : FixupPlace). IsMovedAt input g p r r.site.position) (sym is) refl, tt)
 
 -- and fields of data stand alone
@@ -391,7 +391,7 @@ pub data_stays : (input : Input) (g : Placing) (first : Relocated) (rs : List Re
 data_stays input g first [] at is one = tt
 data_stays input g first (r ∷ []) at is one =
     let same : first ≡ r = cc (at) in
-    stays input g r (subst (λ (x : Relocated). x.place ≡ Segment) same is)
+    one_stays input g r (subst (λ (x : Relocated). x.place ≡ Segment) same is)
 data_stays input g first (r ∷ (q ∷ others)) at is one =
     let same : first ≡ r = cc (at) in
     let code : is_code r.place ≡ true = first_code r q one.0 in
@@ -533,6 +533,74 @@ unmoved fit law input g first run numbers sound new kept at code one off =
     all_moved input g first.object b.body numbers [] run (map position_of run) new told
     (all_there fit input first b.body run sound kept at code here one)
     (all_stay (new_index numbers) (map position_of run))
+
+-- ---- runs that stay
+
+row_at : {X : Type 0} (xs : List X) (k : ℕ) → k < length xs → (x : X) × (slice_get xs k ≡ Some x)
+row_at [] k lt = absurd (omega (arith, lt))
+row_at (x ∷ xs) zero lt = (x, refl)
+row_at (x ∷ xs) (suc k) lt = row_at xs k (omega (arith, lt))
+
+not_marked : (b : Bool) → not (true && b) ≡ true → b ≡ false
+not_marked true e = absurd cc
+not_marked false e = refl
+
+stays_at : WholeFit → UnmarkedNumberNone → (input : Input) (g : Placing) (first : Relocated)
+    (run : List Relocated) (rows : List (List (Option ℕ))) (p : FixupPlace) → AreSoundBodies input
+    → AreAllNumbers input g rows → AreKept input run → slice_get run 0 ≡ Some first
+    → AreOfOneBody run → first.place ≡ p → stays input first ≡ true
+    → AllZip (IsMovedIn input g) run (map position_of run)
+stays_at fit law input g first run rows Segment sound new kept at one is e =
+    data_stays input g first run at is one
+stays_at fit law input g first run rows Code sound new kept at one is e =
+    let marked : Bool = numbers_segments input.live
+    (record { object = first.object; unit = DefinedFunction first.site.unit }) in
+    let off : marked ≡ false =
+    not_marked marked (subst (λ (q : FixupPlace). not (is_code q && marked) ≡ true) is e) in
+    let within = object_within fit input first run sound kept at is in
+    let len = new.len in
+    let row = row_at rows first.object (omega (arith, within, len)) in
+    unmoved fit law input g first run row.0 sound (new.each first.object row.0 row.1) kept at is
+    one off
+
+-- fields that stay come behind the others as they stand
+run_stays : WholeFit → UnmarkedNumberNone → (input : Input) (g : Placing) (first : Relocated)
+    (run : List Relocated) (rows : List (List (Option ℕ))) → AreSoundBodies input
+    → AreAllNumbers input g rows → AreKept input run → slice_get run 0 ≡ Some first
+    → AreOfOneBody run → stays input first ≡ true
+    → AllZip (IsMovedIn input g) run (map position_of run)
+run_stays fit law input g first run rows sound new kept at one e =
+    stays_at fit law input g first run rows first.place sound new kept at one refl e
+
+-- what doesn't stay lies in code
+code_if : (p : FixupPlace) (b : Bool) → not (is_code p && b) ≡ false → p ≡ Code
+code_if Code b e = refl
+code_if Segment b e = absurd cc
+
+goes_in_code : (input : Input) (r : Relocated) → stays input r ≡ false → r.place ≡ Code
+goes_in_code input r e =
+    code_if r.place (numbers_segments input.live
+    (record { object = r.object; unit = DefinedFunction r.site.unit })) e
+
+-- the same of the field in front
+pub head_stays : WholeFit → UnmarkedNumberNone → (input : Input) (g : Placing) (d : Relocated)
+    (run : List Relocated) (rows : List (List (Option ℕ))) → AreSoundBodies input
+    → AreAllNumbers input g rows → AreKept input run → 0 < length run → AreOfOneBody run
+    → stays input (get_or run 0 d) ≡ true → AllZip (IsMovedIn input g) run (map position_of run)
+head_stays fit law input g d run rows sound new kept some one e =
+    run_stays fit law input g (get_or run 0 d) run rows sound new kept
+    (slice_get-get_or run 0 d some) one e
+
+pub head_in_code : (input : Input) (d : Relocated) (run : List Relocated)
+    → stays input (get_or run 0 d) ≡ false → (get_or run 0 d).place ≡ Code
+head_in_code input d run e = goes_in_code input (get_or run 0 d) e
+
+-- of no fields nothing comes behind the others
+pub none_moved : (input : Input) (g : Placing) (run : List Relocated) (old : List ℕ)
+    → (length run == 0) ≡ true → AddsMoved input g run old old
+none_moved input g [] old e = record { moved = []; are = tt; grown = sym (append-nil old) }
+none_moved input g (r ∷ run) old e =
+    let none = eqb-true (length (r ∷ run)) 0 e in absurd (omega (arith, none))
 
 -- ---- vectors
 

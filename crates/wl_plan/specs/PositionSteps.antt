@@ -1,13 +1,16 @@
 -- Fields of one body.
-use Rattle.std.specs.Prelude.{◌≡◌, ◌≤◌, ℕ, ◌==◌, ◌&&◌, Bool, true, false, List, [], ◌∷◌, length, Some, Contains, ⊤}
-use Rattle.std.specs.List.{AllByRecursion}
+use Rattle.std.specs.Prelude.{◌≡◌, ◌≤◌, ℕ, ◌==◌, ◌&&◌, not, Bool, true, false, List, [], ◌∷◌, ◌++◌, length, Some, Contains, ⊤}
+use Rattle.std.specs.List.{AllByRecursion, AllZip}
 use Rattle.wl_module.specs.Bodies.{Body}
 use Rattle.wl_symbols.specs.Input.{Input}
+use Rattle.wl_symbols.specs.Live.{numbers_segments}
 use Rattle.wl_symbols.specs.Relocations.{relocations}
 use Rattle.wl_symbols.specs.declared.relocated.FixupPlace.{FixupPlace}
 use Rattle.wl_symbols.specs.declared.relocated.FixupPlace.TheVariants.{Code, Segment}
 use Rattle.wl_symbols.specs.declared.relocated.Relocated.{Relocated}
-use Rattle.wl_plan.specs.Bodies.{body_in}
+use Rattle.wl_symbols.specs.declared.units.WasmGcUnit.TheVariants.{DefinedFunction}
+use Rattle.wl_plan.specs.Bodies.{IsMovedIn, body_in}
+use Rattle.wl_plan.specs.declared.placing.Placing.{Placing}
 
 -- the field lies in code
 abbrev pub is_code : FixupPlace → Bool
@@ -41,3 +44,16 @@ pub record IsThere (input : Input) (object : ℕ) (body : Body) (r : Relocated) 
   pub object_is : r.object ≡ object
   pub here : body_in input r.object r.site.unit ≡ Some body
   pub within : r.site.position ≤ length body.bytes
+
+-- the field lies in data, or in a body that isn't marked as one that numbers segments
+abbrev pub stays : Input → Relocated → Bool
+stays input r =
+    not (is_code r.place && numbers_segments input.live
+    (record { object = r.object; unit = DefinedFunction r.site.unit }))
+
+-- the list grows by where these fields stand in what the output has
+pub record AddsMoved (input : Input) (g : Placing) (run : List Relocated) (old new : List ℕ)
+    : Type 0 where
+  pub moved : List ℕ
+  pub are : AllZip (IsMovedIn input g) run moved
+  pub grown : new ≡ old ++ moved

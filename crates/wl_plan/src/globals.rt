@@ -408,7 +408,8 @@ pub(crate) fn planned_globals<'a>(
     ensures err { IfErr result (Refuses
         (IsGlobalFault sources.now.book.now.input.now sources.now.book.now.placing.now)) }
 {
-    let mut globals = Vec::new(alloc);
+    let room = sources.mem_count().saturating_add(sources.func_count());
+    let mut globals = Vec::with_capacity(alloc, room)?;
     push_all(alloc, &mut globals, sources)?;
     Ok(ItemList::new(globals))
 }

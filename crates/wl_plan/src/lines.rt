@@ -358,9 +358,14 @@ const FIXUP_LINE: usize = 64;
 /// How many bytes the lines of a function and of its body take beside the body, or some more.
 const FUNCTION_LINES: usize = 64;
 
+/// How many bytes the line of a global that the linker makes takes, or some more.
+const GLOBAL_LINE: usize = 48;
+
 /// About how many bytes the listing takes: a text that has to grow is copied.
 fn expected_room(plan: &LinkPlan) -> usize {
+    let globals = plan.layout.globals.as_slice().len();
     let mut room = plan.fixups.as_slice().len().saturating_mul(FIXUP_LINE);
+    room = room.saturating_add(globals.saturating_mul(GLOBAL_LINE));
     for body in plan.layout.function_bodies.as_slice() {
         let digits = body.bytes.as_slice().len().saturating_mul(2);
         room = room.saturating_add(digits.saturating_add(FUNCTION_LINES));

@@ -1,15 +1,15 @@
 //! Where the fields of kept relocations stand in what the output has.
 
-ghost use Rattle.std.specs.Prelude.{◌≡◌, ◌<◌, map, length, Some, IfOk, IfErr, slice_get};
+ghost use Rattle.std.specs.Prelude.{◌≡◌, ◌<◌, ◌++◌, map, length, Some, IfOk, IfErr, OnOk, slice_get};
 ghost use Rattle.std.specs.List.{AllByRecursion, AllZip};
 ghost use Rattle.std.specs.Cow.{cow_slice_items};
 ghost use Rattle.wl_linking.specs.declared.error.LinkError.TheVariants.{OutOfMemory};
 ghost use Rattle.wl_symbols.specs.Relocations.{relocations};
-ghost use Rattle.wl_symbols.specs.declared.relocated.FixupPlace.TheVariants.{Code, Segment};
+ghost use Rattle.wl_symbols.specs.declared.relocated.FixupPlace.TheVariants.{Code};
 ghost use Rattle.wl_symbols.specs.declared.relocated.Relocated.{Relocated as KeptRelocation};
 ghost use Rattle.wl_plan.specs.Bodies.{IsMovedIn};
 ghost use Rattle.wl_plan.specs.BodySteps.{AreAllNumbers, AreNewNumbers, AreSoundBodies, HasSoundBody};
-ghost use Rattle.wl_plan.specs.PositionSteps.{share_body, goes_on, AreOfOneBody, AreKept, IsThere};
+ghost use Rattle.wl_plan.specs.PositionSteps.{share_body, goes_on, AreOfOneBody, AreKept, IsThere, stays, AddsMoved};
 
 use crate::parsing::link_error;
 use crate::placing::Placing;
@@ -44,15 +44,24 @@ fn goes_on(run: &[Relocated], relocated: &Relocated) -> bool
     }
 }
 
+/// Adds where these fields stand as the object has them.
+fn push_own(positions: &mut Vec<u32>, relocations: &[Relocated]) -> Result<(), AllocError>
+    ensures { OnOk result (positions.new.items ≡ positions.old.items
+        ++ map (λ (r : KeptRelocation). r.site.position) relocations.now) }
+{
+    for relocated in relocations {
+        positions.push(relocated.site.position)?;
+    }
+    Ok(())
+}
+
 /// Where these fields stand as the object has them.
 fn own_positions(alloc: Global, relocations: &[Relocated]) -> Result<Vec<u32>, AllocError>
     ensures { IfOk result (λ positions.
         positions.items ≡ map (λ (r : KeptRelocation). r.site.position) relocations.now) }
 {
-    let mut positions = Vec::new(alloc);
-    for relocated in relocations {
-        positions.push(relocated.site.position)?;
-    }
+    let mut positions = Vec::with_capacity(alloc, relocations.len())?;
+    push_own(&mut positions, relocations)?;
     Ok(positions)
 }
 
@@ -90,25 +99,7 @@ fn moved_in(
     }
 }
 
-/// Where this field of data stands: nothing moves there.
-fn moved_data(
-    alloc: Global,
-    input: &LinkInput<'_, '_>,
-    placing: &Placing<'_>,
-    first: Relocated,
-    run: &[Relocated],
-) -> Result<Vec<u32>, AllocError>
-    requires at { slice_get run.now 0 ≡ Some first }
-    requires place { first.place ≡ Segment }
-    requires one { AreOfOneBody run.now }
-    ensures { IfOk result
-        (λ positions. AllZip (IsMovedIn input.now placing.now) run.now positions.items) }
-{
-    own_positions(alloc, run)
-}
-
-/// Where these fields of a body of the object stand in what the output has: where they stood, if
-/// the body numbers no segments.
+/// Where these fields of a body of the object stand in what the output has.
 fn moved_file(
     alloc: Global,
     input: &LinkInput<'_, '_>,
@@ -131,10 +122,6 @@ fn moved_file(
     ensures err { IfErr result (λ e. e ≡ OutOfMemory) }
 {
     whole_objects();
-    unmarked_bodies_number_none();
-    if !input.live().numbers_segments(first.object, first.site.unit) {
-        return Ok(own_positions(alloc, run)?);
-    }
     let unit = first.site.unit as usize;
     let body = &file.bodies()[unit];
     moved_in(alloc, input, placing, first.object, body, row, run)
@@ -168,32 +155,49 @@ fn moved_code(
     moved_file(alloc, input, placing, file, row, first, run)
 }
 
-/// Where these fields of one body, or this one of data, stand in what the output has; there may be
-/// none.
-fn moved_run(
+/// The field stands where it stood, and so do the others of its body: the body numbers no segments.
+/// In data no field moves.
+fn stays(input: &LinkInput<'_, '_>, relocated: &Relocated) -> bool
+    ensures { result ≡ stays input.now relocated.now }
+{
+    match relocated.place {
+        FixupPlace::Segment => true,
+        FixupPlace::Code => {
+            let (object, function) = (relocated.object, relocated.site.unit);
+            !input.live().numbers_segments(object, function)
+        }
+    }
+}
+
+/// Adds where these fields of one body, or this one of data, stand in what the output has; there
+/// may be none.
+fn push_run(
     alloc: Global,
     input: &LinkInput<'_, '_>,
     placing: &Placing<'_>,
     numbers: &[ItemList<Option<u32>>],
     run: &[Relocated],
-) -> Result<Vec<u32>, LinkError>
+    positions: &mut Vec<u32>,
+) -> Result<(), LinkError>
     requires sound { AreSoundBodies input.now }
     requires numbers { AreAllNumbers input.now placing.now numbers.now }
     requires kept { AreKept input.now run.now }
     requires one { AreOfOneBody run.now }
-    ensures ok { IfOk result
-        (λ positions. AllZip (IsMovedIn input.now placing.now) run.now positions.items) }
+    ensures ok { OnOk result (AddsMoved input.now placing.now run.now
+        positions.old.items positions.new.items) }
     ensures err { IfErr result (λ e. e ≡ OutOfMemory) }
 {
     whole_objects();
+    unmarked_bodies_number_none();
     if run.is_empty() {
-        return Ok(Vec::new(alloc));
+        return Ok(());
     }
     let first = run[0];
-    match first.place {
-        FixupPlace::Segment => Ok(moved_data(alloc, input, placing, first, run)?),
-        FixupPlace::Code => moved_code(alloc, input, placing, numbers, first, run),
+    if stays(input, &first) {
+        return Ok(push_own(positions, run)?);
     }
+    let mut moved = moved_code(alloc, input, placing, numbers, first, run)?;
+    Ok(positions.append(&mut moved)?)
 }
 
 /// Where the fields of kept relocations stand in what the output has, in order.
@@ -216,13 +220,25 @@ pub(crate) fn moved_positions(
     let mut run = Vec::new(alloc);
     for relocated in kept_relocations(input) {
         if !goes_on(run.as_slice(), &relocated) {
-            let mut moved = moved_run(alloc, input, placing, numbers, run.as_slice())?;
-            positions.append(&mut moved)?;
+            push_run(
+                alloc,
+                input,
+                placing,
+                numbers,
+                run.as_slice(),
+                &mut positions,
+            )?;
             run.clear();
         }
         run.push(relocated)?;
     }
-    let mut moved = moved_run(alloc, input, placing, numbers, run.as_slice())?;
-    positions.append(&mut moved)?;
+    push_run(
+        alloc,
+        input,
+        placing,
+        numbers,
+        run.as_slice(),
+        &mut positions,
+    )?;
     Ok(positions)
 }

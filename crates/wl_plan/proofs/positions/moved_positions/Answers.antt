@@ -6,18 +6,18 @@ use Rattle.wl_plan.specs.Bodies.{IsMovedIn}
 use Rattle.wl_plan.specs.PositionSteps.{AreKept, goes_on}
 use Rattle.wl_plan.proofs.PositionLaws.{after_run, all_done, in_run, part_is_kept}
 use Rattle.wl_plan.proofs.positions.moved_positions.Goals as goal
-use Rattle.wl_plan.proofs.positions.moved_positions.Goals.{then-not-goes_on+in_ok-moved+in_ok-append, else-not-goes_on}
+use Rattle.wl_plan.proofs.positions.moved_positions.Goals.{then-not-goes_on+in_ok-push_run, else-not-goes_on}
 
-pub moved_run-requires-clause-kept : goal.moved_run-requires-clause-kept
-moved_run-requires-clause-kept c =
+pub push_run-requires-clause-kept : goal.push_run-requires-clause-kept
+push_run-requires-clause-kept c =
     let input = c.args.input.now in
     let at = c.loop-relocated in
     subst (λ (run : List Relocated). AreKept input run) (sym c.as_slice-then-not-goes_on.ensures.value)
     (part_is_kept input at.invariant.0 at.run.items (relocations_left at.relocated-iterator)
     at.invariant.1)
 
-pub moved_run-requires-2-clause-kept : goal.moved_run-requires-2-clause-kept
-moved_run-requires-2-clause-kept c =
+pub push_run-requires-2-clause-kept : goal.push_run-requires-2-clause-kept
+push_run-requires-2-clause-kept c =
     let input = c.args.input.now in
     let at = c.loop-relocated in
     subst (λ (run : List Relocated). AreKept input run) (sym c.as_slice-2.ensures.value)
@@ -36,15 +36,16 @@ loop-relocated-preserved c =
     let next = c.push.new.self.items in
     let positions = c.if-not-goes_on.positions.items in
     elim c.if-not-goes_on.branch [
-      | then-not-goes_on+in_ok-moved+in_ok-append w ↦ (
-          let new = w.in_ok-moved.moved.items in
+      | then-not-goes_on+in_ok-push_run w ↦ (
+          let adds = w.in_ok-push_run.ensures.ok in
+          let new = adds.moved in
           let moved : AllZip (IsMovedIn input g) at.run.items new =
           subst (λ (run : List Relocated). AllZip (IsMovedIn input g) run new)
-          w.as_slice-then-not-goes_on.ensures.value w.in_ok-moved.ensures.ok in
+          w.as_slice-then-not-goes_on.ensures.value adds.are in
           let is : next ≡ r ∷ [] =
           rw (w.run-is, w.clear.ensures.items) at c.in_ok-push.ensures.items in
           let are : positions ≡ at.positions.items ++ new =
-          rw w.positions-is w.in_ok-append.ensures.items in
+          rw w.positions-is adds.grown in
           after_run input g inv.0 at.run.items left more next r at.positions.items new positions
           inv.1 c.in-Some.ensures.steps is are inv.3 moved)
       | else-not-goes_on w ↦ (
@@ -62,10 +63,10 @@ returns-clause-ok c =
     let g = c.args.placing.now in
     let at = c.loop-relocated in
     let inv = at.invariant in
-    let new = c.in_ok-moved-2.moved.items in
+    let adds = c.in_ok-push_run-2.ensures.ok in
+    let new = adds.moved in
     let moved : AllZip (IsMovedIn input g) at.run.items new =
     subst (λ (run : List Relocated). AllZip (IsMovedIn input g) run new)
-    c.as_slice-2.ensures.value c.in_ok-moved-2.ensures.ok in
+    c.as_slice-2.ensures.value adds.are in
     all_done input g inv.0 at.run.items (relocations_left at.relocated-iterator) at.positions.items
-    new c.append-2.new.self.items inv.1 c.in-None.ensures.steps.0 c.in_ok-append-2.ensures.items
-    inv.3 moved
+    new c.push_run-2.new.positions.items inv.1 c.in-None.ensures.steps.0 adds.grown inv.3 moved
