@@ -25,7 +25,10 @@ const SECOND: &[u8; 54] = b"\0asm\x01\0\0\0\
 fn is_made(alloc: Global, number: u32, want: &[u8]) -> bool
     requires { number < 2 }
 {
-    generated_object(alloc, number, 2).is_ok_and(|object| object.as_slice() == want)
+    match generated_object(alloc, number, 2) {
+        Ok(object) => object.as_slice() == want,
+        Err(_) => false,
+    }
 }
 
 #[test]

@@ -32,23 +32,25 @@ fn told(alloc: Global, planned: &Result<LinkPlan<'_>, LinkError>) -> Option<Vec<
     }
 }
 
-/// A list of these objects.
-fn list_of(alloc: Global, objects: &[&[u8]]) -> Option<ObjectList> {
-    let mut list = ObjectList::new(alloc);
-    for bytes in objects {
-        match Vec::from_slice(alloc, bytes) {
-            Ok(bytes) if list.push(bytes).is_ok() => {}
-            _ => return None,
-        }
+/// Puts a copy of an object at the end, and says whether it is there.
+fn push_copy(alloc: Global, list: &mut ObjectList, bytes: &[u8]) -> bool {
+    match Vec::from_slice(alloc, bytes) {
+        Ok(bytes) => list.push(bytes).is_ok(),
+        Err(_) => false,
     }
-    Some(list)
 }
 
 /// What the plan of these objects comes to from nothing.
 fn told_from_nothing(alloc: Global, objects: &[&[u8]], args: &WasmArgs) -> Option<Vec<u8>> {
-    match &list_of(alloc, objects) {
-        Some(list) => told(alloc, &plan_link(alloc, list, args)),
-        None => None,
+    let mut list = ObjectList::new(alloc);
+    let mut is_whole = true;
+    for bytes in objects {
+        is_whole = push_copy(alloc, &mut list, *bytes) && is_whole;
+    }
+    if is_whole {
+        told(alloc, &plan_link(alloc, &list, args))
+    } else {
+        None
     }
 }
 
@@ -106,13 +108,18 @@ fn replay(alloc: Global, args: &WasmArgs, changes: u32) -> Option<u32> {
 /// Options under which all units are kept, and no function is started.
 const WORDS: [&str; 3] = ["--no-gc-sections", "--no-entry", "a.o"];
 
+/// How many plans there are among a thousand changes under these options.
+fn plans_of_a_thousand(alloc: Global) -> Option<u32> {
+    match args_of(alloc, &WORDS) {
+        Some(args) => replay(alloc, &args, 1000),
+        None => None,
+    }
+}
+
 #[test]
 fn plans_follow_replacements(rt: HostRuntime) {
-    match &args_of(rt.alloc(), &WORDS) {
-        // In 47 of 100 cases no name is defined twice, and `a` is defined where it is called.
-        Some(args) => assert!(rt; replay(rt.alloc(), args, 1000) == Some(47)),
-        None => panic!(rt; "no options"),
-    }
+    // In 47 of 100 cases no name is defined twice, and `a` is defined where it is called.
+    assert!(rt; plans_of_a_thousand(rt.alloc()) == Some(47));
 }
 
 /// Whether an object is refused for its bytes, by that number.
@@ -133,10 +140,15 @@ fn stays(alloc: Global, args: &WasmArgs) -> bool {
         && has_same_plan(alloc, &session, &[STRONG], args) == Some(true)
 }
 
+/// Whether it has under these options.
+fn stays_under_options(alloc: Global) -> bool {
+    match args_of(alloc, &WORDS) {
+        Some(args) => stays(alloc, &args),
+        None => false,
+    }
+}
+
 #[test]
 fn a_refused_object_changes_nothing(rt: HostRuntime) {
-    match &args_of(rt.alloc(), &WORDS) {
-        Some(args) => assert!(rt; stays(rt.alloc(), args)),
-        None => panic!(rt; "no options"),
-    }
+    assert!(rt; stays_under_options(rt.alloc()));
 }

@@ -96,8 +96,10 @@ fn are_segments_named(alloc: Global) -> bool {
     let unused = ProgramSegmentDef {
         segment_type: SegmentType::Unused,
     };
-    let text = format!(in alloc; "{header} {module} {unused}");
-    text.is_ok_and(|text| text.as_str() == "HEADER MODULE UNUSED")
+    match format!(in alloc; "{header} {module} {unused}") {
+        Ok(text) => text.as_str() == "HEADER MODULE UNUSED",
+        Err(_) => false,
+    }
 }
 
 #[test]

@@ -54,14 +54,20 @@ fn follows(alloc: Global, kept: &mut Kept<'_>, args: &WasmArgs) -> bool {
 }
 
 /// Whether it is so from no objects on.
-fn follows_from_nothing(alloc: Global) -> bool {
+fn follows_from_nothing(alloc: Global, args: &WasmArgs) -> bool {
+    let mut kept = Kept::new(alloc);
+    follows(alloc, &mut kept, args)
+}
+
+/// Whether it is so where no more is asked for.
+fn follows_by_itself(alloc: Global) -> bool {
     match args_of(alloc, &["a.o"]) {
-        Some(args) => follows(alloc, &mut Kept::new(alloc), &args),
+        Some(args) => follows_from_nothing(alloc, &args),
         None => false,
     }
 }
 
 #[test]
 fn a_name_follows_replacements(rt: HostRuntime) {
-    assert!(rt; follows_from_nothing(rt.alloc()));
+    assert!(rt; follows_by_itself(rt.alloc()));
 }
