@@ -4,10 +4,10 @@ _wildplan() {
     COMPREPLY=()
     case $before in
         -z) mapfile -t COMPREPLY < <(compgen -W 'stack-size=' -- "$word"); return ;;
-        --export | --export-if-defined | --entry | -e | --extra-features | --initial-memory | --max-memory | --keep-section | --generate | --check | --run | =) return ;;
+        --export | --export-if-defined | --entry | -e | --extra-features | --initial-memory | --max-memory | --keep-section | --replace | --generate | --run | =) return ;;
     esac
     if [[ $word == -* ]]; then
-        mapfile -t COMPREPLY < <(compgen -W '--allow-undefined --check-features --check= --entry= --export-dynamic --export-if-defined= --export-memory --export= --extra-features= --gc-sections --generate= --import-memory --initial-memory= --keep-section= --map --max-memory= --no-check-features --no-entry --no-gc-sections --no-stack-first --run= --shared-memory --stack-first --strip-all --strip-debug --why -S -e -o -s -z' -- "$word")
+        mapfile -t COMPREPLY < <(compgen -W '--allow-undefined --check-features --check= --entry= --export-dynamic --export-if-defined= --export-memory --export= --extra-features= --gc-sections --generate= --import-memory --initial-memory= --keep-section= --map --max-memory= --no-check-features --no-entry --no-gc-sections --no-stack-first --replace= --run= --shared-memory --stack-first --strip-all --strip-debug --why -S -e -o -s -z' -- "$word")
         [[ ${COMPREPLY[0]} == *= ]] && compopt -o nospace
     elif [[ $word != = ]]; then
         mapfile -t COMPREPLY < <(compgen -f -- "$word")

@@ -159,10 +159,50 @@ def words():
         (["--why"], "NoInputs"),
         (["--check", "a.txt"], "NoInputs"),
         (["--run=a"], "NoInputs"),
+        *replacements(),
         ([b"\xff.o"], "NotUtf8"),
     ]
     for given, fault in faults:
         check(f"words {given}", run(given), 2, err=f"error: BadWords {fault}\n".encode())
+
+
+def replacements():
+    """Words with `--replace`. A value that is wrong by itself is reported from the left, as other faults are; whether
+    there is such an object is asked once each word by itself is right."""
+    most = 2**64 - 1
+    return [
+        (["a.o", "--replace"], "MissingValue 1"),
+        (["--replace", "0", "a.o"], "BadNumber 1"),
+        (["--replace", "", "a.o"], "BadNumber 1"),
+        (["--replace=", "a.o"], "BadNumber 0"),
+        (["--replace", ":b.o", "a.o"], "BadNumber 1"),
+        (["--replace=x:b.o", "a.o"], "BadNumber 0"),
+        (["a.o", "--replace", "+0:b.o"], "BadNumber 2"),
+        (["a.o", "--replace=0 :b.o"], "BadNumber 1"),
+        (["a.o", "--replace", "0x0:b.o"], "BadNumber 2"),
+        (["a.o", "--replace=b.o:0"], "BadNumber 1"),
+        (["--replace", f"{most + 1}:b.o", "a.o", "--static"], "BadNumber 1"),
+        (["--replace", f"{most}:b.o", "a.o", "--static"], "UnknownOption 3"),
+        (["--replace", f"{most}:b.o", "a.o"], "BadNumber 1"),
+        (["--replace", "1:b.o", "a.o"], "BadNumber 1"),
+        (["--replace", "1:b.o", "a.o", "--static"], "UnknownOption 3"),
+        (["--replace", "1:b.o", "--entry"], "MissingValue 2"),
+        (["--replace=x:b.o", "--static"], "BadNumber 0"),
+        (["--static", "--replace=x:b.o"], "UnknownOption 0"),
+        (["a.o", "--replace=0:b.o", "--replace", "1:b.o", "--replace=2:b.o"], "BadNumber 3"),
+        (["--replace=2:b.o", "a.o", "--replace", "1:b.o"], "BadNumber 0"),
+        (["--replace", "0:b.o"], "BadNumber 1"),
+        (["--replace=0:b.o", "--no-entry"], "BadNumber 0"),
+        (["--why", "--replace=1:b.o", "--map", "a.o"], "TwoModes 2"),
+        (["--generate", "2", "--replace", "0:b.o"], "ExtraInput 3"),
+        (["--replace=0:b.o", "--generate=2"], "ExtraInput 0"),
+        (["a.o", "--replace=1:b.o", "--generate=2"], "ExtraInput 0"),
+        (["--replace", "1:b.o", "a.o", "--generate=2"], "ExtraInput 1"),
+        (["--generate=2", "--replace=1:b.o", "--replace=0:b.o", "a.o"], "ExtraInput 1"),
+        (["--generate=2", "a.o", "--replace=1:b.o"], "ExtraInput 1"),
+        (["--generate=2", "--replace=0", "a.o"], "BadNumber 1"),
+        (["--replace=1:b.o", "--generate=0"], "BadNumber 1"),
+    ]
 
 
 def modes(folder):
@@ -329,14 +369,15 @@ def files_of(text, stretches, folder):
     return files
 
 
-def words_of(text, listings, folder):
-    """The words of a line, and the files that they name: {NAME} stands for a file that has that listing."""
+def words_of(text, contents, folder):
+    """The words of a line, and the files that they name: {NAME} stands for a file that holds what has that name. The
+    name of the file has a colon."""
     words, files = [], {}
     for word in re.findall(r"(?:\{[^{}]*\}|[^\s{])+", text):
         for name in re.findall(r"\{([^{}]*)\}", word):
-            path = folder / f"{len(files)}.txt"
-            path.write_text(listings[name])
-            files[path] = listings[name]
+            path = folder / f"given:{len(files)}"
+            path.write_bytes(contents[name])
+            files[path] = contents[name]
             word = word.replace(f"{{{name}}}", str(path))
         words.append(word)
     return words, files
@@ -344,27 +385,30 @@ def words_of(text, listings, folder):
 
 def rows(folder):
     """The table of objects and answers."""
-    stretches, listings, words, given, rule, listing = named_stretches(), {}, [], {}, "", ""
+    stretches, contents, words, given, rule, listing = named_stretches(), {}, [], {}, "", ""
     for line in ROWS.read_text().splitlines():
         kind, _, rest = line.partition(" ")
         if kind == "##":
             rule = rest
         elif kind == "words":
-            words, given = words_of(rest, listings, folder)
+            words, given = words_of(rest, contents, folder)
+        elif kind == "file":
+            name, _, written = rest.partition(": ")
+            contents[name] = object_of(written, stretches)
         elif kind == "listing":
             listing = rest
-            listings[listing] = ""
+            contents[listing] = b""
         elif kind == ">":
-            listings[listing] += "".join(line + "\n" for line in lines_of(rest))
+            contents[listing] += "".join(line + "\n" for line in lines_of(rest)).encode()
         elif kind and kind != "#":
             objects, answer = line.split(" = ")
             status, told = answer.split(" ", 1)
             for row in rows_of(objects):
                 files = files_of(row, stretches, folder)
-                out, err = (listings[told], "") if status == "0" else ("", f"error: {told}\n")
-                check(f"{rule}: {row}", run([*words, *files]), int(status), out.encode(), err.encode())
-                for path, text in given.items():
-                    note(f"{rule}: {row}: a file that words name has changed", path.read_text() == text, "rows")
+                out, err = (contents[told], b"") if status == "0" else (b"", f"error: {told}\n".encode())
+                check(f"{rule}: {row}", run([*words, *files]), int(status), out, err)
+                for path, content in given.items():
+                    note(f"{rule}: {row}: a file that words name has changed", path.read_bytes() == content, "rows")
 
 
 def runs_of(text):
@@ -577,6 +621,16 @@ def documented_words():
                     ends([word], none)
                     ends([word + "=a"], none)
                     ends([word, ""], "ReadFault 0")
+                elif value.startswith("`I:FILE`"):
+                    ends([word], "BadWords MissingValue 0")
+                    ends([word, "0"], "BadWords BadNumber 1")
+                    ends([f"{word}=0x:a"], "BadWords BadNumber 0")
+                    # A number that is right by itself is one of an object only once the words end.
+                    bound = 2 ** int(re.search(r"a number below 2\^(\d+)", value)[1])
+                    ends([word, f"{bound - 1}:a", "--static"], "BadWords UnknownOption 2")
+                    ends([word, f"{bound}:a", "--static"], "BadWords BadNumber 1")
+                    ends([f"{word}=1:a", ""], "BadWords BadNumber 0")
+                    ends([f"{word}=0:a", ""], "ReadFault 0")
                 elif span := re.search(r"a number from (\d+) to (\d+)", value):
                     ends([word], "BadWords MissingValue 0")
                     for beyond in [int(span[1]) - 1, int(span[2]) + 1]:
@@ -648,6 +702,8 @@ def sizes(folder):
     with made.open("wb") as file:
         file.truncate(LARGEST + 1)
     check("one byte too many", run([*FLAGS, made]), 1, err=b"error: TooLarge Object\n")
+    words = [*FLAGS, "--replace", f"0:{made}", "--replace=0:no/such/file", EXAMPLES / "two_functions.o"]
+    check("one byte too many, in the place of an object", run(words), 1, err=b"error: TooLarge Object\n")
     with made.open("r+b") as file:
         file.truncate(LARGEST)
     check("just small enough", run([*FLAGS, made]), 1, err=b"error: Malformed 0 Header\n")
@@ -792,8 +848,8 @@ def launcher_options():
     known = {name for line in cases for name in line.split(" | ")}
     wanted = set()
     for names, value, *_ in table_of(OPTIONS, OPTIONS_TITLE):
-        # The name of a file is made absolute as those of objects are.
-        if value not in ("none", "[name]", "file"):
+        # The name of a file is made absolute as those of objects are, and so is that in the value of --replace.
+        if value not in ("none", "[name]", "file") and not value.startswith("`I:FILE`"):
             wanted |= {name for word in re.findall(r"`(-[\w-]+)`", names) for name in {word, re.sub("^--", "-", word)}}
     note(f"the options with values in the launcher: {known ^ wanted}", known == wanted)
 
@@ -811,7 +867,7 @@ def launched(folder):
     shutil.copytree(ROOT / "crates", copy / "crates", ignore=shutil.ignore_patterns("out"))
     for name in ["crates.txt", "wildplan", "examples/two_functions.o"]:
         shutil.copy(ROOT / name, copy)
-    command = ["./wildplan", *FLAGS, "two_functions.o"]
+    command = ["./wildplan", *FLAGS, "--replace", "0:two_functions.o", "two_functions.o"]
     ended = subprocess.run(command, cwd=copy, stdin=subprocess.DEVNULL, capture_output=True, timeout=600)
     notice = b"wildplan: running unproved, which takes a while; .ci/run proves and builds it\n"
     check("no proved program", ended, 0, (EXAMPLES / "two_functions.plan").read_bytes(), notice)

@@ -77,6 +77,11 @@ def cases(folder):
     yield "a listing that is the plan's", [*WHOLE, "--check", same, sound], 0, b"same\n"
     yield "a listing that differs", [*WHOLE, f"--check={other}", sound], 0, b"differs 9\n"
     yield "a text that is no listing", [*WHOLE, "--check", compiled, sound], 0, b"bad 0\n"
+    empty = EXAMPLES / "bare_module.o"
+    twice = ["--replace", f"0:{empty}", f"--replace=0:{sound}"]
+    yield "a replaced object", [*WHOLE, *twice, empty], 0, listed("a calls b")
+    yield "a name no more twice", [*WHOLE, f"--replace=1:{empty}", sound, sound], 0, listed("a calls b")
+    yield "a replaced object's listing", [*WHOLE, *twice, "--check", same, empty], 0, b"same\n"
     yield "a run", ["--entry", "a", "--run", "a", sound], 0, b"done\n"
     yield "a run of no function", ["--entry", "a", "--run", "b", sound], 0, b"none\n"
     yield "a run with shared memory", [*words, "--run", "none"], 0, b"none\n"
@@ -87,10 +92,13 @@ def cases(folder):
     # The object ends with its one relocation: type, offset and index.
     odd.write_bytes(content[:-3] + b"\xff" + content[-2:])
     yield "a relocation of no type", [*WHOLE, odd], 1, b"error: Malformed 0 RelocType\n"
+    words = [*WHOLE, f"--replace=0:{cut}", sound]
+    yield "a cut object in the place of another", words, 1, b"error: Malformed 0 Truncated\n"
     yield "a cut object that is run", [*WHOLE, "--run", "a", cut], 1, b"error: Malformed 0 Truncated\n"
     yield "a name twice", [*WHOLE, sound, sound], 1, b'error: DuplicateSymbol "a" 0 0 1 0\n'
     yield "two modes", ["--why", sound, "--map"], 2, b"error: BadWords TwoModes 2\n"
     yield "an object beside generated ones", ["--generate=2", sound], 2, b"error: BadWords ExtraInput 1\n"
+    yield "an object that there is not", [f"--replace=1:{empty}", sound], 2, b"error: BadWords BadNumber 0\n"
     yield "a value is missing", [*WHOLE, sound, "--entry"], 2, b"error: BadWords MissingValue 3\n"
 
 

@@ -208,25 +208,46 @@ def command(page, line):
         names_given = {word.split("=")[0] for word in rest if word.startswith("-") and len(word) > 1}
         doubled = {word if len(word) == 2 or word.startswith("--") else "-" + word for word in names_given}
         note(page, f"an unknown option: {line}", doubled <= options())
-        for word in rest:
-            if word.startswith(("examples/", "tests/", "tools/")):
-                note(page, f"no file {word}", (ROOT / word).exists())
+        for name in map(file_of, rest):
+            if name.startswith(("examples/", "tests/", "tools/")):
+                note(page, f"no file {name}", (ROOT / name).exists())
+
+
+def file_of(word):
+    """The file that a word names, where it names one: in the value of --replace it follows a number and a colon."""
+    return re.sub(r"^(?:--replace=)?\d+:", "", word)
+
+
+def ended_by(line):
+    """How a command of wildplan ends, or None where its files aren't in the repository."""
+    words = shlex.split(line)[1:]
+    objects = [name for name in map(file_of, words) if name.endswith(".o")]
+    if PROGRAM is None or not objects or set("|$<>") & set(line):
+        return None
+    if not all((ROOT / name).is_file() for name in objects):
+        return None
+    return subprocess.run([PROGRAM, *words], cwd=ROOT, stdin=subprocess.DEVNULL, capture_output=True, timeout=120)
 
 
 def printed_by(line):
-    """What a command of wildplan prints, or None where its files aren't in the repository. One that ends with
-    `| diff - FILE` has to print that file."""
+    """What a command prints that writes a listing, or None. One that ends with `| diff - FILE` has to print that file."""
     text, _, kept = line.partition(" | diff - ")
-    words = shlex.split(text)[1:]
-    objects = [word for word in words if word.endswith(".o")]
-    if PROGRAM is None or not objects or set("|$<>") & set(text):
+    ended = ended_by(text)
+    if ended is None:
         return None
-    if not all((ROOT / word).is_file() for word in objects):
-        return None
-    ended = subprocess.run([PROGRAM, *words], cwd=ROOT, stdin=subprocess.DEVNULL, capture_output=True, timeout=120)
     if kept and (ROOT / kept).read_bytes() != ended.stdout:
         return f"another listing than {kept}"
     return (ended.stdout + ended.stderr).decode() if ended.returncode == 0 else f"status {ended.returncode}"
+
+
+def transcript(page, number, block):
+    """A block of commands after a dollar sign, each with all that it prints."""
+    for part in re.split(r"(?m)^\$ ", "\n".join(block))[1:]:
+        line, *shown = part.rstrip("\n").split("\n")
+        command(page, line)
+        ended = ended_by(line)
+        printed = shown if ended is None else (ended.stdout + ended.stderr).decode().splitlines()
+        note(page, f"{number}: {line} prints {printed}", printed == shown)
 
 
 def is_listing(block):
@@ -238,6 +259,9 @@ def blocks(page):
     """Commands in the blocks of a page run, and lines of listings are those that the command before them prints."""
     printed = None
     for number, block in documents.blocks_of(page):
+        if block[0].startswith("$ "):
+            transcript(page, number, block)
+            continue
         for line in commands_of(block):
             command(page, line)
             if line.startswith(("./wildplan ", "wildplan ")):

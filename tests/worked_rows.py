@@ -226,6 +226,41 @@ THROUGH_THE_PROGRAM = {
         (f"{WHOLE} --check {{a calls b, with a number of two zeros}}", "A number is written in one way"),
         (f"{WHOLE} --check {{no line}}", "A text without a line is a listing, of no plan"),
     ],
+    "an object that is replaced": [
+        (f"{WHOLE} --replace 0:{{an empty module}}", "The plan is that of what is in the place of an object"),
+        (f"{WHOLE} --replace 0:{{an empty module}}", "An object has to be one, although it is replaced"),
+    ],
+    "an object that seven bytes replace": [
+        (f"{WHOLE} --replace 0:{{seven bytes}}", "What replaces an object has to be one, and has its number"),
+        (f"{WHOLE} --replace 0:{{seven bytes}} --replace 0:{{an empty module}}",
+         "What replaces an object has to be one, although it is replaced again"),
+    ],
+    "an object that is replaced twice": [
+        (f"{WHOLE} --replace 0:{{two functions}} --replace 0:{{an empty module}}", "Of two in one place the last counts"),
+    ],
+    "one object twice, of which the second is replaced": [
+        (f"{WHOLE} --replace 1:{{an empty module}}",
+         "Two objects that define the same functions have a plan once one of them is replaced"),
+    ],
+    "files in the places of objects that can't be read": [
+        (f"{WHOLE} --replace 0:{{an empty module}} --replace 0:no/such/file",
+         "Files in the places of objects count after the objects, and are read before an object is judged"),
+        (f"{WHOLE} --check no/such/file --replace 0:{{an empty module}}",
+         "The file that is compared is read after those in the places of objects"),
+    ],
+    "modes of objects that are replaced": [
+        ("--entry b --why --replace 0:{two functions}", "What is kept is what is in the place of an object"),
+        (f"{WHOLE} --map --replace 0:{{two functions}}", "Sizes are those of what is in the place of an object"),
+        ("--entry f --run f --replace 0:{a function f that returns 127}",
+         "A function runs that is in the place of an object"),
+        (f"{WHOLE} --check {{nothing}} --replace 0:{{an empty module}}",
+         "A text is the listing of the plan after the replacement"),
+    ],
+    "a replacement of an object that there is not": [
+        (f"{WHOLE} --replace 0:{{an empty module}}", "Without an object there is none that could be replaced"),
+        (f"{WHOLE} --replace 1:{{an empty module}}", "There is no object of this number"),
+        ("--generate 3 --replace 0:{an empty module}", "Generated objects aren't replaced"),
+    ],
 }
 
 # Examples at a call: what each shows, and the tests of wl_tests, as FILE/FUNCTION.
@@ -256,6 +291,8 @@ IN_SCRIPTS = {
     "a refused allocation, where threads share the memory": ("out_of_memory.py", "shared memory"),
     "a refused allocation of generated objects": ("out_of_memory.py", "generated objects"),
     "objects that are changed while a plan of them lives": ("misuse.py", "changed_under_a_plan"),
+    "words that ask for replacements": ("cli.py", "replacements"),
+    "a replaced object, with each allocation refused": ("out_of_memory.py", "a replaced object"),
     "streams that take nothing": ("cli.py", "writes"),
     "what operators on integers compute, load and store": ("cli.py", "numbers"),
     "texts that are no listings": ("listing_grammar.py", "texts_by_hand"),

@@ -135,6 +135,7 @@ page-size | value | refused | leave it out: a page has 65536 bytes
 pie | none | refused | leave it out: the addresses of a plan are final
 r | none | refused | leave it out: one whole module is planned
 relocatable | none | refused | leave it out: one whole module is planned
+replace | value | refused | give it to wildplan itself, with the words and in the folder of the kept objects
 shared | none | refused | leave it out: one whole module is planned
 table-base | value | refused | leave it out: the table begins at slot 1
 unresolved-symbols | value | refused | give --allow-undefined

@@ -26,7 +26,7 @@ INTRODUCTION = [
 ]
 OPTIONS_TEXT = "Options and objects stand in any order. A name of more than one letter takes one dash or two. A " \
     "value follows an equals sign, or is the next argument; one in brackets may be left out, and follows an equals " \
-    "sign alone. Numbers are decimal."
+    "sign only. Numbers are decimal."
 DIAGNOSTICS_TEXT = "O and P are numbers of objects, S and T of symbols, and N of an argument, all counted from 0."
 EXAMPLES = [
     ("wildplan --no-entry --export run a.o b.o", "Plan a module of two objects that exports the function run."),
@@ -43,8 +43,9 @@ class Option:
     def __init__(self, names, value, what, again, default):
         self.names = re.findall(r"`(-[\w-]+)`", names)
         self.value, self.what, self.again, self.default = value, what, again, default
-        self.is_repeated = again == "all count"
+        self.is_repeated = again.startswith("all count")
         self.is_optional = value.startswith("[")
+        self.is_file = value == "file" or names == "`-o`"
         self.keyword = (re.findall(r"`([\w-]+=)`", value) or [""])[0]
         self.placeholder = self.placeholder_of(value)
 
@@ -53,6 +54,8 @@ class Option:
         """What stands for the value where the option is shown: nothing where it takes none."""
         if value == "none":
             return ""
+        if shown := re.match(r"`([A-Z:]+)`", value):
+            return shown[1]
         if "number" in value:
             return "N"
         return value.strip("[]").split()[0].upper()
@@ -187,7 +190,7 @@ def bash_completions():
     listed = sorted(name + ("=" if name in needed and name.startswith("--") else "") for name in names)
     keywords = [f"        {name}) mapfile -t COMPREPLY < <(compgen -W '{option.keyword}' -- \"$word\"); return ;;"
                 for name, option in values.items() if option.keyword]
-    free = [name for name in needed if not values[name].keyword and name != "-o"]
+    free = [name for name in needed if not values[name].keyword and not values[name].is_file]
     return "\n".join([
         f"# Completions for bash, {MADE}",
         "_wildplan() {",
@@ -215,10 +218,10 @@ def zsh_spec(option, name):
     front = "*" if option.is_repeated else ""
     if not option.placeholder:
         return quoted(f"{front}{name}[{option.summary().translate(marks)}]")
-    action = "_files" if name == "-o" else f"({option.keyword})" if option.keyword else " "
+    action = "_files" if option.is_file else f"({option.keyword})" if option.keyword else " "
     joint = "=-" if option.is_optional else "=" if name.startswith("--") else ""
     colons = "::" if option.is_optional else ":"
-    value = option.placeholder.lower()
+    value = option.placeholder.lower().translate(marks)
     return quoted(f"{front}{name}{joint}[{option.summary().translate(marks)}]{colons}{value}:{action}")
 
 
@@ -232,7 +235,7 @@ def zsh_completions():
 def fish_line(option, name):
     """The line for fish of an option under one of its names."""
     flag = f"-l {name[2:]}" if name.startswith("--") else f"-s {name[1:]}"
-    takes = "" if not option.placeholder or option.is_optional else " -r" if name == "-o" else " -x"
+    takes = "" if not option.placeholder or option.is_optional else " -r" if option.is_file else " -x"
     values = f" -a {quoted(option.keyword)}" if option.keyword else ""
     return f"complete -c wildplan {flag}{takes}{values} -d {quoted(option.summary())}"
 

@@ -1,17 +1,7 @@
 -- The line that tells of a plan in numbers.
-use Rattle.std.specs.Prelude.{ℕ, ◌+◌, ◌==◌, Bool, List, ◌++◌, length, sum_by, codes, decimal}
-use Rattle.std.specs.List.{count_by}
-use Rattle.wl_index.specs.declared.index.TheConstants.{WASM_DEAD_INDEX}
-use Rattle.wl_index.specs.declared.index_map.WasmObjectIndexMap.{WasmObjectIndexMap}
+use Rattle.std.specs.Prelude.{ℕ, List, ◌++◌, length, sum_by, codes, decimal}
+use Rattle.wl_plan.specs.Dropped.{dropped_in}
 use Rattle.wl_plan.specs.declared.layout.LinkPlan.{LinkPlan}
-
--- the index of what the output doesn't have
-abbrev pub is_dropped : ℕ → Bool
-is_dropped index = index == WASM_DEAD_INDEX
-
--- how many functions and globals of an object the output doesn't have
-abbrev pub dropped_in : WasmObjectIndexMap → ℕ
-dropped_in m = count_by is_dropped m.function_indices + count_by is_dropped m.global_indices
 
 -- The counts of a plan: its objects, its functions that aren't imported, what it drops, and its
 -- relocations.

@@ -7,11 +7,11 @@ use Rattle.wl_words.specs.declared.modes.Mode.TheVariants as mode
 use Rattle.wl_symbols.specs.Link.{Link, link_of}
 use Rattle.wl_plan.specs.LinkPlan.{IsLinkPlan}
 use Rattle.wl_plan.specs.declared.layout.LinkPlan.{LinkPlan}
-use Rattle.wl_generate.specs.Generated.{generated}
 use Rattle.wl_why.specs.Text.{IsWhyText}
 use Rattle.wildplan.specs.Generated.{summary_text}
 use Rattle.wl_plan.specs.PlanLines.{listing_text}
 use Rattle.wildplan.specs.Map.{IsMapText}
+use Rattle.wildplan.specs.Replacing.{PlanInputs, AreSound, objects_after}
 use Rattle.wildplan.specs.Check.{IsVerdictText}
 use Rattle.wildplan.specs.Running.{IsRunText}
 
@@ -19,6 +19,7 @@ use Rattle.wildplan.specs.Running.{IsRunText}
 abbrev pub with_entry : Option (List ℕ) → WasmArgs → WasmArgs
 with_entry entry args = record {
   inputs = args.inputs;
+  replacements = args.replacements;
   export_symbols = args.export_symbols;
   required_export_symbols = args.required_export_symbols;
   export_dynamic = args.export_dynamic;
@@ -46,11 +47,6 @@ abbrev pub planned_args : WasmArgs → WasmArgs
 planned_args args =
     if generates args.mode then with_entry (Some (codes "f0")) args else args
 
--- the objects that are planned: those that were read, or generated ones
-abbrev pub objects_in : Mode → List (List ℕ) → List (List ℕ)
-objects_in (mode.Generate count) read = generated count
-objects_in _ read = read
-
 -- what is written of the plan of a link: where a text is compared, its verdict; and where a function
 -- is run, how that ends
 abbrev pub IsTextOf : List (List ℕ) → Option (List ℕ) → Mode → Link → LinkPlan → List ℕ → Type 0
@@ -63,9 +59,10 @@ IsTextOf words compared (mode.Check file) link plan text =
 IsTextOf words compared (mode.Run function) link plan text =
     IsRunText plan (unwrap_or (placed_value words function) []) text
 
--- objects have a plan, and this is what is written of it
-pub record IsPlanText (words : List (List ℕ)) (compared : Option (List ℕ))
-    (objects : List (List ℕ)) (args : WasmArgs) (text : List ℕ) : Type 0 where
+-- the objects, once each replacement was done, have a plan, and this is what is written of it
+pub record IsPlanText (words : List (List ℕ)) (inputs : PlanInputs) (args : WasmArgs)
+    (text : List ℕ) : Type 0 where
+  pub sound : AreSound inputs
   pub plan : LinkPlan
-  pub is_plan : IsLinkPlan objects args plan
-  pub is_text : IsTextOf words compared args.mode (link_of is_plan.files args) plan text
+  pub is_plan : IsLinkPlan (objects_after inputs) args plan
+  pub is_text : IsTextOf words inputs.compared args.mode (link_of is_plan.files args) plan text

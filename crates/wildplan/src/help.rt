@@ -36,6 +36,7 @@ or two; its value follows an equals sign, or is the next argument where it isn't
   --check FILE                       write whether FILE holds the listing of the plan
   --run NAME                         run the exported function NAME, and write how that ends
   --generate N                       plan generated objects, and write counts
+  --replace I:FILE                   plan FILE in the place of object I
   --help, --version                  this text, and the version, as the only argument
 ";
 

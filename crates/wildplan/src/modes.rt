@@ -1,27 +1,29 @@
 //! What is planned and what is written, by the mode that the words ask for.
 
-ghost use Rattle.std.specs.Prelude.{◌≡◌, [], option_map, unwrap_or, IfOk, IfErr};
+ghost use Rattle.std.specs.Prelude.{◌≡◌, ◌<◌, [], length, All, option_map, unwrap_or, IfOk, IfErr};
 ghost use Rattle.wl_linking.specs.Steps.{Clear, Refuses};
 ghost use Rattle.wl_symbols.specs.Link.{link_of};
 ghost use Rattle.wl_plan.specs.Faults.{link_fault};
-ghost use Rattle.wl_plan.specs.LinkPlan.{HasLinkFault, IsPlanOf};
-ghost use Rattle.wl_plan.specs.PlanLines.{HasListing};
+ghost use Rattle.wl_plan.specs.LinkPlan.{IsPlanOf};
 ghost use Rattle.wl_why.specs.Text.{IsWhyText};
 ghost use Rattle.wl_words.specs.Modes.{placed_value};
 ghost use Rattle.wl_words.specs.Texts.{texts};
-ghost use Rattle.wildplan.specs.Loading.{CanBeLoaded};
 ghost use Rattle.wildplan.specs.Modes.{planned_args, IsTextOf, IsPlanText};
+ghost use Rattle.wildplan.specs.Objects.{inputs_read};
+ghost use Rattle.wildplan.specs.Replacing.{HasPlanFault};
 
 use crate::check::check_text;
+use crate::inputs::Inputs;
 use crate::loadable::plans_can_be_loaded;
 use crate::map::link_map;
+use crate::replacing::session_after;
 use crate::running::run_text;
 use crate::summary::summary;
 use std::alloc::{AllocError, Global};
 use wl_linking::{FileList, LinkError};
 use wl_lists::Text;
 use wl_live::collect_live;
-use wl_plan::{LinkPlan, ObjectList, listing, parse_objects, plan_files, plans_have_listings};
+use wl_plan::{LinkPlan, listing, parse_objects, plan_files, plans_have_listings};
 use wl_symbols::SymbolTable;
 use wl_why::why_text;
 use wl_words::{Mode, ValuePlace, WasmArgs};
@@ -73,14 +75,16 @@ fn mode_text(
     words: &[String],
     compared: Option<&[u8]>,
 ) -> Result<Vec<u8>, LinkError>
-    requires planned { IsPlanOf (link_of files.now args.now) plan.now }
-    requires listed { HasListing plan.now }
-    requires loadable { CanBeLoaded plan.now }
+    requires { IsPlanOf (link_of files.now args.now) plan.now }
     ensures ok { IfOk result (λ text. IsTextOf (texts words.now)
         (option_map (λ t. t.now) compared.entry) args.now.mode
         (link_of files.now args.now) plan.now text.items) }
     ensures err { IfErr result (Refuses (λ _. ⊥)) }
 {
+    plans_have_listings();
+    plans_can_be_loaded();
+    // As a slice the objects are known to be whole.
+    let _objects = files.as_slice();
     match args.mode {
         Mode::Listing => Ok(listing(alloc, plan)?),
         Mode::Generate(_) => Ok(summary(alloc, plan)?),
@@ -91,25 +95,67 @@ fn mode_text(
     }
 }
 
-/// What is written of the plan of the objects that some bytes are.
-///
-/// # Errors
-/// What `plan_link` refuses, in each mode.
-pub(crate) fn plan_text(
+/// What is written of the plan of objects, none of which is replaced.
+fn objects_text(
     alloc: Global,
-    objects: &ObjectList,
+    inputs: &Inputs,
     args: &WasmArgs,
     words: &[String],
-    compared: Option<&[u8]>,
 ) -> Result<Vec<u8>, LinkError>
-    ensures ok { IfOk result (λ text. IsPlanText (texts words.now)
-        (option_map (λ t. t.now) compared.entry) objects.now args.now text.items) }
-    ensures err { IfErr result (Refuses (HasLinkFault objects.now args.now)) }
+    requires { args.now.replacements ≡ [] }
+    ensures ok { IfOk result (λ text. IsPlanText (texts words.now) (inputs_read args.now inputs.now)
+        args.now text.items) }
+    ensures err { IfErr result (Refuses (HasPlanFault (inputs_read args.now inputs.now) args.now)) }
 {
-    plans_have_listings();
-    plans_can_be_loaded();
-    objects.none_is_longer();
-    let files = parse_objects(alloc, objects)?;
+    let files = parse_objects(alloc, &inputs.objects)?;
     let plan = plan_files(alloc, &files, args)?;
-    mode_text(alloc, &files, args, &plan, words, compared)
+    mode_text(alloc, &files, args, &plan, words, inputs.compared())
+}
+
+/// What is written of the plan of objects, once each replacement was done.
+fn replaced_text(
+    alloc: Global,
+    inputs: &Inputs,
+    args: &WasmArgs,
+    words: &[String],
+) -> Result<Vec<u8>, LinkError>
+    requires { All (λ r. r.object < length inputs.now.objects) args.now.replacements }
+    ensures ok { IfOk result (λ text. IsPlanText (texts words.now) (inputs_read args.now inputs.now)
+        args.now text.items) }
+    ensures err { IfErr result (Refuses (HasPlanFault (inputs_read args.now inputs.now) args.now)) }
+{
+    let session = session_after(alloc, inputs, args)?;
+    let plan = session.plan(alloc)?;
+    mode_text(
+        alloc,
+        session.files(),
+        args,
+        &plan,
+        words,
+        inputs.compared(),
+    )
+}
+
+/// What is written of the plan of what was given.
+///
+/// # Errors
+/// In each mode, what `plan_link` refuses of the objects once each replacement was done, and an
+/// object or a replacement that isn't in the grammar or has a form that isn't taken.
+pub(crate) fn plan_text(
+    alloc: Global,
+    inputs: &Inputs,
+    args: &WasmArgs,
+    words: &[String],
+) -> Result<Vec<u8>, LinkError>
+    requires { All (λ r. r.object < length inputs.now.objects) args.now.replacements }
+    ensures ok { IfOk result (λ text. IsPlanText (texts words.now) (inputs_read args.now inputs.now)
+        args.now text.items) }
+    ensures err { IfErr result (Refuses (HasPlanFault (inputs_read args.now inputs.now) args.now)) }
+{
+    if args.replacements.as_slice().is_empty() {
+        // What a session keeps for later plans isn't made for one plan.
+        objects_text(alloc, inputs, args, words)
+    } else {
+        replaced_text(alloc, inputs, args, words)
+    }
 }

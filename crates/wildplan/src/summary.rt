@@ -2,7 +2,8 @@
 
 ghost use Rattle.std.specs.Prelude.{◌≡◌, ◌<◌, ◌^◌, sum_by, IfOk};
 ghost use Rattle.std.specs.List.{count_by};
-ghost use Rattle.wildplan.specs.Generated.{is_dropped, dropped_in, summary_text};
+ghost use Rattle.wl_plan.specs.Dropped.{is_dropped, dropped_in};
+ghost use Rattle.wildplan.specs.Generated.{summary_text};
 
 use std::alloc::{AllocError, Global};
 use wl_index::{WASM_DEAD_INDEX, WasmObjectIndexMap};

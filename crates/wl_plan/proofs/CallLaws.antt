@@ -189,7 +189,7 @@ typed_behind input plan is w s holds entry i ty b typed =
     let number : slice_get plan.layout.output_types (f.0).type_index ≡ Some n.0 =
     ap (λ (ts : List FunctionType). slice_get ts (f.0).type_index) is.spaces.types ∙ n.2 in
     let word = holds.types b.k f.0 n.0 listed number in
-    let count = imported_functions input is.placing plan.layout.imports is.entities.imports in
+    let count = imported_functions input is.placing plan.layout.imports is.spaces.imports in
     let same : count_by is_function_import plan.layout.imports + b.k ≡ i = omega (arith, count, b.index) in
     subst (λ (x : ℕ). w.type_of x ≡ Some n.0) same word ∙ ap (λ (x : FunctionType). Some x) one
 
@@ -222,7 +222,7 @@ typed_host : (input : Input) (plan : LinkPlan) (is : IsPlan input plan) (w : Wor
     → (entry : FunctionEntry) (i : ℕ) (ty : FunctionType) → slice_get (host_function_part input) i ≡ Some entry
     → type_of_entry input entry ≡ Some ty → w.type_of i ≡ Some ty
 typed_host input plan is w s holds entry i ty at typed =
-    let are = is.entities.imports in
+    let are = is.spaces.imports in
     let hosts = first_imports (host_functions input) in
     let c = came_at (λ (x : ImportSlot). FunctionOf (function.Host x.object x.number)) hosts i entry at in
     let t = c.0 in

@@ -93,7 +93,7 @@ leads_if input plan place e x is here true w h =
     let own = zip_length (IsOutputFunction input types) (own_functions input) fs.own fs.are_own in
     let at : slice_get (fs.own ++ fs.wrappers) (length fs.own + number) ≡ Some z.0 =
     get_behind fs.own fs.wrappers number (length fs.own + number) refl ∙ z.1 in
-    let imports = imported_functions input is.placing plan.layout.imports is.entities.imports in
+    let imports = imported_functions input is.placing plan.layout.imports is.spaces.imports in
     let long = own_length input in
     let index = h.2 in
     inr (record {

@@ -10,6 +10,7 @@ pub mod UniqueBodies
 pub mod UniqueEntities
 pub mod UniqueFiles
 pub mod UniqueLaws
+pub mod DroppedLaws
 pub mod GlobalLaws
 pub mod GlobalParts
 pub mod TypePlaceLaws

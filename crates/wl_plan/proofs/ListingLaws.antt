@@ -1,6 +1,6 @@
 -- The listing of a plan counts nothing beyond 32 bits.
-use Rattle.std.proofs.Common.{◌≡◌, ◌∙◌, ◌≤◌, ◌<◌, ◌+◌, ◌-◌, ◌^◌, ℕ, zero, suc, Bool, true, false, cond, not, ◌||◌, List, [], ◌∷◌, ◌++◌, length, map, filter, drop, refl, sym, ap, subst, arith}
-use Rattle.std.specs.List.{AllByRecursion, AllZip, count_by}
+use Rattle.std.proofs.Common.{◌≡◌, ◌∙◌, ◌≤◌, ◌+◌, ◌^◌, ℕ, Bool, true, false, cond, not, ◌||◌, List, [], ◌∷◌, length, map, filter, drop, refl, sym, ap, subst, arith}
+use Rattle.std.specs.List.{AllByRecursion, AllZip}
 use Rattle.std.proofs.lemmas.List.{length-append, length-map, length-drop}
 use Rattle.wl_bytes.specs.declared.reader.TheConstants.{MAX_LEN}
 use Rattle.wl_custom.specs.Debug.{DebugInput}
@@ -23,7 +23,6 @@ use Rattle.wl_bind.specs.GlobalSpace.{global_parts, global_space, host_global_pa
 use Rattle.wl_bind.specs.OutputTypes.{output_types}
 use Rattle.wl_bind.specs.Scan.{table_functions}
 use Rattle.wl_bind.specs.SpaceFaults.{index_fault}
-use Rattle.wl_bind.specs.declared.binding.FunctionTarget.{FunctionTarget}
 use Rattle.wl_exports.specs.Wrapped.{AreTooManyWrappers}
 use Rattle.wl_exports.specs.Wrappers.{wrapped}
 use Rattle.wl_index.specs.declared.index.TheConstants.{MAX_ENTRIES}
@@ -31,8 +30,7 @@ use Rattle.wl_check.specs.Ranges.{IsSmall}
 use Rattle.wl_plan.specs.Addresses.{numbers_from}
 use Rattle.wl_plan.specs.Bodies.{AreBodies, IsBodyOf, IsWrapperBody, object_debug_sections}
 use Rattle.wl_plan.specs.Contents.{AllWithin}
-use Rattle.wl_plan.specs.Extras.{output_debug_sections}
-use Rattle.wl_plan.specs.Faults.{IsLaterFault, IsPlacedFault, input_of, kept_fault, laid_fault, link_fault}
+use Rattle.wl_plan.specs.Faults.{IsLaterFault, input_of, kept_fault, laid_fault, link_fault}
 use Rattle.wl_plan.specs.Functions.{AreOutputFunctions, IsOutputFunction, IsWrapperFunction, own_functions}
 use Rattle.wl_plan.specs.Globals.{ArePlannedGlobals, IsPlannedGlobal, own_globals}
 use Rattle.wl_plan.specs.KeptData.{all_segments}
@@ -41,13 +39,11 @@ use Rattle.wl_plan.specs.ObjectSegments.{ObjectSegment, of_object, segments_of_o
 use Rattle.wl_plan.specs.Objects.{AreObjects}
 use Rattle.wl_plan.specs.Origins.{PlannedFunction}
 use Rattle.wl_plan.specs.Outline.{AreFew, HasWrapperRoom}
-use Rattle.wl_plan.specs.Placing.{AreTooManySegments, IsPlacing, data_input, data_options}
+use Rattle.wl_plan.specs.Placing.{AreTooManySegments, data_input, data_options}
 use Rattle.wl_plan.specs.Plan.{IsPlan}
 use Rattle.wl_plan.specs.PlanLines.{AreDebugSectionsSmall, ArePayloadsSmall, HasListing, first_function, first_global}
 use Rattle.wl_plan.specs.Table.{IsElement}
 use Rattle.wl_plan.specs.declared.layout.LinkPlan.{LinkPlan}
-use Rattle.wl_plan.specs.declared.layout.PlannedGlobal.{PlannedGlobal}
-use Rattle.wl_plan.specs.declared.objects.TheConstants.{MAX_OBJECT}
 use Rattle.wl_linking.proofs.StepLaws.{first_clear, rest_clear}
 use Rattle.wl_lists.proofs.Beside.{zip_length}
 use Rattle.wl_lists.proofs.Places.{all_append}
@@ -55,7 +51,7 @@ use Rattle.wl_plan.proofs.CallLaws.{imported_functions}
 use Rattle.wl_plan.proofs.DebugBounds.{SectionsStand, debug_within}
 use Rattle.wl_plan.proofs.KeptDataLaws.{SegmentsAreAligned, SegmentsAreSpanned, all_can}
 use Rattle.wl_plan.proofs.PlacingLaws.{numbers_few}
-use Rattle.wl_plan.proofs.PlanLaws.{few_by, front_within, hosts_within, index_is_row, index_row}
+use Rattle.wl_plan.proofs.PlanLaws.{few_by, front_within, hosts_within, index_is_row}
 use Rattle.wl_plan.proofs.PlannedLaws.{behind_index, wrapper_room}
 use Rattle.wl_plan.proofs.RunningLaws.{imported_globals}
 use Rattle.wl_plan.proofs.TableLaws.{TableIs, table_is_few}
@@ -67,7 +63,7 @@ functions_few : (input : Input) (plan : LinkPlan) (is : IsPlan input plan) → H
     → first_function plan + length plan.layout.function_type_indices ≤ MAX_ENTRIES
 functions_few input plan is room =
     let h : AreOutputFunctions input (output_types input) plan.layout.function_type_indices = is.spaces.functions in
-    let hosts = imported_functions input is.placing plan.layout.imports is.entities.imports in
+    let hosts = imported_functions input is.placing plan.layout.imports is.spaces.imports in
     let within = hosts_within input in
     let own = zip_length (IsOutputFunction input (output_types input)) (own_functions input) h.own h.are_own in
     let len = length-drop (length (host_function_part input)) (function_space input) in
@@ -80,7 +76,7 @@ bodies_few : (input : Input) (plan : LinkPlan) (is : IsPlan input plan) → HasW
     → first_function plan + length plan.layout.function_bodies ≤ MAX_ENTRIES
 bodies_few input plan is room =
     let h : AreBodies input is.placing plan.layout.function_bodies = is.bodies.bodies in
-    let hosts = imported_functions input is.placing plan.layout.imports is.entities.imports in
+    let hosts = imported_functions input is.placing plan.layout.imports is.spaces.imports in
     let within = hosts_within input in
     let own = zip_length (IsBodyOf input is.placing) (own_functions input) h.own h.are_own in
     let len = length-drop (length (host_function_part input)) (function_space input) in
@@ -93,7 +89,7 @@ globals_few : (input : Input) (plan : LinkPlan) (is : IsPlan input plan) → Are
     → first_global plan + length plan.layout.globals ≤ MAX_ENTRIES
 globals_few input plan is few =
     let h : ArePlannedGlobals input is.placing plan.layout.globals = is.spaces.globals in
-    let hosts = imported_globals input is.placing plan.layout.imports is.entities.imports in
+    let hosts = imported_globals input is.placing plan.layout.imports is.spaces.imports in
     let within : length (host_global_part input) ≤ length (global_space input) =
     front_within (host_global_part input) (drop 1 (global_parts input)) (object_globals input) in
     let own = zip_length (IsPlannedGlobal input is.placing) (own_globals input) plan.layout.globals h in
@@ -209,6 +205,10 @@ index_none input clear = record { none = (index_is_row input).first (behind_inde
 behind_none : (input : Input) → Clear (kept_fault input) → Clear (behind_index input)
 behind_none input clear =
     rest_clear _ _ (rest_clear _ _ (rest_clear _ _ (rest_clear _ _ (rest_clear _ _ (rest_clear _ _ (rest_clear _ _ clear))))))
+
+-- there is room for the things of a plan
+pub few_of_plan : (link : Link) (plan : LinkPlan) (is : IsPlanOf link plan) → AreFew (input_of link is.live)
+few_of_plan link plan is = few_by (input_of link is.live) (index_none (input_of link is.live) (kept_none link is.live is.kept is.clear))
 
 segments_none : (input : Input) → Clear (kept_fault input) → Clear (AreTooManySegments input)
 segments_none input clear =

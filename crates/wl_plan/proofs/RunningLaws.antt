@@ -365,7 +365,7 @@ word_global input plan is w s holds i k entry index own made change =
     let content : (p.0).global.ty.content_type ≡ I32Type = ap (λ t. t.content_type) m.ty in
     let mutable : (p.0).global.ty.mutable ≡ true = ap (λ t. t.mutable) m.ty ∙ change in
     let word = holds.globals k p.0 p.1 content in
-    let count = imported_globals input g plan.layout.imports is.entities.imports in
+    let count = imported_globals input g plan.layout.imports is.spaces.imports in
     let same : count_by is_global_import plan.layout.imports + k ≡ i = omega (arith, count, index) in
     subst (IsWordGlobal w s.globals) same (word.value, word.holds, word.mutable ∙ mutable)
 

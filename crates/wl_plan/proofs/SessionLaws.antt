@@ -21,7 +21,7 @@ use Rattle.wl_plan.specs.Objects.{AreObjects}
 use Rattle.wl_plan.specs.Parsing.{link_error_of}
 use Rattle.wl_plan.specs.Session.{Held, held_of, bytes_of, holding, IsBadBytes, IsReplaced, AreReplaced}
 use Rattle.wl_plan.proofs.LinkLaws.{link_err, link_ok}
-use Rattle.wl_plan.proofs.UniqueFiles.{ObjectOrFault}
+use Rattle.wl_plan.proofs.UniqueFiles.{OneObject, ObjectOrFault, files_one}
 use Rattle.wl_linking.proofs.StepLaws.{refuses_for, refuses_here, refuses_memory}
 
 -- ---- the bytes of objects
@@ -103,6 +103,27 @@ pub session_ok : (held : Held) (kept files : List Object) (args : WasmArgs)
     → IfOk r (IsLinkPlan held.objects held.args)
 session_ok held kept files args r is same whole h =
     rw (← is, ← same) (link_ok (bytes_of files) args files r (objects_of_bytes files whole) h)
+
+-- whatever the objects of these bytes are called, the plan is theirs
+pub session_planned : OneObject → (held : Held) (kept files : List Object) (args : WasmArgs)
+    (r : Result LinkPlan LinkError) → held_of kept args ≡ held → files ≡ kept
+    → AllByRecursion IsWhole files → IfOk r (IsPlanOf (link_of files args))
+    → IfOk r (λ plan. (others : List Object) → AreObjects others held.objects
+    → IsPlanOf (link_of others held.args) plan)
+session_planned one held kept files args (Ok plan) is same whole h = λ others objects.
+    let theirs : AreObjects others (bytes_of files) =
+    subst (λ (x : Held). AreObjects others x.objects) (sym is ∙ ap (λ (fs : List Object). held_of fs args) (sym same)) objects in
+    let alike : files ≡ others = files_one one files others (bytes_of files) (objects_of_bytes files whole) theirs in
+    subst (λ (a : WasmArgs). IsPlanOf (link_of others a) plan) (ap (λ (x : Held). x.args) is)
+    (subst (λ (fs : List Object). IsPlanOf (link_of fs args) plan) alike h)
+session_planned one held kept files args (Err e) is same whole h = tt
+
+-- what is kept are the objects of the bytes that are held
+pub held_objects : (held : Held) (kept files : List Object) (args : WasmArgs)
+    → held_of kept args ≡ held → files ≡ kept → AllByRecursion IsWhole files
+    → AreObjects files held.objects
+held_objects held kept files args is same whole =
+    rw (← is, ← same) (objects_of_bytes files whole)
 
 pub session_err : (held : Held) (kept files : List Object) (args : WasmArgs)
     (r : Result LinkPlan LinkError) → held_of kept args ≡ held → files ≡ kept

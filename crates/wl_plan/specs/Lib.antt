@@ -9,6 +9,7 @@ pub mod AddressSteps
 pub mod Threads
 pub mod IndexedMaps
 pub mod IndexSteps
+pub mod Dropped
 pub mod Functions
 pub mod FunctionSteps
 pub mod Imports
@@ -27,6 +28,7 @@ pub mod Resolved
 pub mod SizeSteps
 pub mod Extras
 pub mod Outline
+pub mod PlanParts
 pub mod Plan
 pub mod PlanSteps
 pub mod Faults

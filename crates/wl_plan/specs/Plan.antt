@@ -23,10 +23,8 @@ use Rattle.wl_plan.specs.declared.placing.Placing.{Placing}
 
 -- ---- bindings and entities
 
--- what is imported, the table with its functions and their slots, and the function that runs at the
--- start
-pub record HasEntities (input : Input) (g : Placing) (layout : WasmLayout) : Type 0 where
-  pub imports : AreImports input (output_types input) g layout.imports
+-- the table with its functions and their slots, and the function that runs at the start
+pub record HasEntities (input : Input) (layout : WasmLayout) : Type 0 where
   pub table : layout.table ≡ output_table input
   pub elements : AreElements input layout.element_functions
   pub slots : layout.function_table_slots ≡ function_slots input
@@ -52,10 +50,12 @@ pub record HasPlaces (input : Input) (g : Placing) (layout : WasmLayout) : Type 
 
 -- ---- types, spaces and exports
 
--- each type once; the functions and globals in the order of their spaces, each with its type or
--- with what it starts with; where the things of each object stand; what others may refer to
+-- each type once; what is imported; the functions and globals in the order of their spaces, each
+-- with its type or with what it starts with; where the things of each object stand; what others may
+-- refer to
 pub record HasSpaces (input : Input) (g : Placing) (layout : WasmLayout) : Type 0 where
   pub types : layout.output_types ≡ output_types input
+  pub imports : AreImports input (output_types input) g layout.imports
   pub functions : AreOutputFunctions input (output_types input) layout.function_type_indices
   pub globals : ArePlannedGlobals input g layout.globals
   pub maps : AreWholeMaps input g layout.object_index_maps
@@ -82,7 +82,7 @@ pub record HasBodies (input : Input) (g : Placing) (layout : WasmLayout) : Type 
 pub record IsPlan (input : Input) (plan : LinkPlan) : Type 0 where
   pub placing : Placing
   pub placed : IsPlacing input placing
-  pub entities : HasEntities input placing plan.layout
+  pub entities : HasEntities input plan.layout
   pub places : HasPlaces input placing plan.layout
   pub spaces : HasSpaces input placing plan.layout
   pub fixups : AreFixups input placing plan.fixups

@@ -17,7 +17,12 @@ ghost use Rattle.wl_plan.specs.Faults.{link_fault};
 ghost use Rattle.wl_plan.specs.IndexedMaps.{AreWholeMaps};
 ghost use Rattle.wl_plan.specs.KeptData.{kept_segments};
 ghost use Rattle.wl_plan.specs.LinkPlan.{IsPlanOf, IsLinkPlan, HasLinkFault};
-ghost use Rattle.wl_plan.specs.Placing.{data_input};
+ghost use Rattle.wl_plan.specs.Fixups.{AreFixups};
+ghost use Rattle.wl_plan.specs.Placing.{data_input, IsPlacing};
+ghost use Rattle.wl_plan.specs.Plan.{HasEntities, HasPlaces, HasSpaces, HasBodies};
+ghost use Rattle.wl_plan.specs.PlanParts.{entities_of, places_of, spaces_of, bodies_of};
+ghost use Rattle.wl_plan.specs.declared.layout.WasmLayout.{WasmLayout as Layout};
+ghost use Rattle.wl_output.specs.declared.fixups.Fixup.{Fixup};
 ghost use Rattle.wl_plan.specs.Resolved.{IsNumbered, IsOf, answer_for, HasNoAddress};
 ghost use Rattle.wl_plan.specs.declared.layout.LinkPlan.{LinkPlan as SpecPlan};
 ghost use Rattle.wl_plan.specs.declared.placing.Placing.{Placing as Places};
@@ -36,15 +41,24 @@ use wl_ops::numbers_are_one;
 use wl_symbols::live_sets_are_one;
 use wl_synth::body_or_fault;
 
-/// A link has one plan at most, and none where a step has a cause.
-pub fn plan_or_fault()
-    ensures one { (link : Link) (a b : SpecPlan) → IsPlanOf link a → IsPlanOf link b → a ≡ b }
-    ensures either { (link : Link) (plan : SpecPlan) (e : SpecError)
-        → IsPlanOf link plan → link_fault link e → ⊥ }
+/// Each part of a plan is one: where things lie is fixed by the link and what is kept, and each of
+/// the five parts by these and by where things lie.
+pub fn parts_are_one()
+    ensures placings { (input : Input) (a b : Places) → IsPlacing input a → IsPlacing input b
+        → a ≡ b }
+    ensures entities { (input : Input) (a b : Layout) → HasEntities input a → HasEntities input b
+        → entities_of a ≡ entities_of b }
+    ensures places { (input : Input) (g : Places) (a b : Layout) → HasPlaces input g a
+        → HasPlaces input g b → places_of a ≡ places_of b }
+    ensures spaces { (input : Input) (g : Places) (a b : Layout) → IsPlacing input g
+        → HasSpaces input g a → HasSpaces input g b → spaces_of a ≡ spaces_of b }
+    ensures fixups { (input : Input) (g : Places) (a b : List Fixup) → IsPlacing input g
+        → AreFixups input g a → AreFixups input g b → a ≡ b }
+    ensures bodies { (input : Input) (g : Places) (a b : Layout) → HasBodies input g a
+        → HasBodies input g b → bodies_of a ≡ bodies_of b }
 {
     shortest_form_is_one();
     numbers_are_one();
-    live_sets_are_one();
     places_are_one();
     segments_have_layouts();
     entries_stand_once();
@@ -52,6 +66,16 @@ pub fn plan_or_fault()
     body_or_fault();
     features_are_one();
     exports_are_one();
+}
+
+/// A link has one plan at most, and none where a step has a cause.
+pub fn plan_or_fault()
+    ensures one { (link : Link) (a b : SpecPlan) → IsPlanOf link a → IsPlanOf link b → a ≡ b }
+    ensures either { (link : Link) (plan : SpecPlan) (e : SpecError)
+        → IsPlanOf link plan → link_fault link e → ⊥ }
+{
+    live_sets_are_one();
+    parts_are_one();
 }
 
 /// The bytes of objects have one plan at most, and never both a plan and a cause of a refusal.

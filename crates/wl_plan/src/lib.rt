@@ -35,7 +35,7 @@ mod wrappers;
 
 pub use laws::{
     flag_is_where_memory_is_filled, kept_thread_data_is_laid, link_plan_or_fault,
-    only_addresses_are_refused, plan_or_fault,
+    only_addresses_are_refused, parts_are_one, plan_or_fault,
 };
 pub use layout::{
     FunctionOrigin, LinkPlan, OutputFunction, OutputImport, PlannedGlobal, WasmLayout,
@@ -52,8 +52,8 @@ pub use objects::{MAX_OBJECT, ObjectList, PushError};
 pub use parsing::parse_objects;
 pub use part_laws::{
     bodies_name_their_own_segments, exports_have_different_names, exports_lead_to_their_things,
-    functions_have_types_and_bodies, layouts_refuse_addresses_alone, places_of_plans_stand_apart,
-    plans_keep_their_promises, slots_hold_their_functions,
+    functions_have_types_and_bodies, layouts_refuse_addresses_alone, maps_mark_what_is_dropped,
+    places_of_plans_stand_apart, plans_keep_their_promises, slots_hold_their_functions,
 };
 pub use running_laws::{
     block_exports_name_their_things, constructors_of_plans_are_called,

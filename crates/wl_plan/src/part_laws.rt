@@ -1,7 +1,7 @@
 //! What someone may count on who writes a module by a plan: its parts fit one another. Functions
 //! with an empty body, each of which states a law.
 
-ghost use Rattle.std.specs.Prelude.{◌≡◌, ◌≢◌, ◌<◌, ◌-◌, ◌↔◌, ℕ, List, length, map, true, Some, Err, Contains, slice_get};
+ghost use Rattle.std.specs.Prelude.{◌≡◌, ◌≢◌, ◌<◌, ◌-◌, ◌↔◌, ℕ, List, length, map, true, Some, Err, Contains, slice_get, sum_by};
 ghost use Rattle.std.specs.List.{AllZip};
 ghost use Rattle.wl_linking.specs.Object.{Object as SpecObject};
 ghost use Rattle.wl_linking.specs.Steps.{Clear};
@@ -30,6 +30,7 @@ ghost use Rattle.wl_bind.specs.GlobalSpace.{global_space};
 ghost use Rattle.wl_bind.specs.Parts.{StandOnce};
 ghost use Rattle.wl_plan.specs.Addresses.{segment_space};
 ghost use Rattle.wl_plan.specs.Bodies.{body_in, new_number};
+ghost use Rattle.wl_plan.specs.Dropped.{dropped_in, unkept_from};
 ghost use Rattle.wl_plan.specs.Exported.{LeadsToItsThing};
 ghost use Rattle.wl_plan.specs.Faults.{IsValueFault, input_of};
 ghost use Rattle.wl_plan.specs.Fixups.{AreFixups};
@@ -128,6 +129,14 @@ pub fn layouts_refuse_addresses_alone()
 {
     only_addresses_are_refused();
 }
+
+/// The maps of a plan mark exactly the functions and globals of its objects that aren't kept: there
+/// are as many entries for what the output doesn't have.
+pub fn maps_mark_what_is_dropped()
+    ensures { (link : Link) (plan : SpecPlan) (is : IsPlanOf link plan)
+        → sum_by dropped_in plan.layout.object_index_maps
+        ≡ unkept_from (input_of link is.live) 0 link.objects }
+{}
 
 /// No two exports of a plan have one name.
 pub fn exports_have_different_names()

@@ -7,7 +7,9 @@ ghost use Rattle.wl_linking.specs.Fitting.{IsObject};
 ghost use Rattle.wl_linking.specs.Steps.{Clear, Refuses};
 ghost use Rattle.wl_linking.specs.declared.error.LinkError.{LinkError as SpecError};
 ghost use Rattle.wl_session.specs.After.{Replacement, after};
-ghost use Rattle.wl_plan.specs.LinkPlan.{HasLinkFault, IsLinkPlan};
+ghost use Rattle.wl_symbols.specs.Link.{link_of};
+ghost use Rattle.wl_plan.specs.LinkPlan.{HasLinkFault, IsLinkPlan, IsPlanOf};
+ghost use Rattle.wl_plan.specs.Objects.{AreObjects};
 ghost use Rattle.wl_plan.specs.Session.{Held, holding, IsBadBytes, AreReplaced};
 ghost use Rattle.wl_plan.specs.declared.layout.LinkPlan.{LinkPlan as SpecPlan};
 
@@ -17,7 +19,7 @@ use crate::link::{objects_are_whole, plan_known};
 use crate::parsing::link_error;
 use std::alloc::Global;
 use std::marker::Model;
-use wl_linking::{LinkError, object_or_fault, parse_wasm_module};
+use wl_linking::{FileList, LinkError, object_or_fault, parse_wasm_module};
 use wl_session::Kept;
 use wl_words::WasmArgs;
 
@@ -109,6 +111,15 @@ impl<'a> Session<'a> {
         self.kept.files().is_empty()
     }
 
+    /// The objects as they are.
+    pub fn files(&self) -> &FileList<'a>
+        ensures { AreObjects result.now self.now.objects }
+    {
+        let files = self.kept.files();
+        objects_are_whole(files);
+        files
+    }
+
     /// The plan of one module of the objects as they are: that of [`plan_link`](crate::plan_link)
     /// over their bytes.
     ///
@@ -116,8 +127,11 @@ impl<'a> Session<'a> {
     /// As [`plan_link`](crate::plan_link).
     pub fn plan(&self, alloc: Global) -> Result<LinkPlan<'a>, LinkError>
         ensures ok { IfOk result (IsLinkPlan self.now.objects self.now.args) }
+        ensures planned { IfOk result (λ plan. (files : List Object)
+            → AreObjects files self.now.objects → IsPlanOf (link_of files self.now.args) plan) }
         ensures err { IfErr result (Refuses (HasLinkFault self.now.objects self.now.args)) }
     {
+        object_or_fault();
         let files = self.kept.files();
         objects_are_whole(files);
         let symbols = self.kept.names().table(alloc, files, self.args)?;

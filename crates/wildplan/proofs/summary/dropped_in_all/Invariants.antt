@@ -1,6 +1,6 @@
 use Rattle.std.proofs.Common.{ℕ, ◌≡◌, ◌≤◌, ◌*◌, ◌^◌, take}
 use Rattle.std.specs.Prelude.{sum_by}
-use Rattle.wildplan.specs.Generated.{dropped_in}
+use Rattle.wl_plan.specs.Dropped.{dropped_in}
 use Rattle.wildplan.proofs.summary.dropped_in_all.Given as goal
 
 -- what the objects so far drop

@@ -1,5 +1,5 @@
 use Rattle.std.proofs.lemmas.Result.{err_from_is_err_and}
-use Rattle.wl_plan.proofs.SessionLaws.{session_err, session_ok, session_repeats}
+use Rattle.wl_plan.proofs.SessionLaws.{session_err, session_ok, session_planned, session_repeats}
 use Rattle.wl_plan.proofs.session.Session.plan.Goals as goal
 
 pub returns-in_err-symbols-clause-err : goal.returns-in_err-symbols-clause-err
@@ -15,6 +15,12 @@ returns-clause-ok c =
     session_ok c.args.self.now c.self.inside.kept c.files-files.result.now c.self.inside.args.now
     c.plan_known.result c.self.view_is c.files-files.ensures c.objects_are_whole.ensures
     c.plan_known.ensures.ok
+
+pub returns-clause-planned : goal.returns-clause-planned
+returns-clause-planned c =
+    session_planned c.object_or_fault.ensures.one c.args.self.now c.self.inside.kept
+    c.files-files.result.now c.self.inside.args.now c.plan_known.result c.self.view_is
+    c.files-files.ensures c.objects_are_whole.ensures c.plan_known.ensures.ok
 
 pub returns-clause-err : goal.returns-clause-err
 returns-clause-err c =
