@@ -24,6 +24,7 @@ EXAMPLES = ROOT / "examples"
 OBJECTS = ROOT / "tests" / "objects"
 ROWS = ROOT / "tests" / "rows.txt"
 OPERATORS = ROOT / "tests" / "operators.txt"
+NUMBERS = ROOT / "tests" / "numbers.txt"
 FORMAT = ROOT / "docs" / "FORMAT.md"
 OPTIONS = ROOT / "docs" / "OPTIONS.md"
 ERRORS = ROOT / "docs" / "ERRORS.md"
@@ -66,6 +67,13 @@ def leb128(number):
     """An unsigned number in its shortest form."""
     low, rest = number & 0x7F, number >> 7
     return bytes([low | 0x80]) + leb128(rest) if rest else bytes([low])
+
+
+def sleb128(number):
+    """A signed number in its shortest form."""
+    low, rest = number & 0x7F, number >> 7
+    is_last = rest == (-1 if low & 0x40 else 0)
+    return bytes([low]) if is_last else bytes([low | 0x80]) + sleb128(rest)
 
 
 def run(words, **streams):
@@ -439,6 +447,68 @@ def operators(folder):
             kind = "Malformed" if answer in ("Body", "BadIndex") else "Unsupported"
             err = err and f"error: {kind} 0 {err}\n"
             check(f"{rule}: {row}", run([*FLAGS, made]), 1 if err else 0, out.encode(), err.encode())
+
+
+# The operators of tests/numbers.txt that take, or leave, numbers of 64 bits; the others take and leave 32.
+TAKES_64 = {*range(0x50, 0x5B), *range(0x79, 0x8B), 0xA7, 0xC2, 0xC3, 0xC4, 0x37, 0x3C, 0x3D, 0x3E}
+LEAVES_64 = {*range(0x79, 0x8B), 0xAC, 0xAD, 0xC2, 0xC3, 0xC4, 0x29, *range(0x30, 0x36)}
+
+
+def constant(number, is_wide):
+    """The operator that leaves this number."""
+    bits = 64 if is_wide else 32
+    return bytes([0x42 if is_wide else 0x41]) + sleb128(number - (number >> bits - 1 << bits))
+
+
+def section(kind, content):
+    """A section of an object."""
+    return bytes([kind]) + leb128(len(content)) + content
+
+
+def object_that_returns(code, is_wide, data):
+    """An object whose function `f` has these operators and one result; the data lies from address 1024 on."""
+    body = bytes([0, *code, 0x0B])
+    return b"".join([
+        bytes.fromhex("0061736d01000000"),
+        section(1, bytes([1, 0x60, 0, 1, 0x7E if is_wide else 0x7F])),
+        bytes.fromhex("0302010005030100020a"),
+        leb128(len(body) + len(leb128(len(body))) + 1), bytes([1]), leb128(len(body)), body,
+        section(11, bytes([1, 0, 0x41, 0, 0x0B, len(data)]) + data),
+        section(0, b"\x07linking" + bytes.fromhex("02080601000000") + b"\x01f"),
+    ])
+
+
+def row_of_numbers(row, answer):
+    """The operators of a row of numbers, whether they leave 64 bits, and the number that they leave."""
+    kind, *words = row.split() if row.startswith(("load", "store")) else ("compute", *row.split())
+    operator, *numbers = [int(word, 16) for word in words]
+    is_wide = operator in LEAVES_64
+    if kind == "compute":
+        code = b"".join(constant(number, operator in TAKES_64) for number in numbers) + bytes([operator])
+    else:
+        offset, address, *values = numbers
+        code = constant(address, False) + b"".join(constant(value, operator in TAKES_64) for value in values)
+        code += bytes([operator, 0]) + leb128(offset)
+    if kind == "store":
+        code, is_wide = code + constant(0x800, False) + bytes.fromhex("290000"), True
+        answer = answer if answer.startswith("trap") else bytes.fromhex(answer)[::-1].hex()
+    return code, is_wide, answer if answer.startswith("trap") else f"done {int(answer, 16)}"
+
+
+def numbers(folder):
+    """The table of what operators on integers give."""
+    made, rule, data = folder / "numbers.o", "", b""
+    for line in NUMBERS.read_text().splitlines():
+        kind, _, rest = line.partition(" ")
+        if kind == "##":
+            rule = rest
+        elif kind == "bytes":
+            data = bytes.fromhex(rest)
+        elif kind and kind != "#":
+            row, answer = line.split(" = ")
+            code, is_wide, wanted = row_of_numbers(row, answer)
+            made.write_bytes(object_that_returns(code, is_wide, data))
+            check(f"{rule}: {line}", run([*FLAGS, "--export=f", "--run=f", made]), 0, f"{wanted}\n".encode())
 
 
 def note(title, sound, of="the documents"):
@@ -842,6 +912,7 @@ def main():
         modes(folder)
         rows(folder)
         operators(folder)
+        numbers(folder)
         documented_relocations(folder)
         documented_operators(folder)
         compiled(folder)

@@ -5,7 +5,8 @@
     tests/listing_grammar.py PROGRAM    tries another one
 
 It makes lines of the grammar, and wrong ones from these; the grammar itself tells which of them are lines. With
-`--check` the program has to answer `bad L` where a line is none, and else `differs L` or `same`, of the same line.
+`--check` the program has to answer `bad L` where a line is none, and else `differs L` or `same`, of the same line. So it
+has to of texts worked out by hand, of which it also stands here which are listings.
 
 The last line is `N passed, M failed`."""
 
@@ -32,6 +33,115 @@ WORDS = ["--no-gc-sections", "--no-entry"]
 MADE, MUTANTS = 24, 6
 # The longest list of names, types or bytes that is made.
 LONGEST = 5
+
+# Texts that are listings: each kind of line, with each of its choices and the ends of its ranges.
+GOOD = [
+    b'',
+    b'wildplan 1\n',
+    b'type 0 ()->()\n',
+    b'type 4294967295 (i32,i64,f32,f64,v128,funcref,externref)->(i32)\n',
+    b'import func "env" "p" 0\n',
+    b'import global "GOT.mem" "a b\\22\\0a" i32 var\n',
+    b'import global "env" "" f64 const\n',
+    b'import memory "env" "memory" 2 - -\n',
+    b'import memory "env" "memory" 1 4 shared\n',
+    b'func 0 type 0 object 18446744073709551615 unit 4294967295\n',
+    b'func 1 type 0 made __wasm_call_ctors\n',
+    b'func 1 type 0 made __wasm_init_tls\n',
+    b'func 1 type 0 made __wasm_init_memory\n',
+    b'func 2 type 3 stub "f"\n',
+    b'func 3 type 3 wrap "g"\n',
+    b'body 0 \n',
+    b'body 10 000b7fff\n',
+    b'global 0 i32 var 41808004 made stack_pointer\n',
+    b'global 1 i64 const  object 0 unit 2\n',
+    b'global 2 i32 const 4100 made got_func\n',
+    b'memory 2 - -\n',
+    b'memory 1 18446744073709551615 shared\n',
+    b'memory 18446744073709551615 - -\n',
+    b'table 18446744073709551615\n',
+    b'slot 1 0\n',
+    b'segment 0 object 0 unit 0 active 1024 4\n',
+    b'segment 0 object 0 unit 0 shared 1024 4\n',
+    b'segment 0 object 18446744073709551615 unit 0 shared 4294967295 4294967295\n',
+    b'segment 0 object 0 unit 0 tls 0 4\n',
+    b'segment 0 object 0 unit 0 passive - 4\n',
+    b'export "" func 7\n',
+    b'export "t" table 0\n',
+    b'export "memory" memory 0\n',
+    b'export "g" global 4294967295\n',
+    b'start 0\n',
+    b'fix 0 code 0 2 R_WASM_FUNCTION_INDEX_LEB 1 0\n',
+    b'fix 1 segment 0 4 R_WASM_MEMORY_ADDR_I32 1024 -2147483648\n',
+    b'fix 1 segment 0 4 R_WASM_MEMORY_ADDR_I32 1024 2147483647\n',
+    b'fix 0 segment 0 0 R_WASM_MEMORY_ADDR_I32 deferred -1\n',
+    b'fix 0 segment 0 0 R_WASM_MEMORY_ADDR_I32 deferred 2147483647\n',
+    b'fix 18446744073709551615 segment 4294967295 0 R_WASM_FUNCTION_INDEX_I32 4294967295 0\n',
+    b'fix 0 code 3 0 R_WASM_TABLE_INDEX_REL_SLEB 5 0\n',
+    b'feature "mutable-globals"\n',
+    b'feature "\xff\\7f\\1f\\5c\x80"\n',
+    b'debug 0 ".debug_str" 5\n',
+    b'debug 18446744073709551615 "" 4294967295\n',
+    b'end\n',
+    b'end\nend\nwildplan 1\n',
+    b'type 0 ()->()\ntype 0 ()->(externref)\n',
+    b'slot 10 20\nslot 0 4294967295\n',
+    b'feature "end"\nend\n',
+]
+
+# Texts that are none, and the first of their lines that is at fault.
+BAD = [
+    (b'wildplan 1\ntype 00 ()->()\n', 1),
+    (b'wildplan 1', 0),
+    (b'wildplan 2\n', 0),
+    (b'\n', 0),
+    (b'wildplan 1\n\n', 1),
+    (b'wildplan 1\nend', 1),
+    (b'end\r\n', 0),
+    (b'End\n', 0),
+    (b'slot 1  0\n', 0),
+    (b'slot 1 0 \n', 0),
+    (b' slot 1 0\n', 0),
+    (b'slot +1 0\n', 0),
+    (b'slot -1 0\n', 0),
+    (b'slot  0\n', 0),
+    (b'slot 1\n', 0),
+    (b'slot 1 4294967296\n', 0),
+    (b'slot 1 01\n', 0),
+    (b'table 18446744073709551616\n', 0),
+    (b'table 99999999999999999999999999\n', 0),
+    (b'func 0 type 0 made __wasm_init\n', 0),
+    (b'func 0 type 0 object 0 unit 4294967296\n', 0),
+    (b'func 0 type 0 stub f\n', 0),
+    (b'body 0\n', 0),
+    (b'body 0 0\n', 0),
+    (b'body 0 0B\n', 0),
+    (b'global 0 i32 mut 4100 made data\n', 0),
+    (b'global 0 i32 var made data\n', 0),
+    (b'memory 2 -\n', 0),
+    (b'memory 2 - 1\n', 0),
+    (b'memory 18446744073709551616 - -\n', 0),
+    (b'segment 0 object 0 unit 0 tls -1 4\n', 0),
+    (b'segment 0 object 18446744073709551616 unit 0 passive - 4\n', 0),
+    (b'segment 0 object 0 unit 0 passive 4\n', 0),
+    (b'type 0 (i32,)->()\n', 0),
+    (b'type 0 (,i32)->()\n', 0),
+    (b'type 0 (i32 i32)->()\n', 0),
+    (b'type 0 (i33)->()\n', 0),
+    (b'fix 0 code 0 2 R_WASM_MEMORY_ADDR_LEB64 1 0\n', 0),
+    (b'fix 0 code 0 2 R_WASM_FUNCTION_INDEX_LEB 1 -0\n', 0),
+    (b'fix 0 code 0 2 R_WASM_FUNCTION_INDEX_LEB 1 2147483648\n', 0),
+    (b'fix 0 code 0 2 R_WASM_FUNCTION_INDEX_LEB 1 -2147483649\n', 0),
+    (b'fix 0 segment 0 0 R_WASM_MEMORY_ADDR_I32 deferred 2147483648\n', 0),
+    (b'start 4294967296\n', 0),
+    (b'debug 0 "" 4294967296\n', 0),
+    (b'feature "a"b"\n', 0),
+    (b'feature "\\41"\n', 0),
+    (b'feature "\\0A"\n', 0),
+    (b'feature "a\nb"\n', 0),
+    (b'feature "a\n', 0),
+    (b'end\nend\nfeature "\\"\nend\n', 2),
+]
 
 TOKEN = re.compile(r"'([^']*)'|([\w-]+)|([=|{}\[\]])")
 
@@ -319,6 +429,14 @@ def compare(rules, folder, plan, text):
     return want
 
 
+def texts_by_hand(rules, folder, plan):
+    """Texts worked out by hand are listings, or have their first fault in the line that is told."""
+    for text, line in [*((text, None) for text in GOOD), *BAD]:
+        said = compare(rules, folder, plan, text)
+        is_told = not said.startswith(b"bad ") if line is None else said == b"bad %d\n" % line
+        note(f"{text!r} has to be {'a listing' if line is None else line}, and is {said!r}", is_told)
+
+
 # ---- texts
 
 
@@ -384,6 +502,7 @@ def main():
             texts.append(b"".join([*before, mutant, b"\n", *before]))
         for text in [*texts, *changed_plans(plan, chance)]:
             said.add(compare(rules, folder, plan, text).split()[0])
+        texts_by_hand(rules, folder, plan)
         note(f"only {said} were asked for", said == {b"same", b"bad", b"differs"})
     counts.end()
 

@@ -168,6 +168,58 @@ THROUGH_THE_PROGRAM = {
         (f"{SHARED} --run segment_word", "The function at the start lays the segment that all threads have in common"),
         (f"{SHARED} --run flag_word", "And it leaves that it is done"),
     ],
+    "features of a payload, and one that ends too early": [
+        (WHOLE, "Features are read"),
+        (WHOLE, "A list of features ends before its count"),
+    ],
+    "addresses of the names that the linker makes": [
+        (f"{WHOLE} --export __data_end --export __global_base --export __dso_handle --export __wasm_first_page_end "
+         "--export __heap_base --export __heap_end", "Names that the linker makes stand for addresses"),
+    ],
+    "the base of the heap and the stack pointer, where the stack comes first": [
+        (f"{WHOLE} --stack-first -z stack-size=1048576 --export=__data_end --export=__heap_base",
+         "Where the stack comes first it ends where data begins, and the heap begins at a multiple of 16 behind "
+         "the data"),
+        (f"{WHOLE} --stack-first --initial-memory=65536", "A first page holds the stack in front of the data"),
+    ],
+    "bodies of calls and of wrappers": [
+        (WHOLE, "Constructors of two objects are called by priority, and their results dropped"),
+        ("--no-entry --export=f", "A wrapper hands on its parameters, and keeps the result"),
+    ],
+    "sizes of bodies and of segments": [
+        (f"{WHOLE} --map", "A section counts its bytes and their count, and nothing where it is empty"),
+        (f"{WHOLE} --map", "An active segment has its address, a passive one has none"),
+    ],
+    "a body with another number of a segment": [(WHOLE, "A field after such a number moves with it")],
+    "a padded number in a body": [(WHOLE, "A padded number of a segment is written in its shortest form")],
+    "the value of an address that there is not": [
+        (WHOLE, "Data that nothing defines has no address: 0, or the distance from where memory "
+         "begins"),
+    ],
+    "the value of an absolute address": [
+        (WHOLE, "An absolute symbol has the address that it tells"),
+        (WHOLE, "An absolute address below the data of threads has no place in it"),
+    ],
+    "the body that fills a thread's block": [
+        (SHARED, "The block of a thread is zeros, and over them "
+         "its template"),
+    ],
+    "the body that lays shared segments": [(SHARED, "one segment that all threads have in common")],
+    "what words ask for": [
+        ("--export-if-defined foo --export=bar --export-if-defined=baz --extra-features=a --import-memory=foo,bar "
+         "--keep-section=a --keep-section name --strip-all -z stack-size=0064 --no-entry -e=main --no-gc-sections",
+         "Each word asks for what it says, and of two that speak of one thing the last counts"),
+        ("--no-entry -", "A dash alone is an object, the first one here"),
+        (f"{WHOLE} --export=bar", "A name that has to be there"),
+        (f"{WHOLE} --extra-features=a --extra-features=b,,c", "The last list of features counts, without empty names"),
+        (f"{WHOLE} --extra-features=a --extra-features=", "It may be empty"),
+        (f"{WHOLE} --import-memory=foo", "A name of the memory alone is one of env"),
+        (f"{WHOLE} --strip-all --keep-section=a -keep-section=target_features",
+         "Sections are kept by their names, the debug sections left out"),
+        (f"{WHOLE} --strip-all --keep-section=a --keep-section target_features --keep-section c",
+         "The name may be the next word"),
+        (f"{WHOLE} --strip-all --keep-section=a --keep-section name", "Sections of other names are left out"),
+    ],
     "a listing that is compared with that of the plan": [
         (f"{WHOLE} --check {{a calls b}}", "A text is the listing of the plan"),
         (f"{WHOLE} --check={{a calls b, where a has another type}}", "A text is another listing, by one number"),
@@ -213,37 +265,13 @@ THROUGH_THE_PROGRAM = {
 
 # Examples at a call: what each shows, and the tests of wl_tests, as FILE/FUNCTION.
 AT_CALLS = {
-    "features of a payload, and one that ends too early": ["custom/reads_features"],
-    "addresses of the names that the linker makes": ["symbols/names_of_data_have_addresses"],
-    "the base of the heap behind data, where the stack comes first": [
-        "symbols/the_heap_begins_at_a_multiple_of_16",
-        "data/heap_begins_behind_the_data",
-    ],
-    "the start of the stack pointer": ["data/stack_pointer_is_aligned"],
+    "the base of the heap behind data, where the stack comes first": ["data/heap_begins_behind_the_data"],
     "pages that hold the data and the stack": ["data/memory_holds_the_stack", "data/heap_begins_behind_the_data"],
-    "bodies of calls and of wrappers": ["synth/calls_drop_their_results", "synth/wrapper_hands_on_its_parameters"],
-    "sizes of bodies and of segments": ["data/sizes_are_those_of_the_format"],
-    "a body with another number of a segment": ["ops/remaps_a_body"],
-    "a padded number in a body": ["ops/finds_a_padded_number"],
-    "the value of an address that there is not": ["reloc/no_address_is_0_or_counts_from_the_memory"],
-    "the value of an absolute address": [
-        "reloc/an_absolute_address_is_taken_as_it_is",
-        "reloc/an_address_below_the_data_of_threads_has_no_offset",
-    ],
-    "the body that fills a thread's block": ["synth/thread_block_is_copied"],
-    "the body that lays shared segments": ["synth/segments_are_laid"],
-    "what words ask for": [
-        "words/words_ask_for_their_fields",
-        "words/the_last_list_of_features_counts",
-        "words/a_name_of_the_memory_alone_is_one_of_env",
-        "words/sections_are_kept_by_their_names",
-    ],
     "each call of a file that fails": ["files/each_failing_call_of_a_file_is_a_fault"],
     "each write that fails": ["files/each_failing_write_leaves_a_front", "files/a_stream_that_takes_nothing_is_a_fault"],
     "a file with a limit": ["files/a_file_has_a_limit"],
     "generated objects, byte by byte": ["generated/makes_both_objects_of_a_chain"],
     "certificates that aren't valid": ["why/certificates_are_valid_or_not"],
-    "texts that are no listings": ["check/bad_lines_are_told_by_their_number"],
     "fuel of a run": ["load/fuel_is_a_step_for_each_operator"],
     "names of objects that are replaced": ["session/a_name_follows_replacements"],
     "plans of objects that are replaced": ["plan/plans_follow_replacements"],
@@ -266,6 +294,8 @@ IN_SCRIPTS = {
     "words that ask for replacements": ("cli.py", "replacements"),
     "a replaced object, with each allocation refused": ("out_of_memory.py", "a replaced object"),
     "streams that take nothing": ("cli.py", "writes"),
+    "what operators on integers compute, load and store": ("cli.py", "numbers"),
+    "texts that are no listings": ("listing_grammar.py", "texts_by_hand"),
     "files that can't be read to their end": ("cli.py", "reads"),
 }
 

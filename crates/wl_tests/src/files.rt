@@ -1,78 +1,52 @@
-//! Whole files, and streams.
+//! Whole files, and streams, in memory.
 
 use crate::check::LISTING;
-use crate::live::OBJECT;
-use std::fs;
-use std::test::Fail;
-use wl_files::{MemFiles, MemSink, ReadObject, StdFiles, StdSink, read_object, write_all};
+use crate::samples::PAIR;
+use std::alloc::{AllocError, Global};
+use wl_files::{MemFiles, MemSink, ReadObject, read_object, write_all};
 
-/// What is read and written.
-const BYTES: &[u8; 9] = b"wildplan\n";
-
-#[test]
-fn a_file_has_a_limit(rt: HostRuntime) -> Result<(), Fail> {
-    let alloc = rt.alloc();
-    let mut files = MemFiles::new(alloc);
-    files.add("nine", BYTES)?;
-    files.add("eight", &BYTES[..8])?;
-    let long = read_object(alloc, &mut files, "nine", 8);
-    assert_eq!(rt; long.err(), Some(ReadObject::TooLong));
-    let fits = read_object(alloc, &mut files, "eight", 8);
-    assert!(rt; fits.is_ok_and(|bytes| bytes.as_slice() == &BYTES[..8]));
-    Ok(())
+/// Why the file of that object isn't read under a limit, where each read gives a byte, and the call
+/// of that number fails.
+fn fault(alloc: Global, call: u64, limit: usize) -> Result<Option<ReadObject>, AllocError> {
+    let mut files = MemFiles::new(alloc).with_piece(1);
+    files.add("a.o", PAIR)?;
+    files.fail(call)?;
+    Ok(read_object(alloc, &mut files, "a.o", limit).err())
 }
 
 #[test]
-fn what_a_stream_took_a_file_gives(rt: HostRuntime) -> Result<(), Fail> {
-    let alloc = rt.alloc();
-    let mut sink = StdSink::new(fs::create(&rt, "written.txt")?);
-    assert!(rt; write_all(&mut sink, BYTES).is_ok());
-    let mut files = StdFiles::new(&rt);
-    let read = read_object(alloc, &mut files, "written.txt", 1000);
-    assert!(rt; read.is_ok_and(|bytes| bytes.as_slice() == BYTES.as_slice()));
-    let missing = read_object(alloc, &mut files, "not written.txt", 1000);
-    assert_eq!(rt; missing.err(), Some(ReadObject::Fault));
-    fs::remove_file(&rt, "written.txt")?;
-    Ok(())
+fn a_file_has_a_limit(rt: HostRuntime) {
+    assert!(rt; matches!(fault(rt.alloc(), 1000, 76), Ok(None)));
+    assert!(rt; matches!(fault(rt.alloc(), 1000, 75), Ok(Some(ReadObject::TooLong))));
 }
 
 #[test]
-fn each_failing_call_of_a_file_is_a_fault(rt: HostRuntime) -> Result<(), Fail> {
-    let alloc = rt.alloc();
+fn each_failing_call_of_a_file_is_a_fault(rt: HostRuntime) {
     // A begin, a read for each of 76 bytes, and one at the end.
-    for call in 1..80 {
-        let mut files = MemFiles::new(alloc).with_piece(1);
-        files.add("a.o", OBJECT)?;
-        files.fail(call)?;
-        let read = read_object(alloc, &mut files, "a.o", 1000);
-        let want = if call > 78 {
-            None
-        } else {
-            Some(ReadObject::Fault)
-        };
-        assert_eq!(rt; read.err(), want, "call {call}");
+    for call in 1..79 {
+        assert!(rt; matches!(fault(rt.alloc(), call, 1000), Ok(Some(ReadObject::Fault))));
     }
-    Ok(())
+    assert!(rt; matches!(fault(rt.alloc(), 79, 1000), Ok(None)));
+}
+
+/// Whether a stream that takes so many bytes a call, and fails at the call of that number, takes
+/// this front of the listing, and tells whether that is the whole.
+fn takes(alloc: Global, piece: usize, call: u64, front: &[u8]) -> Result<bool, AllocError> {
+    let mut sink = MemSink::new(alloc, 1000, piece)?;
+    sink.fail(call)?;
+    let is_whole = write_all(&mut sink, LISTING).is_ok();
+    Ok(sink.bytes() == front && is_whole == (front.len() == LISTING.len()))
 }
 
 #[test]
-fn each_failing_write_leaves_a_front(rt: HostRuntime) -> Result<(), Fail> {
-    let alloc = rt.alloc();
+fn each_failing_write_leaves_a_front(rt: HostRuntime) {
     for taken in 0..17 {
-        let mut sink = MemSink::new(alloc, 1000, 16)?;
-        sink.fail(taken as u64 + 1)?;
-        let whole = write_all(&mut sink, LISTING).is_ok();
-        assert_eq!(rt; whole, taken == 16, "after {taken} writes");
-        let front = LISTING.get(..16 * taken);
-        assert_eq!(rt; sink.bytes(), front.unwrap_or(LISTING));
+        let front = LISTING.get(..16 * taken).unwrap_or(LISTING);
+        assert!(rt; matches!(takes(rt.alloc(), 16, taken as u64 + 1, front), Ok(true)));
     }
-    Ok(())
 }
 
 #[test]
-fn a_stream_that_takes_nothing_is_a_fault(rt: HostRuntime) -> Result<(), Fail> {
-    let mut sink = MemSink::new(rt.alloc(), 1000, 0)?;
-    assert!(rt; write_all(&mut sink, LISTING).is_err());
-    assert!(rt; sink.bytes().is_empty());
-    Ok(())
+fn a_stream_that_takes_nothing_is_a_fault(rt: HostRuntime) {
+    assert!(rt; matches!(takes(rt.alloc(), 0, 1000, &[]), Ok(true)));
 }

@@ -3,7 +3,6 @@
 ghost use Rattle.std.specs.Prelude.{◌<◌};
 
 use std::alloc::Global;
-use std::test::Fail;
 use wl_generate::generated_object;
 
 /// The first of two objects: `f0`, which calls the import `env.f1`, and `d0`.
@@ -23,16 +22,17 @@ const SECOND: &[u8; 54] = b"\0asm\x01\0\0\0\
     \0\x18\x07linking\x02\x08\x0d\x02\0\0\0\x02f1\0\0\x01\x02d1";
 
 /// Whether the object of that number, of two, has these bytes.
-fn is_made(alloc: Global, number: u32, want: &[u8]) -> Result<bool, Fail>
+fn is_made(alloc: Global, number: u32, want: &[u8]) -> bool
     requires { number < 2 }
 {
-    let object = generated_object(alloc, number, 2)?;
-    Ok(object.as_slice() == want)
+    match generated_object(alloc, number, 2) {
+        Ok(object) => object.as_slice() == want,
+        Err(_) => false,
+    }
 }
 
 #[test]
-fn makes_both_objects_of_a_chain(rt: HostRuntime) -> Result<(), Fail> {
-    assert!(rt; is_made(rt.alloc(), 0, FIRST.as_slice())?);
-    assert!(rt; is_made(rt.alloc(), 1, SECOND.as_slice())?);
-    Ok(())
+fn makes_both_objects_of_a_chain(rt: HostRuntime) {
+    assert!(rt; is_made(rt.alloc(), 0, FIRST));
+    assert!(rt; is_made(rt.alloc(), 1, SECOND));
 }

@@ -9,15 +9,11 @@ mod bytes;
 #[cfg(test)]
 mod check;
 #[cfg(test)]
-mod custom;
-#[cfg(test)]
 mod data;
 #[cfg(test)]
 mod files;
 #[cfg(test)]
 mod generated;
-#[cfg(test)]
-mod lists;
 #[cfg(test)]
 mod live;
 #[cfg(test)]
@@ -25,15 +21,11 @@ mod load;
 #[cfg(test)]
 mod module;
 #[cfg(test)]
-mod numeric;
-#[cfg(test)]
-mod ops;
-#[cfg(test)]
 mod plan;
 #[cfg(test)]
 mod reach;
 #[cfg(test)]
-mod reloc;
+mod samples;
 #[cfg(test)]
 mod sections;
 #[cfg(test)]
@@ -41,14 +33,4 @@ mod session;
 #[cfg(test)]
 mod steps;
 #[cfg(test)]
-mod symbols;
-#[cfg(test)]
-mod synth;
-#[cfg(test)]
-mod text;
-#[cfg(test)]
-mod types;
-#[cfg(test)]
 mod why;
-#[cfg(test)]
-mod words;

@@ -1,23 +1,13 @@
 //! Plans of small objects of which some are replaced, beside those of the same objects from nothing.
 
-ghost use Rattle.std.specs.Prelude.{◌≡◌, ◌≤◌, length, vec_len, OnOk};
+ghost use Rattle.std.specs.Prelude.{◌≤◌, length};
 ghost use Rattle.wl_bytes.specs.declared.reader.TheConstants.{MAX_LEN};
 
-use crate::session::{NOTHING, STRONG, WEAK};
+use crate::samples::{CALLER, NOTHING, STRONG, WEAK, args_of};
 use std::alloc::Global;
-use std::test::Fail;
 use wl_linking::LinkError;
 use wl_plan::{LinkPlan, ObjectList, Session, listing, plan_link};
 use wl_words::WasmArgs;
-
-/// A function `b`, which calls a function `a` of another object.
-const CALLER: &[u8; 81] = b"\0asm\x01\0\0\0\
-    \x01\x04\x01\x60\0\0\
-    \x02\x09\x01\x03env\x01a\0\0\
-    \x03\x02\x01\0\
-    \x0a\x0a\x01\x08\0\x10\x80\x80\x80\x80\0\x0b\
-    \0\x14\x07linking\x02\x08\x09\x02\0\x10\0\0\0\x01\x01b\
-    \0\x10\x0areloc.CODE\x03\x01\0\x04\0";
 
 /// One of four objects, by a number.
 fn object_of(number: u32) -> &'static [u8]
@@ -31,114 +21,134 @@ fn object_of(number: u32) -> &'static [u8]
     }
 }
 
-/// The listing of a plan, or nothing where two objects define a name, or none does.
-fn listed(
-    alloc: Global,
-    planned: Result<LinkPlan<'_>, LinkError>,
-) -> Result<Option<Vec<u8>>, LinkError> {
+/// The listing of a plan, or an empty text where two objects define a name, or none does.
+fn told(alloc: Global, planned: &Result<LinkPlan<'_>, LinkError>) -> Option<Vec<u8>> {
     match planned {
-        Ok(plan) => Ok(Some(listing(alloc, &plan)?)),
-        Err(LinkError::DuplicateSymbol { .. } | LinkError::UndefinedSymbols(_)) => Ok(None),
-        Err(error) => Err(error),
+        Ok(plan) => listing(alloc, plan).ok(),
+        Err(LinkError::DuplicateSymbol { .. } | LinkError::UndefinedSymbols(_)) => {
+            Some(Vec::new(alloc))
+        }
+        Err(_) => None,
+    }
+}
+
+/// Puts a copy of an object at the end, and says whether it is there.
+fn push_copy(alloc: Global, list: &mut ObjectList, bytes: &[u8]) -> bool {
+    match Vec::from_slice(alloc, bytes) {
+        Ok(bytes) => list.push(bytes).is_ok(),
+        Err(_) => false,
     }
 }
 
 /// What the plan of these objects comes to from nothing.
-fn listed_from_nothing(
+fn told_from_nothing(alloc: Global, objects: &[&[u8]], args: &WasmArgs) -> Option<Vec<u8>> {
+    let mut list = ObjectList::new(alloc);
+    let mut is_whole = true;
+    for bytes in objects {
+        is_whole = push_copy(alloc, &mut list, *bytes) && is_whole;
+    }
+    if is_whole {
+        told(alloc, &plan_link(alloc, &list, args))
+    } else {
+        None
+    }
+}
+
+/// Whether the session has a plan, where it comes to the same as that of these objects from nothing.
+fn has_same_plan(
     alloc: Global,
+    session: &Session<'_>,
     objects: &[&[u8]],
     args: &WasmArgs,
-) -> Result<Option<Vec<u8>>, LinkError> {
-    let mut list = ObjectList::new(alloc);
-    for bytes in objects {
-        if list.push(Vec::from_slice(alloc, bytes)?).is_err() {
-            return Err(LinkError::OutOfMemory);
-        }
+) -> Option<bool> {
+    let kept = told(alloc, &session.plan(alloc));
+    let anew = told_from_nothing(alloc, objects, args);
+    match (&kept, &anew) {
+        (Some(kept), Some(anew)) if kept == anew => Some(!kept.is_empty()),
+        _ => None,
     }
-    listed(alloc, plan_link(alloc, &list, args))
 }
 
-/// Puts one of the four objects at the end, or in the place of another, by a number.
-fn change<'a>(
-    session: &mut Session<'a>,
-    objects: &mut Vec<&'a [u8]>,
-    number: u32,
-) -> Result<(), LinkError>
-    requires { vec_len objects.old ≡ length session.old.objects }
-    ensures { OnOk result (vec_len objects.new ≡ length session.new.objects) }
-{
+/// Puts one of the four objects at the end, or in the place of another, by a number, and says
+/// whether it is there.
+fn change<'a>(session: &mut Session<'a>, objects: &mut Vec<&'a [u8]>, number: u32) -> bool {
     let bytes = object_of(number >> 16);
     let object = (number >> 20) as usize % 4;
-    if object < session.len() {
-        session.replace(object, bytes)?;
+    if object < session.len() && object < objects.len() {
         objects[object] = bytes;
+        session.replace(object, bytes).is_ok()
     } else {
-        session.push(bytes)?;
-        objects.push(bytes)?;
+        objects.push(bytes).is_ok() && session.push(bytes).is_ok()
     }
-    Ok(())
 }
 
-/// The first of so many changes after which the plan of the session isn't that from nothing, and
-/// how many plans there were before it. Each tenth change is looked at. What changes goes by a row
-/// of numbers that is always the same.
-fn replay(alloc: Global, args: &WasmArgs, changes: u32) -> Result<(Option<u32>, u32), LinkError> {
+/// How many plans there are among so many changes, of which each tenth is looked at, if that of the
+/// session is always the one from nothing. What changes goes by a row of numbers that is always the
+/// same.
+fn replay(alloc: Global, args: &WasmArgs, changes: u32) -> Option<u32> {
     let mut session = Session::new(alloc, args);
     let mut objects = Vec::new(alloc);
     let mut number = 1_u32;
-    let mut plans = 0_u32;
+    let mut plans = Some(0_u32);
     for place in 0..changes {
         number = number.wrapping_mul(1_664_525).wrapping_add(1_013_904_223);
-        change(&mut session, &mut objects, number)?;
+        if !change(&mut session, &mut objects, number) {
+            plans = None;
+        }
         if place % 10 == 0 {
-            let kept = listed(alloc, session.plan(alloc))?;
-            if kept != listed_from_nothing(alloc, &objects, args)? {
-                return Ok((Some(place), plans));
-            }
-            plans += u32::from(kept.is_some());
+            plans = match (plans, has_same_plan(alloc, &session, &objects, args)) {
+                (Some(plans), Some(is_plan)) => plans.checked_add(u32::from(is_plan)),
+                _ => None,
+            };
         }
     }
-    Ok((None, plans))
+    plans
 }
 
 /// Options under which all units are kept, and no function is started.
-fn plain_args(alloc: Global) -> Result<WasmArgs, Fail> {
-    let mut words = Vec::new(alloc);
-    for word in ["--no-gc-sections", "--no-entry", "a.o"] {
-        words.push(String::from_str(alloc, word)?)?;
+const WORDS: [&str; 3] = ["--no-gc-sections", "--no-entry", "a.o"];
+
+/// How many plans there are among a thousand changes under these options.
+fn plans_of_a_thousand(alloc: Global) -> Option<u32> {
+    match args_of(alloc, &WORDS) {
+        Some(args) => replay(alloc, &args, 1000),
+        None => None,
     }
-    Ok(WasmArgs::parse(alloc, &words)?)
 }
 
 #[test]
-fn plans_follow_replacements(rt: HostRuntime) -> Result<(), Fail> {
-    let alloc = rt.alloc();
-    let args = plain_args(alloc)?;
+fn plans_follow_replacements(rt: HostRuntime) {
     // In 47 of 100 cases no name is defined twice, and `a` is defined where it is called.
-    assert_eq!(rt; replay(alloc, &args, 1000).ok(), Some((None, 47)));
-    Ok(())
+    assert!(rt; plans_of_a_thousand(rt.alloc()) == Some(47));
+}
+
+/// Whether an object is refused for its bytes, by that number.
+fn is_malformed(refused: Result<(), LinkError>, number: usize) -> bool {
+    match &refused {
+        Err(LinkError::Malformed { object, .. }) => *object == number,
+        _ => false,
+    }
+}
+
+/// Whether a session of one object has the same plan still, once two objects were refused.
+fn stays(alloc: Global, args: &WasmArgs) -> bool {
+    let mut session = Session::new(alloc, args);
+    session.push(STRONG).is_ok()
+        && is_malformed(session.push(b"\0asm"), 1)
+        && session.len() == 1
+        && is_malformed(session.replace(0, b"\0asm"), 0)
+        && has_same_plan(alloc, &session, &[STRONG], args) == Some(true)
+}
+
+/// Whether it has under these options.
+fn stays_under_options(alloc: Global) -> bool {
+    match args_of(alloc, &WORDS) {
+        Some(args) => stays(alloc, &args),
+        None => false,
+    }
 }
 
 #[test]
-fn a_refused_object_changes_nothing(rt: HostRuntime) -> Result<(), Fail> {
-    let alloc = rt.alloc();
-    let args = plain_args(alloc)?;
-    let mut session = Session::new(alloc, &args);
-    assert!(rt; session.push(STRONG).is_ok());
-    assert!(rt;
-        matches!(
-            session.push(b"\0asm"),
-            Err(LinkError::Malformed { object: 1, .. })
-        )
-    );
-    assert_eq!(rt; session.len(), 1);
-    assert!(rt;
-        matches!(
-            session.replace(0, b"\0asm"),
-            Err(LinkError::Malformed { object: 0, .. })
-        )
-    );
-    let listed = listed(alloc, session.plan(alloc)).ok();
-    assert_eq!(rt; listed, listed_from_nothing(alloc, &[STRONG], &args).ok());
-    Ok(())
+fn a_refused_object_changes_nothing(rt: HostRuntime) {
+    assert!(rt; stays_under_options(rt.alloc()));
 }

@@ -1,178 +1,127 @@
-//! Why the functions of a small object are kept, by each of the calls that tell it.
+//! Certificates of a small object, and chains of them.
 
 ghost use Rattle.std.specs.Prelude.{◌≡◌};
 ghost use Rattle.wl_symbols.specs.Link.{link_of};
-ghost use Rattle.wl_symbols.specs.Live.{IsLiveOf};
 
-use crate::live::{OBJECT, one_file, options};
+use crate::samples::{PAIR, args_of, one_file};
 use std::alloc::{AllocError, Global};
-use std::test::Fail;
-use wl_linking::{FileList, LinkError};
-use wl_live::{LiveSet, WasmGcUnit, collect_live};
+use wl_linking::FileList;
+use wl_live::WasmGcUnit;
 use wl_symbols::SymbolTable;
-use wl_why::{Certificate, Step, certificate_text, chain_to, check_why, explain, why_text};
+use wl_why::{Certificate, Step, chain_to, check_why};
 use wl_words::WasmArgs;
 
-/// What the calls answer.
-#[derive(Clone, Copy, Debug, PartialEq, Eq)]
-struct Told {
-    /// Whether the text of what is kept is the one that is wanted.
-    why: bool,
-    /// Whether so is that of the certificate.
-    text: bool,
-    valid: bool,
-    /// How many units the chain to `b` has.
-    chain: Option<usize>,
+/// Functions of the object, each with the place of the step that refers to it, or with none.
+type Row = &'static [(u32, Option<u64>)];
+
+/// The first function, which is a root, and the second one, which it calls.
+const SOUND: Row = &[(0, None), (1, Some(0))];
+
+/// Rows, and whether each is a valid certificate.
+const ROWS: [(Row, bool); 8] = [
+    (SOUND, true),
+    // No root, and what a listed unit refers to isn't listed.
+    (&[], false),
+    (&[(0, None)], false),
+    // From itself, from a later step, and a root that is none.
+    (&[(0, None), (1, Some(1))], false),
+    (&[(1, Some(1)), (0, None)], false),
+    (&[(0, None), (1, None)], false),
+    // A unit that comes twice, and one that doesn't exist.
+    (&[(0, None), (1, Some(0)), (1, Some(0))], false),
+    (&[(0, None), (1, Some(0)), (2, Some(0))], false),
+];
+
+/// The certificate of a row.
+fn certificate_of(alloc: Global, row: &[(u32, Option<u64>)]) -> Result<Certificate, AllocError> {
+    let mut steps = Vec::new(alloc);
+    for (function, from) in row {
+        steps.push(Step {
+            object: 0,
+            unit: WasmGcUnit::DefinedFunction(*function),
+            from: *from,
+        })?;
+    }
+    Ok(Certificate::new(steps))
 }
 
-/// Whether the text of what is kept is the one that is wanted.
-fn is_why_text(
+/// Whether a row is a valid certificate.
+fn is_valid(
     alloc: Global,
     files: &FileList<'_>,
     symbols: &SymbolTable<'_, '_>,
     args: &WasmArgs,
-    live: &LiveSet,
-    want: &[u8],
+    row: &[(u32, Option<u64>)],
 ) -> Result<bool, AllocError>
-    requires fit { symbols.now ≡ link_of files.now args.now }
-    requires live { IsLiveOf symbols.now live.now }
+    requires { symbols.now ≡ link_of files.now args.now }
 {
-    let text = why_text(alloc, files, symbols, args, live)?;
-    Ok(text.as_slice() == want)
+    let certificate = certificate_of(alloc, row)?;
+    check_why(alloc, files, symbols, args, &certificate)
 }
 
-/// Whether so is that of a certificate.
-fn is_certificate_text(
+/// How many of the rows are told right, from the first on.
+fn rows_told_right(
     alloc: Global,
+    files: &FileList<'_>,
     symbols: &SymbolTable<'_, '_>,
-    certificate: &Certificate,
-    want: &[u8],
-) -> Result<bool, AllocError> {
-    let text = certificate_text(alloc, symbols, certificate)?;
-    Ok(text.as_slice() == want)
+    args: &WasmArgs,
+) -> usize
+    requires { symbols.now ≡ link_of files.now args.now }
+{
+    let mut told = 0;
+    for (place, (row, want)) in ROWS.iter().enumerate() {
+        if told == place && is_valid(alloc, files, symbols, args, *row) == Ok(*want) {
+            told = place + 1;
+        }
+    }
+    told
 }
 
-/// How many units the chain to `b` has.
-fn chain_len(alloc: Global, certificate: &Certificate) -> Result<Option<usize>, AllocError> {
-    match chain_to(alloc, certificate, 0, WasmGcUnit::DefinedFunction(1))? {
+/// The same of these objects.
+fn rows_told_right_of(alloc: Global, files: &FileList<'_>, args: &WasmArgs) -> usize {
+    match SymbolTable::build(alloc, files, args) {
+        Ok(symbols) => rows_told_right(alloc, files, &symbols, args),
+        Err(_) => 0,
+    }
+}
+
+/// The same of the object with two functions.
+fn rows_told_right_of_pair(alloc: Global, args: &WasmArgs) -> usize {
+    match one_file(alloc, PAIR) {
+        Some(files) => rows_told_right_of(alloc, &files, args),
+        None => 0,
+    }
+}
+
+/// The same where the first function is the entry.
+fn rows_told_right_of_entry(alloc: Global) -> usize {
+    match args_of(alloc, &["a.o", "--entry=a"]) {
+        Some(args) => rows_told_right_of_pair(alloc, &args),
+        None => 0,
+    }
+}
+
+#[test]
+fn certificates_are_valid_or_not(rt: HostRuntime) {
+    assert!(rt; rows_told_right_of_entry(rt.alloc()) == ROWS.len());
+}
+
+/// How many units the chain to a function has.
+fn chain_length(alloc: Global, function: u32) -> Result<Option<usize>, AllocError> {
+    let certificate = certificate_of(alloc, SOUND)?;
+    match chain_to(
+        alloc,
+        &certificate,
+        0,
+        WasmGcUnit::DefinedFunction(function),
+    )? {
         Some(chain) => Ok(Some(chain.len())),
         None => Ok(None),
     }
 }
 
-/// What the calls answer of what is kept.
-fn answers_on_kept(
-    alloc: Global,
-    files: &FileList<'_>,
-    symbols: &SymbolTable<'_, '_>,
-    args: &WasmArgs,
-    live: &LiveSet,
-    want: &[u8],
-) -> Result<Told, AllocError>
-    requires fit { symbols.now ≡ link_of files.now args.now }
-    requires live { IsLiveOf symbols.now live.now }
-{
-    let certificate = explain(alloc, files, symbols, args, live)?;
-    Ok(Told {
-        why: is_why_text(alloc, files, symbols, args, live, want)?,
-        text: is_certificate_text(alloc, symbols, &certificate, want)?,
-        valid: check_why(alloc, files, symbols, args, &certificate)?,
-        chain: chain_len(alloc, &certificate)?,
-    })
-}
-
-/// What the calls answer of these objects.
-fn answers_on(
-    alloc: Global,
-    files: &FileList<'_>,
-    args: &WasmArgs,
-    want: &[u8],
-) -> Result<Told, LinkError> {
-    let symbols = SymbolTable::build(alloc, files, args)?;
-    let live = collect_live(alloc, files, &symbols, args)?;
-    Ok(answers_on_kept(alloc, files, &symbols, args, &live, want)?)
-}
-
-/// What the calls answer of the object.
-fn answers(alloc: Global, args: &WasmArgs, want: &[u8]) -> Result<Told, LinkError> {
-    let files = one_file(alloc, OBJECT)?;
-    answers_on(alloc, &files, args, want)
-}
-
-/// Whether these steps are a valid certificate of the object.
-fn is_valid(alloc: Global, args: &WasmArgs, steps: &[Step]) -> Result<bool, LinkError> {
-    let files = one_file(alloc, OBJECT)?;
-    let symbols = SymbolTable::build(alloc, &files, args)?;
-    let certificate = Certificate::new(Vec::from_slice(alloc, steps)?);
-    let is_valid = check_why(alloc, &files, &symbols, args, &certificate)?;
-    Ok(is_valid)
-}
-
-/// The step of a function.
-fn step(function: u32, from: Option<u64>) -> Step {
-    Step {
-        object: 0,
-        unit: WasmGcUnit::DefinedFunction(function),
-        from,
-    }
-}
-
 #[test]
-fn what_is_kept_is_explained(rt: HostRuntime) -> Result<(), Fail> {
-    let alloc = rt.alloc();
-    for (words, text, chain) in [
-        (
-            ["--entry=a", "--gc-sections"],
-            b"why 0 function 0 root\nwhy 0 function 1 from 0 function 0\n".as_slice(),
-            Some(2),
-        ),
-        (
-            ["--entry=b", "--gc-sections"],
-            b"why 0 function 1 root\ndrop 0 function 0\n",
-            Some(1),
-        ),
-        (
-            ["--no-entry", "--gc-sections"],
-            b"drop 0 function 0\ndrop 0 function 1\n",
-            None,
-        ),
-        (
-            ["--no-entry", "--no-gc-sections"],
-            b"why 0 function 0 off\nwhy 0 function 1 off\n",
-            Some(1),
-        ),
-    ] {
-        let args = options(alloc, &words)?;
-        let want = Told {
-            why: true,
-            text: true,
-            valid: true,
-            chain,
-        };
-        assert_eq!(rt; answers(alloc, &args, text).ok(), Some(want), "{words:?}");
-    }
-    Ok(())
-}
-
-#[test]
-fn certificates_are_valid_or_not(rt: HostRuntime) -> Result<(), Fail> {
-    let alloc = rt.alloc();
-    let args = options(alloc, &["--entry=a"])?;
-    let root = step(0, None);
-    for (steps, want) in [
-        ([root, step(1, Some(0))].as_slice(), true),
-        // No root, and what a listed unit refers to isn't listed.
-        (&[], false),
-        (&[root], false),
-        // From itself, from a later step, and a root that is none.
-        (&[root, step(1, Some(1))], false),
-        (&[step(1, Some(1)), root], false),
-        (&[root, step(1, None)], false),
-        // A unit that comes twice, and one that doesn't exist.
-        (&[root, step(1, Some(0)), step(1, Some(0))], false),
-        (&[root, step(1, Some(0)), step(2, Some(0))], false),
-    ] {
-        assert_eq!(rt; is_valid(alloc, &args, steps).ok(), Some(want));
-    }
-    Ok(())
+fn chains_lead_to_listed_units(rt: HostRuntime) {
+    assert!(rt; matches!(chain_length(rt.alloc(), 1), Ok(Some(2))));
+    assert!(rt; matches!(chain_length(rt.alloc(), 2), Ok(None)));
 }
