@@ -20,13 +20,13 @@ use Rattle.wl_bind.specs.GlobalSpace.{GlobalOf, global_space, global_parts, got_
 use Rattle.wl_bind.specs.GlobalSteps.{marked}
 use Rattle.wl_bind.specs.IndexMaps.{is_global_of, has_global, is_data_symbol, mem_place, got_mem_global, got_mem_globals, func_place, got_func_global, got_func_globals}
 use Rattle.wl_symbols.specs.Input.{Input}
-use Rattle.wl_bind.specs.Numbering.{IsNumbering}
+use Rattle.wl_bind.specs.MadeIndices.{AreMadeIndices}
 use Rattle.wl_bind.specs.Parts.{IsPlaceOf, ArePlacesOf, HasEntry}
 use Rattle.wl_bind.specs.Sameness.{same_definition, same_pair}
 use Rattle.wl_bind.specs.Scan.{got_mem, got_func, got_mem_entry, got_func_entry, GotMemEntry, GotFuncEntry}
 use Rattle.wl_bind.specs.declared.binding.FunctionTarget.{FunctionTarget}
 use Rattle.wl_bind.specs.declared.binding.GlobalTarget.TheVariants.{GotMem, GotFunc}
-use Rattle.wl_bind.specs.declared.numbering.Numbering.{Numbering}
+use Rattle.wl_bind.specs.declared.indices.LinkerDefinedIndices.{LinkerDefinedIndices}
 use Rattle.wl_symbols.specs.declared.relocated.Relocated.{Relocated}
 use Rattle.wl_bind.proofs.GotLaws.{position_map}
 use Rattle.wl_bind.proofs.ListLaws.{place_lt}
@@ -76,28 +76,26 @@ then_lt test xs None p is = absurd cc
 then_lt test xs (Some f) p is = place_lt (test f) xs p is
 
 -- the place of a definition has a global
-pub mem_has : (n : Numbering) → IsNumbering n.input.now n → (object number place : ℕ)
-    → mem_place n.input.now object number ≡ Some place → HasEntry n.indices.now.globals 8 place
-mem_has n is object number place at =
-    let input : Input = n.input.now in
+pub mem_has : (input : Input) (i : LinkerDefinedIndices) → AreMadeIndices input i → (object number place : ℕ)
+    → mem_place input object number ≡ Some place → HasEntry i.globals 8 place
+mem_has input i is object number place at =
     let long : length (got_mem_part input) ≡ length (got_mem input) =
     length-map-range_with_len (λ k. GlobalOf (GotMem k)) 0 (length (got_mem input)) in
     let lt : place < length (got_mem input) =
     place_lt (same_definition (def input.link object number)) (got_mem input) place at in
-    has_entry (global_parts input) n.indices.now.globals 8 9 place (length (got_mem_part input))
-    is.indices.globals refl refl (omega (arith, lt, long))
+    has_entry (global_parts input) i.globals 8 9 place (length (got_mem_part input))
+    is.globals refl refl (omega (arith, lt, long))
 
-pub func_has : (n : Numbering) → IsNumbering n.input.now n → (object number place : ℕ)
-    → func_place n.input.now object number ≡ Some place → HasEntry n.indices.now.globals 9 place
-func_has n is object number place at =
-    let input : Input = n.input.now in
+pub func_has : (input : Input) (i : LinkerDefinedIndices) → AreMadeIndices input i → (object number place : ℕ)
+    → func_place input object number ≡ Some place → HasEntry i.globals 9 place
+func_has input i is object number place at =
     let long : length (got_func_part input) ≡ length (got_func input) =
     length-map-range_with_len (λ k. GlobalOf (GotFunc k)) 0 (length (got_func input)) in
     let lt : place < length (got_func input) =
     then_lt (λ (f : FunctionTarget). same_pair (def input.link object number, f)) (got_func input)
     (fun input object number) place at in
-    has_entry (global_parts input) n.indices.now.globals 9 10 place (length (got_func_part input))
-    is.indices.globals refl refl (omega (arith, lt, long))
+    has_entry (global_parts input) i.globals 9 10 place (length (got_func_part input))
+    is.globals refl refl (omega (arith, lt, long))
 
 -- ---- where a GOT list is empty
 

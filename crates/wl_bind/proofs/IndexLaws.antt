@@ -10,8 +10,6 @@ use Rattle.std.proofs.lemmas.Slice.Eq.{bytes_eq-Decides}
 use Rattle.indexmap.specs.IndexSet.{insert_all}
 use Rattle.wl_index.specs.declared.index.TheConstants.{MAX_ENTRIES}
 use Rattle.wl_custom.specs.Symbols.{is_data}
-use Rattle.wl_linking.specs.declared.error.LinkError.{LinkError}
-use Rattle.wl_linking.specs.declared.error.LinkError.TheVariants as fault
 use Rattle.wl_custom.specs.declared.symbols.WasmSymbolKind.{WasmSymbolKind}
 use Rattle.wl_custom.specs.declared.symbols.WasmSymbolKind.TheVariants as kind
 use Rattle.wl_symbols.specs.LinkerNames.{row_of, name_of}
@@ -24,12 +22,14 @@ use Rattle.wl_bind.specs.FunctionSpace.{function_parts, object_functions}
 use Rattle.wl_bind.specs.GlobalSpace.{AddressOf, address_part, global_parts, object_globals, global_space}
 use Rattle.wl_bind.specs.Made.{is_forced, is_made}
 use Rattle.wl_bind.specs.MadeIndices.{AreMadeIndices, StandsAt, IsMadeIndex}
-use Rattle.wl_bind.specs.Parts.{joined, lengths_of, starts_from, total, AreStarts, IsOver}
+use Rattle.wl_bind.specs.Parts.{joined, lengths_of, starts_from, total, told_space, AreStarts, IsOver}
 use Rattle.wl_bind.specs.PartSteps.{entry_of}
 use Rattle.wl_bind.specs.Sameness.{same_made}
 use Rattle.wl_bind.specs.SpaceFaults.{AreTooMany, IsSpaceOver}
 use Rattle.wl_bind.specs.declared.indices.LinkerDefinedIndices.{LinkerDefinedIndices}
 use Rattle.wl_bind.specs.declared.parts.PartStarts.{PartStarts}
+use Rattle.wl_bind.specs.declared.parts.SpaceError.{SpaceError}
+use Rattle.wl_bind.specs.declared.parts.SpaceError.TheVariants as space
 use Rattle.wl_lists.proofs.Found.{any_in}
 use Rattle.wl_lists.proofs.In.{in_back, in_front, IsIn}
 use Rattle.wl_lists.proofs.Places.{mapped_at}
@@ -53,7 +53,7 @@ length_numbered f a zero = refl
 length_numbered f a (suc n) = ap suc (length_numbered f (a + 1) n)
 
 -- starts by the lengths of parts are those of the parts
-pub starts_ok : {X : Type 0} (r : Result PartStarts LinkError) (parts : List (List X)) (lengths : List ℕ)
+pub starts_ok : {X : Type 0} (r : Result PartStarts SpaceError) (parts : List (List X)) (lengths : List ℕ)
     → lengths ≡ lengths_of parts → IfOk r (λ s. s.starts ≡ starts_from 0 lengths) → IfOk r (λ s. s.end ≡ total lengths)
     → IfOk r (λ s. s.end ≤ MAX_ENTRIES) → IfOk r (AreStarts parts)
 starts_ok (Ok s) parts lengths same starts end room = record {
@@ -63,7 +63,7 @@ starts_ok (Ok s) parts lengths same starts end room = record {
 }
 starts_ok (Err e) parts lengths same starts end room = tt
 
-pub starts_err : {X : Type 0} (r : Result PartStarts LinkError) (parts : List (List X)) (lengths : List ℕ)
+pub starts_err : {X : Type 0} (r : Result PartStarts SpaceError) (parts : List (List X)) (lengths : List ℕ)
     → lengths ≡ lengths_of parts → IfErr r (IsOver (total lengths)) → IfErr r (IsOver (total (lengths_of parts)))
 starts_err r parts lengths same err = subst (λ (ls : List ℕ). IfErr r (IsOver (total ls))) same err
 
@@ -76,18 +76,17 @@ longer parts rest lt =
     let front = joined_length parts in
     omega (arith, lt, all, front)
 
-pub over_as : (input : Input) (count : ℕ) (e : LinkError) → (MAX_ENTRIES < count → AreTooMany input) → IsOver count e
-    → IsSpaceOver input e
-over_as input count fault.OutOfMemory many over = tt
-over_as input count (fault.TooLarge what) many over = (over.0, many over.1)
-over_as input count _ many over = absurd over
+pub over_as : (input : Input) (count : ℕ) (e : SpaceError) → (MAX_ENTRIES < count → AreTooMany input) → IsOver count e
+    → IsSpaceOver input (told_space e)
+over_as input count space.OutOfMemory many over = tt
+over_as input count space.TooLarge many over = (refl, many over)
 
-pub functions_over : (input : Input) (e : LinkError) → IsOver (total (lengths_of (function_parts input))) e → IsSpaceOver input e
+pub functions_over : (input : Input) (e : SpaceError) → IsOver (total (lengths_of (function_parts input))) e → IsSpaceOver input (told_space e)
 functions_over input e over =
     over_as input (total (lengths_of (function_parts input))) e
     (λ lt. inl (longer (function_parts input) (object_functions input) lt)) over
 
-pub globals_over : (input : Input) (e : LinkError) → IsOver (total (lengths_of (global_parts input))) e → IsSpaceOver input e
+pub globals_over : (input : Input) (e : SpaceError) → IsOver (total (lengths_of (global_parts input))) e → IsSpaceOver input (told_space e)
 globals_over input e over =
     over_as input (total (lengths_of (global_parts input))) e
     (λ lt. inr (longer (global_parts input) (object_globals input) lt)) over

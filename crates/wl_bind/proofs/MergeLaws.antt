@@ -21,10 +21,10 @@ use Rattle.wl_bind.specs.MadeIndices.{IsMadeIndex}
 use Rattle.wl_bind.specs.SharedSteps.{is_host_of}
 use Rattle.wl_symbols.specs.Relocations.{object_relocations}
 use Rattle.wl_bind.specs.OutputTypes.{is_type_of_function, is_type_of_host, names_type, is_live_type, types_if, local_types, live_types, made_type, init_memory_type, made_types, output_types, AreTypeIndices}
-use Rattle.wl_bind.specs.Parts.{by_object, AreRows, IsIndexOf, AreIndicesOf}
+use Rattle.wl_bind.specs.Parts.{by_object, AreRows, IsIndexOf, AreIndicesOf, IsOver, told_space}
 use Rattle.wl_types.specs.Types.{add_type, IsFull}
-use Rattle.wl_linking.specs.declared.error.LinkError.{LinkError}
-use Rattle.wl_linking.specs.declared.error.LinkError.TheVariants.{OutOfMemory, TooLarge}
+use Rattle.wl_bind.specs.declared.parts.SpaceError.{SpaceError}
+use Rattle.wl_bind.specs.declared.parts.SpaceError.TheVariants.{OutOfMemory, TooLarge}
 use Rattle.wl_bind.specs.MergeSteps.{mark, mark_all, is_marked, AreMarked, function_types, host_type, host_types, named_type, present, merged, entry_if, type_where, made_functions}
 use Rattle.wl_symbols.specs.declared.relocated.Relocated.{Relocated}
 use Rattle.wl_bind.specs.declared.binding.FunctionTarget.TheVariants.{Defined, Made, Host, Stub}
@@ -233,13 +233,15 @@ insert_append types [] ys = refl
 insert_append types (x ∷ xs) ys = insert_append (add_type types x) xs ys
 
 -- a list that is full stays full
-still_full : (types more all : List FunctionType) (e : LinkError)
+still_full : (types more all : List FunctionType) (e : SpaceError)
     → insert_all same_type types more ≡ all
-    → IsFull types e → IsFull all e
+    → IsOver (length types) e → IsOver (length all) e
 still_full types more all OutOfMemory is full = tt
-still_full types more all (TooLarge what) is full =
-    (full.0, omega (arith, full.1, longer types more, ap length is))
-still_full types more all _ is full = full
+still_full types more all TooLarge is full = omega (arith, full, longer types more, ap length is)
+
+pub told_full : (types : List FunctionType) (e : SpaceError) → IsOver (length types) e → IsFull types (told_space e)
+told_full types OutOfMemory full = tt
+told_full types TooLarge full = (refl, full)
 
 -- ---- the marked types of an object
 
@@ -298,9 +300,9 @@ merging_one before all left entry old new indices index is at h = record {
 
 merging_full : (before : List FunctionType) (all left : List (Option FunctionType))
     (entry : Option FunctionType)
-    (old : List FunctionType) (indices : List ℕ) (e : LinkError)
+    (old : List FunctionType) (indices : List ℕ) (e : SpaceError)
     → Merging before all (entry ∷ left) old indices
-    → IsFull (merged old (entry ∷ [])) e → IsFull (merged before all) e
+    → IsOver (length (merged old (entry ∷ []))) e → IsOver (length (merged before all)) e
 merging_full before all left entry old indices e h full =
     still_full (merged old (entry ∷ [])) (present left)
     (merged before all) e (sym (merged_front old entry left) ∙ h.types) full
@@ -421,10 +423,10 @@ module _ (input : Input) (before : List FunctionType) (i : ℕ) (o : Object)
         (sym split_objects) next));
   }
 
-  pub merging_objects_full : (old : List FunctionType) (rows : List (List ℕ)) (e : LinkError)
+  pub merging_objects_full : (old : List FunctionType) (rows : List (List ℕ)) (e : SpaceError)
       → MergingObjects input before i old rows
-      → IsFull (merged old (local_types input i o)) e
-      → IsFull (insert_all same_type before (by_object (live_types input) 0 input.link.objects)) e
+      → IsOver (length (merged old (local_types input i o))) e
+      → IsOver (length (insert_all same_type before (by_object (live_types input) 0 input.link.objects))) e
   merging_objects_full old rows e h full =
       still_full (merged old (local_types input i o)) (types_behind input (i + 1))
       (insert_all same_type before (by_object (live_types input) 0 input.link.objects)) e (sym
@@ -468,18 +470,18 @@ module _ (passes : ℕ → Bool) (types : List FunctionType) (i : ℕ) (ty : Fun
       (entry_if (passes i) ty) old new indices index
       new-is at (split_entries old indices h)
 
-  pub marked_full : (old : List FunctionType) (indices : List ℕ) (e : LinkError)
+  pub marked_full : (old : List FunctionType) (indices : List ℕ) (e : SpaceError)
       → Merging before (types_if passes 0 types) (types_if passes i (drop i types)) old indices
-      → IsFull (merged old (entry_if (passes i) ty ∷ [])) e
-      → IsFull (merged before (types_if passes 0 types)) e
+      → IsOver (length (merged old (entry_if (passes i) ty ∷ []))) e
+      → IsOver (length (merged before (types_if passes 0 types))) e
   marked_full old indices e h full =
       merging_full before (types_if passes 0 types) (types_if passes (i + 1)
       (drop (i + 1) types)) (entry_if (passes i) ty) old indices e
       (split_entries old indices h) full
 
-  pub listed_full : (merger : List FunctionType) (e : LinkError)
+  pub listed_full : (merger : List FunctionType) (e : SpaceError)
       → insert_all same_type merger (drop i types) ≡ insert_all same_type before types
-      → IsFull (add_type merger ty) e → IsFull (insert_all same_type before types) e
+      → IsOver (length (add_type merger ty)) e → IsOver (length (insert_all same_type before types)) e
   listed_full merger e h full =
       let split : drop i types ≡ ty ∷ drop (i + 1) types =
       rw (add-one, drop-cons types i ty) (ap (λ (t : FunctionType). t ∷ drop (suc i) types)
@@ -641,17 +643,17 @@ output_is input none first second z a b =
     b ∙ (ap (λ (ts : List FunctionType). insert_all same_type ts (made_types input)) first-is
     ∙ sym (all_types input))
 
-pub first_full : (input : Input) (e : LinkError)
-    → IsFull (insert_all same_type [] (objects_types input)) e → IsFull (output_types input) e
+pub first_full : (input : Input) (e : SpaceError)
+    → IsOver (length (insert_all same_type [] (objects_types input))) e → IsOver (length (output_types input)) e
 first_full input e full =
     still_full (insert_all same_type [] (objects_types input)) (made_types input)
     (output_types input) e (sym (all_types input)) full
 
-pub second_full : (input : Input) (first : List FunctionType) (e : LinkError)
+pub second_full : (input : Input) (first : List FunctionType) (e : SpaceError)
     → first ≡ insert_all same_type [] (objects_types input)
-    → IsFull (insert_all same_type first (made_types input)) e → IsFull (output_types input) e
+    → IsOver (length (insert_all same_type first (made_types input))) e → IsOver (length (output_types input)) e
 second_full input first e is full =
-    subst (λ (ts : List FunctionType). IsFull ts e)
+    subst (λ (ts : List FunctionType). IsOver (length ts) e)
     (output_is input [] first (insert_all same_type first (made_types input)) refl is refl) full
 
 pub rows_of_output : (input : Input) (first second : List FunctionType) (rows : List (List ℕ))
@@ -676,11 +678,11 @@ stubs_last input old second made stubs a b c =
     (c ∙ ap (insert_all same_type old) a)
     ∙ sym (insert_append old (made_functions input) (stub_types input)))
 
-pub made_full : (input : Input) (old made : List FunctionType) (e : LinkError)
-    → made ≡ made_functions input → IsFull (insert_all same_type old made) e
-    → IsFull (insert_all same_type old (made_types input)) e
+pub made_full : (input : Input) (old made : List FunctionType) (e : SpaceError)
+    → made ≡ made_functions input → IsOver (length (insert_all same_type old made)) e
+    → IsOver (length (insert_all same_type old (made_types input))) e
 made_full input old made e a full =
     still_full (insert_all same_type old (made_functions input)) (stub_types input)
     (insert_all same_type old (made_types input)) e
     (sym (insert_append old (made_functions input) (stub_types input)))
-    (subst (λ (ts : List FunctionType). IsFull (insert_all same_type old ts) e) a full)
+    (subst (λ (ts : List FunctionType). IsOver (length (insert_all same_type old ts)) e) a full)

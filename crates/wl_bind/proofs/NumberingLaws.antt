@@ -7,7 +7,6 @@ use Rattle.std.proofs.lemmas.Option.{slice_get_within, get_or_from_slice_get}
 use Rattle.indexmap.proofs.SetLemmas.{AllZip-push}
 use Rattle.wl_bytes.specs.declared.reader.TheConstants.{MAX_LEN}
 use Rattle.wl_linking.specs.Object.{Object}
-use Rattle.wl_linking.specs.declared.error.LinkError.{LinkError}
 use Rattle.wl_custom.specs.declared.symbols.WasmSymbolKind.{WasmSymbolKind}
 use Rattle.wl_custom.specs.declared.symbols.WasmSymbolKind.TheVariants.{Func, Global}
 use Rattle.wl_symbols.specs.Live.{Live, is_live, ordinal_of, live_below, IsLiveOf}
@@ -25,10 +24,11 @@ use Rattle.wl_bind.specs.MadeIndices.{AreMadeIndices}
 use Rattle.wl_bind.specs.Numbering.{IsNumbering}
 use Rattle.wl_bind.specs.NumberingSteps.{made_end, firsts_of, HasRoom, FitsOwn, own_indices_of, HasIndex, IsResolvedIndex, resolution_of, HaveSlotIndices, IsSlotIndex}
 use Rattle.wl_bind.specs.OwnIndices.{own_unit, kept_own, firsts_from, own_index, kept_count, own_start, space_length}
-use Rattle.wl_bind.specs.Parts.{joined, lengths_of, total, by_object, IsIndexOf, AreIndicesOf, IsOver}
+use Rattle.wl_bind.specs.Parts.{joined, lengths_of, total, by_object, told_space, IsIndexOf, AreIndicesOf, IsOver}
 use Rattle.wl_bind.specs.Resolutions.{Resolving, rows_from, resolutions, by_all_rules}
 use Rattle.wl_bind.specs.Shared.{place_at}
 use Rattle.wl_bind.specs.SpaceFaults.{AreTooMany, IsSpaceOver}
+use Rattle.wl_bind.specs.declared.parts.SpaceError.{SpaceError}
 use Rattle.wl_bind.specs.declared.binding.FunctionTarget.TheVariants as function
 use Rattle.wl_bind.specs.declared.binding.GlobalTarget.TheVariants as global
 use Rattle.wl_bind.specs.declared.indices.LinkerDefinedIndices.{LinkerDefinedIndices}
@@ -342,8 +342,8 @@ pub if_err : {A E : Type 0} (r : Result A E) (P Q : E → Type 0) → ((e : E) �
 if_err (Ok x) P Q step err = tt
 if_err (Err e) P Q step err = step e err
 
-pub own_over : (input : Input) (own : Own) (start : ℕ) (e : LinkError) → start ≡ own_start input own
-    → IsOver (start + kept_count input own 0 input.link.objects) e → IsSpaceOver input e
+pub own_over : (input : Input) (own : Own) (start : ℕ) (e : SpaceError) → start ≡ own_start input own
+    → IsOver (start + kept_count input own 0 input.link.objects) e → IsSpaceOver input (told_space e)
 own_over input own start e is over =
     let long = space_long input own in
     over_as input (start + kept_count input own 0 input.link.objects) e

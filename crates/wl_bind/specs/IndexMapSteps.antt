@@ -1,18 +1,22 @@
 -- While the maps of objects are made.
-use Rattle.std.specs.Prelude.{◌≡◌, ◌==◌, false, length}
+use Rattle.std.specs.Prelude.{◌≡◌, ◌≤◌, ◌==◌, false, length}
+use Rattle.wl_index.specs.declared.index.TheConstants.{MAX_ENTRIES}
 use Rattle.wl_bind.specs.FunctionSpace.{function_space, local_functions}
 use Rattle.wl_bind.specs.FunctionSymbols.{function_bindings}
 use Rattle.wl_bind.specs.GlobalSpace.{global_space, local_globals}
 use Rattle.wl_symbols.specs.Input.{Input}
-use Rattle.wl_bind.specs.Numbering.{IsNumbering}
+use Rattle.wl_bind.specs.MadeIndices.{AreMadeIndices}
 use Rattle.wl_bind.specs.OutputTypes.{AreTypeIndices}
 use Rattle.wl_bind.specs.Parts.{AreIndicesOf, AreRows}
+use Rattle.wl_bind.specs.Scan.{scan_of}
 use Rattle.wl_bind.specs.declared.index_maps.MapSources.{MapSources}
 
 -- all of it is that of the link; bindings are needed where the GOT list of functions has entries
 pub record AreMapSources (input : Input) (s : MapSources) : Type 0 where
-  pub numbering : IsNumbering input s.numbering.now
-  pub bindings : (length s.numbering.now.scan.now.got_func == 0) ≡ false
+  pub scan : s.scan.now ≡ scan_of input
+  pub indices : AreMadeIndices input s.indices.now
+  pub room : length (function_space input) ≤ MAX_ENTRIES
+  pub bindings : (length s.scan.now.got_func == 0) ≡ false
       → s.bindings.now ≡ function_bindings input
   pub types : AreRows (AreTypeIndices input) 0 input.link.objects s.types.now
   pub functions : AreRows

@@ -9,8 +9,16 @@ use Rattle.wl_bind.specs.OwnIndices.{own_firsts}
 use Rattle.wl_bind.specs.Resolutions.{resolutions, by_all_rules}
 use Rattle.wl_bind.specs.Scan.{scan_of}
 use Rattle.wl_bind.specs.Shared.{shared_of}
+use Rattle.wl_bind.specs.declared.numbering.Firsts.{Firsts}
 use Rattle.wl_bind.specs.declared.numbering.Numbering.{Numbering}
 use Rattle.wl_bind.specs.declared.own_indices.Own.TheVariants.{Functions, Globals}
+
+-- the first index of what each object defines; there is room in both spaces
+pub record AreFirsts (input : Input) (f : Firsts) : Type 0 where
+  pub functions : f.functions.items ≡ own_firsts input Functions
+  pub globals : f.globals.items ≡ own_firsts input Globals
+  pub functions_fit : length (function_space input) ≤ MAX_ENTRIES
+  pub globals_fit : length (global_space input) ≤ MAX_ENTRIES
 
 -- all of it is that of the link, and there is room in both spaces
 pub record IsNumbering (input : Input) (n : Numbering) : Type 0 where

@@ -8,6 +8,8 @@ use Rattle.wl_linking.specs.declared.error.LinkError.TheVariants.{OutOfMemory, T
 use Rattle.wl_linking.specs.declared.error.Quantity.TheVariants.{Space}
 use Rattle.wl_index.specs.declared.index.TheConstants.{WASM_DEAD_INDEX, MAX_ENTRIES}
 use Rattle.wl_bind.specs.declared.parts.PartStarts.{PartStarts}
+use Rattle.wl_bind.specs.declared.parts.SpaceError.{SpaceError}
+use Rattle.wl_bind.specs.declared.parts.SpaceError.TheVariants as space
 
 -- ---- parts
 
@@ -76,10 +78,14 @@ abbrev pub ArePlacesOf : {X : Type 0} → List X → List (Option X) → List (O
 ArePlacesOf space entries places = AllZip (IsPlaceOf space) entries places
 
 -- memory ran out, or there would be too many entries
-abbrev pub IsOver : ℕ → LinkError → Type 0
-IsOver count OutOfMemory = ⊤
-IsOver count (TooLarge what) = (what ≡ Space) × (MAX_ENTRIES < count)
-IsOver count _ = ⊥
+abbrev pub IsOver : ℕ → SpaceError → Type 0
+IsOver count space.OutOfMemory = ⊤
+IsOver count space.TooLarge = MAX_ENTRIES < count
+
+-- the refusal of a link that tells why there is no space
+abbrev pub told_space : SpaceError → LinkError
+told_space space.OutOfMemory = OutOfMemory
+told_space space.TooLarge = TooLarge Space
 
 -- ---- objects
 

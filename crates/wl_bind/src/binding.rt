@@ -17,7 +17,7 @@ pub enum FunctionTarget {
 }
 
 /// A global that a slot is bound to. A host import is named by its first kept slot.
-#[derive(Clone, Copy, PartialEq, Eq)]
+#[derive(Clone, Copy)]
 pub enum GlobalTarget {
     /// The global of that number among those that the object defines.
     Defined { object: usize, global: u32 },

@@ -7,13 +7,15 @@ ghost use Rattle.wl_bind.specs.BoundIndices.{IsBoundIndices};
 ghost use Rattle.wl_bind.specs.IndexMaps.{AreIndexMaps};
 ghost use Rattle.wl_bind.specs.MadeIndices.{AreMadeIndices};
 ghost use Rattle.wl_bind.specs.OutputTypes.{IsMerged};
+ghost use Rattle.wl_bind.specs.Parts.{told_space};
 ghost use Rattle.wl_bind.specs.SpaceFaults.{AreTooMany, IsSpaceOver, IsSpaceTooLarge, index_fault};
 
 use crate::bound::{BoundReferences, bind_references};
 use crate::index_maps::index_maps_of;
 use crate::indices::LinkerDefinedIndices;
-use crate::merging::{MergedTypes, merge_live_output_types};
-use crate::numbering::Numbering;
+use crate::merging::{MergedTypes, merge_types};
+use crate::numbering::{Numbering, all_firsts};
+use crate::parts::SpaceError;
 use crate::resolution::ObjectImportResolutions;
 use crate::scan::RelocScan;
 use crate::shared::SharedUnresolvedImports;
@@ -58,16 +60,17 @@ fn index_maps(
     bound: &BoundReferences<'_>,
     indices: &LinkerDefinedIndices,
     types: &MergedTypes,
-) -> Result<ItemList<WasmObjectIndexMap>, LinkError>
+) -> Result<ItemList<WasmObjectIndexMap>, SpaceError>
     requires bound { bound.now ≡ bound_of input.now }
     requires indices { AreMadeIndices input.now indices.now }
     requires types { IsMerged input.now types.now }
     ensures ok { IfOk result (AreIndexMaps input.now) }
     ensures room { OnOk result (AreTooMany input.now → ⊥) }
-    ensures err { IfErr result (IsSpaceOver input.now) }
+    ensures err { IfErr result (λ e. IsSpaceOver input.now (told_space e)) }
 {
+    let firsts = all_firsts(alloc, input, indices)?;
     let rows = bound.resolutions.as_slice();
-    let numbering = Numbering::new(alloc, input, rows, &bound.scan, &bound.shared, indices)?;
+    let numbering = Numbering::new(input, rows, &bound.scan, &bound.shared, indices, firsts);
     Ok(index_maps_of(alloc, &numbering, types)?)
 }
 
@@ -76,25 +79,18 @@ fn index_things(
     alloc: Global,
     input: &LinkInput<'_, '_>,
     bound: &BoundReferences<'_>,
-) -> Result<IndexedThings, LinkError>
+) -> Result<IndexedThings, SpaceError>
     requires { bound.now ≡ bound_of input.now }
     ensures indices { IfOk result (λ i. AreMadeIndices input.now i.indices) }
     ensures types { IfOk result (λ i. IsMerged input.now i.types) }
     ensures maps { IfOk result (λ i. AreIndexMaps input.now i.maps) }
     ensures clear { OnOk result (Clear (IsSpaceTooLarge input.now)) }
-    ensures err { IfErr result (Refuses (IsSpaceTooLarge input.now)) }
+    ensures err { IfErr result (λ e. Refuses (IsSpaceTooLarge input.now) (told_space e)) }
 {
     let rows = bound.resolutions.as_slice();
     let stubs = bound.stubs.as_slice();
-    let indices = LinkerDefinedIndices::compute(
-        alloc,
-        input,
-        rows,
-        &bound.scan,
-        &bound.shared,
-        stubs,
-    )?;
-    let types = merge_live_output_types(alloc, input, rows, &indices, stubs)?;
+    let indices = LinkerDefinedIndices::new(alloc, input, rows, &bound.scan, &bound.shared, stubs)?;
+    let types = merge_types(alloc, input, rows, &indices, stubs)?;
     let maps = index_maps(alloc, input, bound, &indices, &types)?;
     Ok(IndexedThings {
         indices,

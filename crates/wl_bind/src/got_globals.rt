@@ -7,10 +7,12 @@ ghost use Rattle.wl_bind.specs.FunctionSymbols.{function_bindings};
 ghost use Rattle.wl_bind.specs.GlobalSpace.{global_space};
 ghost use Rattle.wl_bind.specs.GlobalSteps.{marked, mem_entry_at, mem_global_if, func_entry_at, func_global_if};
 ghost use Rattle.wl_bind.specs.IndexMaps.{has_global, is_data_symbol, mem_place, got_mem_globals, func_place, got_func_globals};
-ghost use Rattle.wl_bind.specs.Numbering.{IsNumbering};
+ghost use Rattle.wl_bind.specs.MadeIndices.{AreMadeIndices};
 ghost use Rattle.wl_bind.specs.Parts.{IsPlaceOf, ArePlacesOf};
+ghost use Rattle.wl_bind.specs.Scan.{scan_of};
 
-use crate::numbering::Numbering;
+use crate::indices::LinkerDefinedIndices;
+use crate::scan::RelocScan;
 use crate::targets::FunctionBindings;
 use std::alloc::{AllocError, Global};
 use wl_linking::File;
@@ -71,42 +73,56 @@ fn is_data_symbol(input: &LinkInput<'_, '_>, object: usize, number: u32) -> bool
 }
 
 /// The place of the definition of a symbol in the GOT list of data.
-fn mem_place(numbering: &Numbering<'_, '_, '_>, object: usize, number: u32) -> Option<usize>
-    requires numbering { IsNumbering numbering.now.input.now numbering.now }
-    requires there { IsSome (symbol_in numbering.now.input.now.link.objects object number) }
-    ensures { result ≡ mem_place numbering.now.input.now object number }
+fn mem_place(
+    input: &LinkInput<'_, '_>,
+    scan: &RelocScan<'_>,
+    object: usize,
+    number: u32,
+) -> Option<usize>
+    requires scan { scan.now ≡ scan_of input.now }
+    requires there { IsSome (symbol_in input.now.link.objects object number) }
+    ensures { result ≡ mem_place input.now object number }
 {
-    let definition = numbering.input.symbols().definition(object, number);
-    let scan = numbering.scan;
+    let definition = input.symbols().definition(object, number);
     scan.got_mem.place(definition)
 }
 
 /// The index of the global with the address of a symbol, where the GOT list of data has its
 /// definition.
-fn mem_index(numbering: &Numbering<'_, '_, '_>, object: usize, number: u32) -> Option<u32>
-    requires numbering { IsNumbering numbering.now.input.now numbering.now }
-    requires there { IsSome (symbol_in numbering.now.input.now.link.objects object number) }
-    ensures { IsPlaceOf (global_space numbering.now.input.now)
-        (mem_entry_at (mem_place numbering.now.input.now object number)) result }
+fn mem_index(
+    input: &LinkInput<'_, '_>,
+    scan: &RelocScan<'_>,
+    indices: &LinkerDefinedIndices,
+    object: usize,
+    number: u32,
+) -> Option<u32>
+    requires scan { scan.now ≡ scan_of input.now }
+    requires indices { AreMadeIndices input.now indices.now }
+    requires there { IsSome (symbol_in input.now.link.objects object number) }
+    ensures { IsPlaceOf (global_space input.now)
+        (mem_entry_at (mem_place input.now object number)) result }
 {
-    let place = mem_place(numbering, object, number)?;
-    Some(numbering.indices.got_mem(place))
+    let place = mem_place(input, scan, object, number)?;
+    Some(indices.got_mem(place))
 }
 
 /// The index of the global with the address of a symbol, if it is data that is marked.
 fn got_mem_global(
-    numbering: &Numbering<'_, '_, '_>,
+    input: &LinkInput<'_, '_>,
+    scan: &RelocScan<'_>,
+    indices: &LinkerDefinedIndices,
     object: usize,
     number: u32,
     mark: bool,
 ) -> Option<u32>
-    requires numbering { IsNumbering numbering.now.input.now numbering.now }
-    requires there { IsSome (symbol_in numbering.now.input.now.link.objects object number) }
-    ensures { IsPlaceOf (global_space numbering.now.input.now)
-        (mem_global_if numbering.now.input.now object number mark) result }
+    requires scan { scan.now ≡ scan_of input.now }
+    requires indices { AreMadeIndices input.now indices.now }
+    requires there { IsSome (symbol_in input.now.link.objects object number) }
+    ensures { IsPlaceOf (global_space input.now)
+        (mem_global_if input.now object number mark) result }
 {
-    if is_data_symbol(numbering.input, object, number) && mark {
-        mem_index(numbering, object, number)
+    if is_data_symbol(input, object, number) && mark {
+        mem_index(input, scan, indices, object, number)
     } else {
         None
     }
@@ -119,24 +135,27 @@ fn got_mem_global(
 /// `AllocError` where memory runs out.
 pub(crate) fn got_mem_globals(
     alloc: Global,
-    numbering: &Numbering<'_, '_, '_>,
+    input: &LinkInput<'_, '_>,
+    scan: &RelocScan<'_>,
+    indices: &LinkerDefinedIndices,
     object: usize,
     file: &File<'_>,
 ) -> Result<ItemList<Option<u32>>, AllocError>
-    requires numbering { IsNumbering numbering.now.input.now numbering.now }
-    requires here { slice_get numbering.now.input.now.link.objects object ≡ Some file.now }
-    ensures { let input = numbering.now.input.now in IfOk result
-        (ArePlacesOf (global_space input) (got_mem_globals input object file.now)) }
+    requires scan { scan.now ≡ scan_of input.now }
+    requires indices { AreMadeIndices input.now indices.now }
+    requires here { slice_get input.now.link.objects object ≡ Some file.now }
+    ensures { IfOk result
+        (ArePlacesOf (global_space input.now) (got_mem_globals input.now object file.now)) }
 {
-    let scan = numbering.scan;
     if scan.got_mem.is_empty() {
         return no_globals(alloc, file.symbols().len());
     }
     file.stands_for_an_object();
-    let marks = global_marks(alloc, numbering.input, object, file)?;
+    let marks = global_marks(alloc, input, object, file)?;
     let mut globals = ItemList::empty(alloc);
     for (number, mark) in marks.iter().enumerate() {
-        globals.push(got_mem_global(numbering, object, number as u32, *mark))?;
+        let global = got_mem_global(input, scan, indices, object, number as u32, *mark);
+        globals.push(global)?;
     }
     Ok(globals)
 }
@@ -146,57 +165,63 @@ pub(crate) fn got_mem_globals(
 /// The place of the definition of a symbol, with the function that it leads to, in the GOT list of
 /// functions.
 fn func_place(
-    numbering: &Numbering<'_, '_, '_>,
+    input: &LinkInput<'_, '_>,
+    scan: &RelocScan<'_>,
     bindings: &FunctionBindings,
     object: usize,
     number: u32,
 ) -> Option<usize>
-    requires numbering { IsNumbering numbering.now.input.now numbering.now }
-    requires bindings { bindings.now ≡ function_bindings numbering.now.input.now }
-    requires there { IsSome (symbol_in numbering.now.input.now.link.objects object number) }
-    ensures { result ≡ func_place numbering.now.input.now object number }
+    requires scan { scan.now ≡ scan_of input.now }
+    requires bindings { bindings.now ≡ function_bindings input.now }
+    requires there { IsSome (symbol_in input.now.link.objects object number) }
+    ensures { result ≡ func_place input.now object number }
 {
-    let function = bindings.function(numbering.input, object, number)?;
-    let definition = numbering.input.symbols().definition(object, number);
-    let scan = numbering.scan;
+    let function = bindings.function(input, object, number)?;
+    let definition = input.symbols().definition(object, number);
     scan.got_func.place(definition, function)
 }
 
 /// The index of the global with the slot of the function that a symbol leads to, where the GOT list
 /// of functions has its definition.
 fn func_index(
-    numbering: &Numbering<'_, '_, '_>,
+    input: &LinkInput<'_, '_>,
+    scan: &RelocScan<'_>,
+    indices: &LinkerDefinedIndices,
     bindings: &FunctionBindings,
     object: usize,
     number: u32,
 ) -> Option<u32>
-    requires numbering { IsNumbering numbering.now.input.now numbering.now }
-    requires bindings { bindings.now ≡ function_bindings numbering.now.input.now }
-    requires there { IsSome (symbol_in numbering.now.input.now.link.objects object number) }
-    ensures { IsPlaceOf (global_space numbering.now.input.now)
-        (func_entry_at (func_place numbering.now.input.now object number)) result }
+    requires scan { scan.now ≡ scan_of input.now }
+    requires indices { AreMadeIndices input.now indices.now }
+    requires bindings { bindings.now ≡ function_bindings input.now }
+    requires there { IsSome (symbol_in input.now.link.objects object number) }
+    ensures { IsPlaceOf (global_space input.now)
+        (func_entry_at (func_place input.now object number)) result }
 {
-    let place = func_place(numbering, bindings, object, number)?;
-    Some(numbering.indices.got_func(place))
+    let place = func_place(input, scan, bindings, object, number)?;
+    Some(indices.got_func(place))
 }
 
 /// The index of the global with the slot of the function that a symbol leads to, if it is a
 /// function's that is marked.
 fn got_func_global(
-    numbering: &Numbering<'_, '_, '_>,
+    input: &LinkInput<'_, '_>,
+    scan: &RelocScan<'_>,
+    indices: &LinkerDefinedIndices,
     bindings: &FunctionBindings,
     object: usize,
     number: u32,
     mark: bool,
 ) -> Option<u32>
-    requires numbering { IsNumbering numbering.now.input.now numbering.now }
-    requires bindings { bindings.now ≡ function_bindings numbering.now.input.now }
-    requires there { IsSome (symbol_in numbering.now.input.now.link.objects object number) }
-    ensures { IsPlaceOf (global_space numbering.now.input.now)
-        (func_global_if numbering.now.input.now object number mark) result }
+    requires scan { scan.now ≡ scan_of input.now }
+    requires indices { AreMadeIndices input.now indices.now }
+    requires bindings { bindings.now ≡ function_bindings input.now }
+    requires there { IsSome (symbol_in input.now.link.objects object number) }
+    ensures { IsPlaceOf (global_space input.now)
+        (func_global_if input.now object number mark) result }
 {
     if mark {
-        func_index(numbering, bindings, object, number)
+        func_index(input, scan, indices, bindings, object, number)
     } else {
         None
     }
@@ -209,27 +234,30 @@ fn got_func_global(
 /// `AllocError` where memory runs out.
 pub(crate) fn got_func_globals(
     alloc: Global,
-    numbering: &Numbering<'_, '_, '_>,
+    input: &LinkInput<'_, '_>,
+    scan: &RelocScan<'_>,
+    indices: &LinkerDefinedIndices,
     bindings: &FunctionBindings,
     object: usize,
     file: &File<'_>,
 ) -> Result<ItemList<Option<u32>>, AllocError>
-    requires numbering { IsNumbering numbering.now.input.now numbering.now }
-    requires bindings { (length numbering.now.scan.now.got_func == 0) ≡ false
-        → bindings.now ≡ function_bindings numbering.now.input.now }
-    requires here { slice_get numbering.now.input.now.link.objects object ≡ Some file.now }
-    ensures { let input = numbering.now.input.now in IfOk result
-        (ArePlacesOf (global_space input) (got_func_globals input object file.now)) }
+    requires scan { scan.now ≡ scan_of input.now }
+    requires indices { AreMadeIndices input.now indices.now }
+    requires bindings { (length scan.now.got_func == 0) ≡ false
+        → bindings.now ≡ function_bindings input.now }
+    requires here { slice_get input.now.link.objects object ≡ Some file.now }
+    ensures { IfOk result
+        (ArePlacesOf (global_space input.now) (got_func_globals input.now object file.now)) }
 {
-    let scan = numbering.scan;
     if scan.got_func.is_empty() {
         return no_globals(alloc, file.symbols().len());
     }
     file.stands_for_an_object();
-    let marks = global_marks(alloc, numbering.input, object, file)?;
+    let marks = global_marks(alloc, input, object, file)?;
     let mut globals = ItemList::empty(alloc);
     for (number, mark) in marks.iter().enumerate() {
-        globals.push(got_func_global(numbering, bindings, object, number as u32, *mark))?;
+        let global = got_func_global(input, scan, indices, bindings, object, number as u32, *mark);
+        globals.push(global)?;
     }
     Ok(globals)
 }

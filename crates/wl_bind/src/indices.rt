@@ -10,7 +10,7 @@ ghost use Rattle.wl_bind.specs.FunctionSpace.{InitMemory, stub_part, function_pa
 ghost use Rattle.wl_bind.specs.GlobalSpace.{GlobalOf, global_parts, global_space};
 ghost use Rattle.wl_bind.specs.Made.{linker_needs, has_init_memory, is_made};
 ghost use Rattle.wl_bind.specs.MadeIndices.{AreExported, AreMadeIndices, IsMadeIndex};
-ghost use Rattle.wl_bind.specs.Parts.{total, lengths_of, AreStarts, HasEntry, IsOver};
+ghost use Rattle.wl_bind.specs.Parts.{total, lengths_of, told_space, AreStarts, HasEntry, IsOver};
 ghost use Rattle.wl_bind.specs.Resolutions.{resolutions, by_all_rules};
 ghost use Rattle.wl_bind.specs.Sameness.{same_made};
 ghost use Rattle.wl_bind.specs.Scan.{scan_of};
@@ -20,7 +20,7 @@ ghost use Rattle.wl_bind.specs.declared.binding.GlobalTarget.TheVariants as Glob
 
 use crate::exported::{ExportedData, exported_data};
 use crate::needs::{LinkerImportAbsorption, LinkerNeeds, is_made, linker_needs};
-use crate::parts::PartStarts;
+use crate::parts::{PartStarts, SpaceError};
 use crate::resolution::ObjectImportResolutions;
 use crate::scan::RelocScan;
 use crate::shared::SharedUnresolvedImports;
@@ -137,7 +137,7 @@ fn function_starts(
     needs: LinkerNeeds,
     shared: &SharedUnresolvedImports<'_>,
     stubs: &[FuncType],
-) -> Result<PartStarts, LinkError>
+) -> Result<PartStarts, SpaceError>
     requires needs { needs.absorption ≡ linker_needs input.now }
     requires init_memory { needs.init_memory ≡ has_init_memory input.now }
     requires shared { shared.now ≡ shared_of input.now }
@@ -167,7 +167,7 @@ fn global_starts(
     scan: &RelocScan<'_>,
     shared: &SharedUnresolvedImports<'_>,
     exported: &ExportedData,
-) -> Result<PartStarts, LinkError>
+) -> Result<PartStarts, SpaceError>
     requires needs { needs ≡ linker_needs input.now }
     requires scan { scan.now ≡ scan_of input.now }
     requires shared { shared.now ≡ shared_of input.now }
@@ -198,7 +198,6 @@ impl LinkerDefinedIndices {
     ///
     /// # Errors
     /// `TooLarge` where a space would get more than 4294967294 entries.
-    #[tactic(auto, using(crate::proofs::IndexLaws::functions_over, crate::proofs::IndexLaws::globals_over))]
     pub fn compute(
         alloc: Global,
         input: &LinkInput<'_, '_>,
@@ -213,6 +212,26 @@ impl LinkerDefinedIndices {
         requires stubs { stubs.now ≡ stub_types input.now }
         ensures ok { IfOk result (AreMadeIndices input.now) }
         ensures err { IfErr result (IsSpaceOver input.now) }
+    {
+        Ok(Self::new(alloc, input, rows, scan, shared, stubs)?)
+    }
+
+    /// As [`Self::compute`].
+    #[tactic(auto, using(crate::proofs::IndexLaws::functions_over, crate::proofs::IndexLaws::globals_over))]
+    pub(crate) fn new(
+        alloc: Global,
+        input: &LinkInput<'_, '_>,
+        rows: &[ObjectImportResolutions],
+        scan: &RelocScan<'_>,
+        shared: &SharedUnresolvedImports<'_>,
+        stubs: &[FuncType],
+    ) -> Result<Self, SpaceError>
+        requires rows { rows.now ≡ resolutions input.now (by_all_rules input.now) }
+        requires scan { scan.now ≡ scan_of input.now }
+        requires shared { shared.now ≡ shared_of input.now }
+        requires stubs { stubs.now ≡ stub_types input.now }
+        ensures ok { IfOk result (AreMadeIndices input.now) }
+        ensures err { IfErr result (λ e. IsSpaceOver input.now (told_space e)) }
     {
         let needs = linker_needs(alloc, input, rows, scan)?;
         let exported = exported_data(alloc, input, needs.absorption)?;

@@ -3,16 +3,17 @@
 ghost use Rattle.std.specs.Prelude.{◌≡◌, ◌∷◌, ◌++◌, [], Some, length, slice_get, IfOk, IfErr, OnOk};
 ghost use Rattle.indexmap.specs.IndexSet.{insert_all};
 ghost use Rattle.wl_module.specs.Types.{same_type};
-ghost use Rattle.wl_types.specs.Types.{IsFull};
+ghost use Rattle.wl_types.specs.Types.{add_type, IsFull};
 ghost use Rattle.wl_bind.specs.FunctionTypes.{stub_types};
 ghost use Rattle.wl_symbols.specs.Input.{Input as Linked};
 ghost use Rattle.wl_bind.specs.MadeIndices.{AreMadeIndices};
 ghost use Rattle.wl_bind.specs.MergeSteps.{is_marked, entry_if, merged, type_where, made_functions};
 ghost use Rattle.wl_bind.specs.OutputTypes.{made_types, output_types, types_if, local_types, live_types, IsMerged};
-ghost use Rattle.wl_bind.specs.Parts.{by_object, AreRows, IsIndexOf, AreIndicesOf};
+ghost use Rattle.wl_bind.specs.Parts.{by_object, AreRows, IsIndexOf, AreIndicesOf, IsOver};
 ghost use Rattle.wl_bind.specs.Resolutions.{resolutions, by_all_rules};
 
 use crate::indices::LinkerDefinedIndices;
+use crate::parts::SpaceError;
 use crate::resolution::ObjectImportResolutions;
 use crate::type_marks::live_marks;
 use std::alloc::{AllocError, Global};
@@ -33,16 +34,29 @@ pub struct MergedTypes {
     pub indices: ItemList<ItemList<u32>>,
 }
 
+/// Adds a type, unless it is there, and answers its index.
+fn add_type(merger: &mut TypeMerger, ty: &FuncType) -> Result<u32, SpaceError>
+    ensures types { OnOk result (merger.new ≡ add_type merger.old ty.now) }
+    ensures place { IfOk result (λ place. slice_get merger.new place ≡ Some ty.now) }
+    ensures err { IfErr result (IsOver (length (add_type merger.old ty.now))) }
+{
+    match merger.add(ty) {
+        Ok(index) => Ok(index),
+        Err(LinkError::TooLarge { .. }) => Err(SpaceError::TooLarge),
+        Err(_) => Err(SpaceError::OutOfMemory),
+    }
+}
+
 // ---- the types of an object
 
 /// Adds a type, where it is marked, and answers its index: 4294967295 where it isn't.
-fn merge_type(merger: &mut TypeMerger, ty: &FuncType, marked: bool) -> Result<u32, LinkError>
+fn merge_type(merger: &mut TypeMerger, ty: &FuncType, marked: bool) -> Result<u32, SpaceError>
     ensures types { OnOk result (merger.new ≡ merged merger.old (entry_if marked ty.now ∷ [])) }
     ensures index { IfOk result (IsIndexOf merger.new (entry_if marked ty.now)) }
-    ensures err { IfErr result (IsFull (merged merger.old (entry_if marked ty.now ∷ []))) }
+    ensures err { IfErr result (IsOver (length (merged merger.old (entry_if marked ty.now ∷ [])))) }
 {
     if marked {
-        merger.add(ty)
+        add_type(merger, ty)
     } else {
         Ok(WASM_DEAD_INDEX)
     }
@@ -54,14 +68,14 @@ fn merge_marked(
     merger: &mut TypeMerger,
     types: &[FuncType],
     marks: &[bool],
-) -> Result<ItemList<u32>, LinkError>
+) -> Result<ItemList<u32>, SpaceError>
     requires { length marks.now ≡ length types.now }
     ensures types { OnOk result
         (merger.new ≡ merged merger.old (types_if (is_marked marks.now) 0 types.now)) }
     ensures indices { IfOk result
         (AreIndicesOf merger.new (types_if (is_marked marks.now) 0 types.now)) }
     ensures err { IfErr result
-        (IsFull (merged merger.old (types_if (is_marked marks.now) 0 types.now))) }
+        (IsOver (length (merged merger.old (types_if (is_marked marks.now) 0 types.now)))) }
 {
     let mut indices = ItemList::empty(alloc);
     for (number, ty) in types.iter().enumerate() {
@@ -79,7 +93,7 @@ fn merge_object(
     rows: &[ObjectImportResolutions],
     object: usize,
     file: &File<'_>,
-) -> Result<ItemList<u32>, LinkError>
+) -> Result<ItemList<u32>, SpaceError>
     requires rows { rows.now ≡ resolutions input.now (by_all_rules input.now) }
     requires object { slice_get input.now.link.objects object ≡ Some file.now }
     ensures types { OnOk result
@@ -87,7 +101,7 @@ fn merge_object(
     ensures indices { IfOk result
         (AreIndicesOf merger.new (local_types input.now object file.now)) }
     ensures err { IfErr result
-        (IsFull (merged merger.old (local_types input.now object file.now))) }
+        (IsOver (length (merged merger.old (local_types input.now object file.now)))) }
 {
     let marks = live_marks(alloc, input, rows, object, file)?;
     merge_marked(alloc, merger, file.types(), &marks)
@@ -99,15 +113,15 @@ fn merge_objects(
     merger: &mut TypeMerger,
     input: &LinkInput<'_, '_>,
     rows: &[ObjectImportResolutions],
-) -> Result<ItemList<ItemList<u32>>, LinkError>
+) -> Result<ItemList<ItemList<u32>>, SpaceError>
     requires rows { rows.now ≡ resolutions input.now (by_all_rules input.now) }
     ensures types { OnOk result (merger.new ≡ insert_all same_type merger.old
         (by_object (live_types input.now) 0 input.now.link.objects)) }
     ensures indices { IfOk result (AreRows
         (λ object o. AreIndicesOf merger.new (local_types input.now object o))
         0 input.now.link.objects) }
-    ensures err { IfErr result (IsFull (insert_all same_type merger.old
-        (by_object (live_types input.now) 0 input.now.link.objects))) }
+    ensures err { IfErr result (IsOver (length (insert_all same_type merger.old
+        (by_object (live_types input.now) 0 input.now.link.objects)))) }
 {
     let mut indices = ItemList::empty(alloc);
     for (object, file) in input.files().as_slice().iter().enumerate() {
@@ -120,12 +134,12 @@ fn merge_objects(
 // ---- the types of what the linker makes
 
 /// Adds these types.
-fn merge_listed(merger: &mut TypeMerger, types: &[FuncType]) -> Result<(), LinkError>
+fn merge_listed(merger: &mut TypeMerger, types: &[FuncType]) -> Result<(), SpaceError>
     ensures types { OnOk result (merger.new ≡ insert_all same_type merger.old types.now) }
-    ensures err { IfErr result (IsFull (insert_all same_type merger.old types.now)) }
+    ensures err { IfErr result (IsOver (length (insert_all same_type merger.old types.now))) }
 {
     for ty in types {
-        merger.add(ty)?;
+        add_type(merger, ty)?;
     }
     Ok(())
 }
@@ -170,13 +184,13 @@ fn merge_made(
     merger: &mut TypeMerger,
     indices: &LinkerDefinedIndices,
     stubs: &[FuncType],
-) -> Result<(), LinkError>
+) -> Result<(), SpaceError>
     ensures types { (input : Linked) → AreMadeIndices input indices.now
         → stubs.now ≡ stub_types input
         → OnOk result (merger.new ≡ insert_all same_type merger.old (made_types input)) }
     ensures err { (input : Linked) → AreMadeIndices input indices.now
         → stubs.now ≡ stub_types input
-        → IfErr result (IsFull (insert_all same_type merger.old (made_types input))) }
+        → IfErr result (IsOver (length (insert_all same_type merger.old (made_types input)))) }
 {
     let made = made_functions(alloc, indices)?;
     merge_listed(merger, &made)?;
@@ -185,11 +199,35 @@ fn merge_made(
 
 // ---- the types of the output
 
+/// As [`merge_live_output_types`].
+pub(crate) fn merge_types(
+    alloc: Global,
+    input: &LinkInput<'_, '_>,
+    rows: &[ObjectImportResolutions],
+    indices: &LinkerDefinedIndices,
+    stubs: &[FuncType],
+) -> Result<MergedTypes, SpaceError>
+    requires rows { rows.now ≡ resolutions input.now (by_all_rules input.now) }
+    requires indices { AreMadeIndices input.now indices.now }
+    requires stubs { stubs.now ≡ stub_types input.now }
+    ensures ok { IfOk result (IsMerged input.now) }
+    ensures err { IfErr result (IsOver (length (output_types input.now))) }
+{
+    let mut types = TypeMerger::new(alloc);
+    let rows = merge_objects(alloc, &mut types, input, rows)?;
+    merge_made(alloc, &mut types, indices, stubs)?;
+    Ok(MergedTypes {
+        types,
+        indices: rows,
+    })
+}
+
 /// Merges the types of kept functions, of what the host is asked for, and of what kept relocations
 /// name, object by object, and then those of what the linker makes.
 ///
 /// # Errors
 /// `TooLarge` where there would be more than 4294967294 of them.
+#[tactic(auto, using(crate::proofs::MergeLaws::told_full))]
 pub fn merge_live_output_types(
     alloc: Global,
     input: &LinkInput<'_, '_>,
@@ -203,11 +241,5 @@ pub fn merge_live_output_types(
     ensures ok { IfOk result (IsMerged input.now) }
     ensures err { IfErr result (IsFull (output_types input.now)) }
 {
-    let mut types = TypeMerger::new(alloc);
-    let rows = merge_objects(alloc, &mut types, input, rows)?;
-    merge_made(alloc, &mut types, indices, stubs)?;
-    Ok(MergedTypes {
-        types,
-        indices: rows,
-    })
+    Ok(merge_types(alloc, input, rows, indices, stubs)?)
 }

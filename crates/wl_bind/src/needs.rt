@@ -22,7 +22,7 @@ use wl_symbols::{LinkInput, WasmGcUnit, WasmLinkerSymbol};
 
 /// Which of the things that the linker can make kept slots and kept relocations ask for, functions
 /// that run at the start, and blocks of threads. What is made for an export alone isn't among them.
-#[derive(Clone, Copy, PartialEq, Eq)]
+#[derive(Clone, Copy)]
 pub struct LinkerImportAbsorption {
     /// `__memory_base`, which has the value 1024 then; made for an export alone it has 0.
     pub needs_memory_base: bool,
@@ -115,9 +115,12 @@ fn leads_to(resolution: &ImportResolution, made: WasmLinkerSymbol) -> bool
 fn any_leads_to(resolutions: &[ImportResolution], made: WasmLinkerSymbol) -> bool
     ensures { result ≡ list_any (leads_to made) resolutions.now }
 {
-    resolutions
-        .iter()
-        .any(|resolution| leads_to(resolution, made))
+    for resolution in resolutions {
+        if leads_to(resolution, made) {
+            return true;
+        }
+    }
+    false
 }
 
 /// Whether a slot of an object is resolved to what the linker makes.
@@ -132,7 +135,12 @@ fn row_leads_to(row: &ObjectImportResolutions, made: WasmLinkerSymbol) -> bool
 fn any_row_leads_to(rows: &[ObjectImportResolutions], made: WasmLinkerSymbol) -> bool
     ensures { result ≡ list_any (row_leads_to made) rows.now }
 {
-    rows.iter().any(|row| row_leads_to(row, made))
+    for row in rows {
+        if row_leads_to(row, made) {
+            return true;
+        }
+    }
+    false
 }
 
 /// Whether it is asked for already, or a kept slot is bound to it.
@@ -281,8 +289,12 @@ pub(crate) struct LinkerNeeds {
 pub fn has_init_functions(input: &LinkInput<'_, '_>) -> bool
     ensures { result ≡ has_init_functions input.now }
 {
-    let files = input.files().as_slice();
-    files.iter().any(|file| !file.init_funcs().is_empty())
+    for file in input.files().as_slice() {
+        if !file.init_funcs().is_empty() {
+            return true;
+        }
+    }
+    false
 }
 
 /// What the linker is asked for, where it is known what kept relocations ask for, and whether data

@@ -6,10 +6,10 @@ ghost use Rattle.wl_symbols.specs.ImportSlots.{import_slots};
 ghost use Rattle.wl_index.specs.declared.index.TheConstants.{WASM_DEAD_INDEX, MAX_ENTRIES};
 ghost use Rattle.wl_symbols.specs.Input.{keeps_slot};
 ghost use Rattle.wl_bind.specs.MadeIndices.{AreMadeIndices};
-ghost use Rattle.wl_bind.specs.Numbering.{IsNumbering};
+ghost use Rattle.wl_bind.specs.Numbering.{AreFirsts, IsNumbering};
 ghost use Rattle.wl_bind.specs.NumberingSteps.{HasRoom, behind_first, FitsOwn, own_indices_of, FitsPlace, HasIndex, IsIndexOfMade, IsResolvedIndex, resolution_of, HaveSlotIndices, IsSlotIndex, made_end, row_part, firsts_of, AreObjectIndices};
 ghost use Rattle.wl_bind.specs.OwnIndices.{own_unit, own_index, own_firsts, space_length};
-ghost use Rattle.wl_bind.specs.Parts.{AreRows};
+ghost use Rattle.wl_bind.specs.Parts.{AreRows, told_space};
 ghost use Rattle.wl_bind.specs.Resolutions.{resolutions, by_all_rules};
 ghost use Rattle.wl_bind.specs.Scan.{scan_of};
 ghost use Rattle.wl_bind.specs.Shared.{shared_of, place_at};
@@ -18,12 +18,13 @@ ghost use Rattle.wl_bind.specs.SpaceFaults.{IsSpaceOver};
 
 use crate::indices::LinkerDefinedIndices;
 use crate::own_indices::{Own, first_indices};
+use crate::parts::SpaceError;
 use crate::resolution::{ImportResolution, ObjectImportResolutions};
 use crate::scan::RelocScan;
 use crate::shared::SharedUnresolvedImports;
 use std::alloc::{AllocError, Global};
 use wl_index::WASM_DEAD_INDEX;
-use wl_linking::{File, LinkError, WasmSymbolKind, whole_objects};
+use wl_linking::{File, WasmSymbolKind, whole_objects};
 use wl_lists::ItemList;
 use wl_symbols::{
     LinkInput, WasmGcUnit, WasmLinkerSymbol, host_imports_are_found, live_units_are_closed,
@@ -84,46 +85,66 @@ fn own_firsts(
     input: &LinkInput<'_, '_>,
     indices: &LinkerDefinedIndices,
     own: Own,
-) -> Result<Vec<u32>, LinkError>
+) -> Result<Vec<u32>, SpaceError>
     requires { AreMadeIndices input.now indices.now }
     ensures firsts { IfOk result (λ firsts. firsts.items ≡ own_firsts input.now own) }
     ensures room { OnOk result (space_length input.now own ≤ MAX_ENTRIES) }
-    ensures err { IfErr result (IsSpaceOver input.now) }
+    ensures err { IfErr result (λ e. IsSpaceOver input.now (told_space e)) }
 {
     first_indices(alloc, input, own, made_end(indices, own))
 }
 
+/// The first index of what each object defines.
+#[derive(Drop)]
+pub(crate) struct Firsts {
+    functions: Vec<u32>,
+    globals: Vec<u32>,
+}
+
+/// The first index of the functions, and of the globals, of each object.
+///
+/// # Errors
+/// `TooLarge` where a space would get more than 4294967294 entries.
+pub(crate) fn all_firsts(
+    alloc: Global,
+    input: &LinkInput<'_, '_>,
+    indices: &LinkerDefinedIndices,
+) -> Result<Firsts, SpaceError>
+    requires { AreMadeIndices input.now indices.now }
+    ensures ok { IfOk result (AreFirsts input.now) }
+    ensures err { IfErr result (λ e. IsSpaceOver input.now (told_space e)) }
+{
+    let functions = own_firsts(alloc, input, indices, Own::Functions)?;
+    let globals = own_firsts(alloc, input, indices, Own::Globals)?;
+    Ok(Firsts { functions, globals })
+}
+
 impl<'n, 'i, 'a> Numbering<'n, 'i, 'a> {
     /// What the things of objects are numbered by.
-    ///
-    /// # Errors
-    /// `TooLarge` where a space would get more than 4294967294 entries.
     pub(crate) fn new(
-        alloc: Global,
         input: &'n LinkInput<'i, 'a>,
         rows: &'n [ObjectImportResolutions],
         scan: &'n RelocScan<'a>,
         shared: &'n SharedUnresolvedImports<'a>,
         indices: &'n LinkerDefinedIndices,
-    ) -> Result<Self, LinkError>
+        firsts: Firsts,
+    ) -> Self
         requires rows { rows.now ≡ resolutions input.now (by_all_rules input.now) }
         requires scan { scan.now ≡ scan_of input.now }
         requires shared { shared.now ≡ shared_of input.now }
         requires indices { AreMadeIndices input.now indices.now }
-        ensures ok { IfOk result (IsNumbering input.now) }
-        ensures err { IfErr result (IsSpaceOver input.now) }
+        requires firsts { AreFirsts input.now firsts }
+        ensures { IsNumbering input.now result }
     {
-        let functions = own_firsts(alloc, input, indices, Own::Functions)?;
-        let globals = own_firsts(alloc, input, indices, Own::Globals)?;
-        Ok(Numbering {
+        Numbering {
             input,
             rows,
             scan,
             shared,
             indices,
-            function_firsts: functions,
-            global_firsts: globals,
-        })
+            function_firsts: firsts.functions,
+            global_firsts: firsts.globals,
+        }
     }
 
     /// What the slots of that kind of an object are resolved to.

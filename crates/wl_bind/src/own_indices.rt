@@ -5,9 +5,9 @@ ghost use Rattle.wl_index.specs.declared.index.TheConstants.{MAX_ENTRIES};
 ghost use Rattle.wl_bind.specs.OwnIndices.{own_kind, own_unit, own_count, kept_own, firsts_from, kept_count};
 ghost use Rattle.wl_bind.specs.Parts.{IsOver};
 
-use crate::parts::behind;
+use crate::parts::{SpaceError, behind};
 use std::alloc::Global;
-use wl_linking::{File, LinkError, WasmSymbolKind};
+use wl_linking::{File, WasmSymbolKind};
 use wl_symbols::{LinkInput, WasmGcUnit};
 
 /// What objects define that has a space.
@@ -72,7 +72,7 @@ pub(crate) fn first_indices(
     input: &LinkInput<'_, '_>,
     own: Own,
     start: u32,
-) -> Result<Vec<u32>, LinkError>
+) -> Result<Vec<u32>, SpaceError>
     requires { start ≤ MAX_ENTRIES }
     ensures firsts { IfOk result
         (λ firsts. firsts.items ≡ firsts_from input.now own start 0 input.now.link.objects) }

@@ -5,10 +5,57 @@ ghost use Rattle.wl_index.specs.declared.index.TheConstants.{MAX_ENTRIES};
 ghost use Rattle.wl_bind.specs.PartSteps.{entry_of};
 ghost use Rattle.wl_bind.specs.Parts.{starts_from, total, start_of, single_of, HasEntry, IsOver};
 
-use std::alloc::Global;
+use std::alloc::{AllocError, AllocFailed, Global};
 use wl_index::MAX_ENTRIES;
 use wl_linking::{LinkError, Quantity};
 use wl_lists::ItemList;
+
+/// Why there is no space of the output.
+#[derive(Clone, Copy)]
+pub(crate) enum SpaceError {
+    /// Memory ran out.
+    OutOfMemory,
+    /// It would have more than 4294967294 entries.
+    TooLarge,
+}
+
+impl From<AllocError> for SpaceError {
+    ghost use Rattle.std.specs.Prelude.{◌≡◌};
+    ghost use Rattle.wl_bind.specs.declared.parts.SpaceError.TheVariants.{OutOfMemory};
+
+    ghost from_gives = { λ _ e. e ≡ OutOfMemory };
+
+    fn from(_: AllocError) -> Self {
+        SpaceError::OutOfMemory
+    }
+}
+
+impl<T: Drop> From<AllocFailed<T>> for SpaceError {
+    ghost use Rattle.std.specs.Prelude.{◌≡◌};
+    ghost use Rattle.wl_bind.specs.declared.parts.SpaceError.TheVariants.{OutOfMemory};
+
+    ghost from_gives = { λ _ e. e ≡ OutOfMemory };
+
+    fn from(_: AllocFailed<T>) -> Self {
+        SpaceError::OutOfMemory
+    }
+}
+
+impl From<SpaceError> for LinkError {
+    ghost use Rattle.std.specs.Prelude.{◌≡◌};
+    ghost use Rattle.wl_bind.specs.Parts.{told_space};
+
+    ghost from_gives = { λ why e. e ≡ told_space why };
+
+    fn from(why: SpaceError) -> Self {
+        match why {
+            SpaceError::OutOfMemory => LinkError::OutOfMemory,
+            SpaceError::TooLarge => LinkError::TooLarge {
+                what: Quantity::Space,
+            },
+        }
+    }
+}
 
 /// Where each part of a space begins, and where the last one ends.
 #[derive(Drop)]
@@ -23,7 +70,7 @@ pub struct PartStarts {
 ///
 /// # Errors
 /// `TooLarge` where that is above 4294967294.
-pub(crate) fn behind(start: u32, len: usize) -> Result<u32, LinkError>
+pub(crate) fn behind(start: u32, len: usize) -> Result<u32, SpaceError>
     requires { start ≤ MAX_ENTRIES }
     ensures ok { IfOk result (λ end. end ≡ start + len) }
     ensures room { IfOk result (λ end. end ≤ MAX_ENTRIES) }
@@ -31,9 +78,7 @@ pub(crate) fn behind(start: u32, len: usize) -> Result<u32, LinkError>
 {
     let room = MAX_ENTRIES - start as usize;
     if len > room {
-        return Err(LinkError::TooLarge {
-            what: Quantity::Space,
-        });
+        return Err(SpaceError::TooLarge);
     }
     Ok(start + len as u32)
 }
@@ -43,7 +88,7 @@ impl PartStarts {
     ///
     /// # Errors
     /// `TooLarge` where they have more than 4294967294 entries together.
-    pub(crate) fn new(alloc: Global, lengths: &[usize]) -> Result<Self, LinkError>
+    pub(crate) fn new(alloc: Global, lengths: &[usize]) -> Result<Self, SpaceError>
         ensures starts { IfOk result (λ s. s.starts ≡ starts_from 0 lengths.now) }
         ensures end { IfOk result (λ s. s.end ≡ total lengths.now) }
         ensures room { IfOk result (λ s. s.end ≤ MAX_ENTRIES) }

@@ -39,8 +39,12 @@ fn as_place(index: u32) -> Option<u32>
 fn row_place(rows: &[ItemList<u32>], function: LocalFunction) -> Option<u32>
     ensures { result ≡ row_place rows.now function }
 {
-    let row = rows.get(function.object)?;
-    let index = row.as_slice().get(function.index as usize)?;
+    let Some(row) = rows.get(function.object) else {
+        return None;
+    };
+    let Some(index) = row.as_slice().get(function.index as usize) else {
+        return None;
+    };
     as_place(*index)
 }
 

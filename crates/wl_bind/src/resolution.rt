@@ -7,7 +7,7 @@ use wl_symbols::WasmLinkerSymbol;
 
 /// What an import slot is resolved to. A function or global that an object defines is told by its
 /// number among the kept ones of its kind in its object.
-#[derive(Clone, Copy, PartialEq, Eq)]
+#[derive(Clone, Copy)]
 pub enum ImportResolution {
     /// Nothing yet: the slot isn't kept, or it is the host's unless a later rule binds it.
     Unresolved,

@@ -15,7 +15,7 @@ use std::marker::Model;
 use wl_symbols::{Definition, LinkInput, Relocated};
 
 /// What kept relocations ask the linker for.
-#[derive(Clone, Copy, PartialEq, Eq)]
+#[derive(Clone, Copy)]
 pub struct RelocNeeds {
     /// The base of the memory: an address is counted from it.
     pub memory_base: bool,

@@ -21,6 +21,7 @@ use crate::kinds::{check_kinds, is_wrong_use};
 use crate::scan::{RelocNeeds, RelocScan, add_func, add_mem, add_needs, add_table_function};
 use crate::signatures::TypeCheck;
 use crate::targets::FunctionBindings;
+use crate::types::SlotTypes;
 use crate::undefined::{UndefinedNames, check_undefined_data, undefined_data_of};
 use std::alloc::{AllocError, Global};
 use wl_linking::{LinkError, WasmSymbol};
@@ -181,7 +182,8 @@ pub(crate) fn gather<'a>(
     requires { bindings.now ≡ function_bindings input.now }
     ensures { IfOk result (λ scan. scan ≡ scan_of input.now) }
 {
-    let check = TypeCheck::new(alloc, input, bindings)?;
+    let types = SlotTypes::new(alloc, input.files())?;
+    let check = TypeCheck::new(input, bindings, types);
     Ok(walk_relocations(alloc, &check)?.into_scan())
 }
 
@@ -223,7 +225,8 @@ pub(crate) fn scan_with<'a>(
     ensures undefined { OnOk result (Clear (IsUndefinedData input.now)) }
     ensures err { IfErr result (Refuses (scan_fault input.now)) }
 {
-    let check = TypeCheck::new(alloc, input, bindings)?;
+    let types = SlotTypes::new(alloc, input.files())?;
+    let check = TypeCheck::new(input, bindings, types);
     let found = walk_relocations(alloc, &check)?;
     check_found(alloc, &check, &found)?;
     Ok(found.into_scan())

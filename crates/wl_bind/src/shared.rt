@@ -1,19 +1,24 @@
 //! The imports that the host is asked for.
 
-ghost use Rattle.std.specs.Prelude.{◌≡◌, IfOk, OnOk, IfErr};
+ghost use Rattle.std.specs.Prelude.{◌≡◌, map, IfOk, OnOk, IfErr};
+ghost use Rattle.wl_custom.specs.declared.symbols.WasmSymbolKind.TheVariants.{Func};
 ghost use Rattle.wl_linking.specs.Steps.{Clear, Refuses};
 ghost use Rattle.wl_bind.specs.Conflicts.{IsHostConflict};
 ghost use Rattle.wl_bind.specs.FunctionBinding.{host_functions};
+ghost use Rattle.wl_bind.specs.FunctionSymbols.{function_bindings};
 ghost use Rattle.wl_bind.specs.GlobalBinding.{host_globals};
-ghost use Rattle.wl_bind.specs.Resolutions.{resolutions, by_all_rules};
+ghost use Rattle.wl_bind.specs.GlobalSlots.{AreGlobalSlots};
+ghost use Rattle.wl_bind.specs.Resolutions.{function_resolution, resolutions, by_all_rules};
 ghost use Rattle.wl_bind.specs.Shared.{shared_of, place_in, place_at};
+ghost use Rattle.wl_bind.specs.SlotRows.{slot_rows, function_part};
 
 use crate::conflicts::{SlotImports, check_types};
 use crate::function_slots::FunctionSlots;
-use crate::global_slots::bind_globals;
+use crate::global_slots::{GlobalSlots, bind_globals};
 use crate::resolution::ObjectImportResolutions;
 use crate::scanning::gather;
-use std::alloc::Global;
+use crate::targets::FunctionBindings;
+use std::alloc::{AllocError, Global};
 use std::marker::Model;
 use wl_linking::{LinkError, WasmSymbolKind};
 use wl_lists::ItemList;
@@ -100,8 +105,12 @@ impl<'a> SharedUnresolvedImports<'a> {
 fn place_in(rows: &[ItemList<Option<usize>>], object: usize, slot: u32) -> Option<usize>
     ensures { result ≡ place_in rows.now object slot }
 {
-    let row = rows.get(object)?;
-    let place = row.as_slice().get(slot as usize)?;
+    let Some(row) = rows.get(object) else {
+        return None;
+    };
+    let Some(place) = row.as_slice().get(slot as usize) else {
+        return None;
+    };
     *place
 }
 
@@ -147,6 +156,49 @@ impl<'a> SharedUnresolvedImports<'a> {
     }
 }
 
+/// What the host is asked for, and the slots that are left to it.
+#[derive(Drop)]
+struct HostSlots<'i, 'a> {
+    shared: SharedUnresolvedImports<'a>,
+    functions: Vec<ImportSlot<'i, 'a>>,
+    globals: Vec<ImportSlot<'i, 'a>>,
+}
+
+/// The global slots that are left to the host, where it is known what function slots are bound to.
+fn gathered_globals<'i, 'a>(
+    alloc: Global,
+    input: &LinkInput<'i, 'a>,
+    bindings: &FunctionBindings,
+    rows: &mut [ObjectImportResolutions],
+) -> Result<GlobalSlots<'i, 'a>, AllocError>
+    requires bindings { bindings.now ≡ function_bindings input.now }
+    requires functions { map function_part rows.old
+        ≡ slot_rows (function_resolution input.now) Func 0 input.now.link.objects }
+    ensures { IfOk result (AreGlobalSlots input.now) }
+{
+    let scan = gather(alloc, input, bindings)?;
+    bind_globals(alloc, input, &scan, rows)
+}
+
+/// The slots that are left to the host.
+fn host_slots<'i, 'a>(
+    alloc: Global,
+    input: &LinkInput<'i, 'a>,
+) -> Result<HostSlots<'i, 'a>, AllocError>
+    ensures shared { IfOk result (λ s. s.shared ≡ shared_of input.now) }
+    ensures functions { IfOk result (λ s. s.functions.items ≡ host_functions input.now) }
+    ensures globals { IfOk result (λ s. s.globals.items ≡ host_globals input.now) }
+{
+    let functions = FunctionSlots::new(alloc, input)?;
+    let mut rows = functions.resolutions;
+    let globals = gathered_globals(alloc, input, &functions.bindings, rows.as_mut_slice())?;
+    Ok(HostSlots {
+        shared: SharedUnresolvedImports::of(functions.shared, globals.shared),
+        functions: functions.host_slots,
+        globals: globals.host_slots,
+    })
+}
+
 /// Collects the functions and globals that the host is asked for, one per module and field name.
 ///
 /// # Errors
@@ -162,16 +214,13 @@ pub fn collect_shared_unresolved_imports<'a>(
     ensures clear { OnOk result (Clear (IsHostConflict input.now)) }
     ensures err { IfErr result (Refuses (IsHostConflict input.now)) }
 {
-    let mut functions = FunctionSlots::new(alloc, input)?;
-    let scan = gather(alloc, input, &functions.bindings)?;
-    let globals = bind_globals(alloc, input, &scan, functions.resolutions.as_mut_slice())?;
-    let shared = SharedUnresolvedImports::of(functions.shared, globals.shared);
+    let hosts = host_slots(alloc, input)?;
     check_hosts(
         alloc,
         input,
-        &shared,
-        &functions.host_slots,
-        &globals.host_slots,
+        &hosts.shared,
+        &hosts.functions,
+        &hosts.globals,
     )?;
-    Ok(shared)
+    Ok(hosts.shared)
 }

@@ -1,6 +1,6 @@
 //! Functions of another type than the one under which an object knows them.
 
-ghost use Rattle.std.specs.Prelude.{◌≡◌, ℕ, OnOk, IfOk, IfErr, Some, false, find, slice_get};
+ghost use Rattle.std.specs.Prelude.{◌≡◌, ℕ, OnOk, IfErr, Some, false, find, slice_get};
 ghost use Rattle.wl_linking.specs.Steps.{Clear};
 ghost use Rattle.wl_symbols.specs.Entries.{symbol_in};
 ghost use Rattle.wl_bind.specs.FunctionSymbols.{function_bindings};
@@ -11,7 +11,6 @@ ghost use Rattle.wl_bind.specs.BindingSteps.{slot_numbers, differs, is_mismatch,
 use crate::binding::FunctionTarget;
 use crate::targets::FunctionBindings;
 use crate::types::{SlotTypes, declared_type, is_other_type};
-use std::alloc::{AllocError, Global};
 use wl_linking::{File, LinkError, WasmSymbol, WasmSymbolKind};
 use wl_symbols::{LinkInput, Relocated};
 
@@ -34,23 +33,21 @@ pub(crate) struct TypeCheck<'c, 'i, 'a> {
 
 impl<'c, 'i, 'a> TypeCheck<'c, 'i, 'a> {
     /// What types are compared by.
-    ///
-    /// # Errors
-    /// `AllocError` where memory runs out.
     pub(crate) fn new(
-        alloc: Global,
         input: &'c LinkInput<'i, 'a>,
         bindings: &'c FunctionBindings,
-    ) -> Result<Self, AllocError>
-        requires { bindings.now ≡ function_bindings input.now }
-        ensures input { IfOk result (λ check. check.input.now ≡ input.now) }
-        ensures bindings { IfOk result (λ check. check.bindings.now ≡ bindings.now) }
+        types: SlotTypes,
+    ) -> Self
+        requires bound { bindings.now ≡ function_bindings input.now }
+        requires typed { types ≡ slot_numbers input.now.link.objects }
+        ensures input { result.input.now ≡ input.now }
+        ensures bindings { result.bindings.now ≡ bindings.now }
     {
-        Ok(TypeCheck {
+        TypeCheck {
             input,
             bindings,
-            types: SlotTypes::new(alloc, input.files())?,
-        })
+            types,
+        }
     }
 
     /// Whether a function has another type than the one under which an object knows its symbol.

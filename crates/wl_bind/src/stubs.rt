@@ -3,9 +3,10 @@
 ghost use Rattle.std.specs.Prelude.{◌≡◌, ◌++◌, map, option_map, IfOk, OnOk, OnErr, IfErr, filter_map};
 ghost use Rattle.std.specs.Option.{option_to_list};
 ghost use Rattle.wl_linking.specs.Steps.{Clear, Refuses};
+ghost use Rattle.wl_symbols.specs.Left.{first_slot, stub_slots};
 ghost use Rattle.wl_bind.specs.Stepped.{stepped, step_at};
 ghost use Rattle.wl_bind.specs.FunctionTypes.{slot_type, stub_types};
-ghost use Rattle.wl_bind.specs.FunctionSlots.{AreFunctionSlots};
+ghost use Rattle.wl_bind.specs.FunctionBinding.{left_functions, link_stubs};
 ghost use Rattle.wl_bind.specs.SlotRows.{function_part};
 ghost use Rattle.wl_bind.specs.Conflicts.{IsStubConflict};
 ghost use Rattle.wl_bind.specs.Later.{with_functions};
@@ -13,7 +14,7 @@ ghost use Rattle.wl_bind.specs.Resolutions.{resolutions, by_names_and_got, by_al
 
 use crate::conflicts::{SlotImports, check_types};
 use crate::first_slots::FirstSlots;
-use crate::function_slots::FunctionSlots;
+use crate::function_slots::{FunctionSlots, StubSlots};
 use crate::resolution::{ObjectImportResolutions, ResolutionList};
 use crate::types::slot_type;
 use std::alloc::{AllocError, Global};
@@ -61,14 +62,15 @@ fn slot_types(
 pub(crate) fn stub_types(
     alloc: Global,
     input: &LinkInput<'_, '_>,
-    slots: &FunctionSlots<'_, '_>,
+    weak: &StubSlots<'_, '_>,
 ) -> Result<Vec<FuncType>, LinkError>
-    requires { AreFunctionSlots input.now slots.now }
+    requires slots { weak.now.slots.items
+        ≡ stub_slots input.now.link.objects (left_functions input.now) }
+    requires stubs { weak.now.stubs ≡ map first_slot (link_stubs input.now) }
     ensures types { IfOk result (λ types. types.items ≡ stub_types input.now) }
     ensures clear { OnOk result (Clear (IsStubConflict input.now)) }
     ensures err { IfErr result (Refuses (IsStubConflict input.now)) }
 {
-    let weak = &slots.weak;
     let firsts = check_types(alloc, input, SlotImports::Stubs(&weak.stubs), &weak.slots)?;
     Ok(slot_types(alloc, input.files(), &firsts)?)
 }
@@ -114,7 +116,7 @@ pub fn absorb_weak_undef_function_imports(
     ensures same { OnErr result (rows.new ≡ rows.old) }
 {
     let slots = FunctionSlots::new(alloc, input)?;
-    let types = stub_types(alloc, input, &slots)?;
+    let types = stub_types(alloc, input, &slots.weak)?;
     set_functions(rows, slots.resolutions);
     Ok(types)
 }

@@ -118,8 +118,12 @@ impl FunctionBindings {
         requires { self.now ≡ function_bindings input.now }
         ensures { result ≡ fun input.now object symbol }
     {
-        let file = input.files().get(object)?;
-        let entry = file.symbols().get(symbol as usize)?;
+        let Some(file) = input.files().get(object) else {
+            return None;
+        };
+        let Some(entry) = file.symbols().get(symbol as usize) else {
+            return None;
+        };
         if !entry.kind.is_function() {
             None
         } else if entry.is_undefined() {

@@ -38,8 +38,12 @@ pub(crate) fn type_of_defined<'f>(
 ) -> Option<&'f FuncType>
     ensures { option_map (λ t. t.now) result ≡ type_of_defined files.now object number }
 {
-    let file = files.get(object)?;
-    let number = file.functions().get(number as usize)?;
+    let Some(file) = files.get(object) else {
+        return None;
+    };
+    let Some(number) = file.functions().get(number as usize) else {
+        return None;
+    };
     file.types().get(*number as usize)
 }
 

@@ -4,5 +4,5 @@ use Rattle.wl_bind.proofs.got_globals.func_index.Goals as goal
 
 pub got_func-requires : goal.got_func-requires
 got_func-requires c =
-    func_has c.args.numbering.now c.requires.numbering c.args.object c.args.number
+    func_has c.args.input.now c.args.indices.now c.requires.indices c.args.object c.args.number
     c.in_ok-place.place (search rules)

@@ -10,7 +10,7 @@ use Rattle.wl_bind.proofs.got_globals.got_mem_globals.Goals as goal
 
 pub overflow_cast-number : goal.overflow_cast-number
 overflow_cast-number c =
-    let input = c.args.numbering.now.input.now in
+    let input = c.args.input.now in
     let small = few_marks (has_global input c.args.object c.args.file.now)
     (length c.args.file.now.symbols) c.loop-number.number c.deref-mark-items.result.now
     (search rules) c.stands_for_an_object.ensures.few.symbols c.loop-number-test.true in
@@ -18,14 +18,14 @@ overflow_cast-number c =
 
 pub got_mem_global-requires-clause-there : goal.got_mem_global-requires-clause-there
 got_mem_global-requires-clause-there c =
-    symbol_there c.args.numbering.now.input.now.link.objects c.args.object c.args.file.now
-    (has_global c.args.numbering.now.input.now c.args.object c.args.file.now)
+    symbol_there c.args.input.now.link.objects c.args.object c.args.file.now
+    (has_global c.args.input.now c.args.object c.args.file.now)
     c.loop-number.number c.deref-mark-items.result.now c.requires.here (search rules)
     c.loop-number-test.true
 
 pub loop-number-preserved : goal.loop-number-preserved
 loop-number-preserved c =
-    let input = c.args.numbering.now.input.now in
+    let input = c.args.input.now in
     symbol_more (global_space input) (mem_global_if input c.args.object)
     (has_global input c.args.object c.args.file.now) (length c.args.file.now.symbols)
     c.loop-number.number c.deref-mark-items.result.now _ c.loop-number.globals c.push.new.self
@@ -34,10 +34,10 @@ loop-number-preserved c =
 
 pub returns-then-is_empty : goal.returns-then-is_empty
 returns-then-is_empty c =
-    let input = c.args.numbering.now.input.now in
+    let input = c.args.input.now in
     let o = c.args.file.now in
     let all = mem_none input c.args.object o c.scan.inside.got_mem
-    (ap (λ (s : Scanned). s.got_mem) (c.scan.view_is ∙ c.requires.numbering.scan))
+    (ap (λ (s : Scanned). s.got_mem) (c.scan.view_is ∙ c.requires.scan))
     (sym c.is_empty.ensures ∙ c.if-is_empty.true) in
     so_of_answer (ArePlacesOf (global_space input) (got_mem_globals input c.args.object o))
     c.no_globals.result (replicate (length c.symbols.result.now) None) c.no_globals.ensures

@@ -6,6 +6,6 @@ use Rattle.wl_bind.proofs.got_globals.got_mem_globals.Given as goal
 
 abbrev pub invariant-loop-number : goal.invariant-loop-number
 invariant-loop-number l =
-    let input = l.numbering.input.now in
+    let input = l.input in
     ArePlacesOf (global_space input)
     (take l.number (got_mem_globals input l.object l.file)) l.globals

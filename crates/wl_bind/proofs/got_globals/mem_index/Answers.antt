@@ -4,5 +4,5 @@ use Rattle.wl_bind.proofs.got_globals.mem_index.Goals as goal
 
 pub got_mem-requires : goal.got_mem-requires
 got_mem-requires c =
-    mem_has c.args.numbering.now c.requires.numbering c.args.object c.args.number
+    mem_has c.args.input.now c.args.indices.now c.requires.indices c.args.object c.args.number
     c.in_ok-place.place (search rules)

@@ -10,10 +10,10 @@ use Rattle.wl_bind.proofs.got_globals.mem_place.Goals as goal
 
 pub returns : goal.returns
 returns c =
-    let input = c.args.numbering.now.input.now in
+    let input = c.args.input.now in
     let definition = c.definition-definition.ensures
     ∙ ap (λ (l : Link). def l c.args.object c.args.number) c.symbols.ensures in
     c.place.ensures
     ∙ (mem_placed input c.scan.inside.got_mem c.definition-definition.result
-    (ap (λ (s : Scanned). s.got_mem) (c.scan.view_is ∙ c.requires.numbering.scan))
+    (ap (λ (s : Scanned). s.got_mem) (c.scan.view_is ∙ c.requires.scan))
     ∙ ap (λ (d : Definition). position (same_definition d) (got_mem input)) definition)

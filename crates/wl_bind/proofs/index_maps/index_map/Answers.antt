@@ -14,41 +14,41 @@ AreFunctions input object o = AreIndicesOf (function_space input) (local_functio
 abbrev AreGlobals : Input → ℕ → Object → List ℕ → Type 0
 AreGlobals input object o = AreIndicesOf (global_space input) (local_globals input object o)
 
-pub row_copy-requires : goal.row_copy-requires
-row_copy-requires c =
+pub object_rows-requires-clause-types : goal.object_rows-requires-clause-types
+object_rows-requires-clause-types c =
     let s = c.args.sources.now in
-    let input = s.numbering.now.input.now in
+    let input = s.input.now in
     row_within (AreTypeIndices input) input.link.objects s.types.now c.args.object c.args.file.now
     c.requires.sources.types c.requires.here
 
-pub row_copy-requires-2 : goal.row_copy-requires-2
-row_copy-requires-2 c =
+pub object_rows-requires-clause-functions : goal.object_rows-requires-clause-functions
+object_rows-requires-clause-functions c =
     let s = c.args.sources.now in
-    let input = s.numbering.now.input.now in
+    let input = s.input.now in
     row_within (AreFunctions input) input.link.objects s.functions.now c.args.object c.args.file.now
     c.requires.sources.functions c.requires.here
 
-pub row_copy-requires-3 : goal.row_copy-requires-3
-row_copy-requires-3 c =
+pub object_rows-requires-clause-globals : goal.object_rows-requires-clause-globals
+object_rows-requires-clause-globals c =
     let s = c.args.sources.now in
-    let input = s.numbering.now.input.now in
+    let input = s.input.now in
     row_within (AreGlobals input) input.link.objects s.globals.now c.args.object c.args.file.now
     c.requires.sources.globals c.requires.here
 
 pub returns : goal.returns
 returns c =
     let s = c.args.sources.now in
-    let input = s.numbering.now.input.now in
+    let input = s.input.now in
     record {
       types = row_found (AreTypeIndices input) input.link.objects s.types.now c.args.object c.args.file.now
-          c.in_ok-row_copy.field-0 c.requires.sources.types c.requires.here c.in_ok-row_copy.ensures;
+          c.in_ok-rows.rows.types c.requires.sources.types c.requires.here c.in_ok-rows.ensures.types;
       functions = row_found (AreFunctions input) input.link.objects s.functions.now c.args.object c.args.file.now
-          c.in_ok-row_copy-2.field-0 c.requires.sources.functions c.requires.here c.in_ok-row_copy-2.ensures;
+          c.in_ok-rows.rows.functions c.requires.sources.functions c.requires.here c.in_ok-rows.ensures.functions;
       globals = row_found (AreGlobals input) input.link.objects s.globals.now c.args.object c.args.file.now
-          c.in_ok-row_copy-3.field-0 c.requires.sources.globals c.requires.here c.in_ok-row_copy-3.ensures;
+          c.in_ok-rows.rows.globals c.requires.sources.globals c.requires.here c.in_ok-rows.ensures.globals;
       segments = c.empty.ensures;
       addresses = c.empty-2.ensures;
-      redirects = c.in_ok-function_redirects.ensures;
-      got_mem = c.in_ok-got_mem_globals.ensures;
-      got_func = c.in_ok-got_func_globals.ensures;
+      redirects = c.in_ok-places.ensures.redirects;
+      got_mem = c.in_ok-places.ensures.got_mem;
+      got_func = c.in_ok-places.ensures.got_func;
     }

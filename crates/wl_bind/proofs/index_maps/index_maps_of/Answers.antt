@@ -9,7 +9,9 @@ pub maps_from-requires : goal.maps_from-requires
 maps_from-requires c =
     let input = c.args.numbering.now.input.now in
     record {
-      numbering = c.requires.numbering;
+      scan = c.requires.numbering.scan;
+      indices = c.requires.numbering.indices;
+      room = c.requires.numbering.functions_fit;
       bindings = c.in_ok-bindings.ensures;
       types = subst (λ (rows : List (List ℕ)). AreRows (AreTypeIndices input) 0 input.link.objects rows)
           (sym c.as_slice.ensures) c.requires.types.indices;

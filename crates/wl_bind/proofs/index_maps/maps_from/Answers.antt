@@ -7,7 +7,7 @@ use Rattle.wl_bind.proofs.index_maps.maps_from.Goals as goal
 
 pub loop-object-preserved : goal.loop-object-preserved
 loop-object-preserved c =
-    let input = c.args.sources.now.numbering.now.input.now in
+    let input = c.args.sources.now.input.now in
     let objects = input.link.objects in
     let files = c.as_slice-file-items.ensures.objects ∙ c.files.ensures.objects in
     row_more (IsIndexMap input) objects c.loop-object.maps c.push.new.self c.loop-object.object c.in_ok-index_map.field-0

@@ -5,5 +5,5 @@ use Rattle.wl_bind.proofs.index_maps.maps_from.Given as goal
 
 abbrev pub invariant-loop-object : goal.invariant-loop-object
 invariant-loop-object l =
-    AreRows (IsIndexMap l.sources.numbering.now.input.now) 0
-    (take l.object l.sources.numbering.now.input.now.link.objects) l.maps
+    AreRows (IsIndexMap l.sources.input.now) 0
+    (take l.object l.sources.input.now.link.objects) l.maps

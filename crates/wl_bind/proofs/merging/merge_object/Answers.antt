@@ -1,7 +1,6 @@
-use Rattle.std.proofs.Common.{◌≡◌, List, Option, IfOk, IfErr, OnOk, subst}
+use Rattle.std.proofs.Common.{◌≡◌, List, length, Option, IfOk, IfErr, OnOk, subst}
 use Rattle.wl_module.specs.Types.{FunctionType}
-use Rattle.wl_types.specs.Types.{IsFull}
-use Rattle.wl_bind.specs.Parts.{AreIndicesOf}
+use Rattle.wl_bind.specs.Parts.{AreIndicesOf, IsOver}
 use Rattle.wl_bind.specs.MergeSteps.{merged}
 use Rattle.wl_bind.proofs.MergeLaws.{live_ones}
 use Rattle.wl_bind.proofs.merging.merge_object.Goals as goal
@@ -28,7 +27,7 @@ pub returns-clause-err : goal.returns-clause-err
 returns-clause-err c =
     subst
     (λ (es : List (Option FunctionType)).
-    IfErr c.merge_marked.result (IsFull (merged c.args.merger.now es)))
+    IfErr c.merge_marked.result (IsOver (length (merged c.args.merger.now es))))
     (live_ones c.args.input.now c.args.object c.args.file.now c.types.result.now c.deref.result.now
     c.in_ok-marks.marks.items c.types.ensures c.deref.ensures.value c.in_ok-marks.ensures)
     c.merge_marked.ensures.err

@@ -2,7 +2,7 @@ use Rattle.std.proofs.Common.{◌≡◌, ◌∙◌, ◌≤◌, ◌+◌, ℕ, sym
 use Rattle.std.proofs.lemmas.Result.{on_ok_weaker}
 use Rattle.wl_index.specs.declared.index.TheConstants.{MAX_ENTRIES}
 use Rattle.wl_bind.specs.OwnIndices.{firsts_from, kept_count, own_start}
-use Rattle.wl_bind.specs.Parts.{IsOver}
+use Rattle.wl_bind.specs.Parts.{told_space, IsOver}
 use Rattle.wl_bind.specs.SpaceFaults.{IsSpaceOver}
 use Rattle.wl_bind.proofs.NumberingLaws.{if_err, made_end_is, made_end_fits, own_over, own_room}
 use Rattle.wl_bind.proofs.numbering.own_firsts.Goals as goal
@@ -34,6 +34,6 @@ returns-clause-err c =
     let start : c.made_end.result ≡ own_start input c.args.own =
     c.made_end.ensures ∙ made_end_is input c.args.indices.now c.requires c.args.own in
     if_err c.first_indices.result
-    (IsOver (c.made_end.result + kept_count input c.args.own 0 input.link.objects)) (IsSpaceOver input)
+    (IsOver (c.made_end.result + kept_count input c.args.own 0 input.link.objects)) (λ e. IsSpaceOver input (told_space e))
     (λ e over. own_over input c.args.own c.made_end.result e start over)
     c.first_indices.ensures.err

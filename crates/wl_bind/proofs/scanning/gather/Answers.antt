@@ -6,5 +6,5 @@ use Rattle.wl_bind.proofs.scanning.gather.Goals as goal
 
 pub returns : goal.returns
 returns c =
-    c.into_scan.ensures ∙ ap scan_part c.in_ok-walk_relocations.ensures.found ∙ scan_found c.in_ok-check.check.input.now
-    ∙ ap scan_of c.in_ok-check.ensures.input
+    c.into_scan.ensures ∙ ap scan_part c.in_ok-walk_relocations.ensures.found ∙ scan_found c.new-check.result.input.now
+    ∙ ap scan_of c.new-check.ensures.input

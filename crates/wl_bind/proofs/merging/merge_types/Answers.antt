@@ -1,11 +1,11 @@
-use Rattle.std.proofs.Common.{◌≡◌, ◌∙◌, [], List, ap, subst}
+use Rattle.std.proofs.Common.{◌≡◌, ◌∙◌, [], List, length, ap, subst}
 use Rattle.std.proofs.lemmas.Result.{err_from_is_err_and}
 use Rattle.indexmap.specs.IndexSet.{insert_all}
 use Rattle.wl_module.specs.Types.{FunctionType, same_type}
-use Rattle.wl_types.specs.Types.{IsFull}
 use Rattle.wl_bind.specs.OutputTypes.{made_types}
 use Rattle.wl_bind.proofs.MergeLaws.{objects_types, output_is, first_full, second_full, rows_of_output}
-use Rattle.wl_bind.proofs.merging.merge_live_output_types.Goals as goal
+use Rattle.wl_bind.specs.Parts.{IsOver}
+use Rattle.wl_bind.proofs.merging.merge_types.Goals as goal
 
 pub returns-in_err-rows-clause-err : goal.returns-in_err-rows-clause-err
 returns-in_err-rows-clause-err c =
@@ -13,8 +13,8 @@ returns-in_err-rows-clause-err c =
     let e = c.in_err-rows.field-0.0 in
     let p = err_from_is_err_and c.from_residual.result c.from_residual.ensures.1 in
     rw (p.1, p.2) (first_full input e
-    (subst (λ (ts : List FunctionType). IsFull (insert_all same_type ts
-    (objects_types input)) e) c.new-types.ensures c.in_err-rows.ensures.err))
+    (subst (λ (ts : List FunctionType). IsOver (length (insert_all same_type ts
+    (objects_types input))) e) c.new-types.ensures c.in_err-rows.ensures.err))
 
 pub returns-in_err-merge_made-clause-err : goal.returns-in_err-merge_made-clause-err
 returns-in_err-merge_made-clause-err c =

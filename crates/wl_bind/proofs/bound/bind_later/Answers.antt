@@ -1,0 +1,44 @@
+use Rattle.std.proofs.Common.{refl}
+use Rattle.std.proofs.lemmas.Result.{err_from_is_err_and}
+use Rattle.wl_linking.specs.Steps.{Step, NoStep, Refuses}
+use Rattle.wl_linking.specs.declared.error.LinkError.TheVariants.{OutOfMemory}
+use Rattle.wl_bind.specs.Bound.{slot_steps}
+use Rattle.wl_bind.specs.Conflicts.{IsStubConflict}
+use Rattle.wl_linking.proofs.StepLaws.{clear_end, clear_step, refuses_here, row_refuses, row_behind, row_clear}
+use Rattle.wl_bind.proofs.StepLaws.{scan_steps, scan_is_row, scan_clear}
+use Rattle.wl_bind.proofs.bound.bind_later.Goals as goal
+
+pub returns-in_err-scan-clause-err : goal.returns-in_err-scan-clause-err
+returns-in_err-scan-clause-err c =
+    let residual = c.from_residual-in_err-scan in
+    let p = err_from_is_err_and residual.result residual.ensures.1 in
+    let input = c.args.input.now in
+    rw (p.1, p.2) (row_refuses (scan_steps input) (scan_is_row input)
+    (Step (IsStubConflict input) NoStep) c.in_err-scan.field-0.0 c.in_err-scan.ensures.err)
+
+pub returns-in_err-stubs-clause-err : goal.returns-in_err-stubs-clause-err
+returns-in_err-stubs-clause-err c =
+    let residual = c.from_residual-in_err-stubs in
+    let p = err_from_is_err_and residual.result residual.ensures.1 in
+    let input = c.args.input.now in
+    let e = c.in_err-stubs.field-0.0 in
+    let scanned = c.in_ok-scan.ensures in
+    rw (p.1, p.2) (row_behind (scan_steps input) (scan_is_row input)
+    (Step (IsStubConflict input) NoStep) e
+    (scan_clear input scanned.kinds scanned.signatures scanned.undefined)
+    (refuses_here (IsStubConflict input) NoStep e c.in_err-stubs.ensures.err))
+
+pub returns-clause-clear : goal.returns-clause-clear
+returns-clause-clear c =
+    let input = c.args.input.now in
+    let scanned = c.in_ok-scan.ensures in
+    row_clear (scan_steps input) (scan_is_row input) (Step (IsStubConflict input) NoStep)
+    (scan_clear input scanned.kinds scanned.signatures scanned.undefined)
+    (clear_step (IsStubConflict input) NoStep c.in_ok-stubs.ensures.clear clear_end)
+
+pub returns-in_err-globals-clause-err : goal.returns-in_err-globals-clause-err
+returns-in_err-globals-clause-err c =
+    let residual = c.from_residual-in_err-globals in
+    let p = err_from_is_err_and residual.result residual.ensures.1 in
+    let memory : Refuses (slot_steps c.args.input.now NoStep) OutOfMemory = record { cause_is = λ other. absurd (other refl) } in
+    rw (p.1, p.2) memory
