@@ -10,7 +10,7 @@ use Rattle.wl_bind.proofs.bound.bind_later.Goals as goal
 
 pub returns-in_err-scan-clause-err : goal.returns-in_err-scan-clause-err
 returns-in_err-scan-clause-err c =
-    let residual = c.from_residual-in_err-scan in
+    let residual = c.from_residual in
     let p = err_from_is_err_and residual.result residual.ensures.1 in
     let input = c.args.input.now in
     rw (p.1, p.2) (row_refuses (scan_steps input) (scan_is_row input)

@@ -1,6 +1,7 @@
 use Rattle.std.proofs.lemmas.Result.{err_from_is_err_and}
 use Rattle.wl_linking.specs.Steps.{Step, NoStep}
 use Rattle.wl_bind.specs.Bound.{bind_steps}
+use Rattle.wl_bind.specs.Parts.{told_space}
 use Rattle.wl_bind.specs.SpaceFaults.{IsSpaceTooLarge}
 use Rattle.wl_linking.proofs.StepLaws.{clear_end, clear_step, refuses_here, row_refuses, row_behind, row_clear}
 use Rattle.wl_bind.proofs.StepLaws.{binding_is_row}
@@ -19,7 +20,7 @@ returns-in_err-things-clause-err c =
     let residual = c.from_residual-in_err-things in
     let p = err_from_is_err_and residual.result residual.ensures.1 in
     let input = c.args.input.now in
-    let e = c.in_err-things.field-0.0 in
+    let e = told_space c.in_err-things.field-0.0 in
     rw (p.1, p.2)
     (row_behind (bind_steps input) (binding_is_row input) (Step (IsSpaceTooLarge input) NoStep) e
     c.in_ok-bound.ensures.clear

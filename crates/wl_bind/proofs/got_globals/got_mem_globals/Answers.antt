@@ -16,8 +16,8 @@ overflow_cast-number c =
     (search rules) c.stands_for_an_object.ensures.few.symbols c.loop-number-test.true in
     omega (arith, small)
 
-pub got_mem_global-requires-clause-there : goal.got_mem_global-requires-clause-there
-got_mem_global-requires-clause-there c =
+pub got_mem_global-global-requires-clause-there : goal.got_mem_global-global-requires-clause-there
+got_mem_global-global-requires-clause-there c =
     symbol_there c.args.input.now.link.objects c.args.object c.args.file.now
     (has_global c.args.input.now c.args.object c.args.file.now)
     c.loop-number.number c.deref-mark-items.result.now c.requires.here (search rules)
@@ -29,7 +29,7 @@ loop-number-preserved c =
     symbol_more (global_space input) (mem_global_if input c.args.object)
     (has_global input c.args.object c.args.file.now) (length c.args.file.now.symbols)
     c.loop-number.number c.deref-mark-items.result.now _ c.loop-number.globals c.push.new.self
-    c.got_mem_global.result (search rules) c.loop-number-test.true c.got_mem_global.ensures
+    c.got_mem_global-global.result (search rules) c.loop-number-test.true c.got_mem_global-global.ensures
     (search rules) c.in_ok-push.ensures.ok c.loop-number.invariant
 
 pub returns-then-is_empty : goal.returns-then-is_empty
