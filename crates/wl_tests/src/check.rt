@@ -142,7 +142,7 @@ const BAD: [(&[u8], usize); 50] = [
     (b"end\nend\nfeature \"\\\"\nend\n", 2),
 ];
 
-/// Two listings that differ, how many lines stand in front of the first at which they do, and that
+/// Two listings that differ, how many lines come before the first at which they do, and that
 /// line of each, or nothing.
 type Apart = (
     &'static [u8],

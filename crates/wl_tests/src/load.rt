@@ -188,7 +188,7 @@ const STOPPED: [(&[u8], RunEnd); 11] = [
             operator: 0,
         },
     ),
-    // Calls of the table: behind it, of an empty slot, of another type.
+    // Calls of the table: past its end, of an empty slot, of another type.
     (
         &[0x00, 0x41, 0x02, 0x11, 0x00, 0x00, 0x0b],
         RunEnd::Trap(TrapKind::OutOfBounds),
@@ -247,7 +247,7 @@ fn segments_are_copied_and_dropped(rt: HostRuntime) {
 /// Bodies that no image has, and why.
 const REFUSED: [(&[u8], LoadError); 4] = [
     (&[0x00, 0x01], LoadError::Body { function: 0 }),
-    // A block without an end, an operator behind the end, an else of a block.
+    // A block without an end, an operator after the end, an else of a block.
     (
         &[0x00, 0x02, 0x40, 0x0b],
         LoadError::Nesting { function: 0 },

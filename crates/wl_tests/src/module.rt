@@ -1,4 +1,4 @@
-//! Each call on a small payload, and what no contract tells: counts that the bytes don't bear out,
+//! Each call on a small payload, and what no contract says: counts that the bytes don't bear out,
 //! and the texts of errors.
 
 use std::test::Fail;
@@ -9,7 +9,7 @@ use wl_module::{
     read_targeted_segments, read_types, split_sections,
 };
 
-/// A count of 4294967295 with nothing behind it.
+/// A count of 4294967295 with nothing after it.
 const NO_ITEMS: [u8; 5] = [0xff, 0xff, 0xff, 0xff, 0x0f];
 
 /// One import: the function `env.f` of type 5.

@@ -1,4 +1,4 @@
-//! Why the functions of a small object are kept, by each of the calls that tell it.
+//! Why the functions of a small object are kept, by each of the calls that say so.
 
 ghost use Rattle.std.specs.Prelude.{◌≡◌};
 ghost use Rattle.wl_symbols.specs.Link.{link_of};
