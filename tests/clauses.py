@@ -1,6 +1,6 @@
 #!/usr/bin/env python3
 """Prints each public function with its clauses and each public definition with its text, one a line and sorted,
-whatever crate and file they stand in. So `diff` of what it prints before and behind a change shows which
+whatever crate and file they stand in. So `diff` of what it prints before and after a change shows which
 promise came, went or changed, and of what was only moved it shows nothing.
 
     tests/clauses.py [ROOT] [--all]
@@ -45,7 +45,7 @@ def closing_brace(text, place):
 
 
 def clauses_from(text, place):
-    """The clauses of a function that stand from that place on, and the place behind them."""
+    """The clauses of a function that stand from that place on, and the place after them."""
     clauses = []
     while clause := CLAUSE.match(text, place):
         end = closing_brace(text, clause.end() - 1) + 1

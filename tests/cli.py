@@ -122,7 +122,7 @@ def counter():
 
 
 def words():
-    """Words that aren't a command line: the first at fault is told, by its number."""
+    """Words that aren't a command line: the first at fault is reported, by its number."""
     faults = [
         ([], "NoInputs"),
         (FLAGS, "NoInputs"),
@@ -520,7 +520,7 @@ def note(title, sound, of="the documents"):
 
 
 def documented_names():
-    """The names of faults that docs/FORMAT.md explains are those that rows show, but for those not told yet."""
+    """The names of faults that docs/FORMAT.md explains are those that rows show, but for those not reported yet."""
     answers = re.findall(r"^.* = 1 (Malformed|Unsupported) \d+ (\w+)$", ROWS.read_text(), re.M)
     for fault, cause in [("Malformed", "likely cause"), ("Unsupported", "what it is")]:
         told = {name for kind, name in answers if kind == fault}
@@ -530,7 +530,7 @@ def documented_names():
 
 
 def numbers_in(cell, base):
-    """The numbers of a cell, as in `0a 0b, 19 to 1b`, in that base unless 0x stands in front of them."""
+    """The numbers of a cell, as in `0a 0b, 19 to 1b`, in that base unless 0x comes before them."""
     words = re.sub(r"`[^`]*`", "", cell).replace(",", " ").split()
     numbers = []
     for place, word in enumerate(words):
@@ -543,7 +543,7 @@ def numbers_in(cell, base):
 
 
 def documented_operators(folder):
-    """What docs/FORMAT.md calls an operator is decoded, with what it says stands behind it, and nothing else is."""
+    """What docs/FORMAT.md calls an operator is decoded, with what it says follows it, and nothing else is."""
     behind = {
         "nothing": "", "the type of a block": "40", "a u32": "00", "two u32": "0000", "a list of u32": "010000",
         "a list of value types": "017f", "the type of a block, and a list of catches": "4000",
@@ -598,7 +598,7 @@ def documented_refusals():
 
 
 def documented_words():
-    """Each option of docs/OPTIONS.md is known, with the value that it says, and its wrong uses are told."""
+    """Each option of docs/OPTIONS.md is known, with the value that it says, and its wrong uses are reported."""
 
     def ends(given, fault):
         line = run(given).stderr.decode()
@@ -791,7 +791,7 @@ def constants(texts):
 
 
 def symbol_kinds(texts):
-    """Whether a symbol is of one kind is asked by a predicate: no code compares kinds by their names, or tells true
+    """Whether a symbol is of one kind is asked by a predicate: no code compares kinds by their names, or answers true
     and false by a match over them, but that of the predicates."""
     kinds = r"(?:\|?\s*WasmSymbolKind::\w+\s*)+"
     compared = rf"[=!]= WasmSymbolKind::|matches!\(\s*[\w.]+,\s*{kinds}"

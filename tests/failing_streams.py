@@ -1,6 +1,6 @@
 #!/usr/bin/env python3
 """Lets each read and each write of the program fail in turn. Where a read fails it has to end with status 3 and
-tell the object, and where a write fails with status 4 and a front of what was due.
+name the object, and where a write fails with status 4 and a front of what was due.
 
     tests/failing_streams.py [--program PATH]
 
@@ -18,7 +18,7 @@ READ_FAULT = re.compile(rb"error: ReadFault (\d+)\n")
 
 
 def wrong_reads(program, refuser, words, answer):
-    """What is wrong where reads fail, a line each. The object that is told never goes back."""
+    """What is wrong where reads fail, a line each. The object that is reported never goes back."""
     whole, count = ended(program, refuser, words, 0, "read")
     if whole != answer:
         return count, [f"wanted {answer}, got {whole}"]

@@ -3,7 +3,7 @@
 
     tests/lines.py [ROOT]
 
-Beside each number stands, behind +, how many lines are imports (with the lines that name a crate's files),
+Beside each number stands, after +, how many lines are imports (with the lines that name a crate's files),
 comments or blank, and aren't in it."""
 
 import pathlib

@@ -17,7 +17,7 @@ from documents import table_of  # noqa: E402
 
 SMALL = (ROOT / "examples" / "two_functions.plan").read_text()
 
-# Texts that are no listing, each with the number of the line that is told.
+# Texts that are no listing, each with the number of the line that is reported.
 FAULTS = [
     ("", 1),
     ("wildplan 2\nend\n", 1),
@@ -76,7 +76,7 @@ note = counts.note
 
 
 def fault_of(text):
-    """The number of the line that is told of a text, or none where it is a listing."""
+    """The number of the line that is reported of a text, or none where it is a listing."""
     try:
         listing.read_listing(text)
     except listing.ListingError as error:

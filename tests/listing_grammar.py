@@ -4,7 +4,7 @@
     tests/listing_grammar.py            tries the program that .ci/run built
     tests/listing_grammar.py PROGRAM    tries another one
 
-It makes lines of the grammar, and wrong ones from these; the grammar itself tells which of them are lines. With
+It makes lines of the grammar, and wrong ones from these; the grammar itself says which of them are lines. With
 `--check` the program has to answer `bad L` where a line is none, and else `differs L` or `same`, of the same line. So it
 has to of texts worked out by hand, of which it also stands here which are listings.
 
@@ -149,7 +149,7 @@ counts = counting.Counts("docs/LISTING.md: ")
 note = counts.note
 
 
-# ---- the pieces of a grammar: each makes a text, and tells where it may end in another one
+# ---- the pieces of a grammar: each makes a text, and says where it may end in another one
 
 
 class Word:
@@ -202,7 +202,7 @@ class Byte:
 
 
 class Row:
-    """Pieces, one behind the other."""
+    """Pieces, one after the other."""
 
     def __init__(self, pieces):
         self.pieces = pieces
@@ -325,7 +325,7 @@ class Reader:
         return pieces[0] if len(pieces) == 1 else Row(pieces)
 
     def base(self, word):
-        """A number, or bytes, with the words behind."""
+        """A number, or bytes, with the words after them."""
         words = []
         while self.next()[1] is not None and not self.begins_rule():
             words.append(self.next()[1])
@@ -496,7 +496,7 @@ def main():
         whole = b"".join(line + b"\n" for line in lines)
         texts = [b"", b"\n", b"\n\n", b"end", b"end\r\n", b"\x00", b"\xef\xbb\xbfend\n", plan, plan + plan, whole, whole[:-1]]
         texts += [line + b"\n" for line in lines]
-        # A line that is none, behind others: its place is told, and that of the first alone.
+        # A line that is none, after others: its place is reported, and that of the first alone.
         for front, mutant in enumerate(mutants(lines, chance)):
             before = [line + b"\n" for line in lines[front % len(lines) :][: front % 4]]
             texts.append(b"".join([*before, mutant, b"\n", *before]))

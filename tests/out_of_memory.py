@@ -108,7 +108,7 @@ def usual(status, text):
 
 
 def made_refuser(folder):
-    """What is loaded in front of the C library, built in this folder."""
+    """What is loaded before the C library, built in this folder."""
     refuser = pathlib.Path(folder) / "refuse.so"
     subprocess.run(["cc", "-O2", "-shared", "-fPIC", "-o", refuser, REFUSER, "-ldl"], check=True)
     return refuser
@@ -179,7 +179,7 @@ def counted(number):
 
 
 def sized(content):
-    """Bytes behind their number."""
+    """Bytes after their number."""
     return counted(len(content)) + content
 
 

@@ -138,7 +138,7 @@ def with_labels(times, size):
 
 
 def with_locals(times, size):
-    """The loop, over locals behind so many others, each declared by itself."""
+    """The loop, over locals after so many others, each declared by itself."""
     made, loop = with_seed(), Loop(times, local=size)
     others = [(1, ("i64", "i32")[place % 2]) for place in range(size)]
     made.add("run", [], ["i32"], loop.code().put(loop.result()), [*others, (2, "i32")])

@@ -128,7 +128,7 @@ class Body:
         return index
 
     def operator(self, name, cursor):
-        """The code of an operator, and of what stands behind its name."""
+        """The code of an operator, and of what follows its name."""
         if name in known.PLAIN:
             return Code(known.PLAIN[name])
         if name in known.LOADS_AND_STORES:
@@ -195,7 +195,7 @@ class Body:
             raise LeftOut("memories of 64-bit addresses")
         return Code(known.LOADS_AND_STORES[name], leb128(alignment), leb128(offset))
 
-    # What stands behind the names of other operators. Each method is named after its operator.
+    # What follows the names of other operators. Each method is named after its operator.
 
     def operator_call(self, cursor):
         """The function that is called."""
@@ -230,7 +230,7 @@ class Body:
         return Code(b"\x1c", listed([self.value_type(kind) for kind in results]))
 
     def operator_memory_init(self, cursor):
-        """The number of a segment, behind that of a memory where there are two."""
+        """The number of a segment, after that of a memory where there are two."""
         words = [cursor.take()]
         while is_name(cursor.peek()) or is_integer(cursor.peek()):
             words.append(cursor.take())

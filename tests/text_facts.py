@@ -64,7 +64,7 @@ class Facts:
 
     def traps_as_it_was(self, function):
         """Whether the state is as it was when a call has trapped: the function itself changes it at one place at most,
-        which is in no loop, and behind which nothing traps."""
+        which is in no loop, and after which nothing traps."""
         operators = self.functions[function].operators
         others = set().union(*(self.reached(one) for one in self.called(function)))
         places = [place for place, name in enumerate(operators) if name in CHANGES]

@@ -40,7 +40,7 @@ def unquoted(token):
 
 
 def comment_end(text, place):
-    """The place behind the comment whose first bracket ends here; comments lie in each other."""
+    """The place after the comment whose first bracket ends here; comments lie in each other."""
     depth = 1
     while depth:
         found = COMMENT_ENDS.search(text, place)
@@ -106,7 +106,7 @@ class Cursor:
         return self.place >= len(self.items)
 
     def peek(self):
-        """The next item, or None behind the last."""
+        """The next item, or None after the last."""
         return None if self.is_done() else self.items[self.place]
 
     def take(self):

@@ -3,7 +3,7 @@
 What a module begins with is worked out here: the numbers that globals begin with, the bytes in memory, the functions in
 the table. An object has no table of its own, and the slots of a link are numbered from 1, so an indirect call first
 calls `slot_of`, which leads from the number of an entry to the slot of its function: 0, which holds no function, for an
-empty entry, and the greatest number for one behind the end of the table.
+empty entry, and the greatest number for one past the end of the table.
 """
 
 import dataclasses
@@ -355,7 +355,7 @@ class Module(Facts):
 
     def slots(self):
         """The code of `slot_of`. It takes the functions of the table in their order, so that neighbours have
-        neighbouring slots where neither stands in front as well, and goes by the stretches where that is so."""
+        neighbouring slots where neither comes first as well, and goes by the stretches where that is so."""
         table = self.tables[0] if self.tables else Table(0)
         filled = [(place, function) for place, function in sorted(table.entries.items()) if function is not None]
         order = list(dict.fromkeys(function for _, function in filled))

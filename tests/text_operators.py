@@ -28,7 +28,7 @@ ACCESSES = (
     "i32.store16 i64.store8 i64.store16 i64.store32"
 )
 
-# Operators with nothing behind them.
+# Operators with nothing after them.
 PLAIN = {
     "unreachable": b"\x00",
     "nop": b"\x01",
@@ -47,7 +47,7 @@ PLAIN = {
 }
 # Operators with a memory argument.
 LOADS_AND_STORES = numbered(0x28, "", ACCESSES)
-# Operators with the numbers of memories behind them, which are the first where they aren't written: how many, the code.
+# Operators with the numbers of memories after them, which are the first where they aren't written: how many, the code.
 OF_MEMORIES = {
     "memory.size": (1, b"\x3f\x00"),
     "memory.grow": (1, b"\x40\x00"),

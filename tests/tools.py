@@ -72,7 +72,7 @@ def is_there(*programs):
 
 
 def rows(name):
-    """The rows of a table of this folder: the text in front of the equals sign, and that after it."""
+    """The rows of a table of this folder: the text before the equals sign, and that after it."""
     for line in (ROOT / "tests" / name).read_text().splitlines():
         if line and not line.startswith("#"):
             given, _, wanted = line.rpartition(" = ")

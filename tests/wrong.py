@@ -41,7 +41,7 @@ def copy_repository(to):
 
 
 def verdict_of(told):
-    """What a try came to and the goal that it names, of what `rt must-fail` tells behind the name of the edit."""
+    """What a try came to and the goal that it names, of what `rt must-fail` prints after the name of the edit."""
     weak = {"only because a proof file": "by a name alone", "only by a limit": "by a limit alone"}
     for words, verdict in weak.items():
         if told.startswith(f"refused, as it must be ({words}"):

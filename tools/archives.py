@@ -116,7 +116,7 @@ def entries(content):
 
 
 def member_of(name, content, names):
-    """The name and the bytes of a member: a long name stands in the table, or in front of the bytes."""
+    """The name and the bytes of a member: a long name stands in the table, or before the bytes."""
     if name.startswith("#1/"):
         length = int(name[3:])
         return content[:length].rstrip(b"\0").decode("utf-8", "surrogateescape"), content[length:]

@@ -62,6 +62,6 @@ one_check laws plans objects args text a b h g =
     let same = plans objects args g.plan h.plan g.planned h.planned in
     one_verdict laws h.plan text a b h.in_range h.verdict (subst (λ (p : LinkPlan). IsVerdict p text b) same g.verdict)
 
--- what is told where the lines of a text are those of the plan
+-- what is reported where the lines of a text are those of the plan
 pub told : (plan : LinkPlan) (text : List ℕ) (lines : List Line) → IsListing lines text → lines ≡ lines_of plan → text ≡ listing_text plan
 told plan text lines h same = h.joined ∙ ap (λ (xs : List Line). flat_map line_text xs) same

@@ -4,7 +4,7 @@ use Rattle.std.specs.List.{range_with_len}
 use Rattle.std.proofs.lemmas.List.FromFn.{map-range_with_len_more}
 use Rattle.wl_generate.specs.Generated.{generated_object}
 
--- with one more behind those so far
+-- with one more after those so far
 pub one_more : (count number : ℕ) (new old : List (List ℕ)) (object : List ℕ)
     → old ≡ map (generated_object count) (range_with_len 0 number)
     → object ≡ generated_object count number → new ≡ old ++ object ∷ []

@@ -1,4 +1,4 @@
--- A plan of objects can be loaded: what it tells by numbers is there.
+-- A plan of objects can be loaded: what it names by numbers is there.
 use Rattle.std.proofs.Common.{◌≡◌, ◌∙◌, ℕ, ◌+◌, ◌*◌, ◌<◌, ◌≤◌, Bool, true, false, List, [], ◌∷◌, ◌++◌, length, refl, sym, ap, arith, inl, inr, Option, Some, None, slice_get, append-nil, append_assoc, length-append, suc, add-one}
 use Rattle.std.specs.Prelude.{IfSome, Contains}
 use Rattle.std.specs.Option.{option_map_or}

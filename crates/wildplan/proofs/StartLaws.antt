@@ -64,13 +64,13 @@ function_at fixups (g ∷ fs) (b ∷ bs) (suc k) f same at = function_at fixups 
 
 -- ---- the function at the start
 
--- the function of a plan that stands there behind those of the host, with the type of the entry
+-- the function of a plan that stands there after those of the host, with the type of the entry
 record IsTyped (plan : LinkPlan) (k : ℕ) (t : FunctionType) : Type 0 where
   f : PlannedFunction
   listed : slice_get plan.layout.function_type_indices k ≡ Some f
   typed : slice_get plan.layout.output_types f.type_index ≡ Some t
 
--- what copies data for all threads stands behind the host's functions
+-- what copies data for all threads follows the host's functions
 start_behind : (input : Input) (s : ℕ) → slice_get (function_space input) s ≡ Some InitMemory → IsBehindHosts input s InitMemory
 start_behind input s at = elim (split_hosts input InitMemory s at) [
   | inl front ↦ (let h = host_entry input InitMemory s front in absurd (cc h.2))

@@ -1,4 +1,4 @@
--- The line that tells of a plan in numbers.
+-- The line with the numbers of a plan.
 use Rattle.std.specs.Prelude.{ℕ, List, ◌++◌, length, sum_by, codes, decimal}
 use Rattle.wl_plan.specs.Dropped.{dropped_in}
 use Rattle.wl_plan.specs.declared.layout.LinkPlan.{LinkPlan}

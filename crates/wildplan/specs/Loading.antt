@@ -94,13 +94,13 @@ StartsWith g v = HasFirstValue g.global.body v
 abbrev pub HasStart : PlannedGlobal → Type 0
 HasStart g = (v : Value) × StartsWith g v
 
--- behind so many globals the first stands that doesn't start with a constant
+-- after so many globals comes the first that doesn't start with a constant
 abbrev pub IsFirstUnread : List PlannedGlobal → ℕ → Type 0
 IsFirstUnread [] count = ⊥
 IsFirstUnread (g ∷ gs) zero = HasStart g → ⊥
 IsFirstUnread (g ∷ gs) (suc count) = HasStart g × IsFirstUnread gs count
 
--- the first global that doesn't start with a constant is told
+-- the first global that doesn't start with a constant is reported
 abbrev pub IsInitFault : List PlannedGlobal → LoadError → Type 0
 IsInitFault globals load.OutOfMemory = Unit {0}
 IsInitFault globals (load.HostGlobal index) = ⊥
@@ -146,7 +146,7 @@ HasFunction plan f =
 abbrev pub HasType : LinkPlan → ℕ → Type 0
 HasType plan t = t < length plan.layout.output_types
 
--- What the parts of a plan tell by numbers is there, each function has a body, and memory may have
+-- What the parts of a plan name by numbers is there, each function has a body, and memory may have
 -- the pages with which it begins.
 pub record CanBeLoaded (plan : LinkPlan) : Type 0 where
   pub hosts : AllByRecursion (HasType plan) (host_types plan.layout.imports)

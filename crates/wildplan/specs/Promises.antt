@@ -1,4 +1,4 @@
--- What a text that was written tells of.
+-- What a text that was written says.
 use Rattle.std.specs.Prelude.{ℕ, List}
 use Rattle.wl_symbols.specs.Input.{Input}
 use Rattle.wl_symbols.specs.Link.{link_of}

@@ -8,7 +8,7 @@ use Rattle.wl_linking.specs.declared.error.UndefinedSymbol.{UndefinedSymbol}
 use Rattle.wl_text.specs.Pieces.{quoted, numbers_text}
 use Rattle.wl_text.specs.Names.{why_name, form_name, quantity_name, need_text, bound_name}
 
--- what is refused, by its name, and what is told of it
+-- what is refused, by its name, and what is reported of it
 abbrev pub refusal_line : List ℕ → List ℕ → List ℕ
 refusal_line name told = codes "error: " ++ name ++ told ++ codes "\n"
 
@@ -16,7 +16,7 @@ refusal_line name told = codes "error: " ++ name ++ told ++ codes "\n"
 abbrev pub IsLine : List ℕ → List ℕ → List ℕ → Type 0
 IsLine name told text = text ≡ refusal_line name told
 
--- a name in quotes behind a blank, and numbers
+-- a name in quotes after a blank, and numbers
 abbrev pub name_text : List ℕ → List ℕ → List ℕ
 name_text name numbers = codes " " ++ quoted name ++ numbers_text numbers
 
@@ -24,24 +24,24 @@ name_text name numbers = codes " " ++ quoted name ++ numbers_text numbers
 abbrev pub pair_text : List ℕ → ℕ × ℕ → ℕ × ℕ → List ℕ
 pair_text name first second = name_text name (first.0 ∷ first.1 ∷ second.0 ∷ second.1 ∷ [])
 
--- an object's number and a word, each behind a blank
+-- an object's number and a word, each after a blank
 abbrev pub object_text : ℕ → List ℕ → List ℕ
 object_text object word = codes " " ++ decimal object ++ codes " " ++ word
 
--- a word and numbers, each behind a blank
+-- a word and numbers, each after a blank
 abbrev pub word_text : List ℕ → List ℕ → List ℕ
 word_text word numbers = codes " " ++ word ++ numbers_text numbers
 
--- an object's number, the place of a field and a value, each behind a blank
+-- an object's number, the place of a field and a value, each after a blank
 abbrev pub range_text : ℕ → ℕ → ℤ → List ℕ
 range_text object offset value =
     numbers_text (object ∷ offset ∷ []) ++ codes " " ++ signed_decimal value
 
--- an object's number and the name that it refers to, each behind a blank
+-- an object's number and the name that it refers to, each after a blank
 abbrev pub undefined_text : UndefinedSymbol → List ℕ
 undefined_text u = codes " " ++ decimal u.object ++ codes " " ++ quoted u.name
 
--- The line of a refusal: its name and what it tells. When memory ran out there is no line.
+-- The line of a refusal: its name and what it reports. When memory ran out there is no line.
 abbrev pub error_line : LinkError → List ℕ
 error_line error.OutOfMemory = []
 error_line (error.Malformed object why) =

@@ -1,4 +1,4 @@
--- What is told of a run of a function of a plan.
+-- What is reported of a run of a function of a plan.
 use Rattle.std.specs.Prelude.{◌≡◌, ℕ, Bool, true, false, ◌&&◌, List, [], codes, find, Option, Some, None, option_map}
 use Rattle.std.specs.Str.{bytes_eq}
 use Rattle.wl_module.specs.Exports.{Exported}
@@ -44,7 +44,7 @@ can_take_turns image start f = can_run image f [] && can_start image start
 
 -- ---- the line
 
--- What is told of the run of the function that a plan exports under a name.
+-- What is reported of the run of the function that a plan exports under a name.
 pub data IsRunText (plan : LinkPlan) (name : List ℕ) (text : List ℕ) : Type 0 where
   -- the plan isn't loaded
   refused : (e : LoadError) → IsNotLoaded plan e → IsLoadLine e text → IsRunText plan name text

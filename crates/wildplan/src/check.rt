@@ -24,11 +24,11 @@ use wl_words::WasmArgs;
 pub enum Verdict {
     /// The text is the listing of the plan.
     Same,
-    /// The text is no listing: so many lines stand in front of the first stretch that is none.
+    /// The text is no listing: so many lines come before the first stretch that is none.
     Bad {
         line: usize,
     },
-    /// The text is another listing. So many lines are those of the plan, and behind these the one
+    /// The text is another listing. So many lines are those of the plan, and after these the one
     /// was found where the plan has the other: none where a listing has ended.
     Differs {
         line: usize,

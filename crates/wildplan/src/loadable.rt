@@ -7,7 +7,7 @@ ghost use Rattle.wildplan.specs.Loading.{CanBeLoaded};
 
 use wl_plan::functions_have_types_and_bodies;
 
-/// Each plan can be loaded: the types and the functions that it tells by numbers are there, each
+/// Each plan can be loaded: the types and the functions that it names by numbers are there, each
 /// function has a body, and memory may have the pages with which it begins.
 pub fn plans_can_be_loaded()
     ensures { (link : Link) (plan : SpecPlan) → IsPlanOf link plan → CanBeLoaded plan }

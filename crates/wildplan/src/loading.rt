@@ -153,7 +153,7 @@ fn first_values(alloc: Global, globals: &[PlannedGlobal<'_>]) -> Result<ItemList
     Ok(ItemList::new(values))
 }
 
-/// That a global doesn't start with a constant. A number that is none of 32 bits isn't told.
+/// That a global doesn't start with a constant. A number that is none of 32 bits isn't reported.
 fn init_error(global: usize) -> LoadError
     ensures { (result ≡ LoadError.OutOfMemory) ⊎ (result ≡ LoadError.Init global) }
 {
@@ -168,7 +168,7 @@ fn init_error(global: usize) -> LoadError
 /// The parts of the image of a plan.
 ///
 /// # Errors
-/// `HostGlobal`, `TooBig` and `Init`, as [`load`] tells them.
+/// `HostGlobal`, `TooBig` and `Init`, as [`load`] reports them.
 fn image_parts(alloc: Global, plan: &LinkPlan<'_>) -> Result<ImageParts, LoadError>
     requires { CanBeLoaded plan.now }
     ensures parts { IfOk result (IsParts plan.now) }

@@ -26,7 +26,7 @@ ghost use Rattle.wildplan.specs.Replacing.{PlanInputs, AreSound};
 
 use wl_plan::plans_keep_their_promises;
 
-/// A text that `run` writes at status 0 tells of a plan of what was given, whatever the mode:
+/// A text that `run` writes at status 0 describes a plan of what was given, whatever the mode:
 ///
 /// - each object that was read is in the grammar, and so is what replaces one;
 /// - each kept reference is bound, and the field of each takes its value;

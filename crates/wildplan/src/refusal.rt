@@ -29,7 +29,7 @@ fn begin_line(alloc: Global, name: &str) -> Result<Page, AllocError>
     Ok(page)
 }
 
-/// The line of a refusal that tells numbers.
+/// The line of a refusal with numbers.
 fn numbers_line(alloc: Global, refusal: &str, numbers: &[u64]) -> Result<Vec<u8>, AllocError>
     ensures { IfOk result (λ text. IsLine refusal.now (numbers_text numbers.now) text.items) }
 {
@@ -39,7 +39,7 @@ fn numbers_line(alloc: Global, refusal: &str, numbers: &[u64]) -> Result<Vec<u8>
     page.into_text()
 }
 
-/// The line of a refusal that tells a name and numbers.
+/// The line of a refusal with a name and numbers.
 fn named_line(
     alloc: Global,
     refusal: &str,
@@ -77,7 +77,7 @@ fn pair_line(
     named_line(alloc, refusal, name, &numbers)
 }
 
-/// The line of a refusal that tells an object and a word.
+/// The line of a refusal with an object and a word.
 fn object_line(
     alloc: Global,
     refusal: &str,
@@ -90,7 +90,7 @@ fn object_line(
     Ok(format!(in alloc; "error: {refusal} {object} {word}\n")?.into_bytes())
 }
 
-/// The line of a refusal that tells a word and numbers.
+/// The line of a refusal with a word and numbers.
 fn word_line(
     alloc: Global,
     refusal: &str,

@@ -1,4 +1,4 @@
-//! What is told of a run of a function of a plan.
+//! What is reported of a run of a function of a plan.
 
 ghost use Rattle.std.specs.Prelude.{◌≡◌, codes, IfOk, true};
 ghost use Rattle.wl_symbols.specs.Link.{Link as SpecLink};
@@ -55,7 +55,7 @@ fn can_take_turns(image: &Image, start: Option<u32>, function: u32) -> bool
     image.can_run(function, &[]) && can_start(image, start)
 }
 
-/// The line that tells how the run of the function ends that a plan exports under a name, once the
+/// The line that says how the run of the function ends that a plan exports under a name, once the
 /// function at the start has run: `done` and its results, or what ended it. It is `load` and the
 /// cause where the plan isn't loaded, `none` where no function is exported so, and `arguments`
 /// where that one takes some.
@@ -81,8 +81,8 @@ pub fn run_text(alloc: Global, plan: &LinkPlan<'_>, name: &str) -> Result<Vec<u8
     end_line(alloc, &end)
 }
 
-/// The function at the start of a plan takes no arguments, so that `arguments` tells of the one that
-/// is exported.
+/// The function at the start of a plan takes no arguments, so that `arguments` is about the one
+/// that is exported.
 pub fn starts_take_no_arguments()
     ensures { (link : SpecLink) (plan : SpecPlan) (image : LoadedImage) → IsPlanOf link plan
         → CanBeLoaded plan → IsLoaded plan image

@@ -1,4 +1,4 @@
-//! The line that tells of a plan in numbers.
+//! The line with the numbers of a plan.
 
 ghost use Rattle.std.specs.Prelude.{◌≡◌, ◌<◌, ◌^◌, sum_by, IfOk};
 ghost use Rattle.std.specs.List.{count_by};
@@ -40,7 +40,7 @@ fn dropped_in_all(maps: &[WasmObjectIndexMap]) -> u128
     dropped
 }
 
-/// The line that tells of a plan in numbers: of its objects, of its functions that aren't imported,
+/// The line with the numbers of a plan: of its objects, of its functions that aren't imported,
 /// of what it drops, and of its relocations.
 ///
 /// What it drops are functions and globals of objects; segments aren't counted.

@@ -33,7 +33,7 @@ use Rattle.wl_symbols.specs.declared.targets.SlotTarget.TheVariants as slot
 use Rattle.wl_lists.proofs.In.{Contains-cons_cases}
 use Rattle.wl_bind.proofs.HostLaws.{IsAt}
 
--- ---- what is told of slots
+-- ---- facts about slots
 
 -- what each slot is bound to, case by case; and what a live one refers to is live
 pub record SlotLaws : Type 0 where

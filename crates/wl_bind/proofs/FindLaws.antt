@@ -1,4 +1,4 @@
--- What a search finds, and what optional things that are put together tell.
+-- What a search finds, and what optional things that are put together say.
 use Rattle.std.proofs.Common.{◌≡◌, ◌⊎◌, ℕ, ◌+◌, ◌<◌, length, drop, drop-cons, get_or, add-one, Bool, true, false, List, [], ◌∷◌, refl, subst, inl, inr, Option, Some, None, Contains, find}
 use Rattle.std.specs.Option.{option_or, option_map, option_map_or}
 use Rattle.std.proofs.lemmas.Bool.{cases_Bool}

@@ -207,7 +207,7 @@ found_as : (input : Input) (m : WasmLinkerSymbol) (index : Option ℕ) → is_da
 found_as input m None is at = absurd at
 found_as input m (Some place) is at = stands_as input m (row_of m).kind place is at
 
--- the address of data stands behind the start of its part by its place
+-- the address of data is the start of its part plus its place
 pub address_there : (input : Input) (i : LinkerDefinedIndices) (m : WasmLinkerSymbol) (place : ℕ) (index : Option ℕ)
     → AreMadeIndices input i → is_data (row_of m).kind ≡ true
     → position (λ a. same_made a m) i.exported.addresses ≡ Some place → index ≡ entry_of i.globals 7 place

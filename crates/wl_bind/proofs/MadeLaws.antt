@@ -42,7 +42,7 @@ use Rattle.wl_bind.proofs.ClosedLaws.{SlotLaws}
 use Rattle.wl_bind.proofs.GlobalLaws.{binds}
 use Rattle.wl_bind.proofs.OneRuleLaws.{bound_as, taken_of}
 
--- ---- what is told of slots and of names
+-- ---- facts about slots and names
 
 -- of slots; and what a name stands for, and a symbol that other objects know by its name
 pub record BindingLaws : Type 0 where

@@ -316,7 +316,7 @@ merging_done before all left merger indices none h = (
       (subst (λ (es : List (Option FunctionType)). AreIndicesOf merger es []) (sym none) tt)),
 )
 
--- the marked types from a number on, with the first of them in front
+-- the marked types from a number on, beginning with the first of them
 types_split : (passes : ℕ → Bool) (types : List FunctionType) (i : ℕ) (ty : FunctionType)
     → i < length types → ty ≡ get_or types i ty
     → types_if passes i (drop i types)

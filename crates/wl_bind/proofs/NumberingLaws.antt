@@ -325,7 +325,7 @@ space_long : (input : Input) (own : Own) → space_length input own ≡ own_star
 space_long input Functions = entries_length input Functions (λ i k. FunctionOf (function.Defined i k)) (function_parts input)
 space_long input Globals = entries_length input Globals (λ i k. GlobalOf (global.Defined i k)) (global_parts input)
 
--- objects' things begin behind all that no object defines
+-- objects' things begin after all that no object defines
 pub made_end_is : (input : Input) (i : LinkerDefinedIndices) → AreMadeIndices input i → (own : Own) → made_end i own ≡ own_start input own
 made_end_is input i made Functions = made.functions.end
 made_end_is input i made Globals = made.globals.end

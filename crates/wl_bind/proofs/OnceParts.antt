@@ -102,7 +102,7 @@ part_by_object {X} {Y} sort n key entry f same of all each objects = record {
       subst (λ (y : Y). sort y ≡ n) c.to (all (0 + g.place) c.from);
 }
 
--- ---- the parts with what comes behind them
+-- ---- the parts with what comes after them
 
 pub joined_end : {X : Type 0} (parts : List (List X)) (rest : List X) → joined (parts ++ rest ∷ []) ≡ joined parts ++ rest
 joined_end [] rest = append-nil rest

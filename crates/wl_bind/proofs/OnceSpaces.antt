@@ -256,7 +256,7 @@ dynamic_if input d true h =
     (subst (λ (n : ℕ). slice_get (g.object).symbols n ≡ Some at.symbol) number at.at) in
     rw there at.exported
 
--- what is exported anyway is told so
+-- what is exported anyway passes the test for it
 dynamic_told : (input : Input) (d : DataSymbol) → IsIn (dynamic_data input) d → is_dynamic input d ≡ true
 dynamic_told input d h = dynamic_if input d input.link.args.export_dynamic h
 

@@ -27,7 +27,7 @@ use Rattle.wl_bind.proofs.ListLaws.{none_found}
 one_behind : {X : Type 0} (y : X) (xs : List X) (x : X) → Contains xs x → Contains (y ∷ xs) x
 one_behind y xs x among = (suc among.0, omega (arith, among.1), among.2)
 
--- an element of a list is the first one, or is behind it
+-- an element of a list is the first one, or comes after it
 behind_first : {X : Type 0} (y : X) (kept xs : List X) (x : X) → (Contains kept x → Contains xs x) → Contains (y ∷ kept) x → Contains (y ∷ xs) x
 behind_first y kept xs x rest (zero, lt, is) = (zero, omega arith, is)
 behind_first y kept xs x rest (suc k, lt, is) = one_behind y xs x (rest (k, omega (arith, lt), is))

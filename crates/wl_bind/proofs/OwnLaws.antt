@@ -77,7 +77,7 @@ passing_all p kept n count is le ge =
     let same : n ≡ count = omega (arith, le, ge) in
     is ∙ (ap (passing p) same ∙ sym (passing_length p count))
 
--- a number that passes stands behind those below it
+-- a number that passes follows those below it
 passing_stands : (p : ℕ → Bool) (count n : ℕ) → n < count → p n ≡ true
     → slice_get (filter p (range_with_len 0 count)) (passing p n) ≡ Some n
 passing_stands p count n lt t =
@@ -183,7 +183,7 @@ own_kept input own object number n o at ordinal live =
     ap (λ (k : ℕ). slice_get (kept_own input own object o) k) (sym below)
     ∙ passing_stands (λ k. keeps input object (own_unit own k)) (own_count own o) number (own_within own o number has) parts.0
 
--- what an object defines and is kept stands behind its first index by its ordinal
+-- the index of what is kept is its object's first index plus its ordinal
 pub own_stands : {Y : Type 0} (input : Input) (own : Own) (entry : ℕ → ℕ → Y) (front : List Y)
     (object number n first : ℕ)
     → ordinal_of input.live (record { object = object; unit = own_unit own number }) ≡ Some n

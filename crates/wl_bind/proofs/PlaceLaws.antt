@@ -8,7 +8,7 @@ use Rattle.wl_lists.proofs.Places.{get_behind, get_in_front}
 pub record StandsFrom {X : Type 0} (space : List X) (n : ℕ) (xs : List X) : Type 0 where
   pub is : (k : ℕ) (x : X) → slice_get xs k ≡ Some x → slice_get space (n + k) ≡ Some x
 
--- a list stands behind what is in front of it
+-- a list follows what comes before it
 pub stands_behind : {X : Type 0} (front xs behind : List X)
     → StandsFrom (front ++ (xs ++ behind)) (length front) xs
 stands_behind front xs behind = record {

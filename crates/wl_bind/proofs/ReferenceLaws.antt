@@ -70,7 +70,7 @@ use Rattle.wl_bind.proofs.ListedLaws.{MadeOf, made_of_some, still_in}
 use Rattle.wl_bind.proofs.FirstSlotLaws.{bound_is_there, kept_is_there}
 use Rattle.wl_bind.proofs.ListLaws.{made_of_one}
 
--- ---- what is told of objects, of names, of slots and of live sets
+-- ---- facts about objects, names, slots and live sets
 
 pub record Laws : Type 0 where
   pub fitting : (o : Object) → IsWhole o → IsFitting o

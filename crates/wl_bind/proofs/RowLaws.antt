@@ -40,7 +40,7 @@ rows_more f kind objects k lt =
     let split : drop k objects ≡ s.x ∷ drop (k + 1) objects = rw e s.split in
     rw (split, s.here) refl
 
--- one more row behind the others
+-- one more row after the others
 pub row_pushed : {X : Type 0} (f : ImportSlot → X) (kind : WasmSymbolKind) (objects : List Object) (k : ℕ) (row : List X) (rows new all : List (List X)) → k < length objects
     → row ≡ map f (import_slots objects k kind) → new ≡ rows ++ row ∷ [] → rows ++ slot_rows f kind k (drop k objects) ≡ all
     → new ++ slot_rows f kind (k + 1) (drop (k + 1) objects) ≡ all
@@ -49,7 +49,7 @@ row_pushed {X} f kind objects k row rows new all lt is pushed so =
     let step : slot_rows f kind k (drop k objects) ≡ row ∷ rest = rw is (rows_more f kind objects k lt) in
     ap (λ (t : List (List X)). t ++ rest) pushed ∙ append_assoc rows (row ∷ []) rest ∙ (ap (λ (t : List (List X)). rows ++ t) (sym step) ∙ so)
 
--- one more entry behind the others
+-- one more entry after the others
 pub entry_pushed : {X Y : Type 0} (f : X → Y) (xs : List X) (k : ℕ) (x : X) (y : Y) (list new all : List Y) → k < length xs → x ≡ slice_index_or xs k x → y ≡ f x
     → new ≡ list ++ y ∷ [] → list ++ map f (drop k xs) ≡ all → new ++ map f (drop (k + 1) xs) ≡ all
 entry_pushed {X} {Y} f xs k x y list new all lt at is pushed so =

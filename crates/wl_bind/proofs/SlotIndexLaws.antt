@@ -48,7 +48,7 @@ use Rattle.wl_bind.proofs.MadeLaws.{BindingLaws, bound_is_made_function}
 use Rattle.wl_bind.proofs.NumberingLaws.{zip_map, slots_here, fits, function_at, has_ordinal, own_functions}
 use Rattle.wl_bind.proofs.RowLaws.{slot_is_one}
 
--- ---- what is told of slots, of names and of host imports
+-- ---- facts about slots, names and host imports
 
 -- of slots and names; and that each slot has its place among the host imports
 pub record ImportLaws : Type 0 where

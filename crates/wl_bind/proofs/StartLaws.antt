@@ -12,7 +12,7 @@ use Rattle.wl_bind.proofs.PlaceLaws.{StandsFrom, part_stands}
 
 -- ---- starts by lengths
 
--- where the part of that number begins, where the first begins there; behind the last part its end
+-- where the part of that number begins, where the first begins there; after the last part, its end
 abbrev start_at : ℕ → List ℕ → ℕ → ℕ
 start_at n lengths k = unwrap_or (slice_get (starts_from n lengths) k) (n + total lengths)
 
@@ -94,7 +94,7 @@ one_part space n false x stands =
       | inr f ↦ rw f refl
     ]
 
--- where a part has one entry or none, its index is told exactly where it has one
+-- where a part has one entry or none, its index is given exactly where it has one
 pub single_is : {X : Type 0} (parts : List (List X)) (rest : List X) (s : PartStarts) (k : ℕ) (test : Bool) (x : X)
     → AreStarts parts s → slice_get parts k ≡ Some (if test then x ∷ [] else [])
     → MatchOption (single_of s k) (test ≡ false) (λ place. slice_get (joined parts ++ rest) place ≡ Some x)
@@ -107,7 +107,7 @@ single_is {X} parts rest s k test x are at =
 
 -- ---- an entry of a part
 
--- so many behind the start of a part stands its entry
+-- so many past the start of a part stands its entry
 pub entry_is : {X : Type 0} (parts : List (List X)) (rest : List X) (s : PartStarts) (k : ℕ) (part : List X) (place : ℕ)
     → AreStarts parts s → slice_get parts k ≡ Some part → HasEntry s k place
     → slice_get (joined parts ++ rest) (start_of s k + place) ≡ slice_get part place

@@ -9,7 +9,7 @@ use Rattle.wl_bind.specs.Kinds.{IsWrongKind}
 use Rattle.wl_bind.specs.Signatures.{IsMismatch}
 use Rattle.wl_bind.specs.Undefined.{IsUndefinedData, IsUndefinedImport}
 
--- those that lie in kept relocations, and what is judged behind them
+-- those that lie in kept relocations, and what is judged after them
 abbrev pub scan_steps : Input → (LinkError → Type 0) → LinkError → Type 0
 scan_steps input behind =
     Step (IsWrongKind input) (Step (IsMismatch input) (Step (IsUndefinedData input) behind))

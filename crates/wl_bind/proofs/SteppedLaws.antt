@@ -42,7 +42,7 @@ module _ {X Y : Type 0} (step : ℕ → X → Y → Y) where
       → slice_set ys place z ≡ step_at step place n x ys
   place_steps ys place n x d z lt e = set_steps ys place n x (get_or ys place d) z (slice_get-get_or ys place d lt) e
 
-  -- nothing stands behind the last place
+  -- nothing follows the last place
   pub behind_last : (ys : List Y) (place n : ℕ) (x : X) → length ys ≤ place → ys ≡ step_at step place n x ys
   behind_last [] place n x le = refl
   behind_last (y ∷ ys) zero n x le = absurd (omega (arith, le))

@@ -24,7 +24,7 @@ slots_behind : (kind : WasmSymbolKind) (i : Imported) (rest : List Imported) →
 slots_behind kind i rest so = rw so refl
 
 module _ {Y : Type 0} (step : ℕ → Imported → Y → Y) (kind : WasmSymbolKind) where
-  -- what is left to do behind the first slots
+  -- what is left to do after the first slots
   abbrev left_at : ℕ → List Imported → List Y → List Y
   left_at n items ys = stepped_behind step n n (slot_imports kind items) ys
 

@@ -122,7 +122,7 @@ names_mismatch input r =
 abbrev pub mismatch_error : Mismatch → LinkError
 mismatch_error m = SignatureMismatch m.object m.symbol
 
--- the refusal tells such a symbol
+-- the refusal names such a symbol
 pub record TellsMismatch (input : Input) (object number : ℕ) (e : LinkError) : Type 0 where
   pub so : is_mismatch input object number ≡ true
   pub told : e ≡ SignatureMismatch object number

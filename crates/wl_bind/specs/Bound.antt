@@ -32,13 +32,13 @@ bound_of input = record {
 }
 
 -- the reasons, in the order in which they are judged: those by which slots can't be resolved, and
--- what is judged behind them
+-- what is judged after them
 abbrev pub slot_steps : Input → (LinkError → Type 0) → LinkError → Type 0
 slot_steps input behind =
     Step (IsWrongKind input) (Step (IsMismatch input) (Step (IsUndefinedData input)
     (Step (IsStubConflict input) behind)))
 
--- then those by which slots can't be left to the host, and what is judged behind them
+-- then those by which slots can't be left to the host, and what is judged after them
 abbrev pub bind_steps : Input → (LinkError → Type 0) → LinkError → Type 0
 bind_steps input behind =
     slot_steps input (Step (IsUndefinedImport input) (Step (IsHostConflict input) behind))

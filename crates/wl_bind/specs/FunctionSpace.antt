@@ -1,5 +1,5 @@
 -- The function space of the output: what is imported, what the linker makes, what objects define.
--- Behind it come the wrappers of exports.
+-- After it come the wrappers of exports.
 use Rattle.std.specs.Prelude.{ℕ, List, [], ◌∷◌, ◌++◌, map, length, if◌then◌else◌, Option, Some, None}
 use Rattle.std.specs.List.{filter, range_with_len}
 use Rattle.wl_linking.specs.Object.{Object}

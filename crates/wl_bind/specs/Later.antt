@@ -53,7 +53,7 @@ walked_at w number i old =
     if is_unresolved old && keeps_slot w.input Global w.object number
     then later_by_got w.scan i.origin i.name else old
 
--- the globals that the object imports, one behind the other, by the lists
+-- the globals that the object imports, one after the other, by the lists
 abbrev pub walked : Walk → Object → List ImportResolution → List ImportResolution
 walked w o olds = stepped (walked_at w) 0 (slot_imports Global o.imports) olds
 

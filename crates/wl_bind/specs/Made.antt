@@ -170,7 +170,7 @@ abbrev pub greatest : List ℕ → ℕ
 greatest [] = 0
 greatest (n ∷ ns) = max n (greatest ns)
 
--- the size of the table: its functions behind an empty first slot, and no less than any object asks
+-- the size of the table: its functions after an empty first slot, and no less than any object asks
 -- for
 abbrev pub table_size : Input → ℕ
 table_size input =

@@ -31,7 +31,7 @@ use Rattle.wl_bind.specs.declared.resolution.ObjectImportResolutions.{ObjectImpo
 
 -- ---- functions or globals
 
--- the index behind all that no object defines
+-- the index after all that no object defines
 abbrev pub made_end : LinkerDefinedIndices → Own → ℕ
 made_end i Functions = i.functions.end
 made_end i Globals = i.globals.end
@@ -55,13 +55,13 @@ AreObjectIndices input Globals object o =
 
 -- ---- what objects define
 
--- the object has a first index, and there is room for that number behind it
+-- the object has a first index, and there is room for that number after it
 pub record HasRoom (firsts : List ℕ) (object n : ℕ) : Type 0 where
   pub first : ℕ
   pub first_is : slice_get firsts object ≡ Some first
   pub room : first + n ≤ MAX_ENTRIES
 
--- that number behind the first index of the object
+-- that number past the first index of the object
 abbrev pub behind_first : List ℕ → ℕ → ℕ → ℕ
 behind_first firsts object n = unwrap_or (slice_get firsts object) 0 + n
 

@@ -55,7 +55,7 @@ abbrev pub own_start : Input → Own → ℕ
 own_start input Functions = total (lengths_of (function_parts input))
 own_start input Globals = total (lengths_of (global_parts input))
 
--- the first index of each object, behind what no object defines
+-- the first index of each object, after what no object defines
 abbrev pub own_firsts : Input → Own → List ℕ
 own_firsts input own = firsts_from input own (own_start input own) 0 input.link.objects
 
@@ -64,7 +64,7 @@ abbrev pub space_length : Input → Own → ℕ
 space_length input Functions = length (function_space input)
 space_length input Globals = length (global_space input)
 
--- the index of a kept one: so many behind the first of its object
+-- the index of a kept one: so many past the first of its object
 abbrev pub own_index : Input → List ℕ → ℕ → WasmGcUnit → ℕ
 own_index input firsts object unit =
     option_map_or (λ n. unwrap_or (slice_get firsts object) 0 + n)

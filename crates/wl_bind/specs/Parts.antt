@@ -1,4 +1,4 @@
--- A space of the output is its parts, one behind the other; the index of an entry is its place.
+-- A space of the output is its parts, one after the other; the index of an entry is its place.
 use Rattle.std.specs.Prelude.{◌≡◌, ◌≤◌, ◌<◌, ℕ, ◌+◌, ◌||◌, Bool, false, List, [], ◌∷◌, ◌++◌, map, length, nat_lt, if◌then◌else◌, Option, Some, None, unwrap_or, slice_get, ⊤}
 use Rattle.std.specs.List.{AllZip}
 use Rattle.wl_lists.specs.Rows as rows
@@ -11,7 +11,7 @@ use Rattle.wl_bind.specs.declared.parts.PartStarts.{PartStarts}
 
 -- ---- parts
 
--- the lists, one behind the other
+-- the lists, one after the other
 abbrev pub joined : {X : Type 0} → List (List X) → List X
 joined [] = []
 joined (xs ∷ xss) = xs ++ joined xss
@@ -36,7 +36,7 @@ pub record AreStarts {X : Type 0} (parts : List (List X)) (s : PartStarts) : Typ
   pub end : s.end ≡ total (lengths_of parts)
   pub room : s.end ≤ MAX_ENTRIES
 
--- where a part begins; where the last one ends, behind the last part
+-- where a part begins; where the last one ends, after the last part
 abbrev pub start_of : PartStarts → ℕ → ℕ
 start_of s part = unwrap_or (slice_get s.starts part) s.end
 
@@ -87,7 +87,7 @@ IsOver count _ = ⊥
 abbrev pub AreRows : {X : Type 0} → (ℕ → Object → X → Type 0) → ℕ → List Object → List X → Type 0
 AreRows IsRow = rows.AreRows IsRow
 
--- what each of these objects gives, one behind the other, the first of which has that number
+-- what each of these objects gives, one after the other, the first of which has that number
 abbrev pub by_object : {X : Type 0} → (ℕ → Object → List X) → ℕ → List Object → List X
 by_object f = rows.by_number f
 

@@ -133,7 +133,7 @@ abbrev pub got_func_entry : Input → Definition × FunctionTarget → GotFuncEn
 got_func_entry input p =
     record { definition = p.0; target = p.1; name = definition_name input p.0 }
 
--- what a scan tells
+-- what a scan reports
 pub record Scanned : Type 0 where
   pub got_mem : List GotMemEntry
   pub got_func : List GotFuncEntry

@@ -9,7 +9,7 @@ module _ {X Y : Type 0} (step : ℕ → X → Y → Y) where
   stepped n (x ∷ xs) [] = []
   stepped n (x ∷ xs) (y ∷ ys) = step n x y ∷ stepped (n + 1) xs ys
 
-  -- the same behind so many of the second, which stay
+  -- the same after so many of the second, which stay
   abbrev pub stepped_behind : ℕ → ℕ → List X → List Y → List Y
   stepped_behind zero n xs ys = stepped n xs ys
   stepped_behind (suc k) n xs [] = []

@@ -134,7 +134,7 @@ fn refusal(alloc: Global, conflict: &Conflict<'_, '_, '_>) -> Result<LinkError, 
 /// Sees that the slots of each import have one type, and answers the first slot of each.
 ///
 /// # Errors
-/// `ConflictingTypes` where a slot has another type than the first slot of its import: it tells the
+/// `ConflictingTypes` where a slot has another type than the first slot of its import: it names the
 /// first such slot.
 pub(crate) fn check_types<'s, 'f, 'a>(
     alloc: Global,

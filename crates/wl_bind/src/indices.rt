@@ -240,14 +240,14 @@ impl LinkerDefinedIndices {
         &self.exported
     }
 
-    /// The index behind all functions that no object defines.
+    /// The index after all functions that no object defines.
     pub fn functions_end(&self) -> u32
         ensures { result ≡ self.now.functions.end }
     {
         self.functions.end
     }
 
-    /// The index behind all globals that no object defines.
+    /// The index after all globals that no object defines.
     pub fn globals_end(&self) -> u32
         ensures { result ≡ self.now.globals.end }
     {

@@ -85,7 +85,7 @@ impl<'w, 'i, 'a> Walk<'w, 'i, 'a> {
         }
     }
 
-    /// Resolves the slots, one behind the other.
+    /// Resolves the slots, one after the other.
     pub(crate) fn resolve_all(&self, file: &File<'_>, resolutions: &mut ResolutionList)
         ensures { let w = self.now in
             resolutions.new ≡ walked (walk_of w.input.now w.scan.now w.object)

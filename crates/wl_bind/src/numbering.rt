@@ -49,7 +49,7 @@ pub(crate) struct Numbering<'n, 'i, 'a> {
     pub(crate) global_firsts: Vec<u32>,
 }
 
-/// The index so many behind the first one of an object.
+/// The index so many past the first one of an object.
 fn behind_first(firsts: &[u32], object: usize, number: u32) -> u32
     requires { HasRoom firsts.now object number }
     ensures { result ≡ behind_first firsts.now object number }
@@ -68,7 +68,7 @@ fn own_index(input: &LinkInput<'_, '_>, firsts: &[u32], object: usize, unit: Was
     }
 }
 
-/// The index behind all that no object defines.
+/// The index after all that no object defines.
 fn made_end(indices: &LinkerDefinedIndices, own: Own) -> u32
     ensures { result ≡ made_end indices.now own }
 {

@@ -15,11 +15,11 @@ use wl_lists::ItemList;
 pub struct PartStarts {
     /// The index of the first entry of each part.
     pub(crate) starts: ItemList<u32>,
-    /// The index behind the last entry of all.
+    /// The index after the last entry of all.
     pub(crate) end: u32,
 }
 
-/// The index behind so many entries from that one on.
+/// The index after so many entries from that one on.
 ///
 /// # Errors
 /// `TooLarge` where that is above 4294967294.
@@ -81,7 +81,7 @@ impl PartStarts {
         }
     }
 
-    /// The index behind the last entry of a part.
+    /// The index after the last entry of a part.
     fn end_of(&self, part: usize) -> u32
         ensures { result ≡ start_of self.now (part + 1) }
     {

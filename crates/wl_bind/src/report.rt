@@ -109,7 +109,7 @@ fn collect_undefined_imports<'a>(
 /// Sees that functions and globals that are left to the host may be undefined.
 ///
 /// # Errors
-/// `UndefinedSymbols` where some have to be defined: it tells all of them, each name once with an
+/// `UndefinedSymbols` where some have to be defined: it lists all of them, each name once with an
 /// object, in order of first occurrence.
 pub fn report_disallowed_unresolved_imports(
     alloc: Global,

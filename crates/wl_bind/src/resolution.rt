@@ -5,7 +5,7 @@ ghost use Rattle.std.specs.Prelude.{◌≡◌, slice_get, slice_set};
 use std::marker::Model;
 use wl_symbols::WasmLinkerSymbol;
 
-/// What an import slot is resolved to. A function or global that an object defines is told by its
+/// What an import slot is resolved to. A function or global that an object defines is given by its
 /// number among the kept ones of its kind in its object.
 #[derive(Clone, Copy, PartialEq, Eq)]
 pub enum ImportResolution {

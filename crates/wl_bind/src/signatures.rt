@@ -213,7 +213,7 @@ impl<'c, 'i, 'a> TypeCheck<'c, 'i, 'a> {
     /// known, the undefined ones on kept slots, and those of functions that run at the start.
     ///
     /// # Errors
-    /// `SignatureMismatch` tells a symbol that leads to a function of another type.
+    /// `SignatureMismatch` names a symbol that leads to a function of another type.
     pub(crate) fn check(&self, mismatch: Option<Relocated>) -> Result<(), LinkError>
         requires { mismatch
             ≡ find (names_mismatch self.now.input.now) (relocations self.now.input.now) }

@@ -82,7 +82,7 @@ impl<'a> UndefinedNames<'a> {
         }
     }
 
-    /// The names as a refusal tells them.
+    /// The names as a refusal lists them.
     ///
     /// # Errors
     /// `AllocError` where memory runs out.
@@ -93,7 +93,7 @@ impl<'a> UndefinedNames<'a> {
     }
 }
 
-/// These objects and names as a refusal tells them.
+/// These objects and names as a refusal lists them.
 fn told(alloc: Global, names: &[(usize, &str)]) -> Result<ItemList<UndefinedSymbol>, AllocError>
     ensures { IfOk result (λ symbols. symbols ≡ map as_undefined names.now) }
 {
@@ -165,7 +165,7 @@ pub(crate) fn undefined_data_of<'a>(
 /// the names of what isn't are known.
 ///
 /// # Errors
-/// `UndefinedSymbols` where there is data that has to be defined, and isn't: it tells all of it,
+/// `UndefinedSymbols` where there is data that has to be defined, and isn't: it lists all of it,
 /// each name once with an object, in order of first occurrence.
 pub(crate) fn check_undefined_data(
     alloc: Global,

@@ -23,7 +23,7 @@ pub some_text : (xs : List ℕ) → xs ≢ [] → 0 < length xs
 some_text [] h = absurd (h refl)
 some_text (x ∷ xs) h = omega arith
 
--- fewer bytes are left behind an item
+-- fewer bytes are left after an item
 pub item_shortens : {S X E : Type 0} (item : S → ℕ → X → List ℕ → Type 0) (wrong : S → E → Cursor → Type 0) (read : S → Cursor → Result (X × Cursor) E) → AreReadings item wrong read
     → (s : S) (x : X) (a b : Cursor) → Takes (item s) x a b → length b.rest < length a.rest
 item_shortens item wrong read law s x a b t =

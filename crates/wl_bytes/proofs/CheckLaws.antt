@@ -49,7 +49,7 @@ when_reading spells wrong read law true = reading_by (When spells true) (WhenFau
     (λ c e w. rw (law.fails c e w) refl)
     (λ c. elim (either law c) [ inl t ↦ inl (Some t.0, t.1, respelled t.2 t.2.spelled) | inr f ↦ inr f ])
 
--- ---- an item that tells where it stands, and how many bytes it has
+-- ---- an item that says where it stands, and how many bytes it has
 
 pub measured_reading : {X Y E : Type 0} (spells : ℕ → X → List ℕ → Type 0) (spells' : ℕ → Y → List ℕ → Type 0) (wrong : E → Cursor → Type 0) (read : Cursor → Result (X × Cursor) E) (f : ℕ → ℕ → X → Y)
     → ((place : ℕ) (x : X) (text : List ℕ) → spells place x text → spells' place (f place (length text) x) text)
@@ -66,7 +66,7 @@ measured_reading spells spells' wrong read f there back law = reading_by spells'
       | inr w ↦ inr w
     ])
 
--- ---- an item of which nothing is told, and nothing
+-- ---- an item of which nothing is given, and nothing
 
 pub any_reading : {X E : Type 0} (spells : ℕ → X → List ℕ → Type 0) (wrong : E → Cursor → Type 0) (read : Cursor → Result (X × Cursor) E) → IsReading spells wrong read → IsReading (Any spells) wrong (any_at read)
 any_reading spells wrong read law = seen_reading spells (Any spells) wrong read (λ _. tt) (λ place x text s. (x, s)) (λ place u text s. (s.0, s.1, refl)) law
@@ -89,7 +89,7 @@ placed_name_reading = measured_reading IsName IsPlacedName WordFault word_at pla
     same : (place : ℕ) (w : List ℕ × ℕ) (text : List ℕ) → IsPlacedName place w text → placed_name place (length text) w.0 ≡ w
     same place w text s = let at : place + length text - length w.0 ≡ w.1 = omega (arith, s.1) in rw at refl
 
--- a name that was read tells its place
+-- a name that was read gives its place
 pub name_placed : (c to : Cursor) (name : List ℕ) → word_at c ≡ Ok (name, to) → placed_name_at c ≡ Ok ((name, to.position - length name), to)
 unfolding placed_name_at
 name_placed c to name e =

@@ -9,7 +9,7 @@ use Rattle.wl_bytes.specs.Ends.{ItemOf, Ended, EndedFault, steps_at, ended_at}
 use Rattle.wl_bytes.proofs.ReadingLaws.{respelled, parted, joined, Stands, either, reading_by}
 use Rattle.wl_bytes.proofs.ChainLaws.{some_text}
 
--- a step that ends them, behind the items that stand there
+-- a step that ends them, after the items that stand there
 abbrev pub end_of_items : {X : Type 0} (step : ℕ → Option X → List ℕ → Type 0) (xs : List X) (a b c : Cursor) → Takes (Items (ItemOf step)) xs a b → Takes step None b c → Takes (Ended step) xs a c
 end_of_items step xs a b c t u = let v = joined (Items (ItemOf step)) step xs None a b c t u in respelled v v.spelled
 
@@ -21,7 +21,7 @@ pub record AreSteps {X E : Type 0} (step : ℕ → Option X → List ℕ → Typ
   pub each : IsReading step wrong read
   pub some : (place : ℕ) (x : X) (text : List ℕ) → step place (Some x) text → text ≢ []
 
--- fewer bytes are left behind an item
+-- fewer bytes are left after an item
 pub step_shortens : {X E : Type 0} (step : ℕ → Option X → List ℕ → Type 0) (wrong : E → Cursor → Type 0) (read : Cursor → Result (Option X × Cursor) E) → AreSteps step wrong read
     → (x : X) (a b : Cursor) → Takes (ItemOf step) x a b → length b.rest < length a.rest
 step_shortens step wrong read law x a b t =

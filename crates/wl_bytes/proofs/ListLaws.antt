@@ -171,7 +171,7 @@ reads_whole {X} view spells faults read law payload r a = record {
     fault_from (Err (Malformed why)) a = law.fault payload (Malformed why) a
     fault_from (Err (Unsupported form)) a = law.fault payload (Unsupported form) a
 
--- which of the two, reading tells
+-- reading says which of the two
 pub outcome : {C X : Type 0} {spells : X → C → Type 0} {faults : ReadError → C → Type 0} {read : C → Result X ReadError} → IsReadingFrom spells faults read → (c : C) → ((x : X) × spells x c) ⊎ ((e : ReadError) × faults e c)
 outcome {C} {X} {spells} {faults} {read} law c = by (read c) refl
   where

@@ -23,7 +23,7 @@ pub begins : {X : Type 0} (read : Result (List X × Cursor) ReadError) → with_
 begins (Ok x) = refl
 begins (Err e) = refl
 
--- what comes behind a failed step isn't reached
+-- what comes after a failed step isn't reached
 pub fails_bind : {A B : Type 0} (e : ReadError) (r : Result A ReadError) (f : A → Result B ReadError) → Fails e r → Fails e (r >>= f)
 fails_bind OutOfMemory r f h = tt
 fails_bind (Malformed why) r f h = rw h refl

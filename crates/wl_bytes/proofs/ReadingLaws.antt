@@ -35,7 +35,7 @@ joined first second x y a b c t u = record {
 abbrev pub Stands : {X E : Type 0} → (ℕ → X → List ℕ → Type 0) → (E → Cursor → Type 0) → Cursor → Type 0
 Stands {X} {E} spells wrong c = ((x : X) × (to : Cursor) × Takes spells x c to) ⊎ ((e : E) × wrong e c)
 
--- which of the two, reading tells
+-- reading says which of the two
 pub either : {X E : Type 0} {spells : ℕ → X → List ℕ → Type 0} {wrong : E → Cursor → Type 0} {read : Cursor → Result (X × Cursor) E}
     → IsReading spells wrong read → (c : Cursor) → Stands spells wrong c
 either {X} {E} {spells} {wrong} {read} law c = by (read c) refl
@@ -61,7 +61,7 @@ reading_by {X} {E} spells wrong read again fails some = record {
   fails = fails;
 }
 
--- one behind the other
+-- one after the other
 pub both : {X Y E : Type 0} {first : ℕ → X → List ℕ → Type 0} {second : X → ℕ → Y → List ℕ → Type 0} {wrong : E → Cursor → Type 0} {wrong' : X → E → Cursor → Type 0}
     {read : Cursor → Result (X × Cursor) E} {read' : X → Cursor → Result (Y × Cursor) E}
     → IsReading first wrong read → ((x : X) → IsReading (second x) (wrong' x) (read' x)) → IsReading (Then first second) (ThenFault first wrong wrong') (then_at read read')

@@ -10,7 +10,7 @@ use Rattle.wl_bytes.specs.Checks.{Where, WhereFault, where_at, unless}
 
 -- ---- items in turn
 
--- what spells an item under the state that those before it leave, and the state behind it
+-- what spells an item under the state that those before it leave, and the state after it
 pub record Turns (S X : Type 0) : Type 1 where
   pub item : S → ℕ → X → List ℕ → Type 0
   pub next : S → X → S
@@ -20,13 +20,13 @@ abbrev pub after : {S X : Type 0} → (S → X → S) → S → List X → S
 after next s [] = s
 after next s (x ∷ xs) = after next (next s x) xs
 
--- items one behind the other, each spelled under the state that the ones before it leave
+-- items one after the other, each spelled under the state that the ones before it leave
 abbrev pub Chain : {S X : Type 0} → Turns S X → S → ℕ → List X → List ℕ → Type 0
 Chain turns s place [] text = text ≡ []
 Chain turns s place (x ∷ xs) text = (front : List ℕ) × (back : List ℕ) × (text ≡ front ++ back)
     × turns.item s place x front × Chain turns (turns.next s x) (place + length front) xs back
 
--- some items stand there, and what comes behind them is at fault
+-- some items stand there, and what comes after them is at fault
 abbrev pub ChainFault : {S X E : Type 0} → Turns S X → (S → E → Cursor → Type 0) → S → E → Cursor
     → Type 0
 ChainFault {S} {X} turns wrong s e from =
@@ -55,7 +55,7 @@ ListedAfterFault {S} {X} turns wrong s e from =
     ⊎ ((n : ℕ) × (behind : Cursor) × Takes IsU32 n from behind × ((xs : List X) × (mid : Cursor)
     × (length xs < n) × Takes (Chain turns s) xs behind mid × wrong (after turns.next s xs) e mid))
 
--- the list in front
+-- the next list
 abbrev pub list_after_at : {S X : Type 0} → (S → Cursor → Result (X × Cursor) ReadError)
     → (S → X → S) → S → Cursor → Result (List X × Cursor) ReadError
 list_after_at item next s c =
@@ -63,7 +63,7 @@ list_after_at item next s c =
 
 -- ---- a list with at most one item of some sort
 
--- which items are of the sort, whether there is one already, and what is told of one too many
+-- which items are of the sort, whether there is one already, and what is reported of one too many
 pub record Once (X : Type 0) : Type 0 where
   pub sort : X → Bool
   pub seen : Bool
@@ -94,12 +94,12 @@ ListedOnceFault item wrong once =
     ListedAfterFault (once_in_turn item once)
     (λ seen. WhereFault item wrong (unless (may_come once.sort seen) once.many)) once.seen
 
--- the item in front, if it isn't one too many
+-- the next item, if it isn't one too many
 abbrev pub once_at : {X : Type 0} → (Cursor → Result (X × Cursor) ReadError) → (X → Bool)
     → ReadError → Bool → Cursor → Result (X × Cursor) ReadError
 once_at item sort many seen c = where_at item (may_come sort seen) many c
 
--- the list in front
+-- the next list
 abbrev pub list_once_at : {X : Type 0} → (Cursor → Result (X × Cursor) ReadError) → Once X → Cursor
     → Result (List X × Cursor) ReadError
 list_once_at item once c =

@@ -1,4 +1,4 @@
--- Items one behind the other, up to what ends them.
+-- Items one after the other, up to what ends them.
 use Rattle.std.specs.Prelude.{◌≡◌, ℕ, zero, suc, ◌+◌, List, [], ◌∷◌, ◌++◌, length, Option, Some, None, Result, Ok, Err}
 use Rattle.wl_bytes.specs.Cursor.{Cursor}
 use Rattle.wl_bytes.specs.Parse.{Takes, ◌>>=◌}
@@ -13,13 +13,13 @@ abbrev pub Ended : {X : Type 0} → (ℕ → Option X → List ℕ → Type 0) �
 Ended step place xs text = (front : List ℕ) × (back : List ℕ) × (text ≡ front ++ back)
     × Items (ItemOf step) place xs front × step (place + length front) None back
 
--- some items stand there, and behind them neither one more nor the end
+-- some items stand there, and after them neither one more nor the end
 abbrev pub EndedFault : {X E : Type 0} → (ℕ → Option X → List ℕ → Type 0) → (E → Cursor → Type 0)
     → E → Cursor → Type 0
 EndedFault {X} step wrong e from =
     (xs : List X) × (mid : Cursor) × Takes (Items (ItemOf step)) xs from mid × wrong e mid
 
--- what is read by a step and what may come behind it
+-- what is read by a step and what may come after it
 abbrev pub step_and : {X E : Type 0} → Option X → Cursor → Result (List X × Cursor) E
     → Result (List X × Cursor) E
 step_and None c more = Ok ([], c)

@@ -5,7 +5,7 @@ use Rattle.wl_bytes.specs.declared.read_error.Why.TheVariants.{Truncated, BadLeb
 use Rattle.wl_bytes.specs.declared.read_error.ReadError.{ReadError}
 use Rattle.wl_bytes.specs.declared.read_error.ReadError.TheVariants.{Malformed}
 
--- the same cause, as sections tell it
+-- the same cause, as sections report it
 abbrev pub read_error : BytesError → ReadError
 read_error End = Malformed Truncated
 read_error Leb = Malformed BadLeb

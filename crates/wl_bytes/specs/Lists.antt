@@ -20,7 +20,7 @@ use Rattle.wl_bytes.specs.Reading as bytes
 abbrev pub NumberFault : ReadError → Cursor → Type 0
 NumberFault = FaultOf read_error U32Fault
 
--- the number in front
+-- the next number
 abbrev pub number_at : Cursor → Result (ℕ × Cursor) ReadError
 number_at c = error_of read_error (u32_at c)
 
@@ -28,7 +28,7 @@ number_at c = error_of read_error (u32_at c)
 abbrev pub ByteFault : ReadError → Cursor → Type 0
 ByteFault = FaultOf read_error (EndsBefore 1)
 
--- the byte in front
+-- the next byte
 abbrev pub one_byte_at : Cursor → Result (ℕ × Cursor) ReadError
 one_byte_at c = error_of read_error (byte_at c)
 
@@ -36,7 +36,7 @@ one_byte_at c = error_of read_error (byte_at c)
 abbrev pub WordFault : ReadError → Cursor → Type 0
 WordFault = FaultOf read_error NameFault
 
--- the name in front
+-- the next name
 abbrev pub word_at : Cursor → Result (List ℕ × Cursor) ReadError
 word_at c = error_of read_error (name_at c)
 
@@ -46,7 +46,7 @@ word_at c = error_of read_error (name_at c)
 abbrev pub IsCoded : {X : Type 0} → (X → ℕ) → ℕ → X → List ℕ → Type 0
 IsCoded code place x text = text ≡ code x ∷ []
 
--- there is no byte, or one that stands for nothing, which other tells
+-- there is no byte, or one that stands for nothing, which other reports
 abbrev pub CodedFault : {X : Type 0} → (X → ℕ) → (ℕ → ReadError) → ReadError → Cursor → Type 0
 CodedFault {X} code other e from =
     ByteFault e from
@@ -61,7 +61,7 @@ abbrev pub chosen_or : {X E : Type 0} → Option X → E → Cursor → Result (
 chosen_or (Some x) e c = Ok (x, c)
 chosen_or None e c = Err e
 
--- which of all of them the byte in front stands for
+-- which of all of them the next byte stands for
 abbrev pub coded_at : {X : Type 0} → (X → ℕ) → List X → (ℕ → ReadError) → Cursor
     → Result (X × Cursor) ReadError
 coded_at code all other c =
@@ -69,7 +69,7 @@ coded_at code all other c =
 
 -- ---- a list: how many items, and the items
 
--- the number of items, and then they, one behind the other
+-- the number of items, and then they, one after the other
 abbrev pub Listed : {X : Type 0} → (ℕ → X → List ℕ → Type 0) → ℕ → List X → List ℕ → Type 0
 Listed item place xs text = (head : List ℕ) × (body : List ℕ) × (text ≡ head ++ body)
     × IsU32 place (length xs) head × Items item (place + length head) xs body
@@ -81,7 +81,7 @@ ListedFault item wrong e from =
     NumberFault e from
     ⊎ ((n : ℕ) × (mid : Cursor) × Takes IsU32 n from mid × TimesFault item wrong n e mid)
 
--- the list in front
+-- the next list
 abbrev pub list_at : {X : Type 0} → (Cursor → Result (X × Cursor) ReadError) → Cursor
     → Result (List X × Cursor) ReadError
 list_at item c = map_at (λ p. p.1) (then_at number_at (times_at item)) c
@@ -108,7 +108,7 @@ abbrev pub to_end_at : {X : Type 0} → (Cursor → Result (X × Cursor) ReadErr
     → Result X ReadError
 to_end_at read c = read c >>= λ p. nothing_left p.1 >>= λ _. Ok p.0
 
--- the place in front of all bytes
+-- the place before all bytes
 abbrev pub start : List ℕ → Cursor
 start bytes = record { position = 0; rest = bytes }
 
@@ -148,7 +148,7 @@ AreFew {X} spells =
 abbrev pub StretchFault : ℕ → ReadError → Cursor → Type 0
 StretchFault n = FaultOf read_error (EndsBefore n)
 
--- so many bytes in front
+-- the next so many bytes
 abbrev pub stretch_at : ℕ → Cursor → Result (List ℕ × Cursor) ReadError
 stretch_at n c = error_of read_error (bytes.take_at n c)
 
@@ -156,6 +156,6 @@ stretch_at n c = error_of read_error (bytes.take_at n c)
 abbrev pub SignedNumberFault : NumberForm → ReadError → Cursor → Type 0
 SignedNumberFault form = FaultOf read_error (SignedFault form)
 
--- the signed number in front
+-- the next signed number
 abbrev pub signed_number_at : NumberForm → Cursor → Result (ℤ × Cursor) ReadError
 signed_number_at form c = error_of read_error (bytes.signed_at form c)

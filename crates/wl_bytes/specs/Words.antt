@@ -1,4 +1,4 @@
--- Names that tell where they stand (core specification, "Names").
+-- Names that say where they stand (core specification, "Names").
 use Rattle.std.specs.Prelude.{◌≡◌, ℕ, ◌+◌, ◌-◌, List, length, Result}
 use Rattle.wl_bytes.specs.Cursor.{Cursor}
 use Rattle.wl_bytes.specs.Items.{IsName}
@@ -14,6 +14,6 @@ IsPlacedName place w text = IsName place w.0 text × (w.1 + length w.0 ≡ place
 abbrev pub placed_name : ℕ → ℕ → List ℕ → List ℕ × ℕ
 placed_name place len name = (name, place + len - length name)
 
--- the name in front, with its place
+-- the next name, with its place
 unfoldable pub placed_name_at : Cursor → Result ((List ℕ × ℕ) × Cursor) ReadError
 placed_name_at c = measured_at placed_name word_at c

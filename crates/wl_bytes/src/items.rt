@@ -11,19 +11,19 @@ use crate::read_error::{ReadError, Why};
 use crate::reader::Reader;
 use std::alloc::Global;
 
-/// What stands in a section or a part of one, one behind the other: [`read_list`] reads the lists
+/// What stands in a section or a part of one, one after the other: [`read_list`] reads the lists
 /// of it, and [`read_payload`] payloads that are one such list.
 pub trait Item<'a>: Drop {
     /// What an item is read under: nothing, what is the same for all of a list, or what the items
     /// before it have left.
     type Under: Copy;
 
-    /// The item in front, on lists.
+    /// The next item, on lists.
     ghost item_at: { Self.Under → Cursor → Result (Self × Cursor) ReadError };
     /// What the next one is read under.
     ghost after: { Self.Under → Self → Self.Under } = { λ under _. under };
 
-    /// Reads the item in front, and leaves what the next one is read under. The errors are those of
+    /// Reads the next item, and leaves what the one after it is read under. The errors are those of
     /// the item.
     fn read(
         alloc: Global,
@@ -66,7 +66,7 @@ fn read_items<'a, T: Item<'a>>(
     Ok(items)
 }
 
-/// The list in front (core specification, "Vectors"): how many items there are, and the items. It
+/// The next list (core specification, "Vectors"): how many items there are, and the items. It
 /// grows as they are read.
 pub fn read_list<'a, T: Item<'a>>(
     alloc: Global,
@@ -80,7 +80,7 @@ pub fn read_list<'a, T: Item<'a>>(
     read_items(alloc, under, reader, count)
 }
 
-/// That nothing is left to read: bytes behind what was read are `Malformed(Trailing)`.
+/// That nothing is left to read: bytes after what was read are `Malformed(Trailing)`.
 pub fn expect_end(reader: &Reader<'_>) -> Result<(), ReadError>
     ensures { result ≡ nothing_left reader.now }
 {
@@ -91,7 +91,7 @@ pub fn expect_end(reader: &Reader<'_>) -> Result<(), ReadError>
     }
 }
 
-/// Reads a payload that is one list. Bytes behind it are `Malformed(Trailing)`.
+/// Reads a payload that is one list. Bytes after it are `Malformed(Trailing)`.
 ///
 /// Each sort of item has a loop of its own with a reader of its own, which stay in registers.
 #[inline(never)]

@@ -21,7 +21,7 @@ pub enum Why {
     BadUtf8,
     /// A section's id is above 13.
     SectionId,
-    /// A standard section comes twice, or behind one that it has to precede.
+    /// A standard section comes twice, or after one that it has to precede.
     SectionOrder,
     /// There is a second linking section, a second subsection of one kind in it, or a second
     /// relocation section for one target.

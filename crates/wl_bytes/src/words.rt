@@ -1,4 +1,4 @@
-//! Places, and names that tell where they stand.
+//! Places, and names that say where they stand.
 
 ghost use Rattle.std.specs.Prelude.{◌≡◌, ◌<◌, ◌≤◌, IfOk, OnErr, Err};
 ghost use Rattle.wl_bytes.specs.declared.reader.TheConstants.{MAX_LEN};
@@ -28,7 +28,7 @@ pub fn place_of(reader: &Reader<'_>) -> Result<u32, ReadError>
     }
 }
 
-/// The name in front (core specification, "Names"), and how many bytes lie before its first one,
+/// The next name (core specification, "Names"), and how many bytes lie before its first one,
 /// counted as the reader counts.
 #[tactic(auto, unfolding(crate::specs::Words::placed_name_at))]
 pub fn read_placed_name<'a>(reader: &mut Reader<'a>) -> Result<(&'a str, usize), ReadError>

@@ -111,7 +111,7 @@ hex_code end other =
 abbrev written : Bool → ℕ → List ℕ
 written behind b = cond behind (0x5c ∷ pair b) (b ∷ [])
 
--- what stands behind a backslash is below 0x80
+-- what follows a backslash is below 0x80
 escaped_small : (b : ℕ) → is_escaped b ≡ true → b < 256
 escaped_small b is = elim (or_cases (ltb b 0x20 || eqb b 0x22 || eqb b 0x5c) (eqb b 0x7f) is) [
   | inl first ↦ elim (or_cases (ltb b 0x20 || eqb b 0x22) (eqb b 0x5c) first) [

@@ -77,7 +77,7 @@ listing_none (k ∷ ks) text h none = absurd (listing_some k ks text h none)
 
 -- ---- the first line
 
--- what is read in front of a listing is its first line
+-- what is read first from a listing is its first line
 pub line_is : (ks : List Line) (text : List ℕ) (l : Line) (behind : List ℕ) → IsListing ks text → line_at text ≡ Some (l, behind) → Some l ≡ slice_get ks 0
 line_is [] text l behind h e =
     let f = line_code.found text (l, behind) e in
@@ -117,7 +117,7 @@ alike_first ks ls found want h g = record {
   enough = omega arith;
 }
 
--- what is left behind the first line
+-- what is left after the first line
 behind_line : (k : Line) (ks : List Line) (text rest : List ℕ) → IsListing (k ∷ ks) text → rest ≡ flat_map line_text ks → IsListing ks rest
 behind_line k ks text rest h is = record { in_range = h.in_range.1; joined = is }
 

@@ -41,7 +41,7 @@ line_some l fits none =
     let e = line_stretch [] (10 ∷ []) l (record { in_range = fits; text = sym none }) in
     cc
 
--- what is left in front of which no line stands
+-- what is left begins with no line
 abbrev Stops : List ℕ → Type 0
 Stops rest = (l : Line) (more : List ℕ) → InRange l → rest ≡ line_text l ++ more → ⊥
 

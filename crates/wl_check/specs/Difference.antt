@@ -4,7 +4,7 @@ use Rattle.wl_check.specs.declared.difference.Difference.{Difference}
 use Rattle.wl_check.specs.declared.line.Line.{Line}
 use Rattle.wl_check.specs.Spelled.{IsListing}
 
--- some lines are spelled, one behind the other
+-- some lines are spelled, one after the other
 abbrev pub IsSomeListing : List ℕ → Type 0
 IsSomeListing text = (lines : List Line) × IsListing lines text
 

@@ -4,7 +4,7 @@ use Rattle.wl_check.specs.Reading.{strip}
 use Rattle.wl_check.specs.Spelled.{first_stretch, IsListing}
 use Rattle.wl_check.specs.declared.line.Line.{Line}
 
--- so many lines stand in front of both, and these listings are left
+-- both begin with so many equal lines, and these listings are left
 pub record AreAlike (found want : List ℕ) (n : ℕ) (found_left want_left : List ℕ) : Type 0 where
   pub front : List Line
   pub ks : List Line

@@ -52,7 +52,7 @@ large_at = number_at 64 blank
 abbrev pub last_at : List ℕ → Option (ℕ × List ℕ)
 last_at = number_at 32 newline
 
--- a number behind a word
+-- a number after a word
 abbrev pub object_at : List ℕ → Option (ℕ × List ℕ)
 object_at = behind_at (codes "object ") large_at
 
@@ -235,14 +235,14 @@ line_kinds =
     ∷ kind.End
     ∷ []
 
--- an import, by what stands behind its names
+-- an import, by what follows its names
 abbrev pub import_at : {X : Type 0} → (X → OutputImportEntity) → (List ℕ → Option (X × List ℕ))
     → List ℕ → Option (Line × List ℕ)
 import_at {X} what read =
     seen_at (λ (p : List ℕ × (List ℕ × X)). Import p.0 p.1.0 (what p.1.1))
     (then_at (name_at blank) (then_at (name_at blank) read))
 
--- what stands behind the words of a kind
+-- what follows the words of a kind
 abbrev pub line_body : LineKind → List ℕ → Option (Line × List ℕ)
 line_body kind.Version = seen_at (λ _. Version) (word_at (codes "\n"))
 line_body kind.OutputType =

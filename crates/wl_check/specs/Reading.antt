@@ -21,13 +21,13 @@ abbrev pub Yields : {X Y : Type 0} → (X → Y) → Result X Stop → List ℕ 
 Yields view (Ok x) new read = read ≡ Some (view x, new)
 Yields view (Err e) new read = Fails e read
 
--- a word stands there, and what is left is behind it; or it doesn't
+-- a word stands there, and what is left follows it; or it doesn't
 abbrev pub Passes : Result (Unit {0}) Stop → List ℕ → Option (List ℕ) → Type 0
 Passes (Ok u) new read = read ≡ Some new
 Passes (Err OutOfMemory) new read = ⊥
 Passes (Err NoLine) new read = read ≡ None
 
--- ---- one piece behind another
+-- ---- one piece after another
 
 infixl 10 ◌>>=◌
 -- go on with the value, if there is one
@@ -47,7 +47,7 @@ seen_at f read bytes = read bytes >>= λ p. Some (f p.0, p.1)
 
 -- ---- words
 
--- what is left behind a word in front
+-- what is left after a word at the start
 unfoldable pub strip : List ℕ → List ℕ → Option (List ℕ)
 strip [] bytes = Some bytes
 strip (w ∷ word) [] = None
@@ -57,7 +57,7 @@ strip (w ∷ word) (b ∷ bytes) = if w == b then strip word bytes else None
 abbrev pub word_at : List ℕ → List ℕ → Option (Unit {0} × List ℕ)
 word_at word bytes = strip word bytes >>= λ rest. Some (tt, rest)
 
--- a word, and what stands behind it
+-- a word, and what follows it
 abbrev pub behind_at : {X : Type 0} → List ℕ → (List ℕ → Option (X × List ℕ)) → List ℕ
     → Option (X × List ℕ)
 behind_at word read bytes = strip word bytes >>= read
@@ -68,7 +68,7 @@ abbrev pub ended_at : {X : Type 0} → ℕ → (List ℕ → Option (X × List �
 ended_at end read bytes =
     read bytes >>= λ p. strip (end ∷ []) p.1 >>= λ rest. Some (p.0, rest)
 
--- with the word in front what stands behind it, and without it the other
+-- what follows the word where the word comes next, and else the other
 abbrev pub either : {X : Type 0} → Option (List ℕ) → (List ℕ → Option (X × List ℕ))
     → Option (X × List ℕ) → Option (X × List ℕ)
 either None behind other = other
@@ -82,13 +82,13 @@ either_at word behind other bytes = either (strip word bytes) behind (other byte
 abbrev pub flag_at : List ℕ → List ℕ → List ℕ → Option (Bool × List ℕ)
 flag_at off on = either_at on (λ rest. Some (true, rest)) (seen_at (λ _. false) (word_at off))
 
--- the first case whose word stands in front
+-- the first case whose word comes next
 unfoldable pub case_at : {X : Type 0} → (X → List ℕ) → List X → List ℕ → Option (X × List ℕ)
 case_at word [] bytes = None
 case_at word (x ∷ xs) bytes =
     either (strip (word x) bytes) (λ rest. Some (x, rest)) (case_at word xs bytes)
 
--- the case whose word stands in front, and what stands behind it in that case
+-- the case whose word comes next, and what follows it in that case
 abbrev pub choice_at : {K X : Type 0} → (K → List ℕ) → List K → (K → List ℕ → Option (X × List ℕ))
     → List ℕ → Option (X × List ℕ)
 choice_at word cases body bytes = case_at word cases bytes >>= λ p. body p.0 p.1
@@ -110,18 +110,18 @@ until_at close item bytes = until_within (length bytes) close item bytes
 
 -- ---- numbers
 
--- no digit is in front
+-- no digit comes next
 abbrev pub NoDigit : List ℕ → Type 0
 NoDigit [] = ⊤
 NoDigit (b ∷ bytes) = is_ascii_digit b ≡ false
 
--- the digits in front, behind those of a number so far
+-- the next digits, after those of a number so far
 unfoldable pub digits_from : ℕ → List ℕ → ℕ × List ℕ
 digits_from n [] = (n, [])
 digits_from n (b ∷ bytes) =
     if is_ascii_digit b then digits_from (n * 10 + (b - 48)) bytes else (n, b ∷ bytes)
 
--- a number of any size; behind a 0 in front comes no other digit
+-- a number of any size; after a leading 0 comes no other digit
 unfoldable pub natural_at : List ℕ → Option (ℕ × List ℕ)
 natural_at [] = None
 natural_at (b ∷ bytes) =
@@ -137,7 +137,7 @@ within bits p = if nat_lt p.0 (2 ^ bits) then Some p else None
 unfoldable pub number_at : ℕ → ℕ → List ℕ → Option (ℕ × List ℕ)
 number_at bits end = ended_at end (λ bytes. natural_at bytes >>= within bits)
 
--- a number of 32 bits with its sign, of what stands behind the sign; 0 has none
+-- a number of 32 bits with its sign, of what follows the sign; 0 has none
 abbrev pub signed_of : Bool → ℕ → Option ℤ
 signed_of false n = if nat_lt n (2 ^ 31) then Some (pos n) else None
 signed_of true n = if nat_lt 0 n && nat_le n (2 ^ 31) then Some (neg_ℤ (pos n)) else None
@@ -172,7 +172,7 @@ pair_at (high ∷ low ∷ bytes) =
 abbrev pub hex_at : ℕ → List ℕ → Option (List ℕ × List ℕ)
 hex_at end = until_at end pair_at
 
--- the byte, where a name has it behind a backslash
+-- the byte, where a name has it after a backslash
 abbrev pub if_escaped : ℕ × List ℕ → Option (ℕ × List ℕ)
 if_escaped p = if is_escaped p.0 then Some p else None
 
@@ -194,7 +194,7 @@ name_at end = ended_at end (behind_at (0x22 ∷ []) (until_at 0x22 escaped_at))
 abbrev pub value_type_at : List ℕ → Option (ValType × List ℕ)
 value_type_at = case_at value_type_name value_types
 
--- a value type behind another one
+-- a value type after another one
 abbrev pub further_type_at : List ℕ → Option (ValType × List ℕ)
 further_type_at = behind_at (codes ",") value_type_at
 

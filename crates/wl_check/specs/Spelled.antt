@@ -15,7 +15,7 @@ pub record Spelled (x : List ℕ) (l : Line) : Type 0 where
   pub in_range : InRange l
   pub text : x ≡ line_text l
 
--- the text is the lines' spellings, one behind the other
+-- the text is the lines' spellings, one after the other
 pub record IsListing (lines : List Line) (text : List ℕ) : Type 0 where
   pub in_range : AllByRecursion InRange lines
   pub joined : text ≡ flat_map line_text lines

@@ -1,4 +1,4 @@
--- The text of each line. A piece of a line is written with the byte that ends it: so its text tells
+-- The text of each line. A piece of a line is written with the byte that ends it: so its text says
 -- where it ends, and none begins another.
 use Rattle.std.specs.Prelude.{ℕ, ℤ, Bool, Option, Some, None, List, [], ◌∷◌, ◌++◌, if◌then◌else◌, codes, decimal}
 use Rattle.std.specs.Fmt.{signed_decimal}
@@ -66,7 +66,7 @@ flag off on b = if b then on else off
 
 -- ---- types
 
--- a value type behind another one
+-- a value type after another one
 abbrev pub further_type : ValType → List ℕ
 further_type t = codes "," ++ value_type_name t
 

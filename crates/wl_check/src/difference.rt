@@ -15,7 +15,7 @@ use std::alloc::{AllocError, Global};
 /// Where two listings differ first.
 #[derive(Drop)]
 pub struct Difference {
-    /// How many lines stand in front in both.
+    /// How many equal lines both begin with.
     pub line: usize,
     /// What comes then in the first; nothing where it has ended.
     pub found: Option<Line>,
@@ -38,7 +38,7 @@ fn first_stretch(text: &[u8]) -> &[u8]
 struct Alike<'f, 'w> {
     /// How many lines that are.
     lines: usize,
-    /// What is left of the first behind them.
+    /// What is left of the first after them.
     found: &'f [u8],
     /// What is left of the second.
     want: &'w [u8],

@@ -1,6 +1,6 @@
 //! What a line, or a choice in it, begins with.
 
-/// What kind of line it is, by its first words: an import tells what is imported there.
+/// What kind of line it is, by its first words: an import says what is imported there.
 #[derive(Clone, Copy)]
 pub(crate) enum LineKind {
     Version,

@@ -15,7 +15,7 @@ pub enum MadeFunction {
     InitMemory,
 }
 
-/// Where a function of the output is from, with the names that a line tells.
+/// Where a function of the output is from, with the names that a line gives.
 #[derive(Drop)]
 pub enum FunctionSource {
     /// A function that an object defines: the object's number, and the function's in it, where
@@ -36,7 +36,7 @@ pub enum SegmentState {
     Active { address: u32 },
     /// Into the memory at that address, copied by the first thread.
     Shared { address: u32 },
-    /// Into the block of each thread, so many bytes behind its front.
+    /// Into the block of each thread, so many bytes past its start.
     Tls { offset: u32 },
     /// Nowhere by itself.
     Passive,
@@ -45,7 +45,7 @@ pub enum SegmentState {
 /// A line of a listing. Clauses see names and bytes as lists.
 #[derive(Drop)]
 pub enum Line {
-    /// The first line, which tells the form of the listing.
+    /// The first line, which gives the form of the listing.
     Version,
     /// A type of the output.
     OutputType {

@@ -65,7 +65,7 @@ impl<'a> Model for Words<'a> {
     ghost view = { λ w. w.rest.now };
 }
 
-/// What is left of some bytes behind the word in front of them.
+/// What is left of some bytes after the word with which they begin.
 pub(crate) fn strip<'a>(bytes: &'a [u8], word: &[u8]) -> Option<&'a [u8]>
     ensures rest { MatchOption result
         (strip word.now bytes.now ≡ None)
@@ -86,14 +86,14 @@ fn lower_digit(digit: u8) -> Option<u8>
     }
 }
 
-/// Whether a name has the byte behind a backslash, in hexadecimal.
+/// Whether a name has the byte after a backslash, in hexadecimal.
 fn is_escaped(byte: u8) -> bool
     ensures { result ≡ is_escaped byte }
 {
     byte < 0x20 || byte == b'"' || byte == b'\\' || byte == 0x7f
 }
 
-/// A number with its sign, of what stands behind the sign; 0 has none.
+/// A number with its sign, of what follows the sign; 0 has none.
 fn signed_of(negative: bool, number: u32) -> Option<i32>
     ensures { result ≡ signed_of negative number }
 {
@@ -124,7 +124,7 @@ impl<'a> Words<'a> {
 
     // ---- words
 
-    /// Passes the word in front, or tells that it isn't there.
+    /// Passes the next word, or reports that it isn't there.
     pub(crate) fn passes(&mut self, word: &[u8]) -> bool
         ensures there { MatchBool result
             (strip word.now self.old ≡ Some self.new)
@@ -140,7 +140,7 @@ impl<'a> Words<'a> {
         }
     }
 
-    /// Passes a word that has to stand in front.
+    /// Passes a word that has to come next.
     pub(crate) fn expect(&mut self, word: &[u8]) -> Result<(), Stop>
         ensures there { Passes result self.new (strip word.now self.old) }
         ensures len { OnOk result (length self.new + length word.now ≡ length self.old) }
@@ -163,7 +163,7 @@ impl<'a> Words<'a> {
         Ok(false)
     }
 
-    /// The case whose word stands in front.
+    /// The case whose word comes next.
     pub(crate) fn case<C: Case>(&mut self) -> Result<C, Stop>
         ensures there { Yields (λ x. x) result self.new (case_at C.word_of C.cases self.old) }
         ensures len { OnOk result (length self.new ≤ length self.old) }
@@ -177,7 +177,7 @@ impl<'a> Words<'a> {
         Err(Stop::NoLine)
     }
 
-    /// The case whose word stands in front, and the byte that ends it.
+    /// The case whose word comes next, and the byte that ends it.
     pub(crate) fn ended_case<C: Case>(&mut self, end: u8) -> Result<C, Stop>
         ensures { Yields (λ x. x) result self.new
             (ended_at end (case_at C.word_of C.cases) self.old) }
@@ -189,7 +189,7 @@ impl<'a> Words<'a> {
 
     // ---- numbers
 
-    /// The digit in front.
+    /// The next digit.
     fn digit(&mut self) -> Option<u8>
         ensures some { IfSome result (λ d. (d < 10) × (self.old ≡ (d + 48) ∷ self.new)) }
         ensures none { IfNone result (NoDigit self.old × (self.new ≡ self.old)) }
@@ -205,7 +205,7 @@ impl<'a> Words<'a> {
         Some(*first - b'0')
     }
 
-    /// The digits in front, behind those of a number so far; nothing from 2 ^ 64 on.
+    /// The next digits, after those of a number so far; nothing from 2 ^ 64 on.
     fn digits(&mut self, first: u64) -> Option<u64>
         ensures some { IfSome result (λ n. digits_from first self.old ≡ (n, self.new)) }
         ensures none { IfNone result (2 ^ 64 ≤ (digits_from first self.old).0) }
@@ -217,7 +217,7 @@ impl<'a> Words<'a> {
         Some(number)
     }
 
-    /// A number below 2 ^ 64, without the byte that ends it: behind a 0 in front comes no other
+    /// A number below 2 ^ 64, without the byte that ends it: after a leading 0 comes no other
     /// digit.
     fn natural(&mut self) -> Option<u64>
         ensures some { IfSome result (λ n. natural_at self.old ≡ Some (n, self.new)) }
@@ -315,7 +315,7 @@ impl<'a> Words<'a> {
         }
     }
 
-    /// The bytes of a name up to the quote behind it.
+    /// The bytes of a name up to the quote after it.
     fn unquoted(&mut self, alloc: Global) -> Result<ItemList<u8>, Stop>
         ensures { Yields (λ b. b) result self.new (until_at 0x22 escaped_at self.old) }
     {
@@ -338,7 +338,7 @@ impl<'a> Words<'a> {
 
     // ---- types
 
-    /// A value type behind another one.
+    /// A value type after another one.
     fn further_type(&mut self) -> Result<ValType, Stop>
         ensures there { Yields (λ t. t) result self.new (further_type_at self.old) }
         ensures len { OnOk result (length self.new < length self.old) }
@@ -347,7 +347,7 @@ impl<'a> Words<'a> {
         self.case()
     }
 
-    /// Value types, each behind a comma, up to a bracket.
+    /// Value types, each after a comma, up to a bracket.
     fn further_types(&mut self, types: &mut Vec<ValType>) -> Result<(), Stop>
         ensures { Yields (λ (u : Unit {0}). types.new.items) result self.new
             (seen_at (λ ts. types.old.items ++ ts) (until_at 0x29 further_type_at) self.old) }

@@ -173,7 +173,7 @@ impl<'a> Words<'a> {
         })
     }
 
-    // ---- lines, behind their first words
+    // ---- lines, after their first words
 
     /// The first line.
     fn version_line(&mut self) -> Result<Line, Stop>
@@ -397,7 +397,7 @@ impl<'a> Words<'a> {
         }
     }
 
-    /// The line in front.
+    /// The next line.
     pub(crate) fn line(&mut self, alloc: Global) -> Result<Line, Stop>
         ensures { Yields (λ l. l) result self.new (line_at self.old) }
     {

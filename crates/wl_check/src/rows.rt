@@ -37,7 +37,7 @@ pub fn push_end_line(page: &mut Page) -> Result<(), AllocError>
 
 // ---- types
 
-/// The names of value types, each behind a comma.
+/// The names of value types, each after a comma.
 fn push_further_types(page: &mut Page, listed: &[ValType]) -> Result<(), AllocError>
     ensures { OnOk result
         (page.new ≡ page.old ++ flat_map further_type listed.now) }
@@ -75,7 +75,7 @@ pub fn push_type_line(page: &mut Page, index: u64, ty: &FuncType) -> Result<(), 
 
 // ---- imports
 
-/// The greatest size of a memory, behind a blank.
+/// The greatest size of a memory, after a blank.
 fn push_maximum(page: &mut Page, size: Option<u64>) -> Result<(), AllocError>
     ensures appended { OnOk result (page.new ≡ page.old ++ maximum size) }
     ensures fits { OnOk result (IsMaximum size) }
@@ -296,7 +296,7 @@ pub fn push_slot_line(page: &mut Page, slot: u64, function: u32) -> Result<(), A
 
 // ---- segments
 
-/// Where a segment goes, behind a blank, and how many bytes it has.
+/// Where a segment goes, after a blank, and how many bytes it has.
 fn push_state(page: &mut Page, state: SegmentState, len: u64) -> Result<(), AllocError>
     ensures appended { OnOk result
         (page.new ≡ page.old ++ codes " " ++ state_text state ++ number newline len) }
@@ -362,7 +362,7 @@ pub fn push_start_line(page: &mut Page, function: u32) -> Result<(), AllocError>
 
 // ---- relocations
 
-/// What a field lies in, behind a blank, and the number of that.
+/// What a field lies in, after a blank, and the number of that.
 fn push_place(page: &mut Page, place: FixupPlace, unit: u32) -> Result<(), AllocError>
     ensures { OnOk result (page.new ≡ page.old ++
         (codes " " ++ place_name place ++ codes " " ++ decimal unit)) }
@@ -373,7 +373,7 @@ fn push_place(page: &mut Page, place: FixupPlace, unit: u32) -> Result<(), Alloc
     }
 }
 
-/// What a field takes, behind a blank.
+/// What a field takes, after a blank.
 fn push_to(page: &mut Page, to: FixupTo) -> Result<(), AllocError>
     ensures appended { OnOk result (page.new ≡ page.old ++ codes " " ++ to_text to) }
     ensures fits { OnOk result (ToFits to) }

@@ -1,4 +1,4 @@
-//! Lines, written behind a text.
+//! Lines, appended to a text.
 
 ghost use Rattle.std.specs.Prelude.{◌≡◌, ◌++◌, OnOk, OnErr};
 ghost use Rattle.wl_check.specs.Texts.{line_text};
@@ -88,7 +88,7 @@ fn put_line(page: &mut Page, line: &Line) -> Result<(), AllocError>
     }
 }
 
-/// Puts the text of a line behind a text, with its line end.
+/// Appends the text of a line to a text, with its line end.
 ///
 /// # Errors
 /// `AllocError` where memory runs out. The text is as it was then.

@@ -51,7 +51,7 @@ use Rattle.wl_lists.proofs.Beside.{zip_right}
 use Rattle.wl_lists.proofs.Found.{cases_option}
 use Rattle.wl_lists.proofs.Places.{there_is, all_at, mapped_at}
 
--- ---- what is told of objects and of live sets
+-- ---- facts about objects and live sets
 
 pub record Laws : Type 0 where
   pub symbols : (o : Object) (f : WasmInitFunc) → IsWhole o → Contains o.init_funcs f
@@ -366,7 +366,7 @@ kept_target laws input object o f settled one i =
 
 -- ---- its index
 
--- the map tells the place of what the symbol leads to
+-- the map gives the place of what the symbol leads to
 place_told : (input : Input) (entry : FunctionEntry) (found : Option FunctionEntry)
     (place : Option ℕ) → found ≡ Some entry → IsPlaceOf (function_space input) found place
     → (k : ℕ) × (place ≡ Some k) × (slice_get (function_space input) k ≡ Some entry)
@@ -475,7 +475,7 @@ counted objects object o symbol s number ty at d own = rw (at, d.number_is, own)
 
 -- ---- the call
 
--- few enough to be told
+-- few enough for 32 bits
 pub results_fit : Laws → (input : Input) (object : ℕ) (o : Object) (f : WasmInitFunc)
     → IsSettled input → slice_get input.link.objects object ≡ Some o → Contains o.init_funcs f
     → result_count o f.symbol_index < 2 ^ 32

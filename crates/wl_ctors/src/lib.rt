@@ -1,5 +1,5 @@
 //! The functions that run at the start (object file linking, version 2, "Linking Metadata
-//! Section"): [`init_calls`] tells what `__wasm_call_ctors` calls, in which order.
+//! Section"): [`init_calls`] says what `__wasm_call_ctors` calls, in which order.
 #![tactic(auto)]
 
 mod calls;

@@ -1,4 +1,4 @@
--- The laws of what a linking section tells of segments and of functions that run at the start.
+-- The laws of what a linking section says of segments and of functions that run at the start.
 use Rattle.std.proofs.Common.{refl}
 use Rattle.wl_bytes.proofs.Readings.{IsReading}
 use Rattle.wl_bytes.proofs.GrammarLaws.{map_reading}

@@ -100,11 +100,11 @@ version_reading = then_reading IsU32 (λ version. Judged (version_verdict versio
 
 -- ---- subsections to the end
 
--- some subsections, one behind the other
+-- some subsections, one after the other
 abbrev AreBehind : ℕ → List Subsection → Cursor → Cursor → Type 0
 AreBehind base = Takes (Chain (subsections_in_turn base) nothing_seen)
 
--- what comes behind them
+-- what comes after them
 abbrev IsBehind : ℕ → List Subsection → Cursor → Option ReadError → Type 0
 IsBehind base xs = Stops (SubsectionFault base) (after seen_after nothing_seen xs)
 

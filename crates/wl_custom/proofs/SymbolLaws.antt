@@ -12,7 +12,7 @@ use Rattle.wl_custom.specs.declared.symbols.WasmSymbolKind.{WasmSymbolKind}
 use Rattle.wl_custom.specs.declared.symbols.WasmSymbolKind.TheVariants.{Func, Data, Global, Section, Event, Table}
 use Rattle.wl_custom.proofs.Exact.{judged_reading}
 
--- ---- the parts of what stands behind the flags
+-- ---- the parts of what follows the flags
 
 based_name_reading : (base : ℕ) → IsReading (IsBasedName base) WordFault (based_name_at base)
 based_name_reading base = seen (based_name base) placed_name_reading

@@ -23,7 +23,7 @@ FeatureFault = ThenFault IsByte ByteFault (λ _. WordFault)
 abbrev pub feature_from : ℕ × List ℕ → Feature
 feature_from p = record { prefix = p.0; name = p.1 }
 
--- the feature in front
+-- the next feature
 unfoldable pub feature_at : Cursor → Result (Feature × Cursor) ReadError
 feature_at c = map_at feature_from (then_at one_byte_at (λ _. word_at)) c
 

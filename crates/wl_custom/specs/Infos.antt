@@ -1,4 +1,4 @@
--- What a linking section tells of segments, and of functions that run at the start (object file
+-- What a linking section says of segments, and of functions that run at the start (object file
 -- linking, version 2, "Segment Info Subsection" and "Init Funcs Subsection").
 use Rattle.std.specs.Prelude.{ℕ, ◌==◌, ◌^◌, Bool, not, nat_le, List, Result}
 use Rattle.std.specs.Int.RustNames.{bit_and}
@@ -15,7 +15,7 @@ use Rattle.wl_custom.specs.declared.infos.WasmInitFunc.{WasmInitFunc}
 
 -- ---- segments
 
--- what is told of a segment: its name, its alignment in bytes, its flags
+-- what is said of a segment: its name, its alignment in bytes, its flags
 pub record SegmentInfo : Type 0 where
   pub name : List ℕ
   pub alignment : ℕ
@@ -41,7 +41,7 @@ IsAlignment = Seen (Where IsU32 is_exponent) two_to
 abbrev pub AlignmentFault : ReadError → Cursor → Type 0
 AlignmentFault = WhereFault IsU32 NumberFault (unless is_exponent (Malformed BadAlignment))
 
--- the alignment in front
+-- the next alignment
 unfoldable pub alignment_at : Cursor → Result (ℕ × Cursor) ReadError
 alignment_at c = map_at two_to (where_at number_at is_exponent (Malformed BadAlignment)) c
 
@@ -59,7 +59,7 @@ InfoFault =
 abbrev pub info_from : List ℕ × (ℕ × ℕ) → SegmentInfo
 info_from p = record { name = p.0; alignment = p.1.0; flags = p.1.1 }
 
--- what is told of the segment in front
+-- what is said of the next segment
 unfoldable pub info_at : Cursor → Result (SegmentInfo × Cursor) ReadError
 info_at c = map_at info_from (then_at word_at (λ _. then_at alignment_at (λ _. number_at))) c
 
@@ -89,7 +89,7 @@ InitFault = ThenFault IsU32 NumberFault (λ _. NumberFault)
 abbrev pub init_from : ℕ × ℕ → WasmInitFunc
 init_from p = record { priority = p.0; symbol_index = p.1 }
 
--- the function in front
+-- the next function
 unfoldable pub init_at : Cursor → Result (WasmInitFunc × Cursor) ReadError
 init_at c = map_at init_from (then_at number_at (λ _. number_at)) c
 

@@ -78,7 +78,7 @@ held_of base kind.Other payload = Ok held.Skipped
 abbrev pub SubsectionParts : Type 0
 SubsectionParts = ℕ × (Unit {0} × (ℕ × (ℕ × (List ℕ × Subsection))))
 
--- these parts stand one behind the other
+-- these parts stand one after the other
 abbrev pub AreSubsectionParts : ℕ → SeenSubsections → ℕ → SubsectionParts → List ℕ → Type 0
 AreSubsectionParts base seen =
     Then IsByte (λ n. Then (Judged (subsection_verdict seen (subsection_kind n)))
@@ -143,7 +143,7 @@ seen_after seen (held.InitFuncs functions) = record seen { init_funcs = true }
 seen_after seen (held.SymbolTable symbols) = record seen { symbol_table = true }
 seen_after seen held.Skipped = seen
 
--- what is told of segments
+-- what is said of segments
 abbrev pub infos_in : Subsection → List SegmentInfo
 infos_in (held.SegmentInfo infos) = infos
 infos_in (held.InitFuncs functions) = []
@@ -206,7 +206,7 @@ IsLinking base linking payload =
     (version : ℕ × Unit {0}) × (behind : Cursor) × Takes IsVersion version (start payload) behind
     × HaveSubsections base behind linking
 
--- the version is at fault, or what stands behind it is
+-- the version is at fault, or what follows it is
 abbrev pub LinkingFault : ℕ → ReadError → List ℕ → Type 0
 LinkingFault base e payload = VersionFault e (start payload)
     ⊎ ((version : ℕ × Unit {0}) × (behind : Cursor) × Takes IsVersion version (start payload) behind

@@ -119,11 +119,11 @@ takes_kind ty = is_taken_of (taking_of ty)
 abbrev pub is_global_index : RelocationType → Bool
 is_global_index ty = is_global (taking_of ty)
 
--- the slot of a function in the table, or behind the table's base
+-- the slot of a function in the table, or relative to the table's base
 abbrev pub is_table_index : RelocationType → Bool
 is_table_index ty = is_slot (taking_of ty)
 
--- a slot behind the base of the table
+-- a slot relative to the base of the table
 abbrev pub is_table_relative : RelocationType → Bool
 is_table_relative ty = is_slot_behind_base (taking_of ty)
 
@@ -131,7 +131,7 @@ is_table_relative ty = is_slot_behind_base (taking_of ty)
 abbrev pub is_table_number : RelocationType → Bool
 is_table_number ty = is_table (taking_of ty)
 
--- an address behind the base of the memory
+-- an address relative to the base of the memory
 abbrev pub is_memory_relative : RelocationType → Bool
 is_memory_relative ty = is_behind_memory_base (taking_of ty)
 

@@ -60,7 +60,7 @@ EntryParts = ℕ × (RelocationType × (ℕ × (ℕ × ℤ)))
 abbrev pub relocation_of : EntryParts → WasmRelocation
 relocation_of p = record { ty = p.1.0; offset = p.1.1.0; index = p.1.1.1.0; addend = p.1.1.1.1 }
 
--- these parts stand one behind the other
+-- these parts stand one after the other
 abbrev pub AreEntryParts : Target → ℕ → EntryParts → List ℕ → Type 0
 AreEntryParts at =
     Then IsByte (λ n. Then (Judged (type_verdict at n))
@@ -91,11 +91,11 @@ entry_at at c = map_at relocation_of (entry_parts_at at) c
 
 -- ---- the entries, to the end of the payload
 
--- a list of entries, and nothing behind it
+-- a list of entries, and nothing after it
 abbrev pub AreEntries : Target → List WasmRelocation → Cursor → Type 0
 AreEntries at = ToEnd (Listed (IsEntry at))
 
--- the list is at fault, or bytes are left behind it
+-- the list is at fault, or bytes are left after it
 abbrev pub EntriesFault : Target → ReadError → Cursor → Type 0
 EntriesFault at = ToEndFault (Listed (IsEntry at)) (ListedFault (IsEntry at) (EntryFault at))
 
@@ -105,19 +105,19 @@ entries_to_end_at at c = to_end_at (list_at (entry_at at)) c
 
 -- ---- the section
 
--- what stands behind the number of the section that it is for: nothing is read for a debug section
+-- what follows the number of the section that it is for: nothing is read for a debug section
 abbrev pub HoldsEntries : Target → List WasmRelocation → Cursor → Type 0
 HoldsEntries target.Code entries from = AreEntries target.Code entries from
 HoldsEntries target.Data entries from = AreEntries target.Data entries from
 HoldsEntries target.Debug entries from = entries ≡ []
 
--- what stands behind the number is at fault
+-- what follows the number is at fault
 abbrev pub HoldsEntriesFault : Target → ReadError → Cursor → Type 0
 HoldsEntriesFault target.Code e from = EntriesFault target.Code e from
 HoldsEntriesFault target.Data e from = EntriesFault target.Data e from
 HoldsEntriesFault target.Debug e from = ⊥
 
--- what stands behind the number, read from a place
+-- what follows the number, read from a place
 abbrev pub held_entries_at : Target → Cursor → Result (List WasmRelocation) ReadError
 held_entries_at target.Code c = entries_to_end_at target.Code c
 held_entries_at target.Data c = entries_to_end_at target.Data c
@@ -131,7 +131,7 @@ pub record IsRelocSection (verdict : ℕ → Result Target ReadError) (held : Re
   pub target : verdict held.section.target_section ≡ Ok held.target
   pub entries : HoldsEntries held.target held.section.relocations behind
 
--- the number is at fault, or the section of that number, or what stands behind
+-- the number is at fault, or the section of that number, or what follows
 abbrev pub RelocSectionFault : (ℕ → Result Target ReadError) → ReadError → List ℕ → Type 0
 RelocSectionFault verdict e payload = NumberFault e (start payload)
     ⊎ ((number : ℕ) × (behind : Cursor) × Takes IsU32 number (start payload) behind

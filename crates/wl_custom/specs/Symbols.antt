@@ -134,7 +134,7 @@ symbol_kind_verdict kind =
     else if kind == 5 then Ok Table
     else Err (Malformed BadByte)
 
--- where a name of so many bytes stands, that many bytes behind a base; an empty name stands nowhere
+-- where a name of so many bytes stands, that many bytes past a base; an empty name stands nowhere
 abbrev pub range_of : ℕ → ℕ → ℕ → ℕ × ℕ
 range_of base at len = if len == 0 then (0, 0) else (base + at, base + at + len)
 
@@ -147,7 +147,7 @@ abbrev pub IsBasedName : ℕ → ℕ → List ℕ × (ℕ × ℕ) → List ℕ �
 IsBasedName base place n text =
     (w : List ℕ × ℕ) × IsPlacedName place w text × (based_name base w ≡ n)
 
--- what stands behind the flags: a number, where data lies, and a name with its range
+-- what follows the flags: a number, where data lies, and a name with its range
 pub record SymbolDetails : Type 0 where
   pub index : ℕ
   pub offset : ℕ
@@ -211,7 +211,7 @@ abbrev pub IsLocated : ℕ → ℕ → ℕ → SymbolDetails → List ℕ → Ty
 IsLocated base flags =
     Seen (Then (IsBasedName base) (λ _. IsExtentWhere (has_extent flags))) located_from
 
--- what stands behind the flags is read under: how many bytes of the object lie before those of the
+-- what follows the flags is read under: how many bytes of the object lie before those of the
 -- table, and the flags
 pub record SymbolContext : Type 0 where
   pub base : ℕ
@@ -221,7 +221,7 @@ pub record SymbolContext : Type 0 where
 abbrev pub symbol_context : ℕ → ℕ → SymbolContext
 symbol_context base flags = record { base = base; flags = flags }
 
--- what stands behind the flags of a symbol of that kind
+-- what follows the flags of a symbol of that kind
 abbrev pub IsDetails : WasmSymbolKind → SymbolContext → ℕ → SymbolDetails → List ℕ → Type 0
 IsDetails Func context = IsNumbered context.base context.flags
 IsDetails Data context = IsLocated context.base context.flags
@@ -234,7 +234,7 @@ IsDetails Table context = IsNumbered context.base context.flags
 abbrev pub NumberedFault : ℕ → ReadError → Cursor → Type 0
 NumberedFault flags = ThenFault IsU32 NumberFault (λ _. WhenFault WordFault (is_named flags))
 
--- the name is at fault, or one of the three numbers behind it
+-- the name is at fault, or one of the three numbers after it
 abbrev pub LocatedFault : ℕ → ℕ → ReadError → Cursor → Type 0
 LocatedFault base flags =
     ThenFault (IsBasedName base) WordFault (λ _. WhenFault ExtentFault (has_extent flags))
@@ -250,7 +250,7 @@ DetailsFault Table context = NumberedFault context.flags
 
 -- ---- symbols
 
--- the parts of a symbol as they stand: its kind, its flags, and what stands behind them
+-- the parts of a symbol as they stand: its kind, its flags, and what follows them
 abbrev pub SymbolParts : Type 0
 SymbolParts = ℕ × (WasmSymbolKind × (ℕ × SymbolDetails))
 

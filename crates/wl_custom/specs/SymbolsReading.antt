@@ -41,7 +41,7 @@ located_at base flags c =
 unfoldable pub sectioned_at : Cursor → Result (SymbolDetails × Cursor) ReadError
 sectioned_at c = map_at sectioned_from number_at c
 
--- what stands behind the flags, read from a place
+-- what follows the flags, read from a place
 abbrev pub details_at : WasmSymbolKind → SymbolContext → Cursor
     → Result (SymbolDetails × Cursor) ReadError
 details_at Func context c = numbered_at context.base context.flags c

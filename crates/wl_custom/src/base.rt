@@ -3,7 +3,7 @@
 ghost use Rattle.std.specs.Prelude.{◌≡◌, ◌+◌, ◌<◌, ◌^◌};
 ghost use Rattle.wl_bytes.specs.declared.reader.TheConstants.{MAX_LEN};
 
-/// How many bytes of an object lie before those that are read: so few that with any place behind
+/// How many bytes of an object lie before those that are read: so few that with any place after
 /// them they make a `u32`.
 #[derive(Clone, Copy)]
 pub struct Base {

@@ -1,4 +1,4 @@
-//! Debug sections: custom sections that tell debuggers of the code.
+//! Debug sections: custom sections that describe the code to debuggers.
 
 use std::marker::Model;
 
@@ -8,7 +8,7 @@ use std::marker::Model;
 pub struct DebugSectionInput<'a> {
     /// The section's name, which begins with `.debug_`.
     pub name: &'a str,
-    /// What stands behind the name.
+    /// What follows the name.
     pub payload: &'a [u8],
     /// The number of its object among those of a plan; 0 until it is planned.
     pub object_index: usize,

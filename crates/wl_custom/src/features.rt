@@ -56,7 +56,7 @@ impl<'a> Item<'a> for WasmTargetFeature<'a> {
 ///
 /// # Errors
 /// `Malformed` names the first thing at fault: `Truncated`, `BadLeb`, `BadUtf8`, or `Trailing` for
-/// bytes behind the list.
+/// bytes after the list.
 pub fn parse_target_features_payload(
     alloc: Global,
     payload: &[u8],

@@ -1,4 +1,4 @@
-//! What a linking section tells of segments, and of functions that run when a module starts
+//! What a linking section says of segments, and of functions that run when a module starts
 //! (object file linking, version 2, "Segment Info Subsection" and "Init Funcs Subsection").
 
 ghost use Rattle.std.specs.Prelude.{◌≡◌};
@@ -9,7 +9,7 @@ use std::alloc::Global;
 use std::marker::Model;
 use wl_bytes::{Item, ReadError, Reader, Why};
 
-/// What is told of a segment (object file linking, version 2, "Segment Info Subsection"). Clauses
+/// What is said of a segment (object file linking, version 2, "Segment Info Subsection"). Clauses
 /// see it as a `SegmentInfo`, with its name as a list of bytes.
 #[derive(Drop)]
 pub struct WasmSegmentInfo<'a> {
@@ -45,7 +45,7 @@ const TLS: u32 = 2;
 /// The greatest exponent of an alignment.
 const MAX_EXPONENT: u32 = 31;
 
-/// The alignment in front, of which the bytes are the exponent.
+/// The next alignment, of which the bytes are the exponent.
 #[tactic(auto, unfolding(crate::specs::Infos::alignment_at))]
 fn read_alignment(reader: &mut Reader<'_>) -> Result<u32, ReadError>
     ensures { Yields (λ n. n) result reader.new (alignment_at reader.old) }

@@ -148,7 +148,7 @@ fn read_held(
     }
 }
 
-/// The subsection in front, where so many bytes of the object lie before those of the section.
+/// The next subsection, where so many bytes of the object lie before those of the section.
 #[tactic(auto, unfolding(crate::specs::Linking::subsection_at))]
 fn read_subsection<'a>(
     alloc: Global,
@@ -211,7 +211,7 @@ fn read_subsections<'a>(
     Ok(linking)
 }
 
-/// The version in front is the one that is read.
+/// The version that comes next is the one that is read.
 #[tactic(auto, unfolding(crate::specs::Linking::version_at))]
 fn read_version(reader: &mut Reader<'_>) -> Result<(), ReadError>
     ensures value { Yields (λ _. (2, tt)) result reader.new (version_at reader.old) }

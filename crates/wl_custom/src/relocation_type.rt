@@ -26,15 +26,15 @@ pub enum RelocationType {
     TypeIndexLeb,
     /// The number of a global, in five bytes of LEB128.
     GlobalIndexLeb,
-    /// The address of data behind the base of the memory, in five bytes of signed LEB128.
+    /// The address of data relative to the base of the memory, in five bytes of signed LEB128.
     MemoryAddrRelSleb,
-    /// The slot of a function behind the base of the table, in five bytes of signed LEB128.
+    /// The slot of a function relative to the base of the table, in five bytes of signed LEB128.
     TableIndexRelSleb,
     /// The number of a global, in four bytes.
     GlobalIndexI32,
     /// The number of a table, in five bytes of LEB128.
     TableNumberLeb,
-    /// The address of data behind the base of a thread's data, in five bytes of signed LEB128.
+    /// The address of data relative to the base of a thread's data, in five bytes of signed LEB128.
     MemoryAddrTlsSleb,
     /// The number of a function, in four bytes.
     FunctionIndexI32,
@@ -186,7 +186,7 @@ impl RelocationType {
         self.takes() == Taking::GlobalIndex
     }
 
-    /// Whether it takes the slot of a function in the table, or behind the table's base.
+    /// Whether it takes the slot of a function in the table, or relative to the table's base.
     pub fn is_table_index(self) -> bool
         ensures { result ≡ is_table_index self }
     {
@@ -194,7 +194,7 @@ impl RelocationType {
         takes == Taking::Slot || takes == Taking::SlotBehindBase
     }
 
-    /// Whether it takes a slot behind the base of the table.
+    /// Whether it takes a slot relative to the base of the table.
     pub fn is_table_relative(self) -> bool
         ensures { result ≡ is_table_relative self }
     {
@@ -208,7 +208,7 @@ impl RelocationType {
         self.takes() == Taking::TableNumber
     }
 
-    /// Whether it takes an address behind the base of the memory.
+    /// Whether it takes an address relative to the base of the memory.
     pub fn is_memory_relative(self) -> bool
         ensures { result ≡ is_memory_relative self }
     {

@@ -106,7 +106,7 @@ fn read_type(target: Target, number: u8) -> Result<RelocationType, ReadError>
     }
 }
 
-/// The addend in front, where the type has one.
+/// The addend that comes next, where the type has one.
 #[tactic(auto, unfolding(crate::specs::Relocations::addend_where_at))]
 fn read_addend_where(has_addend: bool, reader: &mut Reader<'_>) -> Result<i64, ReadError>
     ensures { Yields (λ z. z) result reader.new (addend_where_at has_addend reader.old) }
@@ -160,7 +160,7 @@ fn read_entries(
     Ok(entries)
 }
 
-/// What stands behind the number of the section that a relocation section is for: its entries up to
+/// What follows the number of the section that a relocation section is for: its entries up to
 /// the end of the payload, or none where they are for a debug section (object file linking, version
 /// 2, "Relocation Sections").
 ///

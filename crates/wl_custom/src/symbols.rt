@@ -101,7 +101,7 @@ impl<'a> Model for WasmSymbol<'a> {
 
 impl<'a> WasmSymbol<'a> {
     /// Where the name stands in the object's bytes: the places of its first byte and of the one
-    /// behind it. Both are 0 where there is no name.
+    /// after it. Both are 0 where there is no name.
     pub fn name_range(&self) -> (u32, u32)
         ensures { result ≡ self.now.name_range }
     {
@@ -243,7 +243,7 @@ fn symbol_kind(kind: u8) -> Result<WasmSymbolKind, ReadError>
     }
 }
 
-/// What stands behind the flags of a symbol. Clauses see it as a record of the same fields, with
+/// What follows the flags of a symbol. Clauses see it as a record of the same fields, with
 /// the name as a list.
 #[derive(Drop)]
 struct Details<'a> {
@@ -282,7 +282,7 @@ pub fn range_of(base: u32, end: usize, len: usize) -> (u32, u32)
     (end - len as u32, end)
 }
 
-/// The name in front, with its place in the object.
+/// The next name, with its place in the object.
 #[tactic(auto, unfolding(wl_bytes::specs::Words::placed_name_at))]
 fn read_based_name<'a>(
     base: Base,
@@ -297,7 +297,7 @@ fn read_based_name<'a>(
     Ok((name, range))
 }
 
-/// The name in front, where there is to be one.
+/// The next name, where there is to be one.
 #[tactic(auto, unfolding(crate::specs::SymbolsReading::name_where_at))]
 fn read_name_where<'a>(
     base: Base,
@@ -314,7 +314,7 @@ fn read_name_where<'a>(
     }
 }
 
-/// Where the data in front lies: its segment, its offset there and its size.
+/// Where the next data lies: its segment, its offset there and its size.
 #[tactic(auto, unfolding(crate::specs::SymbolsReading::extent_where_at))]
 fn read_extent_where(defined: bool, reader: &mut Reader<'_>) -> Result<(u32, (u32, u32)), ReadError>
     ensures { Yields (λ e. e) result reader.new (extent_where_at defined reader.old) }
@@ -386,7 +386,7 @@ fn read_sectioned<'a>(reader: &mut Reader<'a>) -> Result<Details<'a>, ReadError>
     })
 }
 
-/// What stands behind the flags of a symbol of that kind.
+/// What follows the flags of a symbol of that kind.
 fn read_details<'a>(
     base: Base,
     kind: WasmSymbolKind,

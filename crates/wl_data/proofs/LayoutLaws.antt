@@ -216,7 +216,7 @@ passes_on pass xs ys a all p =
       past = elim p.past [ inl x ↦ inl (omega (arith, rest.memory)) | inr x ↦ inr (omega (arith, rest.block)) ];
     }
 
--- a cursor passes behind those that have room
+-- a cursor leaves the room after those that have room
 pub passes_behind : (pass : Pass) (xs ys : List KeptData) (a b : Frontier) (l : List SegmentLayout) → AreLaidOut pass xs a b l → PassesRoom pass ys b → PassesRoom pass (xs ++ ys) a
 passes_behind pass xs ys a b l p q = record {
   placed = p.placed ++ q.placed;

@@ -63,7 +63,7 @@ passes_objects pass objects i o a b ls lt is all p q =
     let on = passes_on pass (front ++ o) (in_one_row (drop (i + 1) objects)) a (sound_row (drop (i + 1) objects) (sound_drop objects (i + 1) all)) here in
     subst (λ (xs : List KeptData). PassesRoom pass xs a) (row_whole objects i o lt is) on
 
--- ---- behind the layouts that each object has
+-- ---- after the layouts that each object has
 
 pub objects_count : (pass : Pass) (objects : List (List KeptData)) (a b : Frontier) (ls : List (List SegmentLayout)) → AreObjectsLaid pass objects a b ls → length ls ≡ length objects
 objects_count pass [] a b [] e = refl

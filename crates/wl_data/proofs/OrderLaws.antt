@@ -67,7 +67,7 @@ rows_in_order d common own middle end p =
     let own_order = lower middle.memory (tls_start d middle.memory) (segment_ranges (in_one_row own)) end.memory (tls_behind d middle.memory) (objects_in_order (pass_over d.options true) d.objects (record { memory = tls_start d middle.memory; block = middle.block }) end own p.own_laid) in
     order_append start (segment_ranges (in_one_row common)) (segment_ranges (in_one_row own)) middle.memory end.memory common_order own_order
 
--- what comes in order behind the stack and before the flag, with these
+-- what comes in order after the stack and before the flag, with these
 pub all_in_order : (d : DataInput) (m : ℕ) (ranges : List AddressRange) → ComeInOrder (data_start d.options) ranges m → (top : ℕ) × ComeInOrder 0 (first_stack d.options ++ ranges ++ flag_ranges (flag_of d m) ++ last_stack d.options (data_end d m)) top
 all_in_order d m ranges p =
     let first = first_stack d.options in

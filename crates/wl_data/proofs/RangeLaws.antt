@@ -1,4 +1,4 @@
--- Addresses that are taken one behind the other.
+-- Addresses that are taken one after the other.
 use Rattle.std.proofs.Common.{◌≡◌, ℕ, ◌+◌, ◌≤◌, Bool, true, false, List, [], ◌∷◌, ◌++◌, length, map, refl, sym, ap, ◌∙◌, subst, arith, not, ◌&&◌, ◌||◌, zero, suc, Some}
 use Rattle.std.specs.Prelude.{filter, slice_get, ◌==◌}
 use Rattle.std.proofs.lemmas.List.{map-append}

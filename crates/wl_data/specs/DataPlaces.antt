@@ -42,7 +42,7 @@ data_of objects options = record { objects = objects; options = options }
 
 -- ---- where data begins
 
--- where all data begins: behind the stack where that stands first
+-- where all data begins: after the stack where that stands first
 abbrev pub data_start : DataOptions → ℕ
 data_start o = if o.stack_first then o.stack_size else o.memory_base
 
@@ -67,7 +67,7 @@ any_is_thread_local segments = list_any is_thread_local segments
 abbrev pub has_tls : DataInput → Bool
 has_tls d = list_any any_is_thread_local d.objects
 
--- where those begin that stand behind the other data: at a multiple of all their alignments
+-- where those begin that follow the other data: at a multiple of all their alignments
 abbrev pub tls_start : DataInput → ℕ → ℕ
 tls_start d end =
     if has_tls d && not d.options.shared_tls
@@ -93,7 +93,7 @@ any_is_common segments = list_any is_common segments
 abbrev pub has_init : DataInput → Bool
 has_init d = d.options.shared_memory && list_any any_is_common d.objects
 
--- where the word stands that tells whether they are copied
+-- where the word stands that says whether they are copied
 abbrev pub flag_place : ℕ → ℕ
 flag_place end = next_multiple_of end 4
 
@@ -116,7 +116,7 @@ tls_align d = if d.options.shared_tls then greatest_alignment (tls_segments d) e
 -- ---- the whole
 
 -- the layouts of all objects: those of the data that all threads have in common, up to a middle,
--- and behind that those of the data of which each thread has its own
+-- and after that those of the data of which each thread has its own
 pub record ArePlaces (d : DataInput) (common own : List (List SegmentLayout))
     (middle end : Frontier) : Type 0 where
   pub common_laid : AreObjectsLaid (pass_over d.options false) d.objects
@@ -124,7 +124,7 @@ pub record ArePlaces (d : DataInput) (common own : List (List SegmentLayout))
   pub own_laid : AreObjectsLaid (pass_over d.options true) d.objects
       (record { memory = tls_start d middle.memory; block = middle.block }) end own
 
--- the layouts of each object: those of the first list, and behind them those of the second
+-- the layouts of each object: those of the first list, and after them those of the second
 abbrev pub by_object : {X : Type 0} → List (List X) → List (List X) → List (List X)
 by_object [] _ = []
 by_object (xs ∷ fronts) [] = xs ∷ fronts
@@ -199,12 +199,12 @@ in_output_order segments =
 abbrev pub HaveLayouts : DataOptions → List KeptData → List SegmentLayout → Type 0
 HaveLayouts o segments layouts = AllZip (HasLayout o) (in_output_order segments) layouts
 
--- the addresses from a first one on, up to the one behind the last
+-- the addresses from a first one on, up to the one after the last
 pub record AddressRange : Type 0 where
   pub first : ℕ
   pub behind : ℕ
 
--- each of them begins where or behind where the one before ends, between start and end
+-- each of them begins where the one before ends, or later, between start and end
 abbrev pub ComeInOrder : ℕ → List AddressRange → ℕ → Type 0
 ComeInOrder start [] end = start ≤ end
 ComeInOrder start (r ∷ ranges) end =
@@ -236,12 +236,12 @@ segment_ranges layouts = map addresses_of (filter lies_in_memory layouts)
 abbrev pub block_ranges : List SegmentLayout → List AddressRange
 block_ranges layouts = map addresses_of (filter (λ (l : SegmentLayout). l.tls_template) layouts)
 
--- what the word takes that tells whether segments were copied
+-- what the word takes that says whether segments were copied
 abbrev pub flag_ranges : Option ℕ → List AddressRange
 flag_ranges None = []
 flag_ranges (Some place) = record { first = place; behind = place + 4 } ∷ []
 
--- what the stack takes that stands first, or behind the data, which ends there
+-- what the stack takes that stands first, or after the data, which ends there
 abbrev pub first_stack : DataOptions → List AddressRange
 first_stack o = if o.stack_first then record { first = 0; behind = o.stack_size } ∷ [] else []
 

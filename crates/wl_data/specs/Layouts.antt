@@ -79,7 +79,7 @@ pub record StandsThere (pass : Pass) (start end : Frontier) (s : PlacedData) : T
 abbrev pub IsPastEnd : Frontier → Type 0
 IsPastEnd frontier = (2 ^ 32 ≤ frontier.memory) ⊎ (2 ^ 32 ≤ frontier.block)
 
--- the frontier behind that segment is past the last address
+-- the frontier after that segment is past the last address
 pub record PassesAt (pass : Pass) (segment : KeptData) (start : Frontier) : Type 0 where
   pub place : ℕ
   pub end : Frontier

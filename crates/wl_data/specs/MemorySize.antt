@@ -28,7 +28,7 @@ needs_of data_end memory_base stack_size stack_first = record {
   stack_first = stack_first;
 }
 
--- the top of the stack, where it stands behind the data and has any byte
+-- the top of the stack, where it follows the data and has any byte
 abbrev pub stack_need : ℕ → ℕ → Bool → ℕ
 stack_need data_end stack_size stack_first =
     if stack_first || (stack_size == 0) then 0 else stack_top data_end stack_size

@@ -11,7 +11,7 @@ use Rattle.wl_data.specs.Segments.{SegmentLayout}
 
 -- ---- a segment (core specification, "Data Section")
 
--- the flag in front of an active segment, with the memory's number where that isn't 0
+-- the flag at the start of an active segment, with the memory's number where that isn't 0
 abbrev pub IsMemoryName : ℕ → List ℕ → Type 0
 IsMemoryName zero text = text ≡ 0 ∷ []
 IsMemoryName (suc n) text = (index : List ℕ) × IsShortest (suc n) index × (text ≡ 2 ∷ index)
@@ -36,7 +36,7 @@ IsDestinationAs false to text = IsMemoryPlace to.memory to.offset text
 abbrev pub IsDestination : Destination → List ℕ → Type 0
 IsDestination to text = IsDestinationAs to.passive to text
 
--- what stands in front of the bytes of a segment: where it goes, and how many they are
+-- what comes before the bytes of a segment: where it goes, and how many they are
 pub record IsSegmentHead (to : Destination) (len : ℕ) (text : List ℕ) : Type 0 where
   pub target : List ℕ
   pub count : List ℕ
@@ -57,21 +57,21 @@ IsHugeSegment to len e =
 -- ---- a section
 
 -- A section of so many items, which take so many bytes: its number, its size and the number of its
--- items stand in front. Without an item there is none.
+-- items come first. Without an item there is none.
 abbrev pub HasSectionSize : ℕ → ℕ → ℕ → Type 0
 HasSectionSize zero bytes size = size ≡ 0
 HasSectionSize (suc n) bytes size =
     (count : List ℕ) × (len : List ℕ) × IsShortest (suc n) count
     × IsShortest (length count + bytes) len × (size ≡ 1 + length len + length count + bytes)
 
--- the bodies as they stand in a code section: each behind the number of its bytes
+-- the bodies as they stand in a code section: each after the number of its bytes
 abbrev pub AreBodiesText : List Body → List ℕ → Type 0
 AreBodiesText [] text = text ≡ []
 AreBodiesText (b ∷ bodies) text =
     (head : List ℕ) × (rest : List ℕ) × IsShortest (length b.bytes) head × AreBodiesText bodies rest
     × (text ≡ head ++ (b.bytes ++ rest))
 
--- a body behind the number of its bytes takes so many
+-- a body after the number of its bytes takes so many
 abbrev pub HasEntrySize : Body → ℕ → Type 0
 HasEntrySize b size =
     (head : List ℕ) × IsShortest (length b.bytes) head × (size ≡ length head + length b.bytes)

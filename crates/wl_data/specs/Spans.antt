@@ -13,7 +13,7 @@ pub record Span : Type 0 where
   pub size : ℕ
   pub place : ℕ
 
--- each stands at the least place for it behind the one before, the first behind a start; the last
+-- each stands at the least place for it after the one before, the first after a start; the last
 -- leads to an end
 abbrev pub AreInRow : ℕ → List Span → ℕ → Type 0
 AreInRow start [] end = end ≡ start

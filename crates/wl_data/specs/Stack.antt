@@ -6,7 +6,7 @@ use Rattle.wl_linking.specs.declared.error.Quantity.{Quantity}
 use Rattle.wl_linking.specs.declared.error.Quantity.TheVariants.{Address}
 use Rattle.wl_index.specs.declared.memory.TheConstants.{STACK_ALIGNMENT}
 
--- the answer is the value where that fits 32 bits, and else that quantity is told as too large
+-- the answer is the value where that fits 32 bits, and else that quantity is reported as too large
 abbrev pub AnswersUpTo : Quantity → ℕ → Result ℕ LinkError → Type 0
 AnswersUpTo quantity value (Ok answer) = (answer ≡ value) × (value < 2 ^ 32)
 AnswersUpTo quantity value (Err e) = (e ≡ TooLarge quantity) × (2 ^ 32 ≤ value)

@@ -68,7 +68,7 @@ pub fn segments_have_layouts()
 {}
 
 /// The stack that stands first, the data that threads have in common, that of one thread, the flag
-/// and the stack behind the data stand one after the other in the memory, and the segments of a
+/// and the stack after the data stand one after the other in the memory, and the segments of a
 /// block do there. What stands so shares no byte.
 pub fn places_stand_apart()
     ensures order { (d : DataInput) (common own : List (List SegmentLayout))

@@ -13,7 +13,7 @@ use crate::sizes::output_data_segment_encoded_size;
 use std::alloc::Global;
 use wl_linking::LinkError;
 
-/// A place behind a cursor, and where so many bytes end that stand there.
+/// A place at or after a cursor, and where so many bytes end that stand there.
 fn stretch_behind(cursor: u32, alignment: u32, len: u32) -> Option<(u32, u32)>
     requires { 0 < alignment }
     ensures { MatchOption result (2 ^ 32 ≤ next_multiple_of cursor alignment + len)
@@ -44,7 +44,7 @@ fn is_shared_init(pass: Pass, segment: &KeptSegment<'_>) -> bool
     pass.shared_init && segment.is_common()
 }
 
-/// The place of the next segment of a pass, and the frontier behind it.
+/// The place of the next segment of a pass, and the frontier after it.
 fn stand(pass: Pass, segment: &KeptSegment<'_>, frontier: Frontier) -> Option<(u32, Frontier)>
     requires { CanBePlaced segment.now }
     ensures { MatchOption result (PassesAt pass segment.now frontier) (λ p.
@@ -188,7 +188,7 @@ pub(crate) fn lay_out<'a>(
 
 /// Places the segments of an object that a pass is for, in order: with `want_tls` those of which
 /// each thread has its own, else the others. An active one stands in the memory, at the least
-/// multiple of its alignment that isn't below the cursor, which then goes behind it. With a cursor
+/// multiple of its alignment that isn't below the cursor, which then goes past it. With a cursor
 /// for the block of each thread, all its segments stand there by the same rule, but an empty one
 /// stands at the cursor as it is. Others have no address. With `shared_passive_init` those that the
 /// memory holds, all threads have in common and aren't empty are copied by the first thread.

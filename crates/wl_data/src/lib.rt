@@ -1,10 +1,10 @@
 //! Where the output's data lies: the places of segments, the stack, the heap and the size of the
 //! memory, and how many bytes data and code take in the output.
 //!
-//! [`layout_object_data`] places the segments of an object, one behind the other, from where the
-//! one before it left off; [`place_all`] does so for all objects, and adds the word that tells
+//! [`layout_object_data`] places the segments of an object, one after the other, from where the
+//! one before it left off; [`place_all`] does so for all objects, and adds the word that says
 //! whether shared segments were copied. [`stack_pointer_init`] and its like say where the stack and
-//! the heap lie behind the data, and [`ensure_memory_covers`] makes the memory large enough for all
+//! the heap lie after the data, and [`ensure_memory_covers`] makes the memory large enough for all
 //! of it. [`places_stand_apart`] says that no two things share a byte.
 #![tactic(auto)]
 

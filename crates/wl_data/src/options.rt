@@ -5,7 +5,7 @@
 pub struct DataOptions {
     /// The address from which that of data counts where the stack doesn't stand first.
     pub memory_base: u32,
-    /// Whether the stack stands in front of the data.
+    /// Whether the stack comes before the data.
     pub stack_first: bool,
     /// The bytes of the stack.
     pub stack_size: u32,

@@ -17,9 +17,9 @@ pub struct DataPlaces<'a> {
     pub tls_size: u32,
     /// The alignment of that block in bytes; 0 where there is none.
     pub tls_align: u32,
-    /// The address of the word that tells whether segments were copied, where the first thread
+    /// The address of the word that says whether segments were copied, where the first thread
     /// copies any.
     pub flag: Option<u32>,
-    /// The address behind all of it.
+    /// The address after all of it.
     pub data_end: u32,
 }

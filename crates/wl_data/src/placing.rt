@@ -16,7 +16,7 @@ use std::alloc::Global;
 use wl_linking::LinkError;
 use wl_lists::ItemList;
 
-/// The word that tells whether segments were copied has four bytes, and stands at a multiple of
+/// The word that says whether segments were copied has four bytes, and stands at a multiple of
 /// as many.
 const FLAG_BYTES: u32 = 4;
 
@@ -98,7 +98,7 @@ fn data_start(options: DataOptions) -> u32
     }
 }
 
-/// Where the segments begin that stand behind those that end there.
+/// Where the segments begin that follow those that end there.
 fn tls_start(objects: &[ItemList<KeptSegment<'_>>], options: DataOptions, end: u32) -> Option<u32>
     ensures { MatchOption result (2 ^ 32 ≤ tls_start (data_of objects.now options) end)
         (λ start. start ≡ tls_start (data_of objects.now options) end) }
@@ -110,7 +110,7 @@ fn tls_start(objects: &[ItemList<KeptSegment<'_>>], options: DataOptions, end: u
 }
 
 /// The address from which that of data counts of which each thread has its own, which begins there
-/// where it stands behind the other data.
+/// where it follows the other data.
 fn tls_base(objects: &[ItemList<KeptSegment<'_>>], options: DataOptions, start: u32) -> u32
     ensures { (end : ℕ) → start ≡ tls_start (data_of objects.now options) end
         → result ≡ tls_base (data_of objects.now options) end }
@@ -124,7 +124,7 @@ fn tls_base(objects: &[ItemList<KeptSegment<'_>>], options: DataOptions, start: 
     }
 }
 
-/// Where the word stands that tells whether segments were copied, where there is one, and where
+/// Where the word stands that says whether segments were copied, where there is one, and where
 /// the data ends, of which the segments end there.
 fn flag_and_end(
     objects: &[ItemList<KeptSegment<'_>>],
@@ -165,7 +165,7 @@ fn lay_objects<'a>(
     Ok(layouts)
 }
 
-/// The same, behind the layouts that each object has.
+/// The same, after the layouts that each object has.
 fn append_objects<'a>(
     alloc: Global,
     pass: Pass,
@@ -190,8 +190,8 @@ fn append_objects<'a>(
 }
 
 /// Places the data of all objects: first the segments that all threads have in common, then those
-/// of which each thread has its own, and behind them, where threads share the memory and the first
-/// one copies segments, the word that tells whether it has. Those of which each thread has its own
+/// of which each thread has its own, and after them, where threads share the memory and the first
+/// one copies segments, the word that says whether it has. Those of which each thread has its own
 /// begin at a multiple of the greatest of their alignments or, with `shared_tls`, stand in a block
 /// of each thread.
 ///

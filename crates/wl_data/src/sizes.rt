@@ -17,7 +17,7 @@ use wl_module::WasmFunctionBody;
 /// A segment takes fewer bytes than this, so that 32 bits hold their number.
 const SIZE_LIMIT: u64 = 4_294_967_296;
 
-/// What a section holds takes fewer bytes than this, so that its size can be told.
+/// What a section holds takes fewer bytes than this, so that its size can be measured.
 const MEASURE_LIMIT: u64 = 1 << 62;
 
 /// How many bytes name the memory of an active segment.
@@ -40,7 +40,7 @@ fn place_size(offset: u32) -> u64
     sleb_len(offset.cast_signed() as i64) as u64
 }
 
-/// How many bytes tell where a segment goes.
+/// How many bytes say where a segment goes.
 fn target_size(offset: u32, memory_index: u32, passive: bool) -> u64
     ensures value { (text : List ℕ)
         × IsDestination (record { passive = passive; memory = memory_index; offset = offset }) text
@@ -126,7 +126,7 @@ fn object_bytes_at_most(layouts: &SegmentLayouts<'_>) -> u64
     bytes
 }
 
-/// Whether the size of the data section can be told: its segments take fewer than 2^62 bytes.
+/// Whether the size of the data section can be measured: its segments take fewer than 2^62 bytes.
 pub fn data_can_be_measured(layouts: &[SegmentLayouts<'_>]) -> bool
     ensures { IsTrue result ↔ (all_encoded_bytes layouts.now < 2 ^ 62) }
 {
@@ -184,7 +184,7 @@ fn body_len(body: &WasmFunctionBody<'_>) -> usize
     }
 }
 
-/// Whether the size of the code section can be told: its bodies have fewer than 2^62 bytes.
+/// Whether the size of the code section can be measured: its bodies have fewer than 2^62 bytes.
 pub fn code_can_be_measured(bodies: &[WasmFunctionBody<'_>]) -> bool
     ensures { IsTrue result ↔ (body_bytes bodies.now < 2 ^ 62) }
 {
@@ -195,7 +195,7 @@ pub fn code_can_be_measured(bodies: &[WasmFunctionBody<'_>]) -> bool
     bytes < MEASURE_LIMIT
 }
 
-/// How many bytes a body takes behind the number of its bytes.
+/// How many bytes a body takes after the number of its bytes.
 fn entry_size(body: &WasmFunctionBody<'_>) -> u64
     requires { length body.now.bytes < 2 ^ 62 }
     ensures value { HasEntrySize body.now result }

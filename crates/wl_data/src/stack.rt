@@ -13,7 +13,7 @@ use wl_index::{STACK_ALIGNMENT, behind_data, heap_start, stack_top};
 use wl_linking::{LinkError, Quantity};
 use wl_module::MAX_PAGES;
 
-/// Where the heap begins that stands behind the data: at the next multiple of 16.
+/// Where the heap begins that follows the data: at the next multiple of 16.
 ///
 /// # Errors
 /// `TooLarge` where that is no address.
@@ -26,7 +26,7 @@ pub fn heap_base_after_data(data_end: u32) -> Result<u32, LinkError>
     }
 }
 
-/// The top of the stack that stands behind the data.
+/// The top of the stack that follows the data.
 ///
 /// # Errors
 /// `TooLarge` where that is no address.
@@ -39,7 +39,7 @@ pub fn stack_high_after_data(data_end: u32, stack_size: u32) -> Result<u32, Link
     }
 }
 
-/// Where the heap begins: behind the data where the stack stands first, else behind the stack.
+/// Where the heap begins: after the data where the stack stands first, else after the stack.
 ///
 /// # Errors
 /// `TooLarge` where that is no address.
@@ -87,7 +87,7 @@ pub fn ensure_stack_size_aligned(stack_size: u32) -> Result<(), LinkError>
 }
 
 /// Where the stack begins, which grows downwards: its size where it stands first, else its top
-/// behind the data.
+/// after the data.
 ///
 /// # Errors
 /// `BadStackSize` where the size is no multiple of 16, else `TooLarge` where the stack would begin

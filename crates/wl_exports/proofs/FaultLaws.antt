@@ -117,7 +117,7 @@ name_fault input name object number e unmade names (a_table holds told) =
 name_fault input name object number e unmade names (nothing fails none told) =
     is_missing unmade (entity_named input name object number names ∙ none) (ap (is_table_symbol input) names ∙ fails) told
 
--- what is told of a name that has to be exported is a fault
+-- what is reported of a name that has to be exported is a fault
 pub required_fault : (input : Input) (name : List ℕ) (e : LinkError)
     → Contains input.link.args.required_export_symbols name → IsNameFault input name e
     → Refuses (IsExportFault input) e

@@ -137,7 +137,7 @@ unless_past : (past : Bool) (x n : ℕ) → (if past then None else Some x) ≡ 
 unless_past true x n e = absurd cc
 unless_past false x n e = (refl, same_Some x n e)
 
--- a number among what is defined stands behind what is imported
+-- the index of what is defined is its number past what is imported
 record StandsBehind (imports count index n : ℕ) : Type 0 where
   pub behind : index ≡ imports + n
   pub within : n < count

@@ -58,7 +58,7 @@ own_objects input n (o ∷ objects) f h =
     (own_mapped (λ k. FunctionOf (Defined n k)) (kept_functions input n o) (λ k. refl))
     (own_objects input (n + 1) objects) f h
 
--- what comes behind the host imports
+-- what comes after the host imports
 abbrev behind_hosts : Input → List FunctionEntry
 behind_hosts input =
     made_function_part input CallCtors ++ (made_function_part input InitTls

@@ -233,6 +233,6 @@ later_exports input =
     entry_export input ++ thread_exports input ++ made_exports input ++ forced_exports input
     ++ dynamic_exports input
 
--- the exports: of those behind the memory the first of a name counts
+-- the exports: of those after the memory the first of a name counts
 abbrev pub exports : Input → List ExportEntry
 exports input = first_exports input ++ unless_taken (first_exports input) (later_exports input)

@@ -17,7 +17,7 @@ pub record IsSoundSymbol (input : Input) (object number : ℕ) : Type 0 where
   pub defined : IsSome (object_entity input (Symbol object number))
   pub no_table : is_table_symbol input (Some (Symbol object number)) ≡ false
 
--- what is told of a symbol that a name stands for
+-- what is reported of a symbol that a name stands for
 pub data IsSymbolFault (input : Input) (name : List ℕ) (object number : ℕ) (e : LinkError)
     : Type 0 where
   no_room : e ≡ OutOfMemory → IsSymbolFault input name object number e
@@ -27,13 +27,13 @@ pub data IsSymbolFault (input : Input) (name : List ℕ) (object number : ℕ) (
       → object_entity input (Symbol object number) ≡ None → e ≡ ExportNotFound name
       → IsSymbolFault input name object number e
 
--- nothing is told of the name
+-- nothing is reported of the name
 pub data IsSoundName (input : Input) (name : List ℕ) : Type 0 where
   is_made : is_made_name input name ≡ true → IsSoundName input name
   is_defined : IsSome (named_entity input name) → is_table_symbol input (named input.link name) ≡ false
       → IsSoundName input name
 
--- what is told of a name
+-- what is reported of a name
 pub data IsNameFault (input : Input) (name : List ℕ) (e : LinkError) : Type 0 where
   no_memory : e ≡ OutOfMemory → IsNameFault input name e
   is_a_table : is_made_name input name ≡ false → (object number : ℕ)
@@ -44,7 +44,7 @@ pub data IsNameFault (input : Input) (name : List ℕ) (e : LinkError) : Type 0 
       → is_table_symbol input (named input.link name) ≡ false → e ≡ ExportNotFound name
       → IsNameFault input name e
 
--- nothing is told of the names that have to be exported
+-- nothing is reported of the names that have to be exported
 abbrev pub AreSoundNames : Input → Type 0
 AreSoundNames input =
     (name : List ℕ) → Contains input.link.args.required_export_symbols name → IsSoundName input name
@@ -69,7 +69,7 @@ pub record HasRepeat (exports : List Exported) (e : LinkError) : Type 0 where
   pub same : one.name ≡ other.name
   pub told : e ≡ DuplicateExport one.name
 
--- what is told of these
+-- what is reported of these
 pub data IsRepeat (exports : List Exported) (e : LinkError) : Type 0 where
   lack : e ≡ OutOfMemory → IsRepeat exports e
   twice : HasRepeat exports e → IsRepeat exports e

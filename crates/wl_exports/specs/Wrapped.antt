@@ -1,4 +1,4 @@
--- Exports that are wrapped: they lead to wrappers, which stand behind all other functions.
+-- Exports that are wrapped: they lead to wrappers, which follow all other functions.
 use Rattle.std.specs.Prelude.{◌≡◌, ℕ, ◌+◌, ◌<◌, ◌&&◌, Bool, true, false, List, length, take, Some, slice_get}
 use Rattle.std.specs.List.{AllZip, filter}
 use Rattle.wl_module.specs.Exports.{Exported}

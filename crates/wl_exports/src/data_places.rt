@@ -29,7 +29,7 @@ fn note_places(
     Ok(())
 }
 
-/// Where exported data stands among the globals: behind all others that no object defines, first
+/// Where exported data stands among the globals: after all others that no object defines, first
 /// the data that `--export-dynamic` exports.
 pub(crate) fn data_places(
     alloc: Global,

@@ -26,7 +26,7 @@ pub struct OutputInterface<'a> {
 }
 
 /// What others see of the output: so many functions are imported, and so many are there without
-/// wrappers, which stand behind them.
+/// wrappers, which follow them.
 ///
 /// # Errors
 /// `TooLarge` where with the wrappers there are more than 4294967294 functions.

@@ -154,7 +154,7 @@ fn is_wrapped(export: &OutputExport<'_>, hosts: usize, wraps: bool) -> bool
     wraps && can_wrap(export, hosts)
 }
 
-/// Adds the wrapper of an export, and tells its index: the wrappers stand behind so many functions.
+/// Adds the wrapper of an export, and returns its index: the wrappers follow so many functions.
 fn push_wrapper<'a>(
     wrappers: &mut ItemList<Wrapper<'a>>,
     functions: usize,
@@ -199,7 +199,7 @@ fn push_wrapped<'a>(
 }
 
 /// The exports of the output, and the wrappers that some of them lead to. So many functions are
-/// imported, and so many are there without wrappers; the wrappers stand behind them, in the order
+/// imported, and so many are there without wrappers; the wrappers follow them, in the order
 /// of their exports.
 ///
 /// # Errors

@@ -70,7 +70,7 @@ module _ {K : Type 0} {R : K → K → Ordering} (o : IsTotalOrder R) where
         | inr behind ↦ behind
       ]
 
-  -- what stands in front comes first in the order
+  -- what stands earlier in the list comes first in the order
   pub in_order : (xs : List K) (i j : ℕ) (x y : K) → IsStrictlySortedBy R xs → i < j
       → slice_get xs i ≡ Some x → slice_get xs j ≡ Some y → R x y ≡ Less
   unfolding IsStrictlySortedBy
@@ -82,7 +82,7 @@ module _ {K : Type 0} {R : K → K → Ordering} (o : IsTotalOrder R) where
   in_order (z ∷ zs) (suc i) (suc j) x y up lt at under =
       in_order zs i j x y up.1 (omega (arith, lt)) at under
 
-  -- none comes in front of itself, nor in front of one behind which it stands
+  -- none comes before itself, nor before one that stands earlier in the list
   pub not_less : (xs : List K) (i j : ℕ) (x y : K) → IsStrictlySortedBy R xs → i ≤ j
       → slice_get xs i ≡ Some x → slice_get xs j ≡ Some y → R y x ≡ Less → ⊥
   not_less xs i j x y up le at under less = elim (eq-or-lt_of_le le) [

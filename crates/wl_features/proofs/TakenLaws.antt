@@ -26,7 +26,7 @@ is_same a b = bytes_eq a.now b.now
 
 -- ---- all names
 
--- what all objects use, and what the words add behind it
+-- what all objects use, and what the words add after it
 pub names_all : (link : Link) (count : ℕ) (used all : List Name) → length link.objects ≤ count
     → bytes_of used
     ≡ flat_map (λ (o : Object). names_of is_used o.features) (take count link.objects)

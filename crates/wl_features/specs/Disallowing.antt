@@ -17,7 +17,7 @@ pub record NoneBelow (objects : List Object) (name : List ℕ) (count : ℕ) : T
 abbrev pub NoneDisallows : List Object → List ℕ → Type 0
 NoneDisallows objects name = NoneBelow objects name (length objects)
 
--- the object of that number does, and none in front of it
+-- the object of that number does, and none before it
 pub record IsFirstBy (objects : List Object) (name : List ℕ) (object : ℕ) : Type 0 where
   pub by : DisallowedBy objects name object
   pub before : NoneBelow objects name object
@@ -26,7 +26,7 @@ pub record IsFirstBy (objects : List Object) (name : List ℕ) (object : ℕ) : 
 abbrev pub first_in : {S : Type 0} → HashMap (Bor (List ℕ)) ℕ S → List ℕ → Option ℕ
 first_in m name = get_by (λ k. bytes_eq name k.now) m
 
--- the first object, where one more, behind it, may disallow the feature
+-- the first object, where one more, after it, may disallow the feature
 abbrev pub with_object : Option ℕ → Bool → ℕ → Option ℕ
 with_object first is_one object = option_or first (if is_one then Some object else None)
 
@@ -41,7 +41,7 @@ pub record AreFree (objects : List Object) (names : List (List ℕ)) (count : �
   pub free : (place : ℕ) (name : List ℕ) → place < count → slice_get names place ≡ Some name
       → NoneDisallows objects name
 
--- the refusal tells the first of these names that is disallowed, and the first object that does it
+-- the refusal names the first of these that is disallowed, and the first object that does it
 pub record IsFirstClash (objects : List Object) (names : List (List ℕ)) (e : LinkError)
     : Type 0 where
   pub place : ℕ

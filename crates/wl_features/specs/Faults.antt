@@ -91,7 +91,7 @@ pub record IsConflict (link : Link) (e : LinkError) : Type 0 where
 
 -- ---- all of them
 
--- the reasons, in the order in which they are judged, and others behind them
+-- the reasons, in the order in which they are judged, and others after them
 abbrev pub feature_steps : Link → (LinkError → Type 0) → LinkError → Type 0
 feature_steps link rest =
     Step (IsBadFeature link.objects) (Step (IsSharedFault link) (Step (IsConflict link) rest))

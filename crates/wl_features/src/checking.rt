@@ -117,7 +117,7 @@ fn check_conflicts(
     Ok(())
 }
 
-/// Sees that the features of all objects fit together, and tells those that the output has: used
+/// Sees that the features of all objects fit together, and returns those that the output has: used
 /// by an object or added by the words, each once, in the order of their bytes. Without
 /// `--check-features` prefixes alone are looked at.
 ///

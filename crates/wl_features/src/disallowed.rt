@@ -32,7 +32,7 @@ impl<'f, 'a> Model for DisallowedFeatures<'f, 'a> {
     ghost invariant = { λ d. AreFirsts (found d.firsts) d.files.now (length d.files.now) };
 }
 
-/// Adds that an object disallows the feature of that name. The objects before stay in front.
+/// Adds that an object disallows the feature of that name. The objects already there stay first.
 fn add_name<'a>(
     firsts: &mut HashMap<&'a str, usize>,
     object: usize,

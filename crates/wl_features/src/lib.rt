@@ -1,5 +1,5 @@
 //! The features of the machine that objects use and refuse (tool conventions, "Target Features
-//! Section"): [`check_features`] sees that they fit together, and tells those that the output has.
+//! Section"): [`check_features`] sees that they fit together, and returns those of the output.
 #![tactic(auto)]
 
 mod checking;

@@ -8,7 +8,7 @@ use Rattle.wl_files.specs.Unread.{StopsFor, IsUnreadFor}
 use Rattle.wl_files.specs.declared.read.ReadObject.{ReadObject}
 use Rattle.wl_files.specs.declared.read.ReadObject.TheVariants.{OutOfMemory, Fault, TooLong}
 
--- where it is told: the name has these bytes and then what is left
+-- where it is known: the name has these bytes and then what is left
 abbrev pub IsFront : Option Names → List ℕ → List ℕ → Option (List ℕ) → Type 0
 IsFront None name bytes rest = ⊤
 IsFront (Some names) name bytes rest = IsSome rest × (names name ≡ prepend_known bytes rest)

@@ -36,7 +36,7 @@ bytes_left s = left_of s.files.items s.place s.given
 abbrev pub read_count : MemFiles → ℕ → ℕ
 read_count s room = min (min (length (bytes_left s)) (read_limit s)) room
 
--- they tell what each name holds, and what is left of the current file
+-- they say what each name holds, and what is left of the current file
 abbrev pub files_state : MemFiles → FilesState
 files_state s = record {
   begun = option_copied s.name;
@@ -68,7 +68,7 @@ AddsFile old new name bytes =
     (other : List ℕ)
     → new other ≡ option_or (old other) (if bytes_eq name other then Some bytes else None)
 
--- a call was made, and what was told of the calls stays
+-- a call was made, and what was set for the calls stays
 pub record IsOneCall (old new : MemFiles) : Type 0 where
   pub made : calls_made new ≡ one_more (calls_made old)
   pub failing : failing_calls new ≡ failing_calls old

@@ -34,7 +34,7 @@ abbrev pub write_count : MemSink → ℕ → ℕ
 write_count s piece_length =
     min (min piece_length (write_limit s)) (whole_room s - length (sink_bytes s))
 
--- it tells the bytes that it took
+-- it says which bytes it took
 abbrev pub sink_state : MemSink → SinkState
 sink_state s = record { taken = Some (sink_bytes s); faults = s.faults }
 
@@ -58,7 +58,7 @@ pub record IsSameSink (old new : MemSink) : Type 0 where
   pub whole : whole_room new ≡ whole_room old
   pub limit : write_limit new ≡ write_limit old
 
--- a call was made, and what was told of the calls stays
+-- a call was made, and what was set for the calls stays
 pub record IsOneWrite (old new : MemSink) : Type 0 where
   pub made : writes_made new ≡ one_more (writes_made old)
   pub failing : failing_writes new ≡ failing_writes old

@@ -3,12 +3,12 @@ use Rattle.std.specs.Prelude.{◌≡◌, ◌<◌, ◌≤◌, ◌+◌, Bool, true
 use Rattle.std.specs.Io.KnownBytes.{Consumes, IsAtEnd}
 use Rattle.wl_files.specs.Files.{Names, FilesState}
 
--- where it is told: the name has these bytes
+-- where it is known: the name has these bytes
 abbrev pub HoldsBytes : Option Names → List ℕ → List ℕ → Type 0
 HoldsBytes None name bytes = ⊤
 HoldsBytes (Some names) name bytes = names name ≡ Some bytes
 
--- where it is told: the name has more than so many bytes
+-- where it is known: the name has more than so many bytes
 abbrev pub HoldsMoreThan : Option Names → List ℕ → ℕ → Type 0
 HoldsMoreThan None name limit = ⊤
 HoldsMoreThan (Some names) name limit =
@@ -26,7 +26,7 @@ pub record IsClean (old new : FilesState) : Type 0 where
   pub faults : new.faults ≡ old.faults
   pub failed : new.failed ≡ old.failed
 
--- a read put its piece behind the bytes
+-- a read appended its piece to the bytes
 pub record GetsMore (old new : FilesState) (bytes bytes' : List ℕ) (ended : Bool) : Type 0 where
   pub piece : (piece : List ℕ) × (bytes' ≡ bytes ++ piece) × Consumes old.rest new.rest piece
   pub given : new.given + length bytes ≡ old.given + length bytes'

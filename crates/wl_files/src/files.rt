@@ -15,7 +15,7 @@ pub trait Files<'n> {
     /// How the files stand.
     ghost state: { Self → FilesState };
 
-    /// Where it is told: no call is to fail.
+    /// Where it is known: no call is to fail.
     ghost is_calm: { Self → Type 0 } = { λ _. ⊥ };
 
     /// Goes to the front of the file of this name, and closes the one before it.
@@ -42,7 +42,7 @@ pub trait Files<'n> {
     /// Reads on in the current file, and says how many bytes it gave.
     ///
     /// No bytes into a buffer with room are the file's end. Before any begin there is nothing to
-    /// read, and behind a begin that failed a read that could give bytes fails.
+    /// read, and after a begin that failed a read that could give bytes fails.
     fn read(&mut self, buf: &mut [u8]) -> Result<usize, Failed>
         ensures begun { (state self.new).begun ≡ (state self.old).begun }
         ensures closed { (state self.new).closed ≡ (state self.old).closed }

@@ -1,4 +1,4 @@
-//! Files that are read and streams that are written, as a program sees them whose contract tells
+//! Files that are read and streams that are written, as a program sees them whose contract says
 //! what comes of them.
 //!
 //! [`Files`] and [`Sink`] say what calls on them mean. [`MemFiles`] and [`MemSink`] hold bytes in

@@ -41,7 +41,7 @@ impl From<Failed> for ReadObject {
     }
 }
 
-// Reads a piece of the current file, puts it behind the bytes, and says whether that was the end.
+// Reads a piece of the current file, appends it to the bytes, and says whether that was the end.
 fn read_more<'n, F: Files<'n>>(
     files: &mut F,
     piece: &mut [u8],

@@ -12,7 +12,7 @@ pub trait Sink {
     /// How the sink stands.
     ghost state: { Self → SinkState };
 
-    /// Where it is told: it takes so many bytes more without a fault.
+    /// Where it is known: it takes so many bytes more without a fault.
     ghost takes_more: { Self → ℕ → Type 0 } = { λ _ _. ⊥ };
 
     /// Takes the front of a piece, and says how many bytes that is.
@@ -34,7 +34,7 @@ pub trait Sink {
 }
 
 /// A sink in memory, for tests: it has room for a number of bytes, takes a piece of them at a
-/// time, and fails at the calls that it is told.
+/// time, and fails at the calls that it is told to fail.
 #[derive(Drop)]
 pub struct MemSink {
     bytes: Vec<u8>,

@@ -40,7 +40,7 @@ pub fn write_all<S: Sink>(sink: &mut S, text: &[u8]) -> Result<(), WriteFault>
     // A fault isn't tried again.
     ensures clean { OnOk result ((S.state sink.new).faults ≡ (S.state sink.old).faults) }
 
-    // A sink that is told to take so much more takes it all without a fault.
+    // A sink that is known to take so much more takes it all without a fault.
     ensures calm { S.takes_more sink.old (length text.now)
         → IsOk result × ((S.state sink.new).faults ≡ (S.state sink.old).faults) }
 {

@@ -5,7 +5,7 @@ use Rattle.std.specs.List.{range_with_len}
 
 -- ---- sections
 
--- a text of less than 128 bytes behind its length
+-- a text of less than 128 bytes after its length
 abbrev pub sized : List ℕ → List ℕ
 sized text = length text ∷ text
 
@@ -19,7 +19,7 @@ custom name payload = section 0 (sized name ++ payload)
 
 -- ---- what all objects have
 
--- what stands in front of all sections, and the one type, of a function that takes and returns
+-- what comes before all sections, and the one type, of a function that takes and returns
 -- nothing
 abbrev pub front : List ℕ
 front =

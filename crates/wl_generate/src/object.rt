@@ -120,7 +120,7 @@ fn last_object(alloc: Global, number: u32) -> Result<Vec<u8>, AllocError>
 /// The object of that number, where there are so many, in the forms of the core specification 1.0,
 /// "Modules", and of the tool conventions, "Linking".
 ///
-/// It defines the functions `f` and `d`, each with the object's number behind it. The first one
+/// It defines the functions `f` and `d`, each with the object's number after it. The first one
 /// calls the function `f` of the next object, which is imported from `env`; that of the last object
 /// calls nothing.
 ///

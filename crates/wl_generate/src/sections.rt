@@ -1,4 +1,4 @@
-//! The sections of an object, each put behind what stands there.
+//! The sections of an object, each appended to what stands there.
 
 ghost use Rattle.std.specs.Prelude.{◌≡◌, ◌+◌, ◌<◌, ◌≤◌, ◌++◌, length, OnOk};
 ghost use Rattle.wl_generate.specs.Generated.{sized, section, custom, front, two_functions, code, import_of, linking, call_relocation};
@@ -11,7 +11,7 @@ pub(crate) const EMPTY_BODY: [u8; 2] = [0, 0x0b];
 /// The body of a function that calls function 0, whose number takes five bytes.
 pub(crate) const CALLING_BODY: [u8; 8] = [0, 0x10, 0x80, 0x80, 0x80, 0x80, 0, 0x0b];
 
-/// Puts a text behind its length.
+/// Puts a text after its length.
 pub(crate) fn push_sized(out: &mut Vec<u8>, text: &[u8]) -> Result<(), AllocError>
     requires { length text.now < 128 }
     ensures { OnOk result (out.new.items ≡ out.old.items ++ sized text.now) }

@@ -43,7 +43,7 @@ use Rattle.wl_linking.proofs.ImportPlaces.{parts_spanned}
 use Rattle.wl_linking.proofs.NameLaws.{HaveInEachPart, linking_has}
 use Rattle.wl_linking.proofs.OrderLaws.{tie, ties_with}
 
--- ---- items one behind the other
+-- ---- items one after the other
 
 -- what each item has that is spelled, all items of a row have
 all_items : {X : Type 0} (item : ℕ → X → List ℕ → Type 0) (P : X → Type 0) → ((place : ℕ) (x : X) (text : List ℕ) → item place x text → P x)
@@ -161,7 +161,7 @@ imported_small : (is : List Imported) → AllByRecursion ImportsSmallMemory is �
 imported_small [] h = tt
 imported_small (i ∷ is) h = one_more (memory_in i.entity) (filter_map (λ (j : Imported). memory_in j.entity) is) h.0 (imported_small is h.1)
 
--- ---- what is told of segments
+-- ---- facts about segments
 
 info_aligned : (place : ℕ) (i : SegmentInfo) (text : List ℕ) → IsInfo place i text → HasAlignment i
 info_aligned place i text (f, b, e, name, (f1, b1, e1, (n, (spelled, fit), is), flags)) = (n, leb-true n 31 fit, sym is)

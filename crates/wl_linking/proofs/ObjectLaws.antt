@@ -52,7 +52,7 @@ items_as bytes o h ss parts framed sound =
     let same = held_same bytes h.sections ss h.parts parts h.framed framed h.sound sound in
     subst (λ (us : List Section). HasItems bytes (headers_of us) parts o) same.0 (subst (λ (p : Parts). HasItems bytes (headers_of h.sections) p o) same.1 h.items)
 
--- pieces stand one behind the other
+-- pieces stand one after the other
 code_up : (bytes : List ℕ) (o : Object) → IsObject o bytes → Ascend 0 (code_pieces o)
 code_up bytes o h = subst (λ (x : Object). Ascend 0 (code_pieces x)) (sym h.items.items) (code_ascends bytes h.sections h.parts h.framed h.sound)
 

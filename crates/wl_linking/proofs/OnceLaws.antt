@@ -1,4 +1,5 @@
--- There is one code section and one data section at most, so bodies and segments stand one behind the other.
+-- There is one code section and one data section at most, so bodies and segments stand one after
+-- the other.
 use Rattle.std.proofs.Common.{◌≡◌, ◌⊎◌, ℕ, ◌+◌, ◌≤◌, eqb, List, [], ◌∷◌, ◌++◌, length, map, refl, sym, ap, subst, arith, inl, inr, length-append}
 use Rattle.std.proofs.lemmas.Bool.{eqb-true}
 use Rattle.std.proofs.lemmas.List.{append-nil}

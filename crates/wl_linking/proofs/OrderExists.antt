@@ -1,4 +1,4 @@
--- Any entries have an order: each goes in front of the first that isn't before it.
+-- Any entries have an order: each goes before the first that isn't before it.
 use Rattle.std.proofs.Common.{◌≡◌, ℕ, zero, suc, ◌<◌, ◌≤◌, Bool, true, false, cond, leb, not, List, [], ◌∷◌, length, get_or, filter, refl, ap, ◌∙◌, arith, inl, inr}
 use Rattle.std.proofs.Math.Bool.{and-false}
 use Rattle.std.specs.List.{AllByRecursion}

@@ -115,7 +115,7 @@ site_found unit (piece ∷ pieces) form offset s e =
       | inr h ↦ site_here unit piece pieces form offset s (position_of piece form offset) refl h.1
     ]
 
--- pieces behind one another: one behind a place begins there or later
+-- pieces one after another: one after a place begins there or later
 begins_behind : (place : ℕ) (pieces : List PieceOf) (k : ℕ) (piece : PieceOf) → Ascend place pieces → slice_get pieces k ≡ Some piece → place ≤ piece.place
 begins_behind place [] k piece h is = absurd cc
 begins_behind place (p ∷ pieces) zero piece h is = let same = some_is p piece is in rw (← same) h.0

@@ -31,7 +31,7 @@ pub repeat_more : {X : Type 0} (x : X) (n : ℕ) → repeat n (x ∷ []) ++ x �
 repeat_more x zero = refl
 repeat_more x (suc n) = let e : suc n + 1 ≡ suc (n + 1) = omega arith in rw (e, repeat_more x n) refl
 
--- ---- the names that symbols tell
+-- ---- the names that symbols give
 
 -- one of the first i symbols claims the import of that number, and this is its name
 pub record Tells (kind : WasmSymbolKind) (symbols : List Symbol) (i number : ℕ) (slot : Slot) : Type 0 where
@@ -50,7 +50,7 @@ pub record IsKnown (names : List (Option Slot)) (s : Symbol) : Type 0 where
   pub here : slice_get names s.index ≡ Some (Some slot)
   pub same : slot.name ≡ s.name
 
--- the names of so many imports as far as the first i symbols tell them, all alike
+-- the names of so many imports as far as the first i symbols give them, all alike
 pub record Know (kind : WasmSymbolKind) (count : ℕ) (symbols : List Symbol) (i : ℕ) (names : List (Option Slot)) : Type 0 where
   pub len : length names ≡ count
   pub known : (j : ℕ) (s : Symbol) → j < i → slice_get symbols j ≡ Some s → claims kind s ≡ true → s.index < count → IsKnown names s
@@ -77,7 +77,7 @@ know_none kind count symbols = record {
     nothing (suc n) zero slot e = cc
     nothing (suc n) (suc number) slot e = nothing n number slot e
 
--- what was told before is told still
+-- what was known before is known still
 told_on : (kind : WasmSymbolKind) (symbols : List Symbol) (i number : ℕ) (slot : Slot) → Tells kind symbols i number slot → Tells kind symbols (i + 1) number slot
 told_on kind symbols i number slot t = record {
   place = t.place;
@@ -101,7 +101,7 @@ first_or_last symbols i j s t P lt here at first last = elim (cases_lt j i) [
       subst P same last
 ]
 
--- where the last symbol tells nothing, those before it know all
+-- where the last symbol gives nothing, those before it give all
 pub know_more : (kind : WasmSymbolKind) (count : ℕ) (symbols : List Symbol) (i : ℕ) (names : List (Option Slot)) (s : Symbol) → slice_get symbols i ≡ Some s
     → (claims kind s ≡ true → s.index < count → ⊥) → Know kind count symbols i names → Know kind count symbols (i + 1) names
 know_more kind count symbols i names s here none know = record {

@@ -49,9 +49,9 @@ pub refuses_behind : (cause rest : LinkError → Type 0) (e : LinkError) → Cle
     → Refuses (Step cause rest) e
 refuses_behind cause rest e clear h = record { cause_is = λ other. behind clear (h.cause_is other) }
 
--- ---- some steps in front of others
+-- ---- some steps before others
 
--- a row of steps, by what is judged behind them
+-- a row of steps, by what is judged after them
 pub record IsRow (row : (LinkError → Type 0) → LinkError → Type 0) : Type 1 where
   pub one : (rest : LinkError → Type 0) (e : LinkError) → row NoStep e → row rest e
   pub past : (rest : LinkError → Type 0) (e : LinkError) → Clear (row NoStep) → rest e → row rest e
@@ -70,7 +70,7 @@ row_end = record {
   first = λ rest clear e h. h;
 }
 
--- one more step in front
+-- one more step first
 abbrev more : (LinkError → Type 0) → ((LinkError → Type 0) → LinkError → Type 0)
     → (LinkError → Type 0) → LinkError → Type 0
 more cause row rest = Step cause (row rest)

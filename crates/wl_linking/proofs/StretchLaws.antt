@@ -28,7 +28,7 @@ use Rattle.wl_linking.proofs.NameLaws.{inside_stands, HaveInEachPart, linking_ha
 part_within : (bytes payload text : List ℕ) (base : ℕ) → StandsAt bytes payload base → IsPart payload text → IsPart bytes text
 part_within bytes payload text base there p = (base + p.0, inside_stands bytes payload text base p.0 there p.1)
 
--- a name stands behind its length
+-- a name follows its length
 name_is_part : (bytes : List ℕ) (place : ℕ) (name text : List ℕ) → IsName place name text → StandsAt bytes text place → IsPart bytes name
 name_is_part bytes place name text (head, parts, count, utf8) there = (place + length head, behind_stands bytes text head name place parts there)
 

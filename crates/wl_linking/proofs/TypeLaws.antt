@@ -79,7 +79,7 @@ by_test : {G : Type 0} (context : SectionContext) (s : Section) (items : _) (pay
 by_test context s items payload true x y first second h = first h
 by_test context s items payload false x y first second h = second h
 
--- a custom section holds no types, whichever of the five kinds its name tells
+-- a custom section holds no types, whichever of the five kinds its name gives
 custom_within : (context : SectionContext) (s : Section) (items : _) (payload : List ℕ) → HoldsCustom (custom_kind s.name) context s items payload → all_values (part_of items).types ≤ length payload
 custom_within context s items payload =
     by_test context s items payload (bytes_eq s.name (codes "linking")) _ _ (λ h. rw h.1 (omega arith))

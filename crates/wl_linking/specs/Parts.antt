@@ -42,7 +42,7 @@ no_parts = record {
   has_data_relocations = false;
 }
 
--- what some sections hold, and others behind them
+-- what some sections hold, and others after them
 abbrev pub join : Parts → Parts → Parts
 join a b = record {
   types = a.types ++ b.types;

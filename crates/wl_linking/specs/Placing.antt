@@ -1,4 +1,4 @@
--- Where the fields of relocations are looked for: pieces stand one behind the other.
+-- Where the fields of relocations are looked for: pieces stand one after the other.
 use Rattle.std.specs.Prelude.{◌≡◌, ℕ, ◌+◌, ◌-◌, ◌≤◌, ◌&&◌, nat_le, if◌then◌else◌, List, [], ◌∷◌, length, take, drop, Option, Some, None, ⊤}
 use Rattle.wl_bytes.specs.declared.reader.TheConstants.{MAX_LEN}
 use Rattle.wl_bytes.specs.declared.read_error.ReadError.{ReadError}
@@ -19,7 +19,7 @@ pub record IsSpanned (s : Segment) : Type 0 where
 abbrev pub piece_end : PieceOf → ℕ
 piece_end piece = piece.place + length piece.bytes
 
--- each piece begins where the one before ends, or behind it
+-- each piece begins where the one before ends, or after it
 abbrev pub Ascend : ℕ → List PieceOf → Type 0
 Ascend place [] = ⊤
 Ascend place (piece ∷ pieces) = (place ≤ piece.place) × Ascend (piece_end piece) pieces

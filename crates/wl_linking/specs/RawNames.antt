@@ -5,7 +5,7 @@ use Rattle.hex.specs.Hex.{encode_lower}
 use Rattle.wl_custom.specs.Symbols.{Symbol, has_name}
 use Rattle.wl_linking.specs.Targets.{bytes_between}
 
--- a range lies within the bytes: it doesn't end before it begins, nor behind the last of them
+-- a range lies within the bytes: it doesn't end before it begins, nor after the last of them
 abbrev pub is_within : List ℕ → ℕ × ℕ → Bool
 is_within bytes range = nat_le range.0 range.1 && nat_le range.1 (length bytes)
 

@@ -41,7 +41,7 @@ abbrev pub named_as : Symbol → Slot
 named_as s = record { name = s.name; range = s.name_range }
 
 -- The name of a symbol is taken down for its import, and whether it is the one that was known
--- before. There may be no such import, and then nothing is told.
+-- before. There may be no such import, and then nothing is given.
 pub record Agrees (before after : List (Option Slot)) (s : Symbol) (answer : Bool) : Type 0 where
   pub there : (known : Option Slot) → slice_get before s.index ≡ Some known
       → (after ≡ slice_set before s.index (Some (named_as s))) × (answer ≡ is_name_of known s)

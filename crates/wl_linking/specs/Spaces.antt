@@ -88,7 +88,7 @@ memory_exists spaces None = true
 memory_exists spaces (Some memory) = nat_lt memory (spaces.imported_memories + spaces.memories)
 
 -- the number of an undefined symbol is that of an import, and else of a definition, which come
--- behind the imports
+-- after the imports
 abbrev pub number_exists : Bool → ℕ → ℕ → ℕ → Bool
 number_exists undefined imported defined index =
     if undefined then nat_lt index imported

@@ -7,12 +7,12 @@ use Rattle.wl_linking.specs.declared.error.LinkError.TheVariants.{OutOfMemory}
 pub record Clear (cause : LinkError → Type 0) : Type 0 where
   pub none : (e : LinkError) → cause e → ⊥
 
--- the cause of a step, or, where it has none, one of the steps behind it
+-- the cause of a step, or, where it has none, one of the steps after it
 pub data Step (cause rest : LinkError → Type 0) (e : LinkError) : Type 0 where
   here : cause e → Step cause rest e
   behind : Clear cause → rest e → Step cause rest e
 
--- behind the last step there is no cause
+-- after the last step there is no cause
 abbrev pub NoStep : LinkError → Type 0
 NoStep e = ⊥
 

@@ -16,7 +16,7 @@ BodyIsPart bytes b = IsPart bytes b.bytes
 abbrev pub PayloadIsPart : List ℕ → Segment → Type 0
 PayloadIsPart bytes s = IsPart bytes s.payload
 
--- the name that is told of a segment does
+-- the name that is given for a segment does
 abbrev pub InfoStands : List ℕ → SegmentInfo → Type 0
 InfoStands bytes i = IsPart bytes i.name
 
@@ -24,7 +24,7 @@ InfoStands bytes i = IsPart bytes i.name
 abbrev pub FeatureStands : List ℕ → Feature → Type 0
 FeatureStands bytes f = IsPart bytes f.name
 
--- all that an object has of its bytes, beside the names of symbols, which tell their places
+-- all that an object has of its bytes, beside the names of symbols, which give their places
 pub record PartsStandIn (bytes : List ℕ) (o : Object) : Type 0 where
   pub imports : AllByRecursion (ImportStands bytes) o.imports
   pub globals : AllByRecursion (GlobalStands bytes) o.globals

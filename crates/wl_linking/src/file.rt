@@ -125,7 +125,7 @@ impl<'a> File<'a> {
         self.contents.parts.segments.as_slice()
     }
 
-    /// What is told of segments, by their numbers (object file linking, version 2, "Segment Info
+    /// What is said of segments, by their numbers (object file linking, version 2, "Segment Info
     /// Subsection"). There may be fewer than segments, or more.
     pub fn segment_infos(&self) -> &[WasmSegmentInfo<'a>]
         ensures { result.now ≡ self.now.segment_infos }

@@ -10,7 +10,7 @@ use wl_bytes::{Form, ReadError, Why};
 use wl_custom::Target;
 use wl_module::{FramedSection, SectionHeader, SectionKind};
 
-/// The name of the section that tells of symbols and segments (object file linking, version 2,
+/// The name of the section that describes symbols and segments (object file linking, version 2,
 /// "Linking Metadata Section").
 pub const LINKING_SECTION_NAME: &str = "linking";
 
@@ -18,7 +18,7 @@ pub const LINKING_SECTION_NAME: &str = "linking";
 /// Sections").
 pub const RELOC_SECTION_PREFIX: &str = "reloc.";
 
-/// The name of the section that tells what an object uses of the machine that it is made for (tool
+/// The name of the section that says what an object uses of the machine that it is made for (tool
 /// conventions, "Target Features Section").
 pub const TARGET_FEATURES_SECTION_NAME: &str = "target_features";
 
@@ -32,7 +32,7 @@ pub(crate) enum CustomKind {
     Reloc,
     Debug,
     Features,
-    /// It tells nothing of the plan.
+    /// It says nothing of the plan.
     Other,
 }
 

@@ -39,7 +39,7 @@ pub fn memories_are_small()
 {}
 
 /// Each segment of an object ends with its bytes, within the limit of an object, and each of which
-/// something is told is aligned to a power of two.
+/// something is said is aligned to a power of two.
 pub fn segments_keep_bounds()
     ensures spanned { (o : Object) → IsWhole o → AllByRecursion IsSpanned o.segments }
     ensures aligned { (o : Object) → IsWhole o → AllByRecursion HasAlignment o.segment_infos }

@@ -1,7 +1,7 @@
 //! What a relocatable object holds: the sections of the core format, and those by which objects
 //! are linked (object file linking, version 2).
 //!
-//! [`parse_wasm_module`] reads an object, and its [`File`] tells what it holds. [`LinkError`] says
+//! [`parse_wasm_module`] reads an object, and its [`File`] says what it holds. [`LinkError`] says
 //! why objects can't be linked.
 #![tactic(auto)]
 

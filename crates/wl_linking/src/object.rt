@@ -82,7 +82,7 @@ fn read_contents(alloc: Global, bytes: &[u8]) -> Result<Contents<'_>, ReadError>
 /// # Errors
 /// `Malformed` and `Unsupported` say what is wrong with the bytes: their frame is judged first,
 /// then the sections in file order, up to the first that isn't sound, then what must hold across
-/// them. Where more than one of these last rules is broken, which one is told is left open.
+/// them. Where more than one of these last rules is broken, which one is reported is left open.
 pub fn parse_wasm_module(alloc: Global, bytes: &[u8]) -> Result<File<'_>, ReadError>
     requires { length bytes.now ≤ MAX_LEN }
     ensures { ParsesObject bytes.now result }
@@ -113,7 +113,7 @@ pub fn names_stand()
         → AllByRecursion (NameStands bytes) o.symbols }
 {}
 
-/// The names of imports, exports, features and what is told of segments, the expressions of
+/// The names of imports, exports, features and what is said of segments, the expressions of
 /// globals, bodies, and the bytes of segments stand in the object's bytes.
 pub fn parts_of_objects_stand()
     ensures { (bytes : List ℕ) (o : Object) → IsObject o bytes → PartsStandIn bytes o }

@@ -144,7 +144,7 @@ fn claims(kind: WasmSymbolKind, symbol: &WasmSymbol<'_>) -> bool
     }
 }
 
-/// The name of an import as far as symbols have told it, with its place in the object. Clauses see
+/// The name of an import as far as symbols have given it, with its place in the object. Clauses see
 /// it as a `Slot`, if there is one.
 #[derive(Drop)]
 struct KnownName<'a> {
@@ -189,7 +189,7 @@ fn is_name_of(known: &KnownName<'_>, symbol: &WasmSymbol<'_>) -> bool
 
 /// Takes down the name of a slot, and answers whether it is the one that was taken down before. The
 /// name that came last is kept, so that those that take the import's, at one place, find it there.
-/// For a slot that isn't there nothing is told.
+/// For a slot that isn't there nothing is taken down.
 fn agrees<'a>(names: &mut Vec<KnownName<'a>>, symbol: &WasmSymbol<'a>) -> bool
     requires { (known : Option Slot) → slice_get names.old.items symbol.now.index ≡ Some known
         → IsNamedByRange known symbol.now }

@@ -37,7 +37,7 @@ any_kept test same seen (x ∷ xs) any = elim (cases_Bool (list_any (same x) see
   | inr f ↦ rw f (any_kept test same (seen ++ x ∷ []) xs (any_front test seen (x ∷ []) any))
 ]
 
--- ---- of things that differ by what they are told by
+-- ---- of things that differ by a value of each
 
 in_skip : {X Y : Type 0} (f : X → Y) (front : List X) (x : X) (bs : List X) (z : Y)
     → IsIn (map f (front ++ bs)) z → IsIn (map f (front ++ x ∷ bs)) z

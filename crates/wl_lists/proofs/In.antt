@@ -15,7 +15,7 @@ Contains-here x xs = (0, omega arith, refl)
 pub Contains-there : {X : Type 0} (x y : X) (xs : List X) → Contains xs y → Contains (x ∷ xs) y
 Contains-there x y xs m = Contains-append_right (x ∷ []) xs y m
 
--- what is in a list is its first or stands behind it
+-- what is in a list is its first or follows it
 pub Contains-cons_cases : {X : Type 0} (x y : X) (xs : List X) → Contains (x ∷ xs) y
     → (x ≡ y) ⊎ Contains xs y
 Contains-cons_cases x y xs (zero, lt, e) = inl e

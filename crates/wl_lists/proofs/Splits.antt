@@ -1,7 +1,7 @@
 -- A list at a place.
 use Rattle.std.proofs.Common.{◌≡◌, ℕ, zero, suc, ◌<◌, List, [], ◌∷◌, length, drop, refl, arith, Some, slice_get}
 
--- what a list has at a place, and what it has behind it
+-- what a list has at a place, and what it has after it
 pub record Splits {X : Type 0} (xs : List X) (k : ℕ) : Type 0 where
   pub x : X
   pub here : slice_get xs k ≡ Some x

@@ -7,7 +7,7 @@ AreRows IsRow number [] [] = ⊤
 AreRows IsRow number (o ∷ os) (row ∷ rows) = IsRow number o row × AreRows IsRow (number + 1) os rows
 AreRows IsRow number _ _ = ⊥
 
--- what each of these gives, one behind the other, the first of which has that number
+-- what each of these gives, one after the other, the first of which has that number
 abbrev pub by_number : {O X : Type 0} → (ℕ → O → List X) → ℕ → List O → List X
 by_number f number [] = []
 by_number f number (o ∷ os) = f number o ++ by_number f (number + 1) os

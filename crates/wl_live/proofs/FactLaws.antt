@@ -42,7 +42,7 @@ most_steps-one one link fs gs a b = rw (references-one one link (units_of link.o
 
 -- ---- facts that are gathered one by one
 
--- what is gathered so far, with what is still to come behind it
+-- what is gathered so far, with what is still to come after it
 abbrev pub Gathered : List Object → ℕ → List Facts → Type 0
 Gathered objects k facts = (rest : List Facts) → AllZip AreFacts (drop k objects) rest → AllZip AreFacts objects (facts ++ rest)
 

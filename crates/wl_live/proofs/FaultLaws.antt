@@ -229,7 +229,7 @@ number_fault-more o b ns k n h lt at none e f =
       | inr last ↦ none e (subst (λ (x : DataIndexImm). SegmentNumberFault o b x e) (in_single n f.0 last) f.2)
     ]
 
--- what isn't want of memory is the fault that was told
+-- what isn't want of memory is the fault that was reported
 pub told_fault : (faults : ReadError → List ℕ → Type 0) (payload : List ℕ) (e : ReadError) → e ≢ read.OutOfMemory → HasCause (λ d. faults d payload) e → faults e payload
 told_fault faults payload read.OutOfMemory other f = absurd (other refl)
 told_fault faults payload (read.Malformed why) other f = f

@@ -19,7 +19,7 @@ use Rattle.wl_live.proofs.ReferenceLaws.{How, refers_to, in_reference, reference
 
 -- ---- one mention
 
--- a list with what is followed from the unit behind it
+-- a list with what is followed from the unit after it
 pub followed_here : (f : Followed) (u v : LinkUnit) (old : List LinkUnit) → f.from ≡ u → Contains ((old ++ option_to_list f.own) ++ option_to_list f.other) v ↔ (Contains old v ⊎ Contains (followed_references f) (refers_to u v))
 followed_here f u v old same =
     let own : List Reference = reference f.from f.own in

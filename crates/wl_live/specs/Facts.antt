@@ -81,7 +81,7 @@ AreSegmentUses function (body ∷ bodies) uses =
     (numbers : List DataIndexImm) × (rest : List SegmentUse) × HasNumbers numbers body.bytes
     × AreSegmentUses (function + 1) bodies rest × (uses ≡ segment_uses function numbers ++ rest)
 
--- those of one more body stand behind the others
+-- those of one more body follow the others
 abbrev pub NumbersAdded : ℕ → List ℕ → List SegmentUse → List SegmentUse → Type 0
 NumbersAdded function body old new =
     (numbers : List DataIndexImm) × HasNumbers numbers body

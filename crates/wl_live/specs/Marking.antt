@@ -1,4 +1,4 @@
--- What is marked, and which faults that tells.
+-- What is marked, and which faults that shows.
 use Rattle.std.specs.Prelude.{◌≡◌, ℕ, ◌+◌, ◌&&◌, Bool, true, false, if◌then◌else◌, List, Contains, count_by, slice_index_or}
 use Rattle.wl_bytes.specs.declared.read_error.ReadError.{ReadError}
 use Rattle.wl_reach.specs.Marks.{count_set}

@@ -70,6 +70,6 @@ object_left o =
     relocation_mentions o.object o.uses.now
     ++ (slot_mentions o.object o.slots.now ++ number_mentions o.object o.segments.now)
 
--- those of the object at hand, and of the objects behind it
+-- those of the object at hand, and of the objects after it
 abbrev pub mentions_left : Mentions → List Mention
 mentions_left m = object_left m.current ++ mentions_from m.next (drop m.next m.facts.now)

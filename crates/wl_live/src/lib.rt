@@ -2,9 +2,9 @@
 //! out by itself.
 //!
 //! [`collect_live`] keeps what a chain of references leads to from what is kept by itself, and the
-//! [`LiveSet`] tells it. [`facts`] gathers what an object says of its units, whatever names stand
+//! [`LiveSet`] holds it. [`facts`] gathers what an object says of its units, whatever names stand
 //! for; [`collect_live_from`] goes on from there. [`unit_graph`] hands out what the search goes by,
-//! [`roots_of`] and [`references_of`] parts of it, for those that tell why a unit is kept.
+//! [`roots_of`] and [`references_of`] parts of it, for those that say why a unit is kept.
 #![tactic(auto)]
 
 mod collecting;

@@ -20,7 +20,7 @@ use Rattle.wl_load.proofs.CutLaws.{split_at}
 pub undecoded_here : (number : ℕ) (f : ImageFunction) (e : ReadError) → DecodeFault e f.body → UndecodedFault number (f ∷ []) (Body number)
 undecoded_here number f e d = (0, omega arith, (e, d))
 
--- how reading a body failed, told of its function
+-- how reading a body failed, reported for its function
 pub undecoded_told : (number : ℕ) (f : ImageFunction) (e : ReadError) → HasCause (λ d. DecodeFault d f.body) e → UndecodedFault number (f ∷ []) (load_error number e)
 undecoded_told number f OutOfMemoryRead h = tt
 undecoded_told number f (Malformed why) h = undecoded_here number f (Malformed why) h
@@ -46,7 +46,7 @@ undecoded_behind (g ∷ gs) rest (c ∷ cs) f e them d = ((c.ops, them.0.ops), u
 undecoded_behind [] rest (c ∷ cs) f e them d = absurd them
 undecoded_behind (g ∷ gs) rest [] f e them d = absurd them
 
--- behind some that are read one isn't
+-- after some that are read, one isn't
 pub undecoded_at : (first number : ℕ) (parts : List ImageFunction) (i : ℕ) (f : ImageFunction) (cs : List Code) (e : LoadError) → i < length parts → f ≡ get_or parts i f → number ≡ first + i
     → AreCodesOf (take i parts) cs → UndecodedFault number (f ∷ []) e → UndecodedFault first parts e
 undecoded_at first number parts i f cs OutOfMemory lt is at them d = tt
@@ -82,7 +82,7 @@ unnested_behind : (before rest : List Code) (c : Code) → AreNested before → 
 unnested_behind [] rest c all unlike = unlike
 unnested_behind (d ∷ ds) rest c all unlike = (all.0, unnested_behind ds rest c all.1 unlike)
 
--- behind some that nest one doesn't
+-- after some that nest, one doesn't
 pub unnested_at : (first number : ℕ) (codes : List Code) (i : ℕ) (c : Code) → i < length codes → c ≡ get_or codes i c → number ≡ first + i → AreNested (take i codes) → is_nested c.ops ≡ false
     → UnnestedFault first codes (Nesting number)
 unnested_at first number codes i c lt is at all unlike =

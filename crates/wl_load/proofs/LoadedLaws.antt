@@ -30,7 +30,7 @@ use Rattle.wl_load.proofs.LocalLaws.{local_runs_reading}
 there_is_one : (text : List ℕ) → nat_lt (suc (length text)) 1 ≡ false
 there_is_one text = grind (arith, nat_tests)
 
--- a 0 in front declares none
+-- a leading 0 declares none
 none_read : (text : List ℕ) → local_runs_at (start (0 ∷ text)) ≡ Ok ([], record { position = 1; rest = text })
 unfolding leb_at take_at local_run_at local_at u32_at byte_at signed_at leb_len_from times_at
 none_read text = rw (there_is_one text) refl

@@ -49,7 +49,7 @@ OneStops p (c ∷ cs) store e after =
     ⊎ ((results : List Value) × (mid : Store)
     × CallRuns p c store (Done results) mid × OneStops p cs mid e after)
 
--- Calls that a body has noted, behind others, do what they are taken to answer: each is run on the
+-- Calls that a body has noted, after others, do what they are taken to answer: each is run on the
 -- store that the one before left, and returns just that.
 abbrev pub CallsAgree : Program → (List Call → List BodyValue) → List Call → List Call → Store
     → Store → Type 0

@@ -59,11 +59,11 @@ end_block p s =
     block_results p s.running.block.label.block_type >>= λ ts. handed ts (operands s) >>= λ _.
     left (reached 0 (length ts) s)
 
--- an else that is reached ends its if, and goes on behind it
+-- an else that is reached ends its if, and goes on after it
 abbrev pub end_then : Program → Calls → Result Calls Stop
 end_then p s = end_block p (at_place s.running.block.label.next s)
 
--- an if goes on in its first part, and on 0 behind its else or, without one, at its end
+-- an if goes on in its first part, and on 0 after its else or, without one, at its end
 abbrev pub open_if : Program → BlockType → Jump → Calls → Result Calls Stop
 open_if p type jump s =
     popped_word s >>= λ q. open_block p (block_label type jump.behind)

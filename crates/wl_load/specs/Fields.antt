@@ -5,7 +5,7 @@ use Rattle.wl_custom.specs.declared.relocation_type.FieldForm.{FieldForm}
 use Rattle.wl_custom.specs.declared.relocation_type.FieldForm.TheVariants.{PaddedUnsigned, PaddedSigned, Word}
 use Rattle.wl_numeric.specs.Memory.{little_endian, overlay}
 
--- seven bits of a number behind so many, with the high bit, since another byte follows
+-- seven bits of a number after so many, with the high bit, since another byte follows
 abbrev pub seven_bits : ℕ → ℕ → ℕ
 seven_bits count n = n / 2 ^ count % 128 + 128
 

@@ -67,7 +67,7 @@ run_storage p (Wait offset) m = storage.wait p offset m
 run_storage p (AtomicStore offset) m = storage.atomic_store offset m
 run_storage p (CompareExchange offset) m = storage.compare_exchange offset m
 
--- one operator, where the place is behind it already
+-- one operator, where the place is past it already
 abbrev pub run_instruction : Program → Instruction → Machine → Result Machine Stop
 run_instruction p (Compute f) m = on_calls m.store (compute_by f m.calls)
 run_instruction p (LoadValue l offset) m =

@@ -27,7 +27,8 @@ abbrev pub HasFunction : ImageParts → Option ℕ → Type 0
 HasFunction parts slot = IfSome slot (λ f. f < length parts.hosts + length parts.functions)
 
 -- The parts fit: memory has whole pages, no more than an image may have and than its maximum, and
--- the types and functions that are told by numbers are there. What bodies name is judged by the run.
+-- the types and functions that are named by numbers are there. What bodies name is judged by the
+-- run.
 pub record AreFit (parts : ImageParts) : Type 0 where
   pub pages : AreWholePages parts.memory
   pub maximum : IfSome parts.maximum_pages (λ n. length parts.memory ≤ n * WASM_PAGE_SIZE)
@@ -70,13 +71,13 @@ pub record IsImageOf (parts : ImageParts) (image : LoadedImage) : Type 0 where
 abbrev pub IsDecoded : ImageFunction → Type 0
 IsDecoded f = (ops : List Op) × AreTaken ops f.body
 
--- Behind so many functions the first stands whose body can't be decoded.
+-- After so many functions comes the first whose body can't be decoded.
 abbrev pub IsUndecoded : List ImageFunction → ℕ → Type 0
 IsUndecoded [] count = ⊥
 IsUndecoded (f ∷ fs) zero = (e : ReadError) × DecodeFault e f.body
 IsUndecoded (f ∷ fs) (suc count) = IsDecoded f × IsUndecoded fs count
 
--- Behind so many functions the first stands whose blocks don't nest.
+-- After so many functions comes the first whose blocks don't nest.
 abbrev pub IsUnnested : List Code → ℕ → Type 0
 IsUnnested [] count = ⊥
 IsUnnested (c ∷ cs) zero = is_nested c.ops ≡ false
@@ -104,13 +105,13 @@ LoadFault parts = FunctionsFault (length parts.hosts) parts.functions
 
 -- ---- parts of this
 
--- why a body can't be decoded, told of its function
+-- why a body can't be decoded, reported for its function
 abbrev pub load_error : ℕ → ReadError → LoadError
 load_error number OutOfMemoryRead = OutOfMemory
 load_error number (Malformed why) = Body number
 load_error number (Unsupported form) = Body number
 
--- the first of these whose body can't be decoded is told
+-- the first of these whose body can't be decoded is reported
 abbrev pub UndecodedFault : ℕ → List ImageFunction → LoadError → Type 0
 UndecodedFault first functions OutOfMemory = Unit {0}
 UndecodedFault first functions (HostGlobal index) = ⊥
@@ -120,7 +121,7 @@ UndecodedFault first functions (Body function) =
     (k : ℕ) × (function ≡ first + k) × IsUndecoded functions k
 UndecodedFault first functions (Nesting function) = ⊥
 
--- the first of these whose blocks don't nest is told
+-- the first of these whose blocks don't nest is reported
 abbrev pub UnnestedFault : ℕ → List Code → LoadError → Type 0
 UnnestedFault first codes OutOfMemory = Unit {0}
 UnnestedFault first codes (HostGlobal index) = ⊥

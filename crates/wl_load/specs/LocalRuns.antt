@@ -32,20 +32,20 @@ has_locals l = not (l.count == 0)
 abbrev pub with_locals : List LocalRun → List LocalRun
 with_locals runs = filter has_locals runs
 
--- the locals that a body declares: the declarations stand in front
+-- the locals that a body declares: the declarations come first
 abbrev pub Declares : List ℕ → List LocalRun → Type 0
 Declares body locals =
     (runs : List LocalRun) × (front : List ℕ) × (back : List ℕ) × (body ≡ front ++ back)
     × AreLocalRuns 0 runs front × (locals ≡ with_locals runs)
 
--- the run in front
+-- the next run
 unfoldable pub local_run_at : Cursor → Result (LocalRun × Cursor) ReadError
 local_run_at c = map_at run_of local_at c
 
--- the list in front
+-- the next list
 abbrev pub local_runs_at : Cursor → Result (List LocalRun × Cursor) ReadError
 local_runs_at c = list_at local_run_at c
 
--- the list in front of a body
+-- the list at the start of a body
 abbrev pub runs_of : List ℕ → Result (List LocalRun) ReadError
 runs_of body = local_runs_at (start body) >>= λ p. Ok p.0

@@ -35,7 +35,7 @@ abbrev pub end_in : Option Jump → Result Jump Stop
 end_in None = Err InvalidStop
 end_in (Some jump) = Ok jump
 
--- blocks, branches and calls; a loop begins anew at the place behind the operator
+-- blocks, branches and calls; a loop begins anew at the place after the operator
 abbrev pub control_by : Option Jump → ℕ → ControlOperator → List ℤ → Result Instruction Stop
 control_by jump place UnreachableOp zs = Ok Unreachable
 control_by jump place NopOp zs = Ok Nop
@@ -112,7 +112,7 @@ store_or None offset other = other
 store_or (Some s) None other = other
 store_or (Some s) (Some offset) other = StoreValue s offset
 
--- An operator as it is run, by the end of the block that it opens and the place behind it.
+-- An operator as it is run, by the end of the block that it opens and the place after it.
 unfoldable pub resolved : Option Jump → ℕ → Op → Instruction
 resolved jump place op =
     computation_or (computation_of op.code)

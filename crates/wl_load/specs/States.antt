@@ -151,7 +151,7 @@ left s = left_to s.running.around s
 
 -- ---- calls
 
--- the label of a function's own block, which is left behind its last operator
+-- the label of a function's own block, which is left after its last operator
 abbrev pub own_label : Code → Label
 own_label code =
     record { block_type = Listed code.type_index; is_loop = false; next = length code.ops }

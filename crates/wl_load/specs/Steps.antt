@@ -105,13 +105,13 @@ branch_table p labels s =
     if are_labels (block_count q.1) labels
     then (label_at labels q.0 >>= λ n. branch p n q.1) else Err Invalid
 
--- a loop, which begins anew behind the operator
+-- a loop, which begins anew after the operator
 abbrev pub open_loop : Program → ℕ → List ℤ → Calls → Result Calls Stop
 open_loop p place zs s = block_type_in zs >>= λ type. open_block p (loop_label type place) s
 
 -- ---- an operator of the table
 
--- Blocks, branches and calls, at a place that is behind the operator already; what needs the end
+-- Blocks, branches and calls, at a place that is past the operator already; what needs the end
 -- of its block has it by the jump.
 abbrev pub exec_control : Program → Option Jump → ℕ → ControlOperator → List ℤ → Calls
     → Result Calls Stop
@@ -173,7 +173,7 @@ exec_row p jump place (Some (Control c)) zs m =
 exec_row p jump place (Some (Stack c)) zs m = on_calls m.store (exec_stack c zs m.calls)
 exec_row p jump place (Some (Storage c)) zs m = exec_store p c zs m
 
--- one operator of a function's, where the place is behind it already
+-- one operator of a function's, where the place is past it already
 unfoldable pub exec_op : Program → Option Jump → ℕ → Op → Machine → Result Machine Stop
 exec_op p jump place op m =
     if is_numeric op then on_calls m.store (compute op m.calls)
@@ -181,7 +181,7 @@ exec_op p jump place op m =
     else if is_store op then store_value op m
     else exec_row p jump place (operation_of op) op.args m
 
--- goes on behind the operator, and does what it says
+-- goes on after the operator, and does what it says
 abbrev pub exec_at : Program → List Op → ℕ → Option Op → Machine → Result Machine Stop
 exec_at p ops place None m = Err Invalid
 exec_at p ops place (Some op) m =
@@ -199,7 +199,7 @@ step p m =
 
 -- ---- runs
 
--- how a run ends by an operator that stops, at a place of a function, behind so many others
+-- how a run ends by an operator that stops, at a place of a function, after so many others
 abbrev pub end_of : ℕ → ℕ → ℕ → Stop → RunEnd
 end_of f place used (Done vs) = DoneEnd vs
 end_of f place used (Trap kind) = TrapEnd kind

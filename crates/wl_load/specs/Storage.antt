@@ -1,5 +1,5 @@
 -- What operators on globals, memory and segments do (core specification, "Variable Instructions"
--- and "Memory Instructions"; the threads text for those behind 0xfe).
+-- and "Memory Instructions"; the threads text for those with the prefix 0xfe).
 use Rattle.std.specs.Prelude.{ℕ, ◌+◌, ◌-◌, ◌*◌, ◌^◌, ◌/◌, ◌%◌, ◌==◌, nat_le, Bool, true, false, if◌then◌else◌, List, [], ◌++◌, length, replicate, slice_get, slice_set, Result, Ok, Err}
 use Rattle.wl_bytes.specs.Parse.{◌>>=◌}
 use Rattle.wl_module.specs.declared.limits.TheConstants.{WASM_PAGE_SIZE}

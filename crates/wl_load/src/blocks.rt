@@ -14,9 +14,9 @@ use wl_ops::Op;
 /// Where a block ends.
 #[derive(Clone, Copy)]
 pub struct Jump {
-    /// The place behind its end.
+    /// The place after its end.
     pub behind: u32,
-    /// The place where it goes on if it is an `if` on 0: behind its `else` or, without one, at its
+    /// The place where it goes on if it is an `if` on 0: after its `else` or, without one, at its
     /// end.
     pub otherwise: u32,
 }
@@ -82,7 +82,7 @@ pub(crate) fn is_nested(alloc: Global, ops: &[Op]) -> Result<bool, AllocError>
     Ok(is_ended)
 }
 
-/// What an operator at a place makes of the ends of the blocks that are open behind it, the
+/// What an operator at a place makes of the ends of the blocks that are open after it, the
 /// innermost one's last: it answers with the end of the block that it opens.
 fn pass_back(op: &Op, place: u32, ends: &mut Vec<Jump>) -> Result<Option<Jump>, AllocError>
     requires { place < MAX_LEN }
@@ -105,7 +105,7 @@ fn pass_back(op: &Op, place: u32, ends: &mut Vec<Jump>) -> Result<Option<Jump>, 
     Ok(None)
 }
 
-/// Behind an `else` at a place the block goes on that ends last.
+/// After an `else` at a place the block goes on that ends last.
 fn pass_else(place: u32, ends: &mut Vec<Jump>) -> Result<(), AllocError>
     requires { place < MAX_LEN }
     ensures { OnOk result ((rest : List Operator) (op : Operator)

@@ -36,7 +36,7 @@ pub(crate) fn end_block(alloc: Global, program: &Program, stack: &mut Stack) -> 
     stack.leave(alloc)
 }
 
-/// Ends the first part of an `if`, behind which it goes on.
+/// Ends the first part of an `if`, after which it goes on.
 pub(crate) fn end_then(alloc: Global, program: &Program, stack: &mut Stack) -> Result<(), Stop>
     ensures { Does result stack.new (end_then program.now stack.old) }
 {

@@ -21,7 +21,7 @@ pub fn lay_bytes(under: &mut Vec<u8>, place: usize, bytes: &[u8])
     }
 }
 
-/// Seven bits of a number behind so many, with the high bit.
+/// Seven bits of a number after so many, with the high bit.
 fn seven_bits(number: u32, count: u32) -> u8
     requires { count < 32 }
     ensures { result ≡ number / 2 ^ count % 128 + 128 }

@@ -32,7 +32,7 @@ fn decode(alloc: Global, body: &[u8]) -> Result<(Vec<LocalRun>, Vec<Op>), ReadEr
     Ok((with_locals(runs), ops))
 }
 
-/// Why a body can't be decoded, told of its function.
+/// Why a body can't be decoded, reported for its function.
 fn load_error(error: ReadError, number: u32) -> LoadError
     ensures { result ≡ load_error number error }
 {
@@ -99,7 +99,7 @@ fn check_nesting(alloc: Global, first: u32, functions: &[Function]) -> Result<()
     Ok(())
 }
 
-/// All functions, behind so many of the host's.
+/// All functions, after so many of the host's.
 #[tactic(auto, using(crate::proofs::LoadLaws::codes_counted))]
 pub(crate) fn read_functions(
     alloc: Global,

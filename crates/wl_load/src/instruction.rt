@@ -13,7 +13,7 @@ pub enum StorageInstruction {
     GlobalGet(u32),
     /// Sets a global.
     GlobalSet(u32),
-    /// Tells the size of memory.
+    /// Gives the size of memory.
     MemorySize,
     /// Adds pages to memory.
     MemoryGrow,
@@ -25,13 +25,13 @@ pub enum StorageInstruction {
     MemoryCopy,
     /// Fills memory with a byte.
     MemoryFill,
-    /// Wakes those who wait at a place, behind this offset.
+    /// Wakes those who wait at a place, with this offset.
     Notify(u32),
-    /// Waits at a place, behind this offset.
+    /// Waits at a place, with this offset.
     Wait(u32),
-    /// Stores a number, behind this offset.
+    /// Stores a number, with this offset.
     AtomicStore(u32),
-    /// Stores a number where an expected one stands, behind this offset.
+    /// Stores a number where an expected one stands, with this offset.
     CompareExchange(u32),
 }
 
@@ -40,9 +40,9 @@ pub enum StorageInstruction {
 pub enum Instruction {
     /// Computes a value of operands.
     Compute(Computation),
-    /// Loads a value, behind this offset.
+    /// Loads a value, with this offset.
     LoadValue(Load, usize),
-    /// Stores a value, behind this offset.
+    /// Stores a value, with this offset.
     StoreValue(Store, usize),
     /// Traps.
     Unreachable,

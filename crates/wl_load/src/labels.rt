@@ -43,7 +43,7 @@ fn needed_for(labels: &[i64]) -> Option<u64>
 }
 
 impl Labels {
-    /// The labels that stand behind their count.
+    /// The labels that follow their count.
     pub(crate) fn new(alloc: Global, args: &[i64]) -> Result<Self, AllocError>
         ensures { IfOk result (λ labels. labels ≡ labels_in args.now) }
     {

@@ -28,7 +28,7 @@ impl<'a> Item<'a> for LocalRun {
     }
 }
 
-/// The local declarations that stand in front.
+/// The local declarations that come first.
 #[tactic(auto, using(wl_bytes::proofs::Loops::list_kept))]
 fn read_all(alloc: Global, reader: &mut Reader<'_>) -> Result<Vec<LocalRun>, ReadError>
     ensures { Yields (λ v. v.items) result reader.new (local_runs_at reader.old) }

@@ -7,7 +7,7 @@ pub enum ControlOperator {
     Unreachable,
     /// Does nothing.
     Nop,
-    /// Opens a block that is left behind its end.
+    /// Opens a block that is left after its end.
     Block,
     /// Opens a block that begins anew.
     Loop,
@@ -57,7 +57,7 @@ pub enum StoreOperator {
     GlobalGet,
     /// Sets a global.
     GlobalSet,
-    /// Tells the size of memory.
+    /// Gives the size of memory.
     MemorySize,
     /// Adds pages to memory.
     MemoryGrow,

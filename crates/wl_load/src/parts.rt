@@ -114,7 +114,7 @@ fn is_within(memory: &[u8], maximum_pages: Option<u64>) -> bool
 impl ImageParts {
     /// Whether the parts fit together, as [`Image::new`](crate::Image::new) asks: memory has whole
     /// pages, no more than an image may have and than its maximum, and the types and functions that
-    /// are told by numbers are there.
+    /// are named by numbers are there.
     pub fn are_fit(&self) -> bool
         ensures { IsTrue result ↔ AreFit self.now }
     {

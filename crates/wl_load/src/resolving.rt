@@ -58,7 +58,7 @@ fn block_of_parts(jump: Option<Jump>, args: &[i64]) -> Result<Instruction, Stop>
     }
 }
 
-/// Blocks, branches and calls. The place is that behind the operator.
+/// Blocks, branches and calls. The place is that after the operator.
 fn control(
     alloc: Global,
     jump: Option<Jump>,
@@ -164,7 +164,7 @@ fn settle(alloc: Global, jump: Option<Jump>, place: u32, op: &Op) -> Result<Inst
     }
 }
 
-/// An operator as it is run, by the end of the block that it opens and the place behind it.
+/// An operator as it is run, by the end of the block that it opens and the place after it.
 #[tactic(auto, unfolding(crate::specs::Resolving::resolved))]
 pub(crate) fn resolve(
     alloc: Global,

@@ -46,7 +46,7 @@ fn start_code(program: &Program, function: u32) -> Result<&Function, Stop>
     }
 }
 
-/// How a run ends by an operator of a function that stops, behind so many operators.
+/// How a run ends by an operator of a function that stops, after so many operators.
 fn end_of(stop: Stop, function: u32, operator: u32, used: u64) -> RunEnd
     ensures { result ≡ end_of function operator used stop }
 {

@@ -1,5 +1,5 @@
 //! The calls that are open. All their operands lie in one list, and so do their locals and the
-//! blocks round the innermost ones: marks and frames tell where each of them begins.
+//! blocks round the innermost ones: marks and frames say where each of them begins.
 
 ghost use Rattle.std.specs.Prelude.{◌≡◌, ◌≤◌, ◌<◌, ◌++◌, ◌+◌, ◌-◌, [], ◌∷◌, length, take, replicate, IfOk, IfSome, IfNone, OnOk, OnErr};
 ghost use Rattle.wl_load.specs.Values.{last_of, zero_of, zeros};

@@ -58,7 +58,7 @@ pub(crate) fn global_set(index: u32, store: &mut Store, stack: &mut Stack) -> Re
     Ok(())
 }
 
-/// Tells how many pages memory has.
+/// Returns how many pages memory has.
 pub(crate) fn memory_size(store: &Store, stack: &mut Stack) -> Result<(), Stop>
     ensures { Does result (machine stack.new store.now)
         (memory_size (machine stack.old store.now)) }
@@ -67,7 +67,7 @@ pub(crate) fn memory_size(store: &Store, stack: &mut Stack) -> Result<(), Stop>
     Ok(())
 }
 
-/// Adds pages to memory, and tells how many it had; -1 where it would pass the limit.
+/// Adds pages to memory, and returns how many it had; -1 where it would pass the limit.
 pub(crate) fn memory_grow(
     program: &Program,
     store: &mut Store,

@@ -12,7 +12,7 @@ use crate::stop::Stop;
 use crate::store::{Store, check_within, pop_words};
 use wl_numeric::{TrapKind, Value, bytes_are_digits};
 
-/// The place that an address and an offset tell, where four bytes lie in memory, at a multiple
+/// The place that an address and an offset give, where four bytes lie in memory, at a multiple
 /// of 4.
 fn word_place(address: u32, offset: u32, memory: &Memory) -> Result<usize, Stop>
     ensures value { Gives (λ _. tt) result (at_word (address + offset) memory.now) }

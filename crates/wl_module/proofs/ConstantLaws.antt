@@ -56,7 +56,7 @@ first_reading : IsReading (IsCoded step_code) (CodedFault step_code (λ _. Unsup
 unfolding first_at
 first_reading = coded_reading step_code all_steps (λ _. Unsupported OtherOperator) all_first
 
--- ---- what stands behind them
+-- ---- what follows them
 
 signed_number_reading : (f : LebForm) → IsReading (IsSigned (form_of f)) (SignedNumberFault (form_of f)) (signed_number_at (form_of f))
 signed_number_reading f = error_reading (IsSigned (form_of f)) (SignedFault (form_of f)) (bytes.signed_at (form_of f)) read_error (signed_reading f)
@@ -147,7 +147,7 @@ expression_reading = reading_by IsExpression ExpressionFault expression_at
 
 -- ---- the loop
 
--- behind some operators of the expression at a place
+-- after some operators of the expression at a place
 pub record AreSkipped (os : List ConstOperator) (a b : Cursor) : Type 0 where
   pub stand : Takes (Items IsOperator) os a b
 

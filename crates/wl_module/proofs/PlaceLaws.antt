@@ -35,7 +35,7 @@ before_stands bytes text front back place parts h = record {
   len = h.len;
 }
 
--- and what comes next stands behind that
+-- and what comes next follows that
 pub behind_stands : (bytes text front back : List ℕ) (place : ℕ) → text ≡ front ++ back → StandsAt bytes text place → StandsAt bytes back (place + length front)
 behind_stands bytes text front back place parts h = record {
   front = h.front ++ front;
@@ -81,7 +81,7 @@ seen_stand {X} {Y} f stands seen spells h law ys payload s =
 
 -- ---- the items
 
--- a name stands behind its length
+-- a name follows its length
 name_stands : (bytes : List ℕ) (place : ℕ) (name text : List ℕ) → IsName place name text → StandsAt bytes text place → (at : ℕ) × StandsAt bytes name at × (at + length name ≡ place + length text)
 name_stands bytes place name text (head, parts, count, utf8) there =
     (place + length head, behind_stands bytes text head name place parts there, omega (arith, ap length parts, length-append head name))

@@ -49,11 +49,11 @@ all_steps =
     ∷ Some I32Add ∷ Some I32Sub ∷ Some I32Mul ∷ Some I64Add ∷ Some I64Sub ∷ Some I64Mul
     ∷ Some Vector ∷ []
 
--- the first byte in front
+-- the next byte
 unfoldable pub first_at : Cursor → Result (Option ConstOperator × Cursor) ReadError
 first_at c = coded_at step_code all_steps (λ _. Unsupported OtherOperator) c
 
--- ---- what stands behind them
+-- ---- what follows them
 
 -- the byte of a type of references
 abbrev pub IsReference : ℕ → ValType → List ℕ → Type 0
@@ -65,7 +65,7 @@ ReferenceFault =
     WhereFault (IsCoded value_type_code) (CodedFault value_type_code (λ _. Unsupported Operator))
     (unless is_reference (Unsupported Operator))
 
--- such a type in front
+-- the next such type
 unfoldable pub reference_at : Cursor → Result (Unit {0} × Cursor) ReadError
 reference_at c =
     any_at (where_at (coded_at value_type_code value_types (λ _. Unsupported Operator)) is_reference
@@ -86,13 +86,13 @@ VectorFault =
     (WhereFault IsU32 NumberFault (unless is_vector_const (Unsupported OtherOperator)))
     (λ _. StretchFault 16)
 
--- both in front
+-- the next such number and bytes
 unfoldable pub vector_at : Cursor → Result (Unit {0} × Cursor) ReadError
 vector_at c =
     any_at (then_at (where_at number_at is_vector_const (Unsupported OtherOperator))
     (λ _. stretch_at 16)) c
 
--- what stands behind the first byte of each operator: a number, so many bytes, a type, or nothing
+-- what follows the first byte of each operator: a number, so many bytes, a type, or nothing
 abbrev pub IsConstImmediate : ConstOperator → ℕ → Unit {0} → List ℕ → Type 0
 IsConstImmediate I32Const = Any (IsSigned s32_form)
 IsConstImmediate I64Const = Any (IsSigned s64_form)
@@ -116,7 +116,7 @@ ConstImmediateFault RefFunc = NumberFault
 ConstImmediateFault Vector = VectorFault
 ConstImmediateFault _ = NoFault
 
--- what stands in front
+-- what comes next
 unfoldable pub const_immediate_at : ConstOperator → Cursor → Result (Unit {0} × Cursor) ReadError
 const_immediate_at I32Const c = any_at (signed_number_at s32_form) c
 const_immediate_at I64Const c = any_at (signed_number_at s64_form) c
@@ -130,11 +130,11 @@ const_immediate_at _ c = nothing_at c
 
 -- ---- operators
 
--- an operator: its first byte, and what stands behind it
+-- an operator: its first byte, and what follows it
 abbrev pub IsOperator : ℕ → ConstOperator → List ℕ → Type 0
 IsOperator place o text = Then (IsCoded operator_code) IsConstImmediate place (o, tt) text
 
--- behind the end nothing more belongs to the expression
+-- after the end nothing more belongs to the expression
 abbrev pub IsStepImmediate : Option ConstOperator → ℕ → Unit {0} → List ℕ → Type 0
 IsStepImmediate None = IsNothing
 IsStepImmediate (Some o) = IsConstImmediate o
@@ -143,41 +143,41 @@ IsStepImmediate (Some o) = IsConstImmediate o
 abbrev pub IsStep : ℕ → Option ConstOperator → List ℕ → Type 0
 IsStep place o text = Then (IsCoded step_code) IsStepImmediate place (o, tt) text
 
--- what is wrong behind the first byte
+-- what is wrong after the first byte
 abbrev pub StepImmediateFault : Option ConstOperator → ReadError → Cursor → Type 0
 StepImmediateFault None = NoFault
 StepImmediateFault (Some o) = ConstImmediateFault o
 
--- there is no byte, or one that begins no operator and isn't the end; or what stands behind it is
+-- there is no byte, or one that begins no operator and isn't the end; or what follows it is
 -- at fault
 abbrev pub StepFault : ReadError → Cursor → Type 0
 StepFault =
     ThenFault (IsCoded step_code) (CodedFault step_code
     (λ _. Unsupported OtherOperator)) StepImmediateFault
 
--- what stands behind the first byte in front
+-- what follows the first byte
 abbrev pub step_immediate_at : Option ConstOperator → Cursor → Result (Unit {0} × Cursor) ReadError
 step_immediate_at None c = nothing_at c
 step_immediate_at (Some o) c = const_immediate_at o c
 
--- the operator or the end in front
+-- the next operator or the end
 unfoldable pub step_at : Cursor → Result (Option ConstOperator × Cursor) ReadError
 step_at c = map_at (λ p. p.0) (then_at first_at step_immediate_at) c
 
 -- ---- expressions
 
--- operators, and then the byte 0x0b, which isn't told
+-- operators, and then the byte 0x0b, which isn't kept
 abbrev pub IsExpression : ℕ → List ℕ → List ℕ → Type 0
 IsExpression place body text =
     (os : List ConstOperator) × (text ≡ body ++ 0x0b ∷ []) × Items IsOperator place os body
 
--- behind some operators stands neither another one nor the end
+-- after some operators stands neither another one nor the end
 abbrev pub ExpressionFault : ReadError → Cursor → Type 0
 ExpressionFault e from =
     (os : List ConstOperator) × (mid : Cursor) × Takes (Items IsOperator) os from mid
     × StepFault e mid
 
--- the expression in front
+-- the next expression
 unfoldable pub expression_at : Cursor → Result (List ℕ × Cursor) ReadError
 expression_at c =
     ended_at step_at (Malformed Truncated) c

@@ -29,7 +29,7 @@ export_from p = record { name = p.0; kind = p.1.0; index = p.1.1 }
 abbrev pub IsExport : ℕ → Exported → List ℕ → Type 0
 IsExport = Seen (Then IsName (λ _. Then IsExternalKind (λ _. IsU32))) export_from
 
--- the export in front
+-- the next export
 unfoldable pub export_at : Cursor → Result (Exported × Cursor) ReadError
 export_at c =
     map_at export_from (then_at word_at (λ _. then_at external_kind_at (λ _. number_at))) c

@@ -27,7 +27,7 @@ IsMutability = IsCoded mutability_code
 abbrev pub MutabilityFault : ReadError → Cursor → Type 0
 MutabilityFault = CodedFault mutability_code (λ _. Malformed BadByte)
 
--- what the byte in front says
+-- what the next byte says
 unfoldable pub mutability_at : Cursor → Result (Bool × Cursor) ReadError
 mutability_at c = coded_at mutability_code (false ∷ true ∷ []) (λ _. Malformed BadByte) c
 
@@ -43,7 +43,7 @@ IsGlobalType = Seen (Then IsValueType (λ _. IsMutability)) global_type_from
 abbrev pub GlobalTypeFault : ReadError → Cursor → Type 0
 GlobalTypeFault = ThenFault IsValueType ValueTypeFault (λ _. MutabilityFault)
 
--- the global type in front
+-- the next global type
 unfoldable pub global_type_at : Cursor → Result (GlobalType × Cursor) ReadError
 global_type_at c = map_at global_type_from (then_at value_type_at (λ _. mutability_at)) c
 
@@ -68,7 +68,7 @@ IsGlobal = Seen (Then IsGlobalType (λ _. IsExpression)) global_from
 abbrev pub GlobalFault : ReadError → Cursor → Type 0
 GlobalFault = ThenFault IsGlobalType GlobalTypeFault (λ _. ExpressionFault)
 
--- the global in front
+-- the next global
 unfoldable pub global_at : Cursor → Result (DefinedGlobal × Cursor) ReadError
 global_at c = map_at global_from (then_at global_type_at (λ _. expression_at)) c
 

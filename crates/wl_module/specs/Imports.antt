@@ -41,7 +41,7 @@ IsExternalKind = IsCoded kind_code
 abbrev pub ExternalKindFault : ReadError → Cursor → Type 0
 ExternalKindFault = CodedFault kind_code kind_error
 
--- the kind in front
+-- the next kind
 unfoldable pub external_kind_at : Cursor → Result (ExternalKind × Cursor) ReadError
 external_kind_at c = coded_at kind_code (Func ∷ Table ∷ Memory ∷ Global ∷ []) kind_error c
 
@@ -61,7 +61,7 @@ EntityFault Table = TableTypeFault
 EntityFault Memory = MemoryTypeFault
 EntityFault Global = GlobalTypeFault
 
--- the type of something of that kind in front
+-- the type that comes next, of something of that kind
 unfoldable pub entity_at : ExternalKind → Cursor → Result (ImportEntity × Cursor) ReadError
 entity_at Func c = map_at (λ n. AFunction n) number_at c
 entity_at Table c = map_at (λ t. ATable t) table_type_at c
@@ -99,7 +99,7 @@ ImportFault =
     ThenFault IsName WordFault (λ _. ThenFault IsPlacedName WordFault
     (λ _. ThenFault IsExternalKind ExternalKindFault EntityFault))
 
--- the import in front
+-- the next import
 unfoldable pub import_at : Cursor → Result (PlacedImported × Cursor) ReadError
 import_at c =
     map_at import_from (then_at word_at

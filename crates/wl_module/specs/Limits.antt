@@ -47,7 +47,7 @@ IsMemoryFlags = IsCoded flags_code
 abbrev pub MemoryFlagsFault : ReadError → Cursor → Type 0
 MemoryFlagsFault = CodedFault flags_code memory_flags_error
 
--- the flags in front
+-- the next flags
 unfoldable pub memory_flags_at : Cursor → Result (LimitsFlags × Cursor) ReadError
 memory_flags_at c = coded_at flags_code all_flags memory_flags_error c
 
@@ -65,7 +65,7 @@ TableFlagsFault =
     WhereFault (IsCoded flags_code) (CodedFault flags_code table_flags_error)
     (unless is_own (Unsupported TableForm))
 
--- the flags in front
+-- the next flags
 unfoldable pub table_flags_at : Cursor → Result (LimitsFlags × Cursor) ReadError
 table_flags_at c =
     where_at (coded_at flags_code all_flags table_flags_error) is_own (Unsupported TableForm) c
@@ -87,11 +87,11 @@ LimitsFault flags wrong =
     ThenFault flags wrong (λ f. ThenFault IsU32 NumberFault
     (λ _. WhenFault NumberFault f.has_maximum))
 
--- the sizes in front, behind such flags
+-- the next sizes, after such flags
 unfoldable pub sizes_at : LimitsFlags → Cursor → Result ((ℕ × Option ℕ) × Cursor) ReadError
 sizes_at f c = then_at number_at (λ _. when_at number_at f.has_maximum) c
 
--- the limits in front
+-- the next limits
 abbrev pub limits_at : (Cursor → Result (LimitsFlags × Cursor) ReadError) → Cursor
     → Result (Limits × Cursor) ReadError
 limits_at flags c = map_at limits_from (then_at flags sizes_at) c
@@ -131,7 +131,7 @@ MemoryTypeFault =
     WhereFault (IsLimits IsMemoryFlags) (LimitsFault IsMemoryFlags MemoryFlagsFault)
     (unless memory_limits_fit (Malformed BadLimits))
 
--- the memory in front
+-- the next memory
 unfoldable pub memory_type_at : Cursor → Result (MemoryType × Cursor) ReadError
 memory_type_at c =
     map_at memory_of (where_at (limits_at memory_flags_at) memory_limits_fit (Malformed BadLimits))
@@ -159,11 +159,11 @@ TableTypeFault =
     (λ _. WhereFault (IsLimits IsTableFlags) (LimitsFault IsTableFlags TableFlagsFault)
     (unless limits_fit (Malformed BadLimits)))
 
--- the type of the elements in front
+-- the next element type
 unfoldable pub elements_at : Cursor → Result (Unit {0} × Cursor) ReadError
 elements_at c = coded_at elements_code (tt ∷ []) (λ _. Unsupported OtherElements) c
 
--- the table in front
+-- the next table
 unfoldable pub table_type_at : Cursor → Result (TableType × Cursor) ReadError
 table_type_at c =
     map_at table_of (then_at elements_at

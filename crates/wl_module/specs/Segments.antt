@@ -18,7 +18,7 @@ use Rattle.wl_module.specs.Constants.{IsExpression, ExpressionFault, expression_
 
 -- ---- flags
 
--- the byte in front of a segment
+-- the first byte of a segment
 abbrev pub segment_code : SegmentFlag → ℕ
 segment_code InMemory = 0
 segment_code InNoMemory = 1
@@ -28,7 +28,7 @@ segment_code InMemoryOf = 2
 abbrev pub SegmentFlagFault : ReadError → Cursor → Type 0
 SegmentFlagFault = CodedFault segment_code (λ _. Malformed BadByte)
 
--- the flag in front
+-- the next flag
 unfoldable pub segment_flag_at : Cursor → Result (SegmentFlag × Cursor) ReadError
 segment_flag_at c =
     coded_at segment_code (InMemory ∷ InNoMemory ∷ InMemoryOf ∷ []) (λ _. Malformed BadByte) c
@@ -48,7 +48,7 @@ TargetFault InMemory = ExpressionFault
 TargetFault InNoMemory = NoFault
 TargetFault InMemoryOf = ThenFault IsU32 NumberFault (λ _. ExpressionFault)
 
--- the memory that is named in front
+-- the memory that is named next
 unfoldable pub target_at : SegmentFlag → Cursor → Result (Option ℕ × Cursor) ReadError
 target_at InMemory c = map_at (λ _. Some 0) expression_at c
 target_at InNoMemory c = map_at (λ _. None) nothing_at c
@@ -61,7 +61,7 @@ abbrev pub AreCounted : ℕ → List ℕ → List ℕ → Type 0
 AreCounted place bytes text =
     (head : List ℕ) × (text ≡ head ++ bytes) × IsU32 place (length bytes) head
 
--- the bytes in front
+-- the next bytes
 unfoldable pub counted_at : Cursor → Result (List ℕ × Cursor) ReadError
 counted_at c = map_at (λ p. p.1) (then_at number_at stretch_at) c
 
@@ -91,7 +91,7 @@ segment_kind InMemoryOf = Active
 abbrev pub IsSegmentText : ℕ → SegmentFlag × (Option ℕ × List ℕ) → List ℕ → Type 0
 IsSegmentText = Then (IsCoded segment_code) (λ f. Then (IsTarget f) (λ _. AreCounted))
 
--- that text, of which the segment tells the place and the size
+-- that text, of which the segment gives the place and the size
 abbrev pub IsSegment : ℕ → Targeted → List ℕ → Type 0
 IsSegment place t text =
     (f : SegmentFlag) × IsSegmentText place (f, (t.memory_index, t.segment.payload)) text
@@ -117,7 +117,7 @@ segment_from place len p = record {
   memory_index = p.1.0;
 }
 
--- the segment in front
+-- the next segment
 unfoldable pub segment_at : Cursor → Result (Targeted × Cursor) ReadError
 segment_at c =
     measured_at segment_from (then_at segment_flag_at

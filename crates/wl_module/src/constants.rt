@@ -81,7 +81,7 @@ fn skip_reference(reader: &mut Reader<'_>) -> Result<(), ReadError>
     }
 }
 
-/// What stands behind the first byte of a vector operator.
+/// What follows the first byte of a vector operator.
 #[tactic(auto, unfolding(crate::specs::Constants::vector_at))]
 fn skip_vector(reader: &mut Reader<'_>) -> Result<(), ReadError>
     ensures { Yields (λ u. u) result reader.new (vector_at reader.old) }
@@ -93,7 +93,7 @@ fn skip_vector(reader: &mut Reader<'_>) -> Result<(), ReadError>
     Ok(())
 }
 
-/// What stands behind an operator's first byte.
+/// What follows an operator's first byte.
 #[tactic(auto, unfolding(crate::specs::Constants::const_immediate_at))]
 fn skip_immediate(operator: ConstOperator, reader: &mut Reader<'_>) -> Result<(), ReadError>
     ensures { Yields (λ u. u) result reader.new (const_immediate_at operator reader.old) }
@@ -126,7 +126,7 @@ fn skip_immediate(operator: ConstOperator, reader: &mut Reader<'_>) -> Result<()
     Ok(())
 }
 
-/// The operator in front, or `None` at the end.
+/// The next operator, or `None` at the end.
 #[tactic(auto, unfolding(crate::specs::Constants::step_at))]
 fn read_step(reader: &mut Reader<'_>) -> Result<Option<ConstOperator>, ReadError>
     ensures { Yields (λ o. o) result reader.new (step_at reader.old) }
@@ -138,7 +138,7 @@ fn read_step(reader: &mut Reader<'_>) -> Result<Option<ConstOperator>, ReadError
     Ok(first)
 }
 
-/// The expression in front, without its end. What it computes isn't looked at.
+/// The next expression, without its end. What it computes isn't looked at.
 pub(crate) fn read_expression<'a>(reader: &mut Reader<'a>) -> Result<&'a [u8], ReadError>
     ensures { Yields (λ b. b.now) result reader.new (expression_at reader.old) }
 {

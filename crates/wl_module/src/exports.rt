@@ -50,7 +50,7 @@ impl<'a> Item<'a> for OutputExport<'a> {
 /// order, their names slices of the payload. The indices aren't looked at.
 ///
 /// A kind above 4 is `Malformed(BadByte)`, the kind 4 of an exception tag `Unsupported(Tag)`; each
-/// is judged in front of the index.
+/// is judged before the index.
 pub fn read_exports(alloc: Global, payload: &[u8]) -> Result<Vec<OutputExport<'_>>, ReadError>
     requires { length payload.now ≤ MAX_LEN }
     ensures reads { ReadsWhole (λ v. v.items) AreExports ExportsFault payload.now result }

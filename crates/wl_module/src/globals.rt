@@ -92,7 +92,7 @@ fn read_mutability(reader: &mut Reader<'_>) -> Result<bool, ReadError>
     }
 }
 
-/// The global type in front.
+/// The next global type.
 #[tactic(auto, unfolding(crate::specs::Globals::global_type_at))]
 pub(crate) fn read_global_type(reader: &mut Reader<'_>) -> Result<GlobalType, ReadError>
     ensures { Yields (λ g. g) result reader.new (global_type_at reader.old) }
@@ -108,7 +108,7 @@ pub(crate) fn read_global_type(reader: &mut Reader<'_>) -> Result<GlobalType, Re
 /// Reads the payload of a global section (core specification, "Global Section"): the globals that
 /// the module defines, in order. Their expressions are slices of the payload.
 ///
-/// A byte other than 0 and 1 behind the value type is `Malformed(BadByte)`. Another operator than
+/// A byte other than 0 and 1 after the value type is `Malformed(BadByte)`. Another operator than
 /// those of constant expressions is `Unsupported(ConstOperator)`, a null reference of another type
 /// than `funcref` and `externref` `Unsupported(Operator)`. The expressions aren't typed, and the
 /// indices in them aren't looked at.

@@ -57,7 +57,7 @@ impl<'a> Model for Import<'a> {
     ghost view = { λ i. record { origin = i.module.now; name = i.name.now; entity = i.entity } };
 }
 
-/// An import that tells where its name stands. Clauses see it as a `PlacedImported`.
+/// An import that says where its name stands. Clauses see it as a `PlacedImported`.
 #[derive(Drop)]
 pub struct PlacedImport<'a> {
     /// The import.
@@ -156,7 +156,7 @@ impl<'a> Import<'a> {
     }
 }
 
-/// The byte that tells the kind of what is imported or exported.
+/// The byte that gives the kind of what is imported or exported.
 #[tactic(auto, unfolding(crate::specs::Imports::external_kind_at))]
 pub(crate) fn read_external_kind(reader: &mut Reader<'_>) -> Result<ExternalKind, ReadError>
     ensures { Yields (λ k. k) result reader.new (external_kind_at reader.old) }
@@ -184,7 +184,7 @@ fn read_entity(kind: ExternalKind, reader: &mut Reader<'_>) -> Result<ImportEnti
     }
 }
 
-/// The import in front, with the place of its name.
+/// The next import, with the place of its name.
 #[tactic(auto, unfolding(crate::specs::Imports::import_at))]
 fn read_import<'a>(reader: &mut Reader<'a>) -> Result<PlacedImport<'a>, ReadError>
     ensures { Yields (λ i. i) result reader.new (import_at reader.old) }
@@ -261,7 +261,7 @@ pub fn read_imports(alloc: Global, payload: &[u8]) -> Result<Vec<Import<'_>>, Re
     Ok(without_places(alloc, placed)?)
 }
 
-/// Reads the same as [`read_imports`], and tells for each import where its name stands in the
+/// Reads the same as [`read_imports`], and says for each import where its name stands in the
 /// payload.
 ///
 /// # Errors

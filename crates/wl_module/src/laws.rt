@@ -29,7 +29,7 @@ pub fn lists_are_few()
 {}
 
 /// The names of imports and exports, the expressions of globals, bodies, and the bytes of segments
-/// stand in the payload that spells them: those that tell their place at that place. A segment
+/// stand in the payload that spells them: those that give their place at that place. A segment
 /// ends with its bytes.
 pub fn parts_stand()
     ensures imports { PartsStand ImportStands AreImports }

@@ -73,7 +73,7 @@ pub struct TableType {
     pub maximum: Option<u64>,
 }
 
-/// What the byte in front of limits says.
+/// What the first byte of limits says.
 #[derive(Clone, Copy, PartialEq, Eq)]
 pub(crate) struct LimitsFlags {
     has_maximum: bool,
@@ -138,7 +138,7 @@ fn read_maximum(has_maximum: bool, reader: &mut Reader<'_>) -> Result<Option<u64
     Ok(Some(u64::from(maximum)))
 }
 
-/// What stands behind the flags.
+/// What follows the flags.
 #[tactic(auto, unfolding(crate::specs::Limits::sizes_at))]
 fn read_sizes(flags: LimitsFlags, reader: &mut Reader<'_>) -> Result<Limits, ReadError>
     ensures { Yields (λ l. l) result reader.new
@@ -153,7 +153,7 @@ fn read_sizes(flags: LimitsFlags, reader: &mut Reader<'_>) -> Result<Limits, Rea
     })
 }
 
-/// The memory type in front.
+/// The next memory type.
 #[tactic(auto, unfolding(crate::specs::Limits::memory_type_at))]
 pub(crate) fn read_memory_type(reader: &mut Reader<'_>) -> Result<MemoryType, ReadError>
     ensures { Yields (λ m. m) result reader.new (memory_type_at reader.old) }
@@ -181,7 +181,7 @@ fn read_elements(reader: &mut Reader<'_>) -> Result<(), ReadError>
     }
 }
 
-/// The table type in front.
+/// The next table type.
 #[tactic(auto, unfolding(crate::specs::Limits::table_type_at))]
 pub(crate) fn read_table_type(reader: &mut Reader<'_>) -> Result<TableType, ReadError>
     ensures { Yields (λ t. t) result reader.new (table_type_at reader.old) }

@@ -46,7 +46,7 @@ impl<'a> Model for WasmDataSegment<'a> {
     } };
 }
 
-/// A segment that tells which memory it is written to. Clauses see it as a `Targeted`.
+/// A segment that says which memory it is written to. Clauses see it as a `Targeted`.
 #[derive(Drop)]
 pub struct TargetedSegment<'a> {
     /// The segment.
@@ -89,7 +89,7 @@ impl<'a> Item<'a> for TargetedSegment<'a> {
     }
 }
 
-/// What the byte in front of a segment says.
+/// What the first byte of a segment says.
 #[derive(Clone, Copy, PartialEq, Eq)]
 pub(crate) enum SegmentFlag {
     /// It is active, in the first memory.
@@ -112,7 +112,7 @@ impl SegmentFlag {
     }
 }
 
-/// The flag of the segment in front.
+/// The flag of the next segment.
 #[tactic(auto, unfolding(crate::specs::Segments::segment_flag_at))]
 fn read_flag(reader: &mut Reader<'_>) -> Result<SegmentFlag, ReadError>
     ensures { Yields (λ f. f) result reader.new (segment_flag_at reader.old) }
@@ -125,7 +125,7 @@ fn read_flag(reader: &mut Reader<'_>) -> Result<SegmentFlag, ReadError>
     }
 }
 
-/// The memory that the segment in front names, and past the expression of its place there.
+/// The memory that the next segment names, and past the expression of its place there.
 #[tactic(auto, unfolding(crate::specs::Segments::target_at))]
 fn read_target(flag: SegmentFlag, reader: &mut Reader<'_>) -> Result<Option<u32>, ReadError>
     ensures { Yields (λ m. m) result reader.new (target_at flag reader.old) }
@@ -139,7 +139,7 @@ fn read_target(flag: SegmentFlag, reader: &mut Reader<'_>) -> Result<Option<u32>
     Ok(Some(memory))
 }
 
-/// The segment in front.
+/// The next segment.
 #[tactic(auto, unfolding(crate::specs::Segments::segment_at, crate::specs::Segments::counted_at))]
 fn read_segment<'a>(reader: &mut Reader<'a>) -> Result<TargetedSegment<'a>, ReadError>
     ensures { Yields (λ s. s) result reader.new (segment_at reader.old) }
@@ -193,7 +193,7 @@ pub fn read_segments(alloc: Global, payload: &[u8]) -> Result<Vec<WasmDataSegmen
     Ok(without_memories(alloc, targeted)?)
 }
 
-/// Reads the same as [`read_segments`], and tells for each segment which memory it is written to.
+/// Reads the same as [`read_segments`], and says for each segment which memory it is written to.
 ///
 /// # Errors
 /// Those of [`read_segments`].

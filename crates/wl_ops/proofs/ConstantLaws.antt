@@ -55,7 +55,7 @@ reference_code V128 e = absurd cc
 
 -- ---- operators
 
--- an operator of one byte, which isn't a prefix, and what stands behind it
+-- an operator of one byte, which isn't a prefix, and what follows it
 plain_operator : (other code : ℕ) (shape : Shape) (zs : _) (front back text : List ℕ) → is_prefix code ≡ false → is_element code 0 ≡ false → shape_of code 0 ≡ Some shape
     → text ≡ front ++ back → front ≡ code ∷ [] → AreImmediates (immediates shape) (other + length front) zs back
     → IsTaken other (record { code = code; sub = 0; args = zs }) text
@@ -85,7 +85,7 @@ bytes_operator other o shape n bytes front back text plain other_kind has shaped
     let are : AreImmediates (immediates shape) (other + length front) (map (λ b. pos b) back) back = rw shaped (byte_immediates n (other + length front) back (ap length same ∙ len)) in
     (_, plain_operator other (operator_code o) shape (map (λ b. pos b) back) front back text plain other_kind has parts byte are, refl)
 
--- `v128.const`: the number behind the prefix, and sixteen bytes
+-- `v128.const`: the number after the prefix, and sixteen bytes
 vector_operator : (place other : ℕ) (text : List ℕ) → IsOperator place Vector text → Stands other Vector text
 unfolding shape_of
 vector_operator place other text s =
@@ -139,14 +139,14 @@ same_index I64Sub = refl
 same_index I64Mul = refl
 same_index Vector = refl
 
--- the operator in front, and what is left
+-- the next operator, and what is left
 first_taken : (place other : ℕ) (o : ConstOperator) (os : List ConstOperator) (body : List ℕ) (s : Items IsOperator place (o ∷ os) body)
     → (op : Op) × Takes IsTaken op (at other body) (at (other + length s.0) s.1) × (is_reference op ≡ takes_index o)
 first_taken place other o os body s =
     let t = constant_operator place other o s.0 s.3 in
     (t.0, record { text = s.0; spelled = t.1; parts = s.2; moved = refl }, ap (λ (code : ℕ). code == 0x23 || code == 0xd2) t.2 ∙ same_index o)
 
--- it is the operator in front, or stands behind it
+-- it is the next operator, or follows it
 there_by : (a b : Cursor) (op : Op) (is more : Bool) → Takes IsTaken op a b → is_reference op ≡ is → (more ≡ true → HasReference b) → (is || more) ≡ true → HasReference a
 there_by a b op true more t e rest on = here op a b t e
 there_by a b op false more t e rest on = behind op a b t (rest on)

@@ -112,7 +112,7 @@ pub are_taken : (ops : List Op) (place : ℕ) (text : List ℕ) → Items IsOp p
 are_taken [] place text s a = s
 are_taken (op ∷ ops) place text s a = (s.0, s.1, s.2, (s.3, a.0), are_taken ops (place + length s.0) s.1 s.4 a.1)
 
--- local declarations, and operators behind them to the end
+-- local declarations, and operators after them to the end
 pub as_body : (body : List ℕ) (ops : List Op) (mid to : Cursor) → Takes (Any AreLocals) tt (start body) mid → Takes (Items IsTaken) ops mid to → to.rest ≡ [] → is_ended ops ≡ true → AreTaken ops body
 as_body body ops mid to t u none e =
     let place : mid.position ≡ length t.text = omega (arith, t.moved) in
@@ -120,7 +120,7 @@ as_body body ops mid to t u none e =
     let s = all_taken ops mid.position u.text u.spelled in
     ((t.spelled.0, t.text, u.text, t.parts ∙ ap (λ (r : List ℕ). t.text ++ r) back, t.spelled.1, subst (λ (n : ℕ). Items IsOp n ops u.text) place s.0, e), s.1)
 
--- the place behind the local declarations
+-- the place after the local declarations
 abbrev pub mid_of : (front back : List ℕ) → Cursor
 mid_of front back = record { position = length front; rest = back }
 
@@ -179,13 +179,13 @@ decoded_reading = record {
 
 -- ---- as the code reads
 
--- the last one tells whether they are ended
+-- the last one says whether they are ended
 pub ended-push : (ops : List Op) (op : Op) → is_ended (ops ++ op ∷ []) ≡ eqb op.code 0x0b
 ended-push [] op = refl
 ended-push (o ∷ []) op = refl
 ended-push (o ∷ next ∷ ops) op = ended-push (next ∷ ops) op
 
--- what comes behind some operators is at fault
+-- what comes after some operators is at fault
 stop_so : (ops : List Op) (c mid : Cursor) (e : ReadError) → Takes (Items IsTaken) ops c mid → eqb (length mid.rest) 0 ≡ false → op_at mid ≡ Err e → ops_of c ≡ Err e
 stop_so ops c mid e t some is = ops_stop c mid ops e t (λ none. absurd (let yes : eqb (length mid.rest) 0 ≡ true = rw none refl in cc)) (op_reading.fault mid e is)
 
@@ -198,7 +198,7 @@ stops_so ops c mid (Unsupported form) t some is = stop_so ops c mid (Unsupported
 pub ends_so : (ops : List Op) (c mid : Cursor) (b : Bool) → Takes (Items IsTaken) ops c mid → eqb (length mid.rest) 0 ≡ true → is_ended ops ≡ b → ops_of c ≡ cond b (Ok ops) (Err dry)
 ends_so ops c mid b t none e = rw (ops_read c mid ops t (nil_from_length mid.rest (eqb-true (length mid.rest) 0 none)), e) refl
 
--- the bound of a body's fault is that of what is told
+-- the bound of a body's fault is that of what is reported
 pub told_fails : (d : ReadError) (r : Result (List Op) ReadError) → Fails d r → Fails (in_body d) (error_of in_body r)
 told_fails OutOfMemory r h = tt
 told_fails (Malformed why) r h = rw h refl

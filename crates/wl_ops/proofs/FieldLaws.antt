@@ -47,7 +47,7 @@ front_stretch : (a w : ℕ) (xs ys : List ℕ) → a + w ≤ length xs → windo
 front_stretch a w xs ys le =
     ap (take w) (drop_within xs ys a (omega (arith, le))) ∙ take-append-le w (drop a xs) ys (omega (arith, le, length-drop a xs))
 
--- a stretch behind two parts
+-- a stretch after two parts
 back_stretch : (a w : ℕ) (xs ys zs : List ℕ) → window (length xs + (length ys + a)) w (xs ++ (ys ++ zs)) ≡ window a w zs
 back_stretch a w xs ys zs = ap (take w) (drop-append-add xs (ys ++ zs) (length ys + a) ∙ drop-append-add ys zs a)
 

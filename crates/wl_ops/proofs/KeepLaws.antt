@@ -137,7 +137,7 @@ own_list : (o : Option DataIndexImm) → cons_option o [] ≡ option_to_list o
 own_list None = refl
 own_list (Some n) = refl
 
--- the numbers of the operators before one, its own, and those of the operators behind it
+-- the numbers of the operators before one, its own, and those of the operators after it
 numbers_split : (es : List Marked) (m : Marked) (ls : List Marked) → numbers (es ++ m ∷ ls) ≡ numbers es ++ cons_option m.number (numbers ls)
 numbers_split es m ls = filter_map-append (λ m. m.number) es (m ∷ ls)
 

@@ -23,13 +23,13 @@ pub lie_ends : (from : ℕ) (ns : List DataIndexImm) (to : ℕ) → LieWithin fr
 lie_ends from [] to h = h
 lie_ends from (n ∷ ns) to h = let more = lie_ends (n.offset + n.len) ns to h.2 in omega (arith, h.0, more)
 
--- the next number lies behind the place, and those behind it lie behind it
+-- the next number lies after the place, and those after it lie after it
 pub lie_next : (from : ℕ) (ns : List DataIndexImm) (k to : ℕ) (n : DataIndexImm) → k < length ns → get_or ns k nothing ≡ n → LieWithin from (drop k ns) to → (from ≤ n.offset) × LieWithin (n.offset + n.len) (drop (k + 1) ns) to
 lie_next from ns k to n lt e h =
     let l = subst (λ (m : DataIndexImm). (from + 2 ≤ m.offset) × (1 ≤ m.len) × LieWithin (m.offset + m.len) (drop (k + 1) ns) to) e (subst (λ (l : List DataIndexImm). LieWithin from l to) (next ns k lt) h) in
     (omega (arith, l.0), l.2)
 
--- numbers that lie behind a place lie behind each earlier one
+-- numbers that lie after a place lie after each earlier one
 pub lie_from : (a b : ℕ) (ns : List DataIndexImm) (to : ℕ) → a ≤ b → LieWithin b ns to → LieWithin a ns to
 lie_from a b [] to le l = omega (arith, le, l)
 lie_from a b (n ∷ ns) to le l = (omega (arith, le, l.0), l.1, l.2)
@@ -39,7 +39,7 @@ pub lie_join : (a b : ℕ) (ns ks : List DataIndexImm) (to : ℕ) → LieWithin 
 lie_join a b [] ks to l k = lie_from a b ks to l k
 lie_join a b (n ∷ ns) ks to l k = (l.0, l.1, lie_join (n.offset + n.len) b ns ks to l.2 k)
 
--- none of the numbers that lie behind p is before it
+-- none of the numbers that lie after p is before it
 pub none_before : (a : ℕ) (ns : List DataIndexImm) (to p : ℕ) → LieWithin a ns to → p < a → before p ns ≡ []
 none_before a [] to p l lt = refl
 none_before a (n ∷ ns) to p l lt =

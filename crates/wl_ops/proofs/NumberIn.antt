@@ -29,7 +29,7 @@ alone m place text s =
     let same : text ≡ t.text = append_cancel_right text t.text [] (append-nil text ∙ t.parts) in
     subst (λ (x : List ℕ). IsTaken place m.op x) (sym same) t.spelled
 
--- an operator with a number: what stands before it, the number, and what stands behind it
+-- an operator with a number: what stands before it, the number, and what follows it
 pub record HasNumber (place : ℕ) (m : Marked) (text : List ℕ) (n : DataIndexImm) : Type 0 where
   pub head : List ℕ
   pub digits : List ℕ

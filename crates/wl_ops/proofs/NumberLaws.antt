@@ -201,7 +201,7 @@ as_marked body ms mid to t u none e =
 
 -- ---- as the code reads
 
--- what comes behind some operators is at fault
+-- what comes after some operators is at fault
 fails_so : (mid : Cursor) (e : ReadError) → Fails e (marked_at mid) → Fails e (op_at mid)
 fails_so mid OutOfMemory h = tt
 fails_so mid (Malformed why) h = same_op mid ∙ rw h refl
@@ -236,7 +236,7 @@ read_more ms m ns ks c a b t read old new =
 pub read_less : (m : Marked) (a b : Cursor) → marked_at a ≡ Ok (m, b) → length b.rest < length a.rest
 read_less m a b read = shortens IsMarkedOp MarkedFault marked_at are_marked m a b (marked_reading.found a m b read)
 
--- behind the local declarations a body is read as its operators are
+-- after the local declarations a body is read as its operators are
 body_is : (body : List ℕ) (mid : Cursor) → Takes (Any AreLocals) tt (start body) mid → body_of body ≡ ops_of mid
 unfolding body_of
 body_is body mid t = rw (locals_reading.again (start body) tt mid t) refl

@@ -34,7 +34,7 @@ cut_within pre x front back e le =
     let cut = cut_same pre x (take n front) (drop n front ++ back) all len in
     (drop n front, whole ∙ ap (λ (z : List ℕ). z ++ drop n front) (sym cut.0), cut.1)
 
--- bytes in front that no number reaches stay in front
+-- leading bytes that no number reaches stay first
 pub recut : (new : ℕ → Option ℕ) (ns : List DataIndexImm) (from to : ℕ) (pre x y : List ℕ) → LieWithin (from + length pre) ns to → Rewrites new from ns (pre ++ x) y → (more : List ℕ) × (y ≡ pre ++ more) × Rewrites new (from + length pre) ns x more
 recut new [] from to pre x y l r = (x, r, refl)
 recut new (n ∷ ns) from to pre x y l r =

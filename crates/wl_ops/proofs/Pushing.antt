@@ -1,4 +1,4 @@
--- Reading values behind those that are there.
+-- Reading values after those that are there.
 use Rattle.std.proofs.Common.{◌≡◌, ℕ, ℤ, pos, suc, ◌+◌, ◌-◌, ◌<◌, ◌≤◌, List, [], ◌∷◌, ◌++◌, drop, Result, Ok, Err, refl, sym, ap, subst, ◌∙◌, arith, append_assoc}
 use Rattle.std.specs.List.{flat_map}
 use Rattle.std.proofs.lemmas.List.{append-nil}
@@ -20,7 +20,7 @@ use Rattle.wl_ops.specs.Immediates.{single_at, catch_numbers, catch_kind_at, cat
 abbrev Reading : Type 0
 Reading = Result (List ℤ × Cursor) ReadError
 
--- what was read behind the values that were there
+-- what was read after the values that were there
 pub front_ok : (front new : List ℤ) (to : Cursor) (read : Reading) → with_front front read ≡ Ok (new, to) → (xs : List ℤ) × (read ≡ Ok (xs, to)) × (front ++ xs ≡ new)
 front_ok front new to (Ok p) e =
     let same = ok_is {E = ReadError} (front ++ p.0, p.1) (new, to) e in
@@ -47,7 +47,7 @@ fails_bind OutOfMemory read f h = tt
 fails_bind (Malformed why) read f h = rw h refl
 fails_bind (Unsupported form) read f h = rw h refl
 
--- what is read goes behind one value, and behind what was there
+-- what is read goes after one value, and after what was there
 regroup : (front : List ℤ) (z : ℤ) (read : Reading) → with_front front (read >>= λ q. Ok (z ∷ q.0, q.1)) ≡ with_front (front ++ z ∷ []) read
 regroup front z (Ok q) = ap (λ (zs : List ℤ). Ok (zs, q.1)) (simp append_assoc)
 regroup front z (Err e) = refl
@@ -131,7 +131,7 @@ flat_done item front count i c total le so_far =
     let one : with_front front (flat_at item (count - i) c) ≡ Ok (front, c) = rw k (ap (λ (zs : List ℤ). Ok (zs, c)) (append-nil front)) in
     sym so_far ∙ one
 
--- ---- immediates one behind the other
+-- ---- immediates one after the other
 
 abbrev both : {A B : Type 0} → A → Result (B × Cursor) ReadError → Result ((A × B) × Cursor) ReadError
 both x read = read >>= λ q. Ok ((x, q.0), q.1)
@@ -187,7 +187,7 @@ counted_is : (n : ℕ) (read : Reading) → seen counted (both n read) ≡ led (
 counted_is n (Ok q) = refl
 counted_is n (Err e) = refl
 
--- the count is read, and the values behind it are read so
+-- the count is read, and the values after it are read so
 pub list_is : (s : Single) (front : List ℤ) (c mid : Cursor) (n : ℕ) → number_at c ≡ Ok (n, mid) → with_front (front ++ pos n ∷ []) (times_at (single_at s) n mid) ≡ with_front front (immediate_at (ListOf s) c)
 unfolding immediate_at
 list_is s front c mid n e = rw (e, counted_is n (times_at (single_at s) n mid)) (sym (regroup front (pos n) (times_at (single_at s) n mid)))

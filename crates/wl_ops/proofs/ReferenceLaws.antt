@@ -16,7 +16,7 @@ use Rattle.wl_ops.proofs.OpLaws.{op_reading}
 use Rattle.wl_ops.proofs.RestLaws.{shortens}
 use Rattle.wl_ops.proofs.DecodeLaws.{are_ops}
 
--- the operator in front, by whether it is one
+-- the next operator, by whether it is one
 abbrev pub next_at : Cursor → Result (Bool × Cursor) ReadError
 next_at a = map_at is_reference op_at a
 
@@ -41,7 +41,7 @@ pub reference_reads : (a : Cursor) → HasReference a → (op : Op) × (b : Curs
 reference_reads a (here op _ b takes is) = (op, b, op_reading.again a op b takes, inl is)
 reference_reads a (behind op _ b takes h) = (op, b, op_reading.again a op b takes, inr h)
 
--- what is read isn't one, so one stands behind it
+-- what is read isn't one, so one follows it
 pub reference_on : (a b : Cursor) (is : Bool) → next_at a ≡ Ok (is, b) → is ≡ false → HasReference a → HasReference b
 reference_on a b is read no' h =
     let p = next_parts (op_at a) is b read in

@@ -16,7 +16,7 @@ pub record AreItems {X E : Type 0} (item : ℕ → X → List ℕ → Type 0) (w
   pub each : IsReading item wrong read
   pub some : (place : ℕ) (x : X) (text : List ℕ) → item place x text → text ≢ []
 
--- fewer bytes are left behind an item
+-- fewer bytes are left after an item
 pub shortens : {X E : Type 0} (item : ℕ → X → List ℕ → Type 0) (wrong : E → Cursor → Type 0) (read : Cursor → Result (X × Cursor) E) → AreItems item wrong read
     → (x : X) (a b : Cursor) → Takes item x a b → length b.rest < length a.rest
 shortens item wrong read law x a b t =

@@ -1,4 +1,4 @@
--- Rewriting numbers one after the other, and where what lies behind them stands then.
+-- Rewriting numbers one after the other, and where what lies after them stands then.
 use Rattle.std.proofs.Common.{◌≡◌, ℕ, zero, suc, ◌+◌, ◌-◌, ◌*◌, ◌<◌, ◌≤◌, ◌^◌, true, false, leb, List, [], ◌∷◌, ◌++◌, length, take, drop, map, get_or, Option, Some, Result, Ok, Err, refl, sym, ap, subst, ◌∙◌, arith, append_assoc, length-append, inl, inr}
 use Rattle.std.specs.Prelude.{IfOk, OnOk}
 use Rattle.std.specs.List.{AllByRecursion}
@@ -63,7 +63,7 @@ near new old there to (n ∷ ns) (s ∷ ss) l a le =
     let one : 3 * s.new_end ≤ 7 * s.old_end = omega (arith, l.0, l.1, a.0, a.1.4, a.1.5, le) in
     (one, near new s.old_end s.new_end to ns ss (rw a.0 l.2) a.2 one)
 
--- the ends come one behind the other
+-- the ends come one after the other
 ends_from : (new : ℕ → Option ℕ) (old there to : ℕ) (ns : List DataIndexImm) (ss : List Shift) → LieWithin old ns to → AreShifts new old there ns ss → (j : ℕ) (d : Shift) → j < length ss → old ≤ (get_or ss j d).old_end
 ends_from new old there to [] [] l a j d lt = absurd (omega (arith, lt))
 ends_from new old there to [] (s ∷ ss) l a j d lt = absurd a
@@ -126,7 +126,7 @@ pub none_tells : (ss : List Shift) (p q : ℕ) (d : Shift) → ((k : ℕ) → k 
 none_tells [] p q d high = refl
 none_tells (s ∷ ss) p q d high = rw (lt-leb s.old_end p (high 0 (omega arith))) refl
 
--- those up to the i-th are before p, and those behind it aren't
+-- those up to the i-th are before p, and those after it aren't
 pub last_tells : (ss : List Shift) (i p q : ℕ) (d : Shift) → i < length ss → ((k : ℕ) → k ≤ i → (get_or ss k d).old_end ≤ p) → ((k : ℕ) → i < k → k < length ss → p < (get_or ss k d).old_end)
     → shifted ss p q ≡ (get_or ss i d).new_end + (p - (get_or ss i d).old_end)
 last_tells [] i p q d lt low high = absurd (omega (arith, lt))

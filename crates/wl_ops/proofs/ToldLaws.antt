@@ -1,4 +1,4 @@
--- What is told of the numbers of a body: always one list or one fault.
+-- What is reported of the numbers of a body: always one list or one fault.
 use Rattle.std.proofs.Common.{◌≡◌, ◌⊎◌, ℕ, ◌+◌, suc, Bool, true, false, List, [], ◌++◌, length, map, Result, Ok, Err, refl, sym, ap, subst, ◌∙◌, arith, inl, inr}
 use Rattle.std.specs.Prelude.{IfOk, IfErr}
 use Rattle.wl_bytes.specs.Cursor.{Cursor}

@@ -28,7 +28,7 @@ LocalFault =
     ThenFault IsU32 NumberFault (λ _. WhereFault IsByte ByteFault
     (unless is_value_type (Malformed BadByte)))
 
--- the declaration in front
+-- the next declaration
 unfoldable pub local_at : Cursor → Result ((ℕ × ℕ) × Cursor) ReadError
 local_at c = then_at number_at (λ _. where_at one_byte_at is_value_type (Malformed BadByte)) c
 
@@ -61,17 +61,17 @@ AreOps = IsBodyOf IsOp
 abbrev pub AreTaken : List Op → List ℕ → Type 0
 AreTaken ops body = AreOps ops body × AllByRecursion (λ op. is_taken op ≡ true) ops
 
--- behind some operators comes something else, or all are read and the last isn't `end`
+-- after some operators comes something else, or all are read and the last isn't `end`
 abbrev pub OpsFault : ReadError → Cursor → Type 0
 OpsFault e from = (ops : List Op) × (mid : Cursor) × Takes (Items IsTaken) ops from mid
     × (((mid.rest ≢ []) × OpFault e mid)
     ⊎ ((mid.rest ≡ []) × (is_ended ops ≡ false) × (e ≡ Malformed Truncated)))
 
--- the local declarations are at fault, or what comes behind them is
+-- the local declarations are at fault, or what comes after them is
 abbrev pub PartFault : ReadError → List ℕ → Type 0
 PartFault e body = ThenFault (Any AreLocals) LocalsFault (λ _. OpsFault) e (start body)
 
--- a broken rule of the format is told as that of a body
+-- a broken rule of the format is reported as that of a body
 abbrev pub in_body : ReadError → ReadError
 in_body OutOfMemory = OutOfMemory
 in_body (Malformed why) = Malformed Body
@@ -107,6 +107,6 @@ ops_of c = rest_of op_at (Malformed Truncated) (suc (length c.rest)) c >>= kept_
 unfoldable pub body_of : List ℕ → Result (List Op) ReadError
 body_of body = any_at (list_at local_at) (start body) >>= λ p. ops_of p.1
 
--- the same, as it is told
+-- the same, with a fault as it is reported
 abbrev pub decoded : List ℕ → Result (List Op) ReadError
 decoded body = error_of in_body (body_of body)

@@ -12,7 +12,7 @@ use Rattle.wl_ops.specs.Operators.{IsTaken}
 abbrev pub is_reference : Op → Bool
 is_reference op = op.code == 0x23 || op.code == 0xd2
 
--- among the operators that stand here is one of these: it is the one in front, or stands behind it
+-- among the operators that stand here is one of these: it is the next one, or follows it
 pub data HasReference : Cursor → Type 0 where
   here : (op : Op) (from to : Cursor) → Takes IsTaken op from to → is_reference op ≡ true
       → HasReference from

@@ -1,4 +1,4 @@
--- What stands behind an operator, and the values that it spells (core specification,
+-- What follows an operator, and the values that it spells (core specification,
 -- "Instructions").
 use Rattle.std.specs.Prelude.{ℕ, ℤ, pos, negsuc, int_le, ◌||◌, ◌&&◌, nat_lt, Bool, false, if◌then◌else◌, List, [], ◌∷◌, ◌++◌, Option, Some, None, is_some, Result}
 use Rattle.std.specs.List.{flat_map}
@@ -70,7 +70,7 @@ SingleFault ReferenceType =
     WhereFault IsByte ByteFault (unless is_reference_type (Unsupported Operator))
 SingleFault ValueType = WhereFault IsByte ByteFault (unless is_value_type (Malformed BadByte))
 
--- the value in front
+-- the next value
 unfoldable pub single_at : Single → Cursor → Result (ℤ × Cursor) ReadError
 single_at Number c = map_at (λ n. pos n) number_at c
 single_at Alignment c =
@@ -94,7 +94,7 @@ is_catch k = nat_lt k 4
 abbrev pub catch_numbers : ℕ → ℕ
 catch_numbers k = if nat_lt k 2 then 2 else 1
 
--- a number, and the values behind it
+-- a number, and the values after it
 abbrev pub counted : ℕ × List ℤ → List ℤ
 counted p = pos p.0 ∷ p.1
 
@@ -148,9 +148,9 @@ immediate_at (One s) c = map_at (λ z. z ∷ []) (single_at s) c
 immediate_at (ListOf s) c = map_at counted (then_at number_at (times_at (single_at s))) c
 immediate_at Catches c = map_at counted_lists (then_at number_at (times_at catch_at)) c
 
--- ---- one behind the other
+-- ---- one after the other
 
--- the values of one immediate, and behind them those of the others
+-- the values of one immediate, and after them those of the others
 abbrev pub joined : List ℤ × List ℤ → List ℤ
 joined p = p.0 ++ p.1
 

@@ -21,7 +21,7 @@ use Rattle.wl_ops.specs.Decoding.{AreLocals, is_ended, AreTaken, DecodeFault, op
 abbrev pub is_segment : ℕ → ℕ → Bool
 is_segment code sub = (code == 0xfc) && (sub == 8 || sub == 9)
 
--- a number that tells its place and its length
+-- a number that gives its place and its length
 abbrev pub IsPlacedNumber : ℕ → DataIndexImm → List ℕ → Type 0
 IsPlacedNumber place n text = IsU32 place n.index text × (n.offset ≡ place) × (n.len ≡ length text)
 
@@ -56,7 +56,7 @@ with_number p = (Some p.0, segment_args p)
 abbrev pub without_number : List ℤ → Option DataIndexImm × List ℤ
 without_number zs = (None, zs)
 
--- what stands behind a first byte and its number
+-- what follows a first byte and its number
 abbrev pub IsMarkedBehind : Bool → ℕ × ℕ → ℕ → Option DataIndexImm × List ℤ → List ℕ → Type 0
 IsMarkedBehind true h = Seen (IsSegmentNumber h.1) with_number
 IsMarkedBehind false h = Seen (IsBehindTaken (taken_shape h)) without_number
@@ -118,7 +118,7 @@ holds_prefix (b ∷ bs) = b == 0xfc || holds_prefix bs
 abbrev pub NumbersFault : ReadError → List ℕ → Type 0
 NumbersFault e body = (holds_prefix body ≡ true) × DecodeFault e body
 
--- the numbers of a body of which no fault is told
+-- the numbers of a body of which no fault is reported
 abbrev pub AreTold : List DataIndexImm → List ℕ → Type 0
 AreTold ns body = HasNumbers ns body × ((e : ReadError) → ¬ NumbersFault e body)
 

@@ -22,7 +22,7 @@ use Rattle.wl_ops.specs.Immediates.{AreImmediates, ImmediatesFault, immediates_a
 abbrev pub sub_of : Option ℕ → ℕ
 sub_of o = unwrap_or o 0
 
--- the number behind a first byte
+-- the number after a first byte
 abbrev pub IsSub : ℕ → ℕ → ℕ → List ℕ → Type 0
 IsSub code = Seen (When IsU32 (is_prefix code)) sub_of
 
@@ -44,7 +44,7 @@ head_at c = then_at one_byte_at sub_at c
 
 -- ---- operators
 
--- what stands behind an operator that the table has
+-- what follows an operator that the table has
 abbrev pub IsBehind : Option Shape → ℕ → List ℤ → List ℕ → Type 0
 IsBehind None place zs text = ⊥
 IsBehind (Some shape) place zs text = AreImmediates (immediates shape) place zs text
@@ -77,7 +77,7 @@ taken_shape h =
     if is_element h.0 h.1 then Err (Unsupported ElementOperator)
     else shape_or h.0 (shape_of h.0 h.1)
 
--- what stands behind an operator that is taken
+-- what follows an operator that is taken
 abbrev pub IsBehindTaken : Result Shape ReadError → ℕ → List ℤ → List ℕ → Type 0
 IsBehindTaken (Ok shape) place zs text = AreImmediates (immediates shape) place zs text
 IsBehindTaken (Err d) place zs text = ⊥
@@ -99,6 +99,6 @@ behind_at (Err d) c = Err d
 abbrev pub op_of : (ℕ × ℕ) × List ℤ → Op
 op_of p = record { code = p.0.0; sub = p.0.1; args = p.1 }
 
--- the operator in front
+-- the next operator
 unfoldable pub op_at : Cursor → Result (Op × Cursor) ReadError
 op_at c = map_at op_of (then_at head_at (λ h. behind_at (taken_shape h))) c

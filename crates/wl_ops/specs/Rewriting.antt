@@ -122,7 +122,7 @@ Remaps new before after result =
 
 -- ---- on the way
 
--- the numbers lie from one place to another, one behind the other, and two bytes at least before
+-- the numbers lie from one place to another, one after the other, and two bytes at least before
 -- each
 abbrev pub LieWithin : ℕ → List DataIndexImm → ℕ → Type 0
 LieWithin from [] to = from ≤ to

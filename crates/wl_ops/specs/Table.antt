@@ -8,7 +8,7 @@ use Rattle.wl_ops.specs.declared.table.Shape.{Shape}
 use Rattle.wl_ops.specs.declared.table.Shape.TheVariants.{Nothing, Block, Index, Indices, Branches, Typed, Try, Memory, MemoryLane, Lane, Int32, Int64, Float32, Float64, Vector, Null}
 use Rattle.wl_ops.specs.declared.table.Row.{Row}
 
--- ---- what stands behind an operator
+-- ---- what follows an operator
 
 -- the immediates of a shape, in their order
 abbrev pub immediates : Shape → List Immediate
@@ -72,7 +72,7 @@ plain =
     ∷ one 0xd2 Index
     ∷ []
 
--- by the number behind 0xfc
+-- by the number after 0xfc
 abbrev pub bulk : List Row
 bulk =
     row 0 7 Nothing
@@ -86,7 +86,7 @@ bulk =
     ∷ row 15 17 Index
     ∷ []
 
--- by the number behind 0xfd
+-- by the number after 0xfd
 abbrev pub vector : List Row
 vector =
     row 0x00 0x0b Memory
@@ -99,7 +99,7 @@ vector =
     ∷ row 0x5e 0x113 Nothing
     ∷ []
 
--- by the number behind 0xfe
+-- by the number after 0xfe
 abbrev pub thread : List Row
 thread =
     row 0x00 0x02 Memory
@@ -109,16 +109,16 @@ thread =
 
 -- ---- looking up
 
--- what stands behind each operator of the row that holds the key
+-- what follows each operator of the row that holds the key
 abbrev pub shape_in : List Row → ℕ → Option Shape
 shape_in [] key = None
 shape_in (r ∷ rows) key = if nat_le r.0 key && nat_le key r.1 then Some r.2 else shape_in rows key
 
--- the first bytes behind which a number tells the operator
+-- the first bytes after which a number gives the operator
 abbrev pub is_prefix : ℕ → Bool
 is_prefix code = code == 0xfc || code == 0xfd || code == 0xfe
 
--- what stands behind the operator, where there is one
+-- what follows the operator, where there is one
 unfoldable pub shape_of : ℕ → ℕ → Option Shape
 shape_of code sub =
     if code == 0xfc then shape_in bulk sub

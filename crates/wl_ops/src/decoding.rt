@@ -15,7 +15,7 @@ use std::alloc::Global;
 use wl_bytes::{ReadError, Reader, Why};
 use wl_module::ValType;
 
-/// The local declaration in front: how many locals, and the byte of their type.
+/// The next local declaration: how many locals, and the byte of their type.
 #[tactic(auto, unfolding(crate::specs::Decoding::local_at))]
 fn read_local(reader: &mut Reader<'_>) -> Result<(u32, u8), ReadError>
     ensures value { Yields (λ l. l) result reader.new (local_at reader.old) }
@@ -41,7 +41,7 @@ fn pass_locals(count: u32, reader: &mut Reader<'_>) -> Result<(), ReadError>
     Ok(())
 }
 
-/// Passes the local declarations in front, of which nothing is told.
+/// Passes the local declarations that come next, and returns nothing of them.
 pub(crate) fn skip_locals(reader: &mut Reader<'_>) -> Result<(), ReadError>
     ensures value { Yields (λ u. u) result reader.new (any_at (list_at local_at) reader.old) }
     ensures end { end_of reader.new ≡ end_of reader.old }
@@ -88,7 +88,7 @@ pub(crate) fn in_body(error: ReadError) -> ReadError
     }
 }
 
-/// The operators of a body, as they are told.
+/// The operators of a body, with a fault as it is reported.
 fn decode(alloc: Global, body: &[u8]) -> Result<Vec<Op>, ReadError>
     ensures { Gives (λ v. v.items) result (decoded body.now) }
 {
@@ -98,7 +98,7 @@ fn decode(alloc: Global, body: &[u8]) -> Result<Vec<Op>, ReadError>
     }
 }
 
-/// Decodes the body of a function (core specification, "Code Section"): behind the local
+/// Decodes the body of a function (core specification, "Code Section"): after the local
 /// declarations its operators, the last of which is `end` and ends the bytes. How they nest, and
 /// what they are applied to, isn't looked at.
 ///

@@ -25,7 +25,7 @@ fn is_reference(op: &Op) -> bool
     op.code == GLOBAL_GET || op.code == REF_FUNC
 }
 
-/// Whether the operator in front is one of these.
+/// Whether the next operator is one of these.
 fn next_is_reference(alloc: Global, reader: &mut Reader<'_>) -> Result<bool, ReadError>
     ensures { Yields (λ b. b) result reader.new (map_at is_reference op_at reader.old) }
 {

@@ -21,7 +21,7 @@ fn is_block_type(value: i64) -> bool
     -5 <= value || (-17 <= value && value <= -16) || (-64 <= value && value <= -64)
 }
 
-/// The value in front.
+/// The next value.
 #[tactic(auto, unfolding(crate::specs::Immediates::single_at))]
 fn read_single(single: Single, reader: &mut Reader<'_>) -> Result<i64, ReadError>
     ensures value { Yields (λ z. z) result reader.new (single_at single reader.old) }
@@ -65,7 +65,7 @@ fn read_single(single: Single, reader: &mut Reader<'_>) -> Result<i64, ReadError
     }
 }
 
-/// So many values in front, which go behind those that are there.
+/// So many values that come next, which go after those that are there.
 fn read_singles(
     single: Single,
     count: u32,
@@ -105,14 +105,14 @@ fn read_catch_kind(reader: &mut Reader<'_>) -> Result<u8, ReadError>
     }
 }
 
-/// How many numbers stand behind it: a tag and a label, or a label alone.
+/// How many numbers follow it: a tag and a label, or a label alone.
 fn catch_numbers(kind: u8) -> u32
     ensures { result ≡ catch_numbers kind }
 {
     if kind < 2 { 2 } else { 1 }
 }
 
-/// The catch in front, whose values go behind those that are there.
+/// The next catch, whose values go after those that are there.
 fn read_catch(reader: &mut Reader<'_>, args: &mut OpArgs) -> Result<(), ReadError>
     ensures value { Yields (λ _. args.new) result reader.new
         (with_front args.old (catch_at reader.old)) }
@@ -123,7 +123,7 @@ fn read_catch(reader: &mut Reader<'_>, args: &mut OpArgs) -> Result<(), ReadErro
     read_singles(Single::Number, catch_numbers(kind), reader, args)
 }
 
-/// So many catches in front, whose values go behind those that are there.
+/// So many catches that come next, whose values go after those that are there.
 fn read_catches(count: u32, reader: &mut Reader<'_>, args: &mut OpArgs) -> Result<(), ReadError>
     ensures value { Yields (λ _. args.new) result reader.new
         (with_front args.old (flat_at catch_at count reader.old)) }
@@ -135,7 +135,7 @@ fn read_catches(count: u32, reader: &mut Reader<'_>, args: &mut OpArgs) -> Resul
     Ok(())
 }
 
-/// The immediate in front, whose values go behind those that are there.
+/// The next immediate, whose values go after those that are there.
 fn read_immediate(
     immediate: Immediate,
     reader: &mut Reader<'_>,
@@ -164,7 +164,7 @@ fn read_immediate(
     }
 }
 
-/// The immediates in front, in this order.
+/// The next immediates, in this order.
 pub(crate) fn read_immediates(
     alloc: Global,
     immediates: &[Immediate],

@@ -23,12 +23,12 @@ pub fn operators_or_fault()
     ensures { AreAlternatives AreTaken DecodeFault }
 {}
 
-/// Each body has one list of numbers or one fault that is told, and never both.
+/// Each body has one list of numbers or one fault that is reported, and never both.
 pub fn numbers_or_fault()
     ensures { AreAlternatives AreTold NumbersFault }
 {}
 
-/// A body has one list of numbers of data segments, which lie in it one behind the other. One that
+/// A body has one list of numbers of data segments, which lie in it one after the other. One that
 /// isn't decoded has none.
 pub fn numbers_are_one()
     ensures one { (body : List ℕ) (numbers others : List Number)

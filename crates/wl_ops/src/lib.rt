@@ -2,7 +2,7 @@
 //!
 //! [`decode_body`] gives the operators of a body. [`data_index_immediates`] finds the numbers of
 //! data segments in it, and [`remap_body_data_indices`] gives them other values. Which operators
-//! there are, and what stands behind each, says one table. The order of the operators, their types
+//! there are, and what follows each, says one table. The order of the operators, their types
 //! and how blocks nest aren't looked at.
 #![tactic(auto)]
 

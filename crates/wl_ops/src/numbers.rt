@@ -29,7 +29,7 @@ fn is_segment(code: u8, sub: u32) -> bool
     code == PREFIX && (sub == MEMORY_INIT || sub == DATA_DROP)
 }
 
-/// The number in front, with its place.
+/// The next number, with its place.
 #[tactic(auto, unfolding(crate::specs::Numbers::placed_number_at))]
 fn read_placed_number(reader: &mut Reader<'_>) -> Result<DataIndexImm, ReadError>
     ensures value { Yields (λ n. n) result reader.new (placed_number_at reader.old) }
@@ -75,7 +75,7 @@ fn segment_args(
     Ok(args)
 }
 
-/// The operator in front, with the number of a data segment in it.
+/// The next operator, with the number of a data segment in it.
 #[tactic(auto, unfolding(crate::specs::Numbers::marked_at))]
 pub(crate) fn read_marked(alloc: Global, reader: &mut Reader<'_>) -> Result<Marked, ReadError>
     ensures value { Yields (λ m. m) result reader.new (marked_at reader.old) }

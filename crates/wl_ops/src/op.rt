@@ -6,7 +6,7 @@ use smallvec::SmallVec;
 use std::alloc::{AllocError, Global};
 use std::marker::Model;
 
-/// The immediates of an operator: its values in their order, a list behind its count. Clauses see
+/// The immediates of an operator: its values in their order, a list after its count. Clauses see
 /// it as that list.
 #[derive(Drop)]
 pub struct OpArgs {
@@ -60,7 +60,7 @@ impl OpArgs {
 pub struct Op {
     /// The first byte.
     pub code: u8,
-    /// The number behind 0xfc, 0xfd or 0xfe, else 0.
+    /// The number after 0xfc, 0xfd or 0xfe, else 0.
     pub sub: u32,
     /// The immediates.
     pub args: OpArgs,

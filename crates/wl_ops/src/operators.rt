@@ -14,7 +14,7 @@ use wl_bytes::{Form, ReadError, Reader, Why};
 /// The first byte of the operator `end`.
 pub(crate) const END: u8 = 0x0b;
 
-/// The number behind the first byte, where there is one.
+/// The number after the first byte, where there is one.
 #[tactic(auto, unfolding(crate::specs::Operators::sub_at))]
 fn read_sub(code: u8, reader: &mut Reader<'_>) -> Result<u32, ReadError>
     ensures value { Yields (λ n. n) result reader.new (sub_at code reader.old) }
@@ -42,7 +42,7 @@ fn taken_shape(code: u8, sub: u32) -> Result<Shape, ReadError>
     }
 }
 
-/// The first byte of the operator in front, and the number behind it.
+/// The first byte of the next operator, and the number after it.
 #[tactic(auto, unfolding(crate::specs::Operators::head_at))]
 pub(crate) fn read_head(reader: &mut Reader<'_>) -> Result<(u8, u32), ReadError>
     ensures value { Yields (λ h. h) result reader.new (head_at reader.old) }
@@ -53,7 +53,7 @@ pub(crate) fn read_head(reader: &mut Reader<'_>) -> Result<(u8, u32), ReadError>
     Ok((code, sub))
 }
 
-/// What stands behind the first byte and the number.
+/// What follows the first byte and the number.
 pub(crate) fn read_behind(
     alloc: Global,
     code: u8,
@@ -68,7 +68,7 @@ pub(crate) fn read_behind(
     read_immediates(alloc, immediates_of(shape), reader)
 }
 
-/// The operator in front.
+/// The next operator.
 #[tactic(auto, unfolding(crate::specs::Operators::op_at))]
 pub(crate) fn read_op(alloc: Global, reader: &mut Reader<'_>) -> Result<Op, ReadError>
     ensures value { Yields (λ o. o) result reader.new (op_at reader.old) }

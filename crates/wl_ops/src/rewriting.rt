@@ -17,7 +17,7 @@ use std::alloc::{AllocError, Global};
 use std::borrow::CowSlice;
 use wl_bytes::{ReadError, Why, push_uleb};
 
-/// What lies behind a number moves on with its end.
+/// What lies after a number moves on with its end.
 #[derive(Clone, Copy)]
 pub struct Shift {
     /// How many bytes lie before the end of the number.
@@ -53,7 +53,7 @@ fn append_number(out: &mut Vec<u8>, before: &[u8], index: u32) -> Result<(), All
     push_uleb(out, u64::from(index))
 }
 
-/// The body with the new numbers, and how what lies behind them moves.
+/// The body with the new numbers, and how what lies after them moves.
 fn rewrite(
     alloc: Global,
     body: &[u8],

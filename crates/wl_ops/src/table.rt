@@ -1,9 +1,9 @@
-//! The table of operators: which first bytes and numbers there are, and what stands behind them.
+//! The table of operators: which first bytes and numbers there are, and what follows them.
 
 ghost use Rattle.std.specs.Prelude.{◌≡◌};
 ghost use Rattle.wl_ops.specs.Table.{shape_in, is_prefix, is_untaken, is_element, shape_of, immediates};
 
-/// One value behind an operator's first byte and number.
+/// One value after an operator's first byte and number.
 #[derive(Clone, Copy)]
 pub enum Single {
     /// An unsigned number of 32 bits: an index, a label, an offset.
@@ -24,7 +24,7 @@ pub enum Single {
     ValueType,
 }
 
-/// One thing that stands behind an operator's first byte and number.
+/// One thing that follows an operator's first byte and number.
 #[derive(Clone, Copy)]
 pub enum Immediate {
     /// One value.
@@ -35,7 +35,7 @@ pub enum Immediate {
     Catches,
 }
 
-/// What stands behind an operator.
+/// What follows an operator.
 #[derive(Clone, Copy)]
 pub enum Shape {
     /// Nothing.
@@ -72,7 +72,7 @@ pub enum Shape {
     Null,
 }
 
-/// The operators from one number to another, and what stands behind each of them.
+/// The operators from one number to another, and what follows each of them.
 #[derive(Clone, Copy)]
 pub struct Row(pub u32, pub u32, pub Shape);
 
@@ -140,14 +140,14 @@ const THREAD: [Row; 3] = [
     Row(0x10, 0x4e, Shape::Memory),
 ];
 
-/// The first bytes behind which a number tells the operator.
+/// The first bytes after which a number gives the operator.
 pub(crate) fn is_prefix(code: u8) -> bool
     ensures { result ≡ is_prefix code }
 {
     code == 0xfc || code == 0xfd || code == 0xfe
 }
 
-/// What stands behind each operator of the row that holds the key.
+/// What follows each operator of the row that holds the key.
 fn shape_in(rows: &[Row], key: u32) -> Option<Shape>
     ensures { result ≡ shape_in rows.now key }
 {
@@ -159,7 +159,7 @@ fn shape_in(rows: &[Row], key: u32) -> Option<Shape>
     None
 }
 
-/// What stands behind the operator, where the table has it.
+/// What follows the operator, where the table has it.
 #[tactic(auto, unfolding(crate::specs::Table::shape_of))]
 pub(crate) fn shape_of(code: u8, sub: u32) -> Option<Shape>
     ensures { result ≡ shape_of code sub }

@@ -8,7 +8,7 @@ use wl_symbols::FixupPlace;
 pub enum FixupTo {
     /// This number, and what is still to be added to it.
     Value { value: u32, addend_left: i32 },
-    /// An address in the data of a thread, so many bytes behind its front, which is known when the
+    /// An address in the data of a thread, so many bytes past its start, which is known when the
     /// thread starts.
     Deferred { offset: i32 },
 }

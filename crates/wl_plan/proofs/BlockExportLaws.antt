@@ -27,7 +27,7 @@ any_more test (x ∷ xs) y none not = elim (cases_Bool (test x)) [
   | inr fails ↦ rw fails (any_more test xs y (rw fails at none) not)
 ]
 
--- behind others, none of which has its name
+-- after others, none of which has its name
 left_behind : (before front rest : List ExportEntry) (e : ExportEntry)
     → list_any (same_name e) (before ++ front) ≡ false
     → IsIn (unless_taken before (front ++ e ∷ rest)) e
@@ -42,7 +42,7 @@ left_behind before (x ∷ front) rest e free =
     (ap (λ (xs : List ExportEntry). list_any (same_name e) xs) (append_assoc before (x ∷ []) front)
     ∙ free))
 
--- in front of others
+-- before others
 left_front : (before xs ys : List ExportEntry) (e : ExportEntry) → IsIn (unless_taken before xs) e
     → IsIn (unless_taken before (xs ++ ys)) e
 left_front before [] ys e h = absurd h

@@ -137,7 +137,7 @@ no_remap_fault law input g object b numbers h new e (inl fault) =
 no_remap_fault law input g object b numbers h new e (inr lacks) =
     none_lacks law input g object b numbers h new lacks.0 lacks.1 lacks.2
 
--- no numbers are told of a sound body that isn't marked
+-- no numbers are reported of a sound body that isn't marked
 pub none_told : UnmarkedNumberNone → (input : Input) (object function : ℕ) (b : Body)
     → AreSoundBodies input → body_in input object function ≡ Some b
     → keeps input object (DefinedFunction function) ≡ true

@@ -131,7 +131,7 @@ host_entry input entry i e =
     let c = came_at (λ (x : ImportSlot). FunctionOf (function.Host x.object x.number)) (first_imports (host_functions input)) i entry e in
     ((c.0).object, (c.0).number, sym c.2)
 
--- an entry stands among what is imported, or behind that
+-- an entry stands among what is imported, or after that
 pub split_hosts : (input : Input) (entry : FunctionEntry) (i : ℕ) → slice_get (function_space input) i ≡ Some entry
     → (slice_get (host_function_part input) i ≡ Some entry) ⊎ IsBehindHosts input i entry
 split_hosts input entry i at =
@@ -175,7 +175,7 @@ not_host : (input : Input) (t : FunctionTarget) (ty : FunctionType) → target_t
 not_host input t ty e object slot is =
     absurd (let bad : None ≡ Some ty = sym (ap (target_type input.link.objects) is) ∙ e in cc)
 
--- behind what is imported
+-- after what is imported
 pub typed_behind : (input : Input) (plan : LinkPlan) (is : IsPlan input plan) (w : World) (s : State)
     → HoldsPlan plan w s → (entry : FunctionEntry) (i : ℕ) (ty : FunctionType) → IsBehindHosts input i entry
     → type_of_entry input entry ≡ Some ty → w.type_of i ≡ Some ty

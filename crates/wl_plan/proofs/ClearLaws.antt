@@ -33,7 +33,7 @@ bind_is_row input =
     (row_more (IsStubConflict input) _ (row_more (IsUndefinedImport input) _
     (row_more (IsHostConflict input) _ row_end)))))
 
--- a row of steps in front of others, and what is behind it
+-- a row of steps before others, and what comes after it
 in_row : (row : (LinkError → Type 0) → LinkError → Type 0) → IsRow row
     → (rest : LinkError → Type 0) → Clear (row rest) → Clear (row NoStep)
 in_row row is rest clear = record { none = is.first rest clear }

@@ -56,7 +56,7 @@ copies_disjoint test n (l ∷ rows) h =
     )
     at false e r = r
 
--- so many bytes behind which all of them end share none with them
+-- where all of them end before so many bytes, these share none with them
 pub copies_clear : (test : SegmentLayout → Bool) (place size n : ℕ) (rows : List SegmentLayout)
     → EndBy test place rows → AreClear (copies_from test n rows) place size
 copies_clear test place size n rows h =
@@ -101,7 +101,7 @@ copies_fit test size rows segments holds passive ends =
     subst (λ (i : ℕ). FitsSegment segments size (copy_of i l)) same
     (fits_one segments size k l held.0 held.1 held.2 (passive k l e t) (ends k l e t)))
 
--- what ends there ends at a place behind too
+-- what ends by a place ends by each later one too
 pub ends_less : (wide narrow : SegmentLayout → Bool) (near far : ℕ) (rows : List SegmentLayout)
     → ((k : ℕ) (l : SegmentLayout) → slice_get rows k ≡ Some l → narrow l ≡ true → wide l ≡ true)
     → near ≤ far → EndBy wide near rows → EndBy narrow far rows

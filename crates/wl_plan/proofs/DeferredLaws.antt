@@ -47,7 +47,7 @@ use Rattle.wl_plan.proofs.PositionLaws.{WholeFit, stands as contained}
 use Rattle.wl_plan.proofs.SegmentLaws.{SegmentsHaveLayouts}
 use Rattle.wl_plan.proofs.ThreadLaws.{given_more}
 
--- ---- what a pointer that is named tells of the field
+-- ---- what a pointer that is named says of the field
 
 abbrev Named : Type 0
 Named = Result (Option ℤ) RelocError

@@ -21,7 +21,7 @@ use Rattle.wl_plan.specs.LinkPlan.{IsPlanOf}
 use Rattle.wl_plan.specs.declared.layout.LinkPlan.{LinkPlan}
 use Rattle.wl_plan.proofs.ClearLaws.{is_clear}
 
--- ---- names behind others
+-- ---- names after others
 
 any_before : (test : ExportEntry → Bool) (xs ys : List ExportEntry)
     → list_any test (xs ++ ys) ≡ false → list_any test xs ≡ false

@@ -42,7 +42,7 @@ own_length input =
     let same = ap (λ (es : List FunctionEntry). length es) behind in
     omega (arith, all, same)
 
--- one that passes stands behind as many as pass before it
+-- one that passes stands after as many as pass before it
 filter_place : {X : Type 0} (p : X → Bool) (xs : List X) (i : ℕ) (x : X) → slice_get xs i ≡ Some x
     → p x ≡ true → slice_get (filter p xs) (length (filter p (take i xs))) ≡ Some x
 filter_place p [] i x here so = absurd cc

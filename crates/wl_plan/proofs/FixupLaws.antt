@@ -100,7 +100,7 @@ index_kept space i x few at =
 
 -- ---- what is known of a kept relocation
 
--- what is told of kept relocations
+-- facts about kept relocations
 pub record Laws : Type 0 where
   pub types : (input : Input) (r : Relocated) → IsSettled input
       → Contains (relocations input) r → names_a_type r.relocation.ty ≡ true → NamesType input r

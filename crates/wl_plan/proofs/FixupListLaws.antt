@@ -14,7 +14,7 @@ use Rattle.wl_plan.proofs.FixupLaws.{field_reason}
 
 -- ---- the relocation at hand
 
--- it stands behind those that were seen
+-- it follows those that were seen
 next_is : {X : Type 0} (all seen left more : List X) (x : X) → seen ++ left ≡ all
     → left ≡ x ∷ more → seen ++ x ∷ more ≡ all
 next_is all seen left more x is steps = rw (← steps) is
@@ -32,7 +32,7 @@ pub zip_more : {X Y : Type 0} (R : X → Y → Type 0) (xs : List X) (x : X) (ol
     → AllZip R xs old → R x y → new ≡ old ++ y ∷ [] → AllZip R (xs ++ x ∷ []) new
 zip_more R xs x old new y h r pushed = rw pushed (zip_joined R xs (x ∷ []) old (y ∷ []) h (r, tt))
 
--- the place behind as many as there are on another side
+-- the place after as many as there are on another side
 zip_within : {X Y Z : Type 0} (R : X → Y → Type 0) (S : X → Z → Type 0) (xs : List X) (x : X)
     (more : List X) (ys : List Y) (zs : List Z) → AllZip R (xs ++ x ∷ more) ys → AllZip S xs zs
     → length zs < length ys

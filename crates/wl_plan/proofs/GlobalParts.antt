@@ -71,7 +71,7 @@ in_range f n k lt = (
 
 -- ---- objects
 
--- the number behind a range
+-- the number after a range
 range_more : (a k j : ℕ) → a + k ≡ j → range_with_len a (k + 1) ≡ range_with_len a k ++ j ∷ []
 range_more a zero j e = let is : a ≡ j = omega (arith, e) in rw is refl
 range_more a (suc k) j e =
@@ -327,7 +327,7 @@ regroup : {X : Type 0} (a b c d e f g h i j k : List X)
     ≡ (a ++ (b ++ (c ++ (d ++ (e ++ f))))) ++ (g ++ (h ++ (i ++ (j ++ k))))
 regroup a b c d e f g h i j k = simp (append_assoc, append-nil)
 
--- the global space behind the imports
+-- the global space after the imports
 pub own_globals_are : (input : Input) → own_globals input ≡ made_parts input ++ object_globals input
 own_globals_are input =
     let a = made_global_part input linker.MemoryBase in

@@ -102,7 +102,7 @@ adds_got input g k place d f old new here block stands offset grown = record {
 
 -- ---- the entries one after the other
 
--- those of the first entries are told
+-- the fixups are those of the first entries
 abbrev pub AreGotUpTo : Input → Placing → ℕ → List TlsGotFixup → Type 0
 AreGotUpTo input g k fixups = AllZip (IsGotFixup input) (got_places_from input g 0 (take k (got_mem input))) fixups
 

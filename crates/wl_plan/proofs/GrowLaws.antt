@@ -1,4 +1,4 @@
--- Lists of bodies that grow, and the function space behind the imports.
+-- Lists of bodies that grow, and the function space after the imports.
 use Rattle.std.proofs.Common.{◌≡◌, ◌∙◌, ◌<◌, ℕ, zero, suc, ◌+◌, Bool, true, List, [], ◌∷◌, ◌++◌, length, map, take, sym, ap, subst, arith, Some, slice_get, append-nil, append_assoc}
 use Rattle.wl_linking.specs.Object.{Object}
 use Rattle.wl_symbols.specs.Live.{Live, is_live}
@@ -69,7 +69,7 @@ adds_kept input g object function own b old new kept here is grown =
     (own_function_part input object function) old new (sym (one_own input object function kept))
     (adds_one input g (FunctionOf (Defined object function)) old new b body grown)
 
--- ---- the space behind the imports
+-- ---- the space after the imports
 
 -- what the linker makes, the stubs, and what objects define
 abbrev pub linker_part : Input → List FunctionEntry

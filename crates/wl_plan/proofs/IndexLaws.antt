@@ -160,7 +160,7 @@ missed {X} f n xs none = no_place (λ (y : X). f y == n) xs (λ k x at.
 abbrev entry_for : ℕ → SegmentLayout → ℕ × ℕ
 entry_for object l = (object, l.segment_index)
 
--- a segment stands behind those of the objects before, by its place
+-- a segment stands after those of the objects before, by its place
 numbers_stand : (all : List (List SegmentLayout)) (n m k p : ℕ) (layouts : List SegmentLayout)
     (l : SegmentLayout) → slice_get all k ≡ Some layouts → slice_get layouts p ≡ Some l → n + k ≡ m
     → slice_get (numbers_from n all) (segments_before all k + p) ≡ Some (m, l.segment_index)
@@ -180,7 +180,7 @@ numbers_stand (first ∷ all) n m (suc k) p layouts l here at is =
     (segments_before all k + p) (length first + segments_before all k + p) (omega (arith, long))
     ∙ numbers_stand all (n + 1) m k p layouts l here at (omega (arith, is))
 
--- behind the segments of an object those of the next one begin
+-- after the segments of an object those of the next one begin
 pub before_more : (all : List (List SegmentLayout)) (k : ℕ) (layouts : List SegmentLayout)
     → slice_get all k ≡ Some layouts
     → segments_before all (k + 1) ≡ segments_before all k + length layouts

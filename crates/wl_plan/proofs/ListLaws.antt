@@ -14,7 +14,7 @@ of_range {Y} f n k lt =
     (omega (arith, lt, length-map-range_with_len f 0 n))
     ∙ ap (λ (y : Y). Some y) (get_or-map-range_with_len f 0 n k k (f k) lt (omega arith))
 
--- behind the first one of three lists
+-- after the first one of three lists
 pub drop_front : {X : Type 0} (front middle back : List X)
     → drop (length front) ((front ++ middle) ++ back) ≡ middle ++ back
 drop_front [] middle back = refl

@@ -256,7 +256,7 @@ table_is_there input target h =
     let asks = any_in (asks_for_table input) (relocations input) c.from c.there (asked_for input c.from target c.gives) in
     rw asks refl
 
--- what a slot behind the first is of
+-- what a slot after the first is of
 record HasPlace (input : Input) (target : FunctionTarget) (slot : ℕ) : Type 0 where
   place : ℕ
   found : position (same_target target) (table_functions input) ≡ Some place

@@ -32,7 +32,7 @@ written_first old new none is = record {
   text = is ∙ ap (λ (t : List ℕ). t ++ line_text Version) none ∙ sym (append-nil (line_text Version));
 }
 
--- and more behind those
+-- and more after those
 pub written_more : {old : List ℕ} {xs : List Line} (new : List ℕ) (ys : List Line) → IsWritten old xs → new ≡ old ++ flat_map line_text ys → IsWritten new (xs ++ ys)
 written_more {old} {xs} new ys so_far is = record {
   text = is ∙ ap (λ (t : List ℕ). t ++ flat_map line_text ys) so_far.text ∙ sym (flat_map-append line_text xs ys);

@@ -20,7 +20,7 @@ use Rattle.wl_plan.specs.declared.placing.Placing.{Placing}
 use Rattle.wl_linking.proofs.StepLaws.{clear_end, clear_step, refuses_behind, refuses_here, refuses_more, row_behind, row_clear, row_refuses}
 use Rattle.wl_plan.proofs.PlanLaws.{OnePlacing, at_most, index_is_row, index_row, place_is_row, place_row, placed_clear, placed_refuses}
 
--- what is judged behind the numbering of things
+-- what is judged after the numbering of things
 abbrev pub behind_index : Input → LinkError → Type 0
 behind_index input = Step (AreTooManyWrappers input) (laid_fault input)
 

@@ -243,7 +243,7 @@ in_row n (r ∷ rows) (suc object) row k l e at =
     mapped_length f [] m = refl
     mapped_length f (x ∷ xs) m = let tail = mapped_length f xs m in omega (arith, tail)
 
--- ---- what a pointer tells
+-- ---- what a pointer says
 
 no_offset : (b : Bool) (z : ℤ) → ◌≡◌ {A = Result (Option ℤ) RelocError}
     (if b then Err reloc.Unsupported else Ok None) (Ok (Some z)) → ⊥

@@ -317,7 +317,7 @@ no_host input t i e =
     let c = came_at (λ (x : ImportSlot). GlobalOf (global.Host x.object x.number)) (first_imports (host_globals input)) i (GlobalOf t) e in
     ((c.0).object, (c.0).number, (let same : GlobalOf (global.Host (c.0).object (c.0).number) ≡ GlobalOf t = c.2 in cc))
 
--- where an entry that isn't imported stands behind the imports
+-- where an entry that isn't imported stands after the imports
 pub record IsBehindHosts (input : Input) (i : ℕ) (entry : GlobalEntry) : Type 0 where
   pub k : ℕ
   pub index : i ≡ length (host_global_part input) + k

@@ -98,7 +98,7 @@ is_there input (f ∷ fs) (e ∷ es) h (suc k) lt =
     let rest = is_there input fs es h.1 k (omega (arith, lt)) in
     record { target = rest.target; at = rest.at; stands = rest.stands }
 
--- what is told of functions of the table
+-- facts about functions of the table
 pub record TableLaws : Type 0 where
   pub once : (input : Input) (i k : ℕ) (f g : FunctionTarget)
       → slice_get (table_functions input) i ≡ Some f → slice_get (table_functions input) k ≡ Some g

@@ -242,7 +242,7 @@ none_before input k target is one at = by_case (position (same_target target) (t
         let lt = inside.1 in
         omega (arith, equal, lt))
 
--- its slot is behind its place
+-- its slot is the one after its place
 own_place : (input : Input) (k : ℕ) (target : FunctionTarget) → TableIs input
     → ((a b : FunctionTarget) → same_target a b ≡ true → a ≡ b) → slice_get (table_functions input) k ≡ Some target
     → place_slot (take k (table_functions input) ++ target ∷ []) target ≡ k + 1

@@ -76,7 +76,7 @@ rows_more test rows k n row before after all within is more so_far =
     ∙ (ap (λ (ls : List SegmentLayout). before ++ copies_from test n ls) (sym (row_split rows k row within is))
     ∙ so_far)))
 
--- how many there are behind those that were seen
+-- how many there are after those that were seen
 pub rows_count : (rows : List (List SegmentLayout)) (k n total : ℕ) (row : List SegmentLayout) → k < length rows
     → row ≡ get_or rows k row → n + length (in_one_row (drop k rows)) ≡ total
     → (n + length row) + length (in_one_row (drop (k + 1) rows)) ≡ total
@@ -181,7 +181,7 @@ got_more input g k old new ds done so_far len whole are adds =
 
 -- ---- bodies
 
--- what isn't encoded is told so
+-- what isn't encoded is reported so
 pub unspelled_by : (are_ops : List Op → Type 0) (ops : List Op) (e : SynthError) → are_ops ops → EncodeFault ops e
     → IsUnspelled are_ops (body_error e)
 unspelled_by are_ops ops synth.OutOfMemory are fault = inl refl

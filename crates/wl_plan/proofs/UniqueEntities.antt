@@ -190,7 +190,7 @@ none_host input h =
 none_made : (input : Input) (m : WasmLinkerSymbol) → IsIn (made_function_part input m) InitMemory → ⊥
 none_made input m h = none_if (is_made input m) (function.Made m) h
 
--- what stands behind that part, and before what objects define
+-- what comes after that part, and before what objects define
 abbrev stubs_behind : Input → List FunctionEntry
 stubs_behind input = stub_part input ++ []
 

@@ -96,7 +96,7 @@ called_at input own more hosts e w are count le is =
 
 -- ---- functions
 
--- so many wrappers stand behind the other functions
+-- so many wrappers follow the other functions
 pub record HasWrappers (input : Input) (k : ℕ) (own functions : List PlannedFunction) : Type 0 where
   pub more : List PlannedFunction
   pub parts : functions ≡ own ++ more
@@ -184,7 +184,7 @@ behind_hosts own input hosts ws k w are zip lt is =
     let le = own input ws k w zip (item_at ws k w lt is) in
     omega (arith, le, ap length are, hosts_length input)
 
--- the number that is told is that of the type
+-- the number that is reported is that of the type
 pub record HasCalledType (input : Input) (functions : List PlannedFunction) (hosts k number : ℕ)
     (types : List FunctionType) (w : WrapperEntry) : Type 0 where
   pub entry : ExportEntry
@@ -264,7 +264,7 @@ short_type short input InitMemory ty whole is =
 
 -- ---- bodies
 
--- so many bodies of wrappers stand behind the other bodies
+-- so many bodies of wrappers follow the other bodies
 pub record HasWrapperBodies (input : Input) (k : ℕ) (own bodies : List Body) : Type 0 where
   pub more : List Body
   pub parts : bodies ≡ own ++ more

@@ -55,11 +55,11 @@ pub record IsSymbolAt (objects : List Object) (object number : ℕ) (s : LinkedS
   pub here : slice_get objects object ≡ Some o
   pub at : slice_get o.symbols number ≡ Some s
 
--- the address is past the last one, and that is told
+-- the address is past the last one, and that is reported
 abbrev pub IsHighAt : WasmDataAddress → LinkError → Type 0
 IsHighAt address e = (e ≡ TooLarge Address) × IsHigh address
 
--- a symbol of the object lies past the last address, and that is told
+-- a symbol of the object lies past the last address, and that is reported
 abbrev pub IsHighIn : AddressBook → ℕ → LinkError → Type 0
 IsHighIn book object e =
     (number : ℕ) × IsHighAt (symbol_address book.input.now book.placing.now object number) e

@@ -80,14 +80,14 @@ AreSegmentIndices input g object o indices =
 
 -- ---- data
 
--- so many bytes behind an address
+-- so many bytes past an address
 abbrev pub behind : WasmDataAddress → ℕ → WasmDataAddress
 behind Missing offset = Missing
 behind (Placed place) offset = Placed (place + offset)
 behind Passive offset = Passive
 behind (TlsOffset place) offset = TlsOffset (place + offset)
 
--- the address of data that an object defines: on its segment, or the one that it tells itself
+-- the address of data that an object defines: on its segment, or the one that it gives itself
 abbrev pub defined_data : Placing → ℕ → LinkedSymbol → WasmDataAddress
 defined_data g object s =
     if is_absolute s then Placed s.offset

@@ -159,7 +159,7 @@ pub record IsWrapperBody (input : Input) (e : ExportEntry) (b : Body) : Type 0 w
   pub encoded : IsEncoded (wrapper_ops constructors original (length ty.params)) bytes
   pub made : IsMadeBody bytes b
 
--- a body for each function that isn't imported: those of the space, and behind them the wrappers'
+-- a body for each function that isn't imported: those of the space, and after them the wrappers'
 pub record AreBodies (input : Input) (g : Placing) (bodies : List Body) : Type 0 where
   pub own : List Body
   pub wrappers : List Body

@@ -14,7 +14,7 @@ contents objects = map (λ (object : Vec ℕ Global). object.items) objects
 abbrev pub AllWithin : List (List ℕ) → Type 0
 AllWithin objects = AllByRecursion (λ (bytes : List ℕ). length bytes ≤ MAX_OBJECT) objects
 
--- an object that wasn't taken is handed back, and where it is told to be too long it is
+-- an object that wasn't taken is handed back, and where it is known to be too long it is
 abbrev pub HandsBack : List ℕ → PushError → Type 0
 HandsBack bytes (OutOfMemory back) = back.items ≡ bytes
 HandsBack bytes (TooLong back) = (back.items ≡ bytes) × (MAX_OBJECT < length bytes)

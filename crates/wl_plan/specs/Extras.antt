@@ -1,4 +1,4 @@
--- What a plan tells beside the module's own sections: the features, and the debug sections.
+-- What a plan has beside the module's own sections: the features, and the debug sections.
 use Rattle.std.specs.Prelude.{◌≡◌, ℕ, ◌||◌, Bool, true, false, List, [], codes, if◌then◌else◌}
 use Rattle.wl_custom.specs.Debug.{DebugInput}
 use Rattle.wl_words.specs.Args.{emits_stripped_section}

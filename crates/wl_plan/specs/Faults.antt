@@ -34,7 +34,7 @@ IsNumberFault input g e = IsGlobalFault input g e ⊎ IsFixupFault input g e
 abbrev pub IsValueFault : Input → Placing → LinkError → Type 0
 IsValueFault input g e = IsNumberFault input g e ⊎ IsBodyFault input g e
 
--- bodies of so many bytes that the size of their section can't be told
+-- bodies of so many bytes that the size of their section can't be measured
 pub record HasLargeBodies (input : Input) (g : Placing) : Type 0 where
   pub bodies : List Body
   pub are_bodies : AreBodies input g bodies

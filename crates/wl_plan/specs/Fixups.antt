@@ -146,7 +146,7 @@ abbrev pub no_address : ℕ → WasmDataAddress → LinkError
 no_address object Passive = Unsupported object PassiveAddress
 no_address object address = Unsupported object TlsAddress
 
--- what the refusal of an address is told as
+-- what the refusal of an address is reported as
 abbrev pub address_refusal : Placing → Relocated → AddressBase → WasmDataAddress → RelocError
     → LinkError
 address_refusal g r base address reloc.Range =

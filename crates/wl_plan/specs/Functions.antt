@@ -12,7 +12,7 @@ use Rattle.wl_exports.specs.Exports.{ExportEntry, OfFunction}
 use Rattle.wl_exports.specs.Wrappers.{wrapped}
 use Rattle.wl_plan.specs.Origins.{Origin, OfObject, OfLinker, OfInitMemory, OfStub, OfWrapper, PlannedFunction}
 
--- the function space behind the imports
+-- the function space after the imports
 abbrev pub own_functions : Input → List FunctionEntry
 own_functions input = drop (length (host_function_part input)) (function_space input)
 
@@ -55,7 +55,7 @@ pub record IsWrapperFunction (input : Input) (types : List FunctionType) (e : Ex
   pub leads : e.entity ≡ OfFunction function
   pub typed : IsTypeNumber types (type_of_entry input function) f.type_index
 
--- the functions that aren't imported: those of the space, and behind them the wrappers
+-- the functions that aren't imported: those of the space, and after them the wrappers
 pub record AreOutputFunctions (input : Input) (types : List FunctionType)
     (functions : List PlannedFunction) : Type 0 where
   pub own : List PlannedFunction

@@ -60,7 +60,7 @@ constant_or_range number =
 
 -- ---- addresses
 
--- the address of an entry of the GOT list of data, for an object that it is told of: what lies in
+-- the address of an entry of the GOT list of data, where a refusal names this object; what lies in
 -- the block of a thread is set when the thread starts
 abbrev pub got_address : ℕ → WasmDataAddress → Result ℕ LinkError
 got_address object Missing = Ok 0
@@ -69,7 +69,7 @@ got_address object Passive = Err (Unsupported object PassiveAddress)
 got_address object (TlsOffset place) =
     if nat_lt max_constant place then Err (ConstantRange place) else Ok 0
 
--- a place in the data of a thread, unless it is in front of that or above the greatest number
+-- a place in the data of a thread, unless it is before that or above the greatest number
 abbrev pub own_place : ℕ → ℕ → ℕ → Result ℕ LinkError
 own_place object base place =
     if nat_lt place base then Err (Unsupported object TlsAddress)
@@ -165,7 +165,7 @@ may_change input g entry = false
 
 -- ---- where globals are from
 
--- what a thing of the linker's is told as
+-- what a thing of the linker's is reported as
 abbrev pub word_of_made : WasmLinkerSymbol → MadeGlobal
 word_of_made linker.MemoryBase = word.MemoryBase
 word_of_made linker.TableBase = word.TableBase
@@ -213,7 +213,7 @@ pub record IsPlannedGlobal (input : Input) (g : Placing) (entry : GlobalEntry) (
   pub origin_is : p.origin ≡ origin_of_global entry
   pub global_is : IsGlobalOf input g entry p.global
 
--- the global space behind the imports
+-- the global space after the imports
 abbrev pub own_globals : Input → List GlobalEntry
 own_globals input = drop (length (host_global_part input)) (global_space input)
 

@@ -49,6 +49,6 @@ abbrev pub AreLowOf : AddressBook → ℕ → Type 0
 AreLowOf book object =
     (o : Object) → slice_get book.input.now.link.objects object ≡ Some o → AreLowIn book object o
 
--- a data symbol lies past the last address, and that is told
+-- a data symbol lies past the last address, and that is reported
 abbrev pub IsHighSymbol : AddressBook → LinkError → Type 0
 IsHighSymbol book e = (e ≡ TooLarge Address) × HasHighSymbol book.input.now book.placing.now

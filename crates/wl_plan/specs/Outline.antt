@@ -22,7 +22,7 @@ pub record AreFew (input : Input) : Type 0 where
   pub functions : length (function_space input) ≤ MAX_ENTRIES
   pub globals : length (global_space input) ≤ MAX_ENTRIES
 
--- there is room for the wrappers behind the functions
+-- there is room for the wrappers after the functions
 abbrev pub HasWrapperRoom : Input → Type 0
 HasWrapperRoom input = length (function_space input) + length (wrapped input) ≤ MAX_ENTRIES
 
@@ -37,7 +37,7 @@ pub record HasOutline (input : Input) (o : Outline) : Type 0 where
 abbrev pub with_types : Outline → List FunctionType → Outline
 with_types o types = record o { bindings = record o.bindings { types = types } }
 
--- it tells whether there can be the exports
+-- it says whether there can be the exports
 pub record AreChecked (input : Input) (r : Result (Unit {0}) LinkError) : Type 0 where
   pub sound : OnOk r (Clear (IsExportFault input))
   pub refused : IfErr r (Refuses (IsExportFault input))

@@ -44,7 +44,7 @@ first_pages objects =
 
 -- ---- what places rest on
 
--- the address from which that of data counts: behind what stays free, where there is a memory or
+-- the address from which that of data counts: after what stays free, where there is a memory or
 -- something counts from there
 abbrev pub memory_base : Input → ℕ
 memory_base input =
@@ -140,7 +140,7 @@ pub record IsMemoryFault (input : Input) (e : LinkError) : Type 0 where
   pub places : IsDataPlaces (data_input input) laid
   pub fault : memory_steps input laid e
 
--- all the reasons, in the order in which they are judged, and what is judged behind them
+-- all the reasons, in the order in which they are judged, and what is judged after them
 abbrev pub place_steps : Input → (LinkError → Type 0) → LinkError → Type 0
 place_steps input behind =
     Step (AreTooManySegments input)

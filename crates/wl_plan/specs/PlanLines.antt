@@ -141,7 +141,7 @@ lines_of plan =
     ++ map debug_line plan.layout.debug_sections
     ++ (End ∷ [])
 
--- the listing of a plan: the texts of its lines, one behind the other
+-- the listing of a plan: the texts of its lines, one after the other
 abbrev pub listing_text : LinkPlan → List ℕ
 listing_text plan = flat_map line_text (lines_of plan)
 
@@ -151,7 +151,7 @@ listing_text plan = flat_map line_text (lines_of plan)
 abbrev pub HaveNumbers : {X : Type 0} → ℕ → List X → Type 0
 HaveNumbers first xs = first + length xs ≤ 2 ^ 32
 
--- no segment has more bytes than a number of 32 bits tells
+-- no segment has more bytes than a number of 32 bits holds
 abbrev pub ArePayloadsSmall : List ObjectSegment → Type 0
 ArePayloadsSmall segments =
     AllByRecursion (λ (s : ObjectSegment). IsSmall (length s.layout.payload)) segments

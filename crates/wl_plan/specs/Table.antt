@@ -16,7 +16,7 @@ use Rattle.wl_exports.specs.Wrappers.{wrapped}
 
 -- ---- slots
 
--- the slot of one of the functions of the table, behind the first one, which holds no function
+-- the slot of one of the functions of the table, after the first one, which holds no function
 abbrev pub slot_behind_first : Input → FunctionTarget → Option ℕ
 slot_behind_first input target =
     option_map (λ (place : ℕ). place + LINKER_TABLE_BASE) (position (same_target target) (table_functions input))

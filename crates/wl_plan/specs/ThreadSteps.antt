@@ -42,7 +42,7 @@ pub record IsFixupOf (input : Input) (g : Placing) (f : Fixup) : Type 0 where
   pub kept : Contains (relocations input) relocated
   pub is : IsFixup input g relocated f
 
--- what is told where a body isn't encoded
+-- what is reported where a body isn't encoded
 abbrev pub body_error : SynthError → LinkError
 body_error synth.OutOfMemory = link.OutOfMemory
 body_error (synth.Range number) = link.ConstantRange number

@@ -29,7 +29,7 @@ use Rattle.wl_plan.specs.declared.placing.Placing.{Placing}
 
 -- ---- copies
 
--- the segment of that number in the output, as what copies it tells it
+-- the copy of the segment that has that number in the output
 abbrev pub copy_of : ℕ → SegmentLayout → PassiveSegmentCopy
 copy_of number l =
     record { segment_index = number; offset = l.output_memory_offset; len = length l.payload }

@@ -90,7 +90,7 @@ pub(crate) fn all_starts(
 
 // ---- definitions
 
-/// What tells where definitions lie.
+/// What says where definitions lie.
 #[derive(Drop)]
 pub(crate) struct AddressBook<'b, 'i, 'a> {
     /// The link, and what is kept of it.
@@ -101,7 +101,7 @@ pub(crate) struct AddressBook<'b, 'i, 'a> {
     pub(crate) starts: &'b [ItemList<WasmDataAddress>],
 }
 
-/// So many bytes behind an address.
+/// So many bytes past an address.
 ///
 /// # Errors
 /// `TooLarge` where that is past the last one.

@@ -259,7 +259,7 @@ fn push_call_ctors<'a>(
     }
 }
 
-/// What is told where a body isn't encoded.
+/// What is reported where a body isn't encoded.
 fn body_error(error: SynthError) -> LinkError
     ensures { result ≡ body_error error }
 {

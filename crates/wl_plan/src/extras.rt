@@ -1,4 +1,4 @@
-//! What a plan tells beside the module's own sections: the features, and the debug sections.
+//! What a plan has beside the module's own sections: the features, and the debug sections.
 
 ghost use Rattle.std.specs.Prelude.{◌≡◌, IfOk};
 ghost use Rattle.wl_symbols.specs.Link.{Link, link_of};

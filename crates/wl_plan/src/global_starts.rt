@@ -45,8 +45,8 @@ fn unsupported(object: usize, form: Form) -> LinkError
     LinkError::Unsupported { object, form }
 }
 
-/// The address of an entry of the GOT list of data, for an object that it is told of: what lies in
-/// the block of a thread is set when the thread starts.
+/// The address of an entry of the GOT list of data, where a refusal names this object; what lies
+/// in the block of a thread is set when the thread starts.
 fn got_address(object: usize, address: WasmDataAddress) -> Result<u32, LinkError>
     ensures { result ≡ got_address object address }
 {
@@ -61,7 +61,7 @@ fn got_address(object: usize, address: WasmDataAddress) -> Result<u32, LinkError
     }
 }
 
-/// A place in the data of a thread, unless it is in front of that or above the greatest number.
+/// A place in the data of a thread, unless it is before that or above the greatest number.
 fn own_place(object: usize, base: u32, place: u32) -> Result<u32, LinkError>
     ensures { result ≡ own_place object base place }
 {

@@ -40,7 +40,7 @@ fn constant<'a>(alloc: Global, number: u32) -> Result<CowSlice<'a, u8>, AllocErr
 
 // ---- the globals, part by part
 
-/// What a thing of the linker's is told as.
+/// What a thing of the linker's is reported as.
 fn word_of(made: WasmLinkerSymbol) -> MadeGlobal
     ensures { result ≡ word_of_made made }
 {

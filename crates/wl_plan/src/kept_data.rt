@@ -57,7 +57,7 @@ fn kept_data<'a>(
     }
 }
 
-/// Puts the segment of that number behind others, if it is kept.
+/// Appends the segment of that number to others, if it is kept.
 fn push_kept<'a>(
     kept: &mut Vec<KeptSegment<'a>>,
     input: &LinkInput<'_, 'a>,

@@ -104,7 +104,7 @@ pub fn only_addresses_are_refused()
     same_targets_are_one();
 }
 
-/// The memory has the word that tells whether segments are copied exactly where the output has the
+/// The memory has the word that says whether segments are copied exactly where the output has the
 /// function that copies them.
 pub fn flag_is_where_memory_is_filled()
     ensures { (input : Input) → has_init (data_input input) ≡ has_init_memory input }

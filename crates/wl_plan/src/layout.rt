@@ -116,7 +116,7 @@ pub struct WasmLayout<'a> {
     pub tls_size: u32,
     /// The alignment of that block in bytes; 0 where there is none.
     pub tls_align: u32,
-    /// The address behind all data.
+    /// The address after all data.
     pub data_end: u32,
     /// How many bytes the code section takes.
     pub code_section_size: u64,

@@ -373,7 +373,7 @@ fn expected_room(plan: &LinkPlan) -> usize {
     room
 }
 
-/// The listing of a plan: the texts of its lines, one behind the other.
+/// The listing of a plan: the texts of its lines, one after the other.
 ///
 /// # Errors
 /// `AllocError` where memory runs out.

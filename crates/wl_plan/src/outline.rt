@@ -123,7 +123,7 @@ fn seen_of<'a>(
 }
 
 /// What is known of the output of a link whose references are bound, with the maps of its objects,
-/// and why there can't be its exports, if there can't: that is to be told when all else is judged.
+/// and why there can't be its exports, if there can't: it is reported when all else is judged.
 ///
 /// # Errors
 /// `TooLarge` where with the wrappers there are more than 4294967294 functions.

@@ -106,7 +106,7 @@ pub fn bodies_name_their_own_segments()
     segments_have_layouts();
 }
 
-/// A function that has a slot behind the first one stands there in the table, and the table has
+/// A function that has a slot after the first one stands there in the table, and the table has
 /// that slot.
 pub fn slots_hold_their_functions()
     ensures { (input : Input) (plan : SpecPlan) (index slot : ℕ) → IsPlan input plan

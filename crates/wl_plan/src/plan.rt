@@ -222,7 +222,7 @@ struct OutputParts<'a> {
 }
 
 /// All parts that are made from where things lie, where it was judged whether there can be the
-/// exports: that is told behind all that is judged here, but before sizes.
+/// exports: that is reported after all that is judged here, but before sizes.
 fn output_parts<'a>(
     alloc: Global,
     things: &PlacedThings<'_, '_, 'a>,

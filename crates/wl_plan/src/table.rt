@@ -35,7 +35,7 @@ fn table_place(scan: &RelocScan<'_>, target: FunctionTarget) -> Option<usize>
     scan.table_functions.place(target)
 }
 
-/// The slot of one of the functions of the table, behind the first one.
+/// The slot of one of the functions of the table, after the first one.
 fn slot_behind_first(
     input: &LinkInput<'_, '_>,
     bindings: &Bindings<'_>,
@@ -280,7 +280,7 @@ fn imports_table(file: &File<'_>) -> bool
         .any(|import| matches!(import.entity, ImportEntity::Table(_)))
 }
 
-/// The size of the table: its functions behind an empty first slot, and no less than any object
+/// The size of the table: its functions after an empty first slot, and no less than any object
 /// asks for.
 fn table_size(input: &LinkInput<'_, '_>, scan: &RelocScan<'_>) -> u64
     requires { scan.now ≡ scan_of input.now }

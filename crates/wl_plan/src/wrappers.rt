@@ -29,7 +29,7 @@ use wl_synth::encode_command_export_wrapper_body;
 
 // ---- functions
 
-/// The number of the type of what a wrapper calls, behind so many functions that are imported.
+/// The number of the type of what a wrapper calls, after so many functions that are imported.
 fn called_type(functions: &[OutputFunction<'_>], hosts: usize, wrapper: &Wrapper<'_>) -> u32
     requires { hosts ≤ wrapper.now.original }
     ensures { (f : PlannedFunction)
@@ -42,7 +42,7 @@ fn called_type(functions: &[OutputFunction<'_>], hosts: usize, wrapper: &Wrapper
     }
 }
 
-/// The functions that aren't imported, with the wrappers behind them.
+/// The functions that aren't imported, with the wrappers after them.
 ///
 /// # Errors
 /// `AllocError` where memory runs out.
@@ -98,7 +98,7 @@ fn wrapper_body(
     }
 }
 
-/// Adds the bodies of the wrappers behind those of all other functions.
+/// Adds the bodies of the wrappers after those of all other functions.
 ///
 /// # Errors
 /// `AllocError` where memory runs out.

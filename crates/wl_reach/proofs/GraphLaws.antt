@@ -85,7 +85,7 @@ stretch_kept_behind xs s n p v le =
     let q : s + (p - s) ≡ p = omega arith in
     ap (λ r. take n (drop s (set xs r v))) (sym q) ∙ (ap (take n) (drop-set-add s xs (p - s) v) ∙ take-set-le n (drop s xs) (p - s) v (omega arith))
 
--- a write just behind a stretch
+-- a write just after a stretch
 stretch_more : (xs : List ℕ) (s n p v : ℕ) → p ≡ s + n → p < length xs → take (n + 1) (drop s (set xs p v)) ≡ take n (drop s xs) ++ v ∷ []
 stretch_more xs s n p v e lt =
     ap (λ r. take (n + 1) (drop s (set xs r v))) e
@@ -281,7 +281,7 @@ graph_of-cons n e edges lt =
           targets_of-cons_other e edges k other ∙ (sym (get_or-graph_of n edges k d below) ∙ sym (get_or-set_other rows e.from k row d (λ same. other (sym same))))
     ])
 
--- one more behind the others
+-- one more after the others
 pub graph_of-more : (n : ℕ) (edges : List Edge) (e : Edge) → graph_of n (edges ++ e ∷ []) ≡ with_edge (graph_of n edges) e
 graph_of-more n edges e =
     let rows = graph_of n edges in

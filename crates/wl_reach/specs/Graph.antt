@@ -58,7 +58,7 @@ with_room rooms node more = slice_set rooms node (slice_index rooms node + more)
 abbrev pub HasRoom : List ℕ → List Edge → Type 0
 HasRoom rooms edges = (k : ℕ) → k < length rooms → degree edges k ≤ slice_index rooms k
 
--- one edge more, behind those from its node
+-- one edge more, after those from its node
 abbrev pub with_edge : List (List ℕ) → Edge → List (List ℕ)
 with_edge graph e = slice_set graph e.from (slice_index_or graph e.from [] ++ e.to ∷ [])
 
@@ -67,7 +67,7 @@ pub record Building : Type 0 where
   pub graph : List (List ℕ)
   pub rooms : List ℕ
 
--- stretches with their room stand one behind the other, and hold nodes no further than that
+-- stretches with their room stand one after the other, and hold nodes no further than that
 pub record IsBuilding (rooms starts ends targets : List ℕ) : Type 0 where
   pub begins : AreSums rooms (length rooms) starts
   pub size : length ends ≡ length starts

@@ -28,6 +28,6 @@ steps_of (is_marked ∷ marks) [] = 0
 steps_of (is_marked ∷ marks) (heads ∷ graph) =
     (if is_marked then 1 + length heads else 0) + steps_of marks graph
 
--- the marked nodes in their order, with one more behind them if it wasn't marked
+-- the marked nodes in their order, with one more after them if it wasn't marked
 abbrev pub with_mark : List Bool → List ℕ → ℕ → List ℕ
 with_mark marks order node = if slice_index_or marks node false then order else order ++ node ∷ []

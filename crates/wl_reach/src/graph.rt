@@ -34,7 +34,7 @@ impl Model for Rooms {
     ghost invariant = { λ r. (r.total ≡ sum r.counts.items) × (r.total < 2 ^ 64) };
 }
 
-/// Where each of so many stretches begins, which stand one behind the other.
+/// Where each of so many stretches begins, which stand one after the other.
 fn sums_before(alloc: Global, counts: &[usize]) -> Result<Vec<usize>, AllocError>
     requires { sum counts.now < 2 ^ 64 }
     ensures { IfOk result (λ v. AreSums counts.now (length counts.now) v.items) }
@@ -149,7 +149,7 @@ impl GraphBuilder {
         })
     }
 
-    /// Lays an edge behind those from its node.
+    /// Puts an edge after those from its node.
     pub fn add(&mut self, edge: Edge)
         requires from { edge.from < length self.old.graph }
         requires to { edge.to < length self.old.graph }

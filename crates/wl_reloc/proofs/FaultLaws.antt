@@ -1,4 +1,4 @@
--- Where a relocation has no value, the refusal that is told has its cause.
+-- Where a relocation has no value, the refusal that is reported has its cause.
 use Rattle.std.proofs.Common.{◌≡◌, ◌≢◌, ◌⊎◌, inl, inr, ℕ, ◌≤◌, ◌<◌, Bool, true, false, eqb, List, length, refl, sym, ap, subst, ◌∙◌, Option, Some, None, slice_get, if◌then◌else◌, get_or}
 use Rattle.std.specs.Prelude.{ℤ, pos, ◌+ℤ◌, ◌-ℤ◌, Result, Ok, Err}
 use Rattle.std.proofs.lemmas.Bool.{cases_lt, lt-ltb, le-ltb}
@@ -43,7 +43,7 @@ past_by xs i h (inr is) = is.0
 pub past : {X : Type 0} (xs : List X) (i : ℕ) → slice_get xs i ≡ None → length xs ≤ i
 past xs i h = past_by xs i h (slice_get_cases xs i).1
 
--- what is told has that cause
+-- what is reported has that cause
 module _ (Cause : RelocError → Type 0) where
   pub told : {T : Type 0} (a b : RelocError) → ◌≡◌ {A = Result T RelocError} (Err a) (Err b)
       → Cause a → Cause b
@@ -109,7 +109,7 @@ module _ (Cause : RelocError → Type 0) where
       → (is_s32 z ≡ false → Cause Range) → Cause e
   of_number z e h out = of_s32 z (is_s32 z) e refl h out
 
--- a slot behind the first one is refused where the slot is
+-- a slot after the first one is refused where the slot is
 before_first : (x : Result ℕ RelocError) (e : RelocError) → behind_first x ≡ Err e → x ≡ Err e
 before_first (Ok slot) e h = absurd cc
 before_first (Err d) e h = h

@@ -56,7 +56,7 @@ module _ (addresses : List WasmDataAddress) (r : WasmRelocation) where
   listed_caused (Some Passive) lies e h = absurd cc
   listed_caused None lies e h = absurd cc
 
-  -- ---- where a refusal has its cause, it is told
+  -- ---- where a refusal has its cause, it is reported
 
   points_to : (offset : ℕ) → PointsIntoBlock addresses r offset
       → deferred_pointer addresses r

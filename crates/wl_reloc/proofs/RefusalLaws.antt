@@ -306,7 +306,7 @@ module _ (by : Resolver) (r : WasmRelocation) where
   out_of_range (in_block offset h out) =
       value_refused ThreadData (TlsOffset offset) Range h (no_number (pos offset +ℤ r.addend) out)
 
--- where a refusal has its cause, it is told
+-- where a refusal has its cause, it is reported
 pub refused : (by : Resolver) (r : WasmRelocation) (e : RelocError) → IsRelocFault by r e
     → resolved by r ≡ Err e
 refused by r OutOfRange h = past_end by r h

@@ -35,7 +35,7 @@ as_word (Ok z) = Ok (word_of z)
 
 -- ---- values of addresses
 
--- an address behind the start of the thread's data, with what is added to it
+-- an address relative to the start of the thread's data, with what is added to it
 abbrev pub behind_thread_data : AddressBases → ℕ → ℤ → Result ℤ RelocError
 behind_thread_data b place addend =
     if nat_lt place b.tls_base then Err Range
@@ -83,6 +83,7 @@ deferred_at ty addend (Some (Placed place)) = Ok None
 deferred_at ty addend (Some Passive) = Ok None
 deferred_at ty addend None = Ok None
 
--- the place behind the start of the block that the field of a relocation takes, by where data lies
+-- the place relative to the start of the block that the field of a relocation takes, by where
+-- data lies
 abbrev pub deferred_pointer : List WasmDataAddress → WasmRelocation → Result (Option ℤ) RelocError
 deferred_pointer addresses r = deferred_at r.ty r.addend (slice_get addresses r.index)

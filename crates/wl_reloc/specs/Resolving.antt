@@ -61,7 +61,7 @@ abbrev pub slot_of : Resolver → Result ℕ RelocError → Result ℕ RelocErro
 slot_of by (Err e) = Err e
 slot_of by (Ok index) = slot_in (slice_get by.slots index)
 
--- that slot behind the first one, which holds no function; 0 for what has none
+-- that slot after the first one, which holds no function; 0 for what has none
 abbrev pub behind_first : Result ℕ RelocError → Result ℕ RelocError
 behind_first (Err e) = Err e
 behind_first (Ok slot) = Ok (slot - LINKER_TABLE_BASE)

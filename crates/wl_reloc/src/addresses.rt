@@ -53,7 +53,7 @@ fn counted_from(place: u32, base: u32, addend: i64) -> Result<u32, RelocError>
     word_in_range(i128::from(place) - i128::from(base) + i128::from(addend))
 }
 
-/// An address behind the start of the thread's data, with what is added to it.
+/// An address relative to the start of the thread's data, with what is added to it.
 fn behind_thread_data(bases: AddressBases, place: u32, addend: i64) -> Result<u32, RelocError>
     ensures { result ≡ as_word (behind_thread_data bases place addend) }
 {
@@ -141,9 +141,9 @@ fn deferred_at(
     }
 }
 
-/// The place behind the start of a thread's data that the field of a relocation takes, where it
-/// names data that lies there, in the block of each thread: only four bytes can be stored when the
-/// thread starts. For data that lies elsewhere, and for a relocation that names none, there is
+/// The place relative to the start of a thread's data that the field of a relocation takes, where
+/// it names data that lies there, in the block of each thread: only four bytes can be stored when
+/// the thread starts. For data that lies elsewhere, and for a relocation that names none, there is
 /// none.
 ///
 /// # Errors

@@ -23,7 +23,7 @@ pub enum RelocError {
     /// Its address has no value under that type.
     #[error("Unsupported")]
     Unsupported,
-    /// The value is below -2147483648 or above 2147483647, or an address lies in front of the data
+    /// The value is below -2147483648 or above 2147483647, or an address lies before the data
     /// of the thread from which it counts.
     #[error("Range")]
     Range,

@@ -1,6 +1,6 @@
 //! What the field of a relocation takes, by where the things of its object stand in the output.
 //!
-//! A [`WasmObjectIndexMap`] tells where they stand; [`resolve_reloc`] gives the value, and
+//! A [`WasmObjectIndexMap`] says where they stand; [`resolve_reloc`] gives the value, and
 //! [`deferred_tls_template_pointer`] an address in the data of a thread, which is known only when
 //! the thread starts.
 #![tactic(auto)]

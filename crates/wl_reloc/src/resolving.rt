@@ -96,7 +96,7 @@ impl<'r, 'a> Resolver<'r, 'a> {
         slot_in(self.slots.get(index as usize).copied())
     }
 
-    /// That slot behind the first one, which holds no function; 0 for what has none.
+    /// That slot after the first one, which holds no function; 0 for what has none.
     fn slot_behind_base(&self, symbol: &WasmSymbol<'_>, number: u32) -> Result<u32, RelocError>
         ensures { result
             ≡ behind_first (slot_of self.now (function_index self.now symbol.now.kind number)) }

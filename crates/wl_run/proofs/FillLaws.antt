@@ -19,7 +19,7 @@ pub passed : (site : Site) (f : Fixup) (fs : List Fixup) (bytes : List ℕ) → 
     → filled site (f ∷ fs) bytes ≡ filled site fs bytes
 passed site f fs bytes ne = rw (not_at site f ne) refl
 
--- those in front that come before are
+-- those at the front that come before it are
 pub front_passed : (site : Site) (fs : List Fixup) (i : ℕ) → AllWithin (λ (f : Fixup). fixup_rank f < site_rank site) fs 0 i → i ≤ length fs
     → (bytes : List ℕ) → filled site (drop i fs) bytes ≡ filled site fs bytes
 front_passed site fs zero before le bytes = refl
@@ -29,7 +29,7 @@ front_passed site (f ∷ fs) (suc i) before le bytes =
     front_passed site fs i (λ k d from to. before (suc k) d (omega arith) (omega arith)) (omega arith) bytes
     ∙ sym (passed site f fs bytes (omega arith))
 
--- those behind that come later are
+-- those at the back that come after it are
 pub all_passed : (site : Site) (fs : List Fixup) → AllWithin (λ (f : Fixup). site_rank site < fixup_rank f) fs 0 (length fs)
     → (bytes : List ℕ) → filled site fs bytes ≡ bytes
 all_passed site [] after bytes = refl

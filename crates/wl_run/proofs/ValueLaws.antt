@@ -53,7 +53,7 @@ pub left_over : (form : NumberForm) (text : List ℕ) (n : ℤ) (old new : Curso
 left_over form text n old new r at some z is =
     some (ap (λ (c : Cursor). c.rest) (r.only z (back text) (rw at (taken_whole form z text is))).0.1)
 
--- the bytes behind an operator are no number, and so there is no constant
+-- the bytes after an operator are no number, and so there is no constant
 pub no_word : (text : List ℕ) → ((z : ℤ) → IsSigned s32_form 0 z text → ⊥) → (v : Value) → HasFirstValue (I32_CONST ∷ text) v → ⊥
 no_word text none (I32 n) h =
     let e : h.1 ≡ text = cc h.2 in

@@ -1,4 +1,4 @@
--- The line that tells how a run has ended, or why there was none.
+-- The line that says how a run has ended, or why there was none.
 use Rattle.std.specs.Prelude.{◌≡◌, ◌++◌, ℕ, List, map, codes, decimal}
 use Rattle.wl_numeric.specs.Values.{number_of}
 use Rattle.wl_numeric.specs.declared.value.TrapKind.{TrapKind}
@@ -28,7 +28,7 @@ place_text word function operator = word ++ decimal function ++ codes " " ++ dec
 abbrev pub line : List ℕ → List ℕ
 line text = text ++ codes "\n"
 
--- How a run has ended; results are numbers without a sign. No line tells that memory ran out.
+-- How a run has ended; results are numbers without a sign. No line says that memory ran out.
 abbrev pub IsEndLine : RunEnd → List ℕ → Type 0
 IsEndLine (Done results) text =
     text ≡ line (codes "done" ++ numbers_text (map number_of results))
@@ -42,7 +42,7 @@ IsEndLine (Invalid function operator) text =
     text ≡ line (place_text (codes "invalid ") function operator)
 IsEndLine (OutOfMemory count) text = ⊥
 
--- The cause for which a module isn't loaded, and its number. No line tells that memory ran out.
+-- The cause for which a module isn't loaded, and its number. No line says that memory ran out.
 abbrev pub IsLoadLine : LoadError → List ℕ → Type 0
 IsLoadLine load.OutOfMemory text = ⊥
 IsLoadLine (load.HostGlobal index) text =

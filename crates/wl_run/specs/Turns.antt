@@ -1,4 +1,4 @@
--- Runs of a function behind the one that runs at the start.
+-- Runs of a function after the one that runs at the start.
 use Rattle.std.specs.Prelude.{◌≡◌, ℕ, [], Option, Some, None}
 use Rattle.wl_load.specs.Images.{LoadedImage}
 use Rattle.wl_load.specs.Running.{Runs, run_of}
@@ -15,7 +15,7 @@ EndsSo image f end store = Runs (run_of image f []) FUEL end store
 abbrev pub left : LoadedImage → Store → LoadedImage
 left image store = record { program = image.program; store = store }
 
--- behind a run that is done another one tells the end, and else that run does
+-- after a run that is done another one gives the end, and else that run does
 abbrev pub EndsBehind : RunEnd → (RunEnd → Type 0) → RunEnd → Type 0
 EndsBehind (Done results) next end = next end
 EndsBehind (Trap kind) next end = end ≡ Trap kind

@@ -39,7 +39,7 @@ fn filled_payload(
     fixups.filled(alloc, site, layout.payload)
 }
 
-/// Puts a segment into memory, or behind the others where it goes nowhere by itself.
+/// Puts a segment into memory, or after the others where it goes nowhere by itself.
 fn put_segment(
     alloc: Global,
     memory: &mut Vec<u8>,

@@ -1,8 +1,8 @@
-//! What an image of a plan is made of, and how the end of its run is told.
+//! What an image of a plan is made of, and how the end of its run is reported.
 //!
 //! Fields of bodies and segments take their numbers, segments stand in memory, globals and the
-//! table have their first values. A run of a function comes behind that of the function at the
-//! start, and one line tells how it ended.
+//! table have their first values. A run of a function comes after that of the function at the
+//! start, and one line says how it ended.
 #![tactic(auto)]
 
 // Parts of an image.

@@ -1,4 +1,4 @@
-//! The line that tells how a run has ended, or why there was none.
+//! The line that says how a run has ended, or why there was none.
 
 ghost use Rattle.std.specs.Prelude.{◌≡◌, ◌++◌, decimal, map, List, ℕ, OnOk, IfOk, IfSome};
 ghost use Rattle.wl_numeric.specs.Values.{number_of};
@@ -43,7 +43,7 @@ fn push_place(page: &mut Page, word: &[u8], function: u32, operator: u32) -> Res
     page.push_decimal(b" ", u64::from(operator))
 }
 
-/// How a run has ended. There is no text that tells that memory ran out.
+/// How a run has ended. There is no text that says that memory ran out.
 fn push_end(page: &mut Page, end: &RunEnd) -> Result<(), AllocError>
     ensures { OnOk result ((text : List ℕ) × IsEndLine end.now (line text)
         × (page.new ≡ page.old ++ text)) }
@@ -70,7 +70,7 @@ fn push_end(page: &mut Page, end: &RunEnd) -> Result<(), AllocError>
     }
 }
 
-/// The line that tells how a run has ended.
+/// The line that says how a run has ended.
 ///
 /// # Errors
 /// `AllocError` where memory runs out, or ran out in the run.
@@ -97,7 +97,7 @@ fn cause_of(error: LoadError) -> Option<(&'static [u8], u64)>
     }
 }
 
-/// The line that tells why a module isn't loaded.
+/// The line that says why a module isn't loaded.
 ///
 /// # Errors
 /// `AllocError` where memory runs out, or ran out before.

@@ -7,7 +7,7 @@ use std::alloc::{AllocError, Global};
 use wl_lists::ItemList;
 use wl_module::TableType;
 
-/// Puts so many slots that hold no function behind the others.
+/// Puts so many slots that hold no function after the others.
 fn push_empty(slots: &mut Vec<Option<u32>>, count: u64) -> Result<(), AllocError>
     ensures { OnOk result (slots.new.items ≡ slots.old.items ++ replicate count None) }
 {
@@ -17,7 +17,7 @@ fn push_empty(slots: &mut Vec<Option<u32>>, count: u64) -> Result<(), AllocError
     Ok(())
 }
 
-/// Puts slots that hold these functions behind the others.
+/// Puts slots that hold these functions after the others.
 fn push_filled(slots: &mut Vec<Option<u32>>, elements: &[u32]) -> Result<(), AllocError>
     ensures { OnOk result (slots.new.items ≡ slots.old.items ++ map Some elements.now) }
 {
@@ -27,7 +27,7 @@ fn push_filled(slots: &mut Vec<Option<u32>>, elements: &[u32]) -> Result<(), All
     Ok(())
 }
 
-/// The slots of the table: the first holds no function, those behind it hold these, and the others
+/// The slots of the table: the first holds no function, those after it hold these, and the others
 /// none.
 ///
 /// # Errors

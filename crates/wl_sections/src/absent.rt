@@ -42,7 +42,7 @@ impl Relaxation {
     }
 }
 
-/// Where a thread's data begins behind its pointer.
+/// Where a thread's data begins, relative to its pointer.
 pub fn tp_offset_start() -> u64
     ensures { result ≡ 0 }
 {

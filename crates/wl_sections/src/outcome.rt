@@ -54,7 +54,7 @@ fn is_discarded(name: &[u8]) -> bool
 }
 
 /// What becomes of a section of that name, where there is a rule for it: standard sections, and
-/// what is told only to linkers, are written anew or not at all; debug data is copied.
+/// what is meant for linkers alone, are written anew or not at all; debug data is copied.
 pub fn section_outcome(name: &[u8]) -> Option<SectionRuleOutcome>
     ensures { result ≡ section_outcome name.now }
 {

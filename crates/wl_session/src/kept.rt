@@ -42,7 +42,7 @@ fn let_go(file: File<'_>) {
     let _file = file;
 }
 
-/// Puts what is known of one more object behind what is known of these.
+/// Puts what is known of one more object after what is known of these.
 ///
 /// # Errors
 /// `AllocError` where memory runs out. All is as it was then.

@@ -51,7 +51,7 @@ adds_all a b c xs ys adds more = record {
   clear = λ before holds none. rw (← append_assoc before xs ys) (more.clear (before ++ xs) (adds.found before holds) (adds.clear before holds none));
 }
 
--- what is told at an entry is the first repeat among all
+-- what is reported at an entry is the first repeat among all
 meets_one : (a b c : List ℕ → Firsts) (xs back all : List Entry) (e : Entry) (pair : Pair) → Adds a b xs → AddsOne b c e (Some pair.first) → e.name ≡ pair.name → e.place ≡ pair.second → xs ++ e ∷ back ≡ all → Meets a all pair
 meets_one a b c xs back all e pair adds one name place split = λ before holds none. record {
   front = before ++ xs;
@@ -111,7 +111,7 @@ entries_from-append object i (x ∷ xs) ys =
     ap (λ (zs : List Entry). entries_at object i x ++ zs) (entries_from-append object (i + 1) xs ys ∙ rw e refl)
     ∙ sym (append_assoc (entries_at object i x) (entries_from object (i + 1) xs) (entries_from object (i + suc (length xs)) ys))
 
--- what is behind a symbol
+-- what comes after a symbol
 pub symbols_split : (object k : ℕ) (symbols : List LinkedSymbol) (s : LinkedSymbol) → k < length symbols → s ≡ get_or symbols k s → entries_from object 0 (take k symbols) ++ (entries_at object k s ++ entries_from object (k + 1) (drop (k + 1) symbols)) ≡ entries_from object 0 symbols
 symbols_split object k symbols s lt is =
     let len : length (take k symbols) ≡ k = length-take-le k symbols (omega arith) in

@@ -31,7 +31,7 @@ same_strength Undefined Undefined h = refl
 
 -- ---- a search
 
--- the first entry of the name and strength has this place, and none stands in front of it
+-- the first entry of the name and strength has this place, and none comes before it
 pub record Found (name : List ℕ) (strength : Strength) (entries : List Entry) (p : Place) : Type 0 where
   pub e : Entry
   pub stands : Stands entries e

@@ -45,7 +45,7 @@ below-sibling live u j (suc n) =
 
 -- ---- each number below
 
--- a live unit of the kind below n stands behind k others
+-- a live unit of the kind below n follows k others
 pub record Found (live : Live) (u : LinkUnit) (k n : ℕ) : Type 0 where
   pub place : ℕ
   pub below : place < n

@@ -1,4 +1,4 @@
--- Units that symbols, names and exports tell exist.
+-- Units that symbols, names and exports refer to exist.
 use Rattle.std.proofs.Common.{◌≡◌, ◌⊎◌, ℕ, ◌-◌, ◌<◌, ◌||◌, Bool, true, false, cond, nat_lt, nat_le, List, length, get_or, inl, inr, refl, ap, sym, ◌∙◌, subst, Option, Some, None, slice_get}
 use Rattle.std.specs.Option.{option_map, option_or}
 use Rattle.std.proofs.lemmas.Bool.{or_parts, leb-false, lt-ltb}

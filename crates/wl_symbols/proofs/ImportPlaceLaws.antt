@@ -1,4 +1,4 @@
--- The place of the first of a list that passes a test, and one more behind the list.
+-- The place of the first of a list that passes a test, and one more after the list.
 use Rattle.std.proofs.Common.{◌≡◌, ◌∙◌, ℕ, suc, ◌+◌, Bool, true, false, cond, List, [], ◌∷◌, ◌++◌, length, refl, sym, ap, arith, inl, inr, Option, Some, None, is_some, position, slice_get}
 use Rattle.std.specs.List.{list_any, find, position_from}
 use Rattle.std.specs.Option.{option_or}

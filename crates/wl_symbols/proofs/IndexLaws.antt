@@ -7,7 +7,7 @@ use Rattle.wl_linking.specs.Object.{Object}
 use Rattle.wl_symbols.specs.Entries.{Entry, entries_from, entries_of}
 use Rattle.wl_symbols.specs.Index.{index_from, index_of, all_entries, padded, with_object}
 
--- ---- one of a list, and what is behind it
+-- ---- one of a list, and what comes after it
 
 pub split_at : {X : Type 0} (k : ℕ) (xs : List X) (x : X) → k < length xs → x ≡ get_or xs k x → take k xs ++ x ∷ drop (k + 1) xs ≡ xs
 split_at k xs x lt is =

@@ -116,7 +116,7 @@ undecoded_refers only link u v b none =
 
 -- ---- bodies that aren't marked
 
--- a body that doesn't number segments has no numbers, whatever is told of it
+-- a body that doesn't number segments has no numbers, whatever is reported of it
 pub unnumbered : AreAlternatives AreTold NumbersFault → ((body : List ℕ) (e : ReadError) → NumbersFault e body → HasNumbers [] body) → (link : Link) (live : Live) (object function : ℕ) (o : Object) (body : Body) → IsLiveOf link live → slice_get link.objects object ≡ Some o → slice_get o.bodies function ≡ Some body → is_live live (record { object = object; unit = DefinedFunction function }) ≡ true → numbers_segments live (record { object = object; unit = DefinedFunction function }) ≡ false → HasNumbers [] body.bytes
 unnumbered told none link live object function o body is here has on off =
     elim (told.some body.bytes) [

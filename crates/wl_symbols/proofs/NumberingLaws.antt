@@ -65,7 +65,7 @@ none_exist (GlobalImport k) h = let lt = ltb-true k 0 h in omega arith
 pub object-lt : (ns : List UnitCounts) (u : LinkUnit) → exists ns u ≡ true → u.object < length ns
 object-lt ns u h = elim (cases_lt u.object (length ns)) [ inl lt ↦ lt | inr le ↦ absurd (none_exist u.unit (rw (get_or_past ns u.object no_units le) at h)) ]
 
--- the units of an object, behind those of the ones before
+-- the units of an object, after those of the ones before
 pub base_more : (ns : List UnitCounts) (k : ℕ) → k < length ns → units_before ns (k + 1) ≡ units_before ns k + unit_count (units_at ns k)
 base_more ns k lt = sum_by_more unit_count ns k no_units lt
 

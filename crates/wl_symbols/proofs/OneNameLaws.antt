@@ -23,7 +23,7 @@ use Rattle.wl_symbols.specs.SlotCases.{HasDefinition, HasMadeSymbol}
 
 -- ---- lists
 
--- what is listed is the first, or is listed behind it
+-- what is listed is the first, or is listed after it
 listed : {X : Type 0} (y : X) (xs : List X) (x : X) (k : ℕ) → k < length (y ∷ xs) → slice_index_or (y ∷ xs) k x ≡ x → (y ≡ x) ⊎ Contains xs x
 listed y xs x zero lt is = inl is
 listed y xs x (suc k) lt is = inr (k, omega (arith, lt), is)

@@ -41,7 +41,7 @@ places_in_order p q = elim (numbers_in_order p.object q.object) [
   ]
 ]
 
--- no place comes before another and behind it
+-- no place comes before another and after it
 pub not_both : (p q : Place) → Before p q → Before q p → ⊥
 not_both p q a b = elim a [
   | inl lt ↦ elim b [ inl gt ↦ absurd (omega (arith, lt, gt)) | inr h ↦ absurd (omega (arith, lt, h.0)) ]
@@ -56,7 +56,7 @@ pub record Stands (entries : List Entry) (e : Entry) : Type 0 where
   pub back : List Entry
   pub split : front ++ e ∷ back ≡ entries
 
--- what stands in a front stands in the whole, behind the same
+-- what stands in a front stands in the whole, after the same
 abbrev pub in_whole : (xs ys entries : List Entry) (e : Entry) → xs ++ ys ≡ entries → Stands xs e → Stands entries e
 in_whole xs ys entries e is s = record {
   front = s.front;
@@ -168,7 +168,7 @@ entry_stands objects name strength o k h =
 
 -- ---- in order
 
--- each place comes before those behind it
+-- each place comes before those after it
 abbrev pub Ascend : List Entry → Type 0
 Ascend [] = Unit {0}
 Ascend (x ∷ xs) = AllByRecursion (λ y. Before x.place y.place) xs × Ascend xs
@@ -198,7 +198,7 @@ of_ascends i (o ∷ objects) =
     behind : (x : Entry) → EntryIn i 0 o.symbols x → AllByRecursion (λ y. Before x.place y.place) (entries_of (i + 1) objects)
     behind x r = all_map (EntryAmong (i + 1) objects) (λ y. Before x.place y.place) (entries_of (i + 1) objects) (λ y t. inl (omega (arith, ap (λ (d : Entry). d.place.object) r.is, ap (λ (d : Entry). d.place.object) t.is))) (all_among (i + 1) objects)
 
--- what stands in front of an entry comes before it
+-- what precedes an entry in the list comes before it
 front_before : (front : List Entry) (e : Entry) (back : List Entry) → Ascend (front ++ e ∷ back) → AllByRecursion (λ d. Before d.place e.place) front
 front_before [] e back a = tt
 front_before (x ∷ front) e back a = (all_at (λ y. Before x.place y.place) front e back a.0, front_before front e back a.1)
@@ -206,7 +206,7 @@ front_before (x ∷ front) e back a = (all_at (λ y. Before x.place y.place) fro
 pub comes_before : (entries : List Entry) (d e : Entry) → Ascend entries → (s : Stands entries e) → Stands s.front d → Before d.place e.place
 comes_before entries d e a s t = all_stand (λ x. Before x.place e.place) s.front d (front_before s.front e s.back (subst Ascend (sym s.split) a)) t
 
--- and what comes before an entry stands in front of it
+-- and what comes before an entry precedes it in the list
 front_split : (front : List Entry) (e : Entry) (back f : List Entry) (d : Entry) (b : List Entry) → front ++ e ∷ back ≡ f ++ d ∷ b → Ascend (f ++ d ∷ b) → Before d.place e.place → (rest : List Entry) × (f ++ d ∷ rest ≡ front)
 front_split [] e back [] d b h a lt = let same : e ≡ d = cc in let itself : Before d.place d.place = rw same at lt in absurd (not_both d.place d.place itself itself)
 front_split [] e back (z ∷ f) d b h a lt =

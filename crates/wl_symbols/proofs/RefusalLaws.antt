@@ -1,4 +1,4 @@
--- Each strong name is that of one symbol, or one refusal tells a repeat.
+-- Each strong name is that of one symbol, or one refusal reports a repeat.
 use Rattle.std.proofs.Common.{◌≡◌, ◌⊎◌, ℕ, List, [], ◌∷◌, ◌++◌, refl, sym, ap, subst, ◌∙◌, inl, inr, Option, Some, None, append-nil, append_assoc}
 use Rattle.wl_custom.specs.Symbols.{Symbol as LinkedSymbol}
 use Rattle.wl_linking.specs.Object.{Object}
@@ -35,7 +35,7 @@ with_told front e rest (Some first) old none more = inr (
   },
 )
 
--- behind entries none of which repeats, none of the rest does, or one is the first
+-- after entries none of which repeats, none of the rest does, or one is the first
 none_or_two : (front rest : List Entry) → NoneRepeats front → NoneOrTwo (front ++ rest)
 none_or_two front [] none = inl (rw append-nil none)
 none_or_two front (e ∷ rest) none = with_told front e rest (repeat_of front e) refl none (λ more. none_or_two (front ++ e ∷ []) rest more)
@@ -62,7 +62,7 @@ one_name objects name other p a b =
 not_earlier : (objects : List Object) (p q : Pair) → IsFirstRepeat objects p → IsFirstRepeat objects q → Before p.second q.second → ⊥
 not_earlier objects p q a b lt = b.earliest p.name p.first p.second a.repeats lt
 
--- of two symbols with the name the earlier one is told
+-- of two symbols with the name the earlier one is reported
 not_between : (objects : List Object) (name : List ℕ) (p q : Pair) → p.name ≡ name → q.name ≡ name → IsFirstRepeat objects p → IsFirstRepeat objects q → Before p.first q.first → ⊥
 not_between objects name p q p-is q-is a b lt =
     b.earliest name p.first q.first (record { first_is = rw p-is at a.repeats.first_is; second_is = rw q-is at b.repeats.first_is; in_order = lt }) b.repeats.in_order

@@ -94,7 +94,7 @@ or_itself : (define : LinkedSymbol → Definition) (itself : Definition) (s : Op
 or_itself define itself None = refl
 or_itself define itself (Some s) = refl
 
--- the rows have what each symbol stands for; where there is none, it is told itself
+-- the rows have what each symbol stands for; where there is none, it stands for itself
 pub def_in : (link : Link) (rows : List (List Definition)) (object symbol : ℕ)
     → rows ≡ definitions_of link
     → unwrap_or (option_and_then (λ (row : List Definition). slice_get row symbol)

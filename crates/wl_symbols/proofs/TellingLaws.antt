@@ -37,7 +37,7 @@ added_name imports t name is absent =
     let any : list_any (has_same_name (first_slot t)) imports ≡ false = any_placed (has_same_name (first_slot t)) imports ∙ rw (← is) absent in
     rw any refl
 
--- the map tells its place
+-- the map gives its place
 pub told_name : (imports : List HostImport) (t : ImportSlot) (q name : List ℕ) (new old : Option ℕ) (place : ℕ) → name ≡ t.item.name
     → is_some (place_of_name name imports) ≡ false → place ≡ length imports → old ≡ place_of_name q imports
     → new ≡ cond (bytes_eq name q) (Some place) old → new ≡ place_of_name q (imports ++ first_slot t ∷ [])
@@ -60,7 +60,7 @@ added_names imports t origin name from is absent =
     let any : list_any (has_same_names (first_slot t)) imports ≡ false = any_placed (has_same_names (first_slot t)) imports ∙ rw (← from, ← is) absent in
     rw any refl
 
--- the map tells its place
+-- the map gives its place
 pub told_names : (imports : List HostImport) (t : ImportSlot) (o q origin name : List ℕ) (new old : Option ℕ) (place : ℕ)
     → origin ≡ t.item.origin → name ≡ t.item.name
     → is_some (place_of_import origin name imports) ≡ false → place ≡ length imports → old ≡ place_of_import o q imports
@@ -151,7 +151,7 @@ filter_in p q (x ∷ xs) agree =
     let here : p x ≡ q x = agree x (zero, omega arith, refl) in
     rw (here, filter_in p q xs (λ y listed. agree y (Contains-append_right (x ∷ []) xs y listed))) refl
 
--- the slots of stubs by a map that tells their names
+-- the slots of stubs by a map that gives their names
 pub told_stubs : (objects : List Object) (slots : List ImportSlot) (told : List ℕ → Bool) → ((q : List ℕ) → told q ≡ is_stub_name objects slots q)
     → filter (λ (t : ImportSlot). told t.item.name) slots ≡ filter (is_stub objects slots) slots
 told_stubs objects slots told says = filter_in (λ (t : ImportSlot). told t.item.name) (is_stub objects slots) slots (λ t listed. says t.item.name ∙ stub_by_name objects slots t listed)

@@ -1,4 +1,4 @@
--- What names stand for, told from the symbols that bear each of them.
+-- What names stand for, found from the symbols that bear each of them.
 use Rattle.std.proofs.Common.{◌≡◌, ◌⊎◌, ◌≤◌, ◌<◌, take, get_or, ℕ, ◌+◌, true, false, cond, List, [], ◌∷◌, ◌++◌, length, refl, sym, ap, subst, ◌∙◌, inl, inr, Option, Some, None, option_map, unwrap_or, slice_get, append_assoc, append-nil, arith}
 use Rattle.std.specs.List.{list_any}
 use Rattle.std.specs.Option.{option_or}
@@ -49,7 +49,7 @@ among_push : (strength : Strength) (bs : List Bearer) (b : Bearer) → first_amo
 among_push strength [] b = refl
 among_push strength (x ∷ bs) b = elim (cases_Bool (is_strength strength x.strength)) [ inl s ↦ rw s refl | inr s ↦ rw s (among_push strength bs b) ]
 
--- the first ones with one more symbol behind
+-- the first ones with one more symbol after them
 pub among_more : (bs : List Bearer) (strength : Strength) (p : Place) → firsts_among (bs ++ record { strength = strength; place = p } ∷ []) ≡ with_place (firsts_among bs) strength p
 among_more bs Strong p = simp (among_push, option_or-None)
 among_more bs Weak p = simp (among_push, option_or-None)
@@ -207,7 +207,7 @@ told_before all before e old any clear told = record {
 
 -- ---- the end
 
--- where all entries are told, for each name there are the first symbols
+-- where all entries were taken, each name has its first symbols
 pub told_all : (all : List Entry) (found : List ℕ → Firsts) → IsTold all all found → Holds found all
 told_all all found told = λ q. elim (cases_Bool (list_any (is_named q) all)) [
   | inl t ↦ (rw t at (told.names q))
@@ -217,7 +217,7 @@ told_all all found told = λ q. elim (cases_Bool (list_any (is_named q) all)) [
 pub told_none : (all : List Entry) (found : List ℕ → Firsts) → ((q : List ℕ) → found q ≡ no_firsts) → IsTold all [] found
 told_none all found none = record { names = none; clear = none_none }
 
--- ---- what a call tells
+-- ---- what a call finds
 
 -- the symbols that were looked up
 looked_up : (lists : List ℕ → Option (List Bearer)) (objects : List Object) (q : List ℕ) (bs : List Bearer) → Lists lists (entries_of 0 objects) → bs ≡ unwrap_or (lists q) [] → bs ≡ bearers q (entries_of 0 objects)
@@ -330,7 +330,7 @@ names_few_from before (e ∷ es) =
 pub names_few : (es : List Entry) → new_names [] es ≤ length es
 names_few es = names_few_from [] es
 
--- all entries are told from nothing
+-- all entries are taken, from none on
 pub told_whole : (lists : List ℕ → Option (List Bearer)) (objects : List Object) (old new : List ℕ → Firsts) (entries : List Entry) (s t : ℕ) → entries ≡ entries_of 0 objects → Lists lists entries → ((q : List ℕ) → old q ≡ no_firsts) → Tells lists old new entries s t None → IsTold (entries_of 0 objects) (entries_of 0 objects) new × (t ≡ s + length (entries_of 0 objects) + new_names [] (entries_of 0 objects))
 told_whole lists objects old new entries s t is have none tells =
     rw is at (tells objects [] [] (rw is at have) (append-nil entries ∙ is) (told_none (entries_of 0 objects) old none))

@@ -17,7 +17,7 @@ use Rattle.wl_symbols.specs.declared.entry.Strength.TheVariants.{Strong, Weak, U
 abbrev pub no_firsts : Firsts
 no_firsts = record { strong = None; weak = None; undefined = None }
 
--- one more symbol, behind these
+-- one more symbol, after these
 abbrev pub with_place : Firsts → Strength → Place → Firsts
 with_place b Strong p =
     record { strong = option_or b.strong (Some p); weak = b.weak; undefined = b.undefined }
@@ -62,7 +62,7 @@ repeat_in firsts strength = if is_strength Strong strength then firsts.strong el
 
 -- ---- what a call adds to what is found
 
--- one more entry: it is found too, or it repeats the strong name of the symbol told
+-- one more entry: it is found too, or it repeats the strong name of the symbol reported
 abbrev pub AddsOne : (List ℕ → Firsts) → (List ℕ → Firsts) → Entry → Option Place → Type 0
 AddsOne old new e told = (before : List Entry) → Holds old before →
     MatchOption told ((repeat_of before e ≡ None) × Holds new (before ++ e ∷ []))
@@ -74,11 +74,11 @@ pub record Adds (old new : List ℕ → Firsts) (entries : List Entry) : Type 0 
   pub clear : (before : List Entry) → Holds old before → NoneRepeats before
       → NoneRepeats (before ++ entries)
 
--- more entries, the first repeat among which is told
+-- more entries, the first repeat among which is reported
 abbrev pub Meets : (List ℕ → Firsts) → List Entry → Pair → Type 0
 Meets old entries pair =
     (before : List Entry) → Holds old before → NoneRepeats before → AreTwo (before ++ entries) pair
 
--- all of them are added, or the first repeat is told
+-- all of them are added, or the first repeat is reported
 abbrev pub AddsAll : (List ℕ → Firsts) → (List ℕ → Firsts) → List Entry → Option Pair → Type 0
 AddsAll old new entries told = MatchOption told (Adds old new entries) (Meets old entries)

@@ -15,7 +15,7 @@ section_left s =
 abbrev pub object_left : ObjectRest → List Relocated
 object_left o = section_left o.code ++ section_left o.data
 
--- those of the object at hand, and of the objects behind it
+-- those of the object at hand, and of the objects after it
 abbrev pub relocations_left : KeptRelocations → List Relocated
 relocations_left k =
     object_left k.current ++ relocations_from k.live.now k.next (drop k.next k.files.now)

@@ -62,7 +62,7 @@ host_slots objects slots = filter (λ (t : ImportSlot). not (is_stub objects slo
 abbrev pub first_imports : List ImportSlot → List ImportSlot
 first_imports slots = insert_all same_import [] slots
 
--- ---- what an import is told by
+-- ---- what an import is known by
 
 -- an import by its first slot: its module and field name, and the slot's object and number
 abbrev pub first_slot : ImportSlot → HostImport

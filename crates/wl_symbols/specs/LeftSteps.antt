@@ -14,12 +14,12 @@ has_same_name a b = bytes_eq a.name b.name
 abbrev pub has_same_names : HostImport → HostImport → Bool
 has_same_names a b = bytes_eq a.module_ b.module_ && bytes_eq a.name b.name
 
--- the map tells where in the list the import of each field name stands
+-- the map says where in the list the import of each field name stands
 abbrev pub TellsNames : {S : Type 0} → List HostImport → HashMap (Bor (List ℕ)) ℕ S → Type 0
 TellsNames imports places =
     (name : List ℕ) → get_by (λ k. bytes_eq name k.now) places ≡ place_of_name name imports
 
--- the map tells where in the list the import of each module and field name stands
+-- the map says where in the list the import of each module and field name stands
 abbrev pub TellsImports : {S : Type 0} → List HostImport → HashMap (Bor (List ℕ) × Bor (List ℕ)) ℕ S
     → Type 0
 TellsImports imports places =

@@ -6,7 +6,7 @@ use Rattle.wl_symbols.specs.declared.linker_symbol.WasmLinkerSymbol.{WasmLinkerS
 use Rattle.wl_symbols.specs.declared.linker_symbol.WasmLinkerSymbol.TheVariants.{DataEnd, GlobalBase, HeapBase, HeapEnd, WasmFirstPageEnd, DsoHandle}
 
 -- where the data begins and ends, the bytes of the stack, the heap's end if it is known, and
--- whether the stack stands in front of the data
+-- whether the stack comes before the data
 pub record DataPlaces : Type 0 where
   pub data_start : ℕ
   pub data_end : ℕ

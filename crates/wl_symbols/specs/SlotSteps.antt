@@ -2,7 +2,7 @@
 use Rattle.std.specs.Prelude.{ℕ, zero, suc, List, [], ◌∷◌, ◌++◌}
 use Rattle.wl_symbols.specs.ImportSlots.{ImportSlot}
 
--- a slot with the number of one more symbol behind the others
+-- a slot with the number of one more symbol after the others
 abbrev pub with_symbol : ℕ → ImportSlot → ImportSlot
 with_symbol symbol t = record t { symbols = t.symbols ++ symbol ∷ [] }
 

@@ -1,4 +1,4 @@
--- What names stand for, told from the symbols that bear each of them.
+-- What names stand for, found from the symbols that bear each of them.
 use Rattle.std.specs.Prelude.{◌≡◌, ℕ, ◌+◌, List, [], ◌∷◌, ◌++◌, length, Option, if◌then◌else◌, MatchOption}
 use Rattle.std.specs.List.{list_any}
 use Rattle.wl_linking.specs.Object.{Object}
@@ -26,7 +26,7 @@ pub record IsTold (all before : List Entry) (found : List ℕ → Firsts) : Type
       ≡ (if list_any (is_named name) before then firsts_of name all else no_firsts)
   pub clear : NoneRepeats before
 
--- the entries are told behind those before, in so many steps, or the first repeat is
+-- the entries are taken after those before, in so many steps, or the first repeat is found
 abbrev pub Tells : (List ℕ → Option (List Bearer)) → (List ℕ → Firsts) → (List ℕ → Firsts)
     → List Entry → ℕ → ℕ → Option Pair → Type 0
 Tells lists old new entries old_steps steps told =

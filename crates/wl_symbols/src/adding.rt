@@ -38,7 +38,7 @@ pub(crate) fn repeated(firsts: Firsts, strength: Strength) -> Option<Place>
     }
 }
 
-/// Adds a symbol, behind all before. Answers with the symbol whose strong name it repeats, if it
+/// Adds a symbol, after all before. Answers with the symbol whose strong name it repeats, if it
 /// does.
 fn add<'a, L: Ledger>(
     names: &mut CountedNames<'a>,

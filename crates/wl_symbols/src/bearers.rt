@@ -48,7 +48,7 @@ impl<'a> BearerMap<'a> {
         }
     }
 
-    /// Puts one more symbol behind those that bear a name.
+    /// Puts one more symbol after those that bear a name.
     pub(crate) fn push(
         &mut self,
         alloc: Global,

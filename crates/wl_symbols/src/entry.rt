@@ -91,7 +91,7 @@ impl Firsts {
         }
     }
 
-    /// With one more symbol, behind these.
+    /// With one more symbol, after these.
     pub(crate) fn with(self, strength: Strength, place: Place) -> Self
         ensures { result ≡ with_place self strength place }
     {

@@ -212,8 +212,8 @@ fn is_weak_with(before: bool, table: &SymbolTable<'_, '_>, slot: &ImportSlot<'_,
     before && is_weak_slot(table, slot)
 }
 
-/// Whether the slot is a stub's by what is told of its field name; one that isn't told counts as a
-/// stub's.
+/// Whether the slot is a stub's by what is known of its field name; one that isn't known counts as
+/// a stub's.
 fn is_told_stub(names: &HashMap<&str, bool>, slot: &ImportSlot<'_, '_>) -> bool
     ensures { result ≡ is_told_stub names.now slot.now.item.name }
 {

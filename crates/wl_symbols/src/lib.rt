@@ -4,10 +4,10 @@
 //! [`SymbolTable::build`] gathers the names of all objects, and sees that no two define one name.
 //! The table then answers what a name or a symbol stands for: a symbol, or what the linker makes
 //! ([`WasmLinkerSymbol`]). [`name_by_cases`] says the same by places. A [`NameIndex`] keeps the names
-//! of objects while these change, and makes the same table. [`import_slots`] tells the slots of an
+//! of objects while these change, and makes the same table. [`import_slots`] gives the slots of an
 //! object, each with the undefined symbols that stand for it, and [`slot_targets`] what they are
 //! bound to whatever is kept; slots to which names bind nothing are divided by [`divide_slots`] into
-//! those of stubs and those that are left to the host. A [`LiveSet`] tells which units are kept, and
+//! those of stubs and those that are left to the host. A [`LiveSet`] says which units are kept, and
 //! [`LinkInput`] holds all of these for what is above.
 #![tactic(auto)]
 

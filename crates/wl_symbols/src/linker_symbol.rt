@@ -56,7 +56,7 @@ pub enum WasmLinkerSymbol {
     HeapEnd,
     /// The end of the first page.
     WasmFirstPageEnd,
-    /// What tells this module from others that are loaded: the start of its data.
+    /// What sets this module apart from others that are loaded: the start of its data.
     DsoHandle,
     /// Where the module's memory begins.
     MemoryBase,
@@ -182,7 +182,7 @@ impl WasmLinkerSymbol {
     }
 
     /// The address of a data name, by where the data begins and ends, the bytes of the stack, the
-    /// heap's end if it is known, and whether the stack stands in front of the data. Other names
+    /// heap's end if it is known, and whether the stack comes before the data. Other names
     /// have none, and so has the heap's end where it isn't known.
     ///
     /// # Errors

@@ -33,7 +33,7 @@ pub fn name_by_cases()
         → def link object symbol ≡ Symbol o k → def link o k ≡ Symbol o k }
 {}
 
-/// Each strong name is that of one symbol, or a symbol repeats one, and then one refusal tells it.
+/// Each strong name is that of one symbol, or a symbol repeats one, and one refusal reports it.
 pub fn names_or_repeat()
     ensures some { (objects : List Object)
         → HasOneStrong objects ⊎ ((e : SpecError) × IsDuplicate objects e) }

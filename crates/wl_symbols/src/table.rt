@@ -55,7 +55,7 @@ fn count_public(symbols: &[WasmSymbol<'_>]) -> usize {
 }
 
 /// How many symbols of these objects others know by a name: as many names there are at most. It
-/// tells how much room to take, and nothing else rests on it.
+/// says how much room to take, and nothing else rests on it.
 fn name_count(files: &[File<'_>]) -> usize {
     let mut count: usize = 0;
     for file in files {
@@ -105,7 +105,7 @@ impl<'f, 'a> SymbolTable<'f, 'a> {
     /// The table of the names of these objects, which sees that no two of them define one name.
     ///
     /// # Errors
-    /// `DuplicateSymbol` where a strong symbol repeats the name of another: it tells the earliest
+    /// `DuplicateSymbol` where a strong symbol repeats the name of another: it names the earliest
     /// symbol that does, and the one that had the name before.
     pub fn build(
         alloc: Global,
@@ -185,7 +185,7 @@ impl<'f, 'a> SymbolTable<'f, 'a> {
         object < files.len() && (symbol as usize) < files[object].symbols().len()
     }
 
-    /// What the symbol of those numbers stands for. Where there is none, it is told itself.
+    /// What the symbol of those numbers stands for. Where there is none, it stands for itself.
     fn definition_or_itself(&self, object: usize, symbol: u32) -> Definition
         ensures { result ≡ def self.now object symbol }
     {

@@ -1,4 +1,4 @@
-//! What names stand for, told from the symbols that bear each of them.
+//! What names stand for, found from the symbols that bear each of them.
 
 ghost use Rattle.std.specs.Prelude.{◌≡◌, ◌⊎◌, ◌↔◌, ◌+◌, ◌*◌, ◌≤◌, None, Some, [], ◌∷◌, length, slice_get, option_map, IfOk, IsTrue, MatchOption};
 ghost use Rattle.wl_symbols.specs.Adding.{firsts_in, repeat_in};
@@ -53,8 +53,8 @@ fn repeated_by(bearers: &[Bearer], strength: Strength, place: Place) -> Option<P
     }
 }
 
-/// Tells the name of an entry, where it is the first that has it. Answers with both symbols, where
-/// it repeats a strong name.
+/// Finds what the name of an entry stands for, where it is the first that has it. Answers with both
+/// symbols, where it repeats a strong name.
 fn tell_entry<'a, L: Ledger>(
     names: &mut CountedNames<'a>,
     lists: &BearerMap<'a>,
@@ -82,7 +82,8 @@ fn tell_entry<'a, L: Ledger>(
     Ok(None)
 }
 
-/// Tells the names of an object's entries. Answers with the first that repeats a strong name.
+/// Finds what the names of an object's entries stand for. Answers with the first that repeats a
+/// strong name.
 fn tell_entries<'a, L: Ledger>(
     names: &mut CountedNames<'a>,
     lists: &BearerMap<'a>,
@@ -102,7 +103,8 @@ fn tell_entries<'a, L: Ledger>(
     Ok(None)
 }
 
-/// Tells the names of objects' entries. Answers with the first that repeats a strong name.
+/// Finds what the names of objects' entries stand for. Answers with the first that repeats a
+/// strong name.
 pub(crate) fn tell_objects<'a, L: Ledger>(
     names: &mut CountedNames<'a>,
     lists: &BearerMap<'a>,

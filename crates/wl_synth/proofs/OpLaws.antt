@@ -41,7 +41,7 @@ number r n text s = by_itself IsU32 n text (r.unsigned n text s.0 s.1)
 
 -- ---- immediates
 
--- what stands behind numbers, by their shortest spellings
+-- what follows numbers, by their shortest spellings
 abbrev Behind : Option ℕ → List Immediate → List ℤ → Type 0
 Behind bits is zs = (text : List ℕ) → AreShortImmediates bits zs text → (place : ℕ) → AreImmediates is place zs text
 

@@ -1,4 +1,4 @@
--- Runs, one part behind the other, and those of bodies that call functions.
+-- Runs, one part after the other, and those of bodies that call functions.
 use Rattle.std.proofs.Common.{◌≡◌, ℕ, suc, Bool, true, false, List, [], ◌∷◌, ◌++◌, length, map, take, drop, reverse, Option, Some, refl, sym, ap, subst, ◌∙◌, arith, append_assoc, length-append}
 use Rattle.std.specs.Prelude.{replicate, ◌&&◌, slice_get}
 use Rattle.std.specs.List.{flat_map, AllByRecursion}

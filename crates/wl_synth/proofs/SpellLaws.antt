@@ -1,4 +1,4 @@
--- What is written one behind the other.
+-- What is written one after the other.
 use Rattle.std.proofs.Common.{◌≡◌, ℕ, ◌+◌, ◌<◌, pos, List, [], ◌∷◌, ◌++◌, length, map, take, drop, get_or, None, refl, sym, ap, subst, ◌∙◌, append_assoc, add-one, drop-cons}
 use Rattle.std.proofs.lemmas.List.{append-nil}
 use Rattle.wl_ops.specs.declared.op.Op.{Op}
@@ -35,7 +35,7 @@ numbers_done Q ns i now e f =
 
 -- ---- a body
 
--- with the rest behind it the body is whole
+-- with the rest after it the body is whole
 abbrev IsOpenBody : List Op → List ℕ → List Op → Type 0
 IsOpenBody all now rest = (y : List ℕ) → AreSpelled rest y → IsSpelledBody all (now ++ y)
 

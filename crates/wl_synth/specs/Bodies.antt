@@ -93,7 +93,7 @@ abbrev pub clear_ops : ℕ → List Op
 clear_ops size =
     if size == 0 then [] else wat.local_get 0 ∷ const 0 ∷ const size ∷ wat.memory_fill ∷ []
 
--- the base, the parameter, and how far behind it
+-- the base, the parameter, and how far past it
 abbrev pub place_ops : ℕ → List Op
 place_ops offset =
     if offset == 0 then wat.local_get 0 ∷ [] else wat.local_get 0 ∷ const offset ∷ wat.i32_add ∷ []
@@ -101,7 +101,7 @@ place_ops offset =
 abbrev pub template_ops : PassiveSegmentCopy → List Op
 template_ops c = place_ops c.offset ++ const 0 ∷ const c.len ∷ wat.memory_init c.segment_index ∷ []
 
--- the base and the offset are stored at the pointer's place behind the base
+-- the base and the offset are stored at the pointer's place relative to the base
 abbrev pub pointer_ops : ℕ → TlsPointerFixup → List Op
 pointer_ops g f =
     const f.dest ∷ wat.global_get g ∷ wat.i32_add

@@ -40,13 +40,13 @@ EncodeFault ops (Range v) = (op : Op) × Contains ops op × (great_constant op �
 
 -- ---- on the way
 
--- new is old, and behind it a text
+-- new is old, and after it a text
 pub record AddsText (spells : List ℕ → Type 0) (old new : List ℕ) : Type 0 where
   pub text : List ℕ
   pub spelled : spells text
   pub parts : new ≡ old ++ text
 
--- an operator is written behind what was there, and its constant is in range
+-- an operator is written after what was there, and its constant is in range
 pub record AddsOperator (operator : Operator) (old new : List ℕ) : Type 0 where
   pub added : AddsText (IsSpelled (as_op operator)) old new
   pub in_range : great_constant (as_op operator) ≡ None

@@ -6,7 +6,7 @@ use Rattle.wl_synth.specs.Machine.{World, State, Done, Trap, Runs}
 abbrev pub filling : List ℕ
 filling = 0x00 ∷ 0x41 ∷ 0x10 ∷ 0x41 ∷ 0x07 ∷ 0x41 ∷ 0x03 ∷ 0xfc ∷ 0x0b ∷ 0x00 ∷ 0x0b ∷ []
 
--- br_table leaves one of two blocks on 0 and both on n above 0; behind the inner one stands
+-- br_table leaves one of two blocks on 0 and both on n above 0; after the inner one comes
 -- unreachable
 abbrev pub leaving : ℕ → List ℕ
 leaving n =

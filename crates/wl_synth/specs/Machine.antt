@@ -1,5 +1,5 @@
 -- A machine that runs bodies without loops by their operators (core specification, "Execution"; for
--- those behind 0xfe the threads proposal).
+-- those with the prefix 0xfe the threads proposal).
 use Rattle.std.specs.Prelude.{◌≡◌, ℕ, ℤ, pos, negsuc, zero, suc, ◌+◌, ◌-◌, ◌*◌, ◌/◌, ◌%◌, ◌==◌, nat_le, min, Bool, true, false, ◌&&◌, if◌then◌else◌, List, [], ◌∷◌, ◌++◌, length, take, drop, reverse, replicate, slice_get, slice_set, Option, Some, None}
 use Rattle.wl_module.specs.declared.types.ValType.{ValType}
 use Rattle.wl_module.specs.declared.types.ValType.TheVariants.{I32 as I32Type, I64 as I64Type}
@@ -286,7 +286,7 @@ branch_among (pos n ∷ []) i s = branch n s
 branch_among (pos n ∷ z ∷ zs) zero s = branch n s
 branch_among (pos n ∷ z ∷ zs) (suc i) s = branch_among (z ∷ zs) i s
 
--- the labels stand behind their count
+-- the labels follow their count
 abbrev pub branch_by : List ℤ → ℕ → State → Progress
 branch_by [] i s = Stuck
 branch_by (count ∷ zs) i s = branch_among zs i s
@@ -430,7 +430,7 @@ step w op s = exec_or_pass w (instruction op) s.skipped s
 
 -- ---- runs
 
--- one more operator; behind the function's end none may stand
+-- one more operator; after the function's end none may stand
 abbrev pub stepped : World → Op → Progress → Progress
 stepped w op (Going s) = step w op s
 stepped w op (Ended (Done s)) = Stuck

@@ -16,7 +16,7 @@ lone =
       waiting = λ at. 0;
     }
 
--- with a parameter, the stack pointer and four globals behind it, a memory and segments
+-- with a parameter, the stack pointer and four globals after it, a memory and segments
 abbrev pub holding : List Value → List Value → List ℕ → List (Option (List ℕ)) → State
 holding locals globals memory segments =
     record {
@@ -32,7 +32,7 @@ holding locals globals memory segments =
 
 -- ---- blocks of threads
 
--- at 4, of a memory of so many bytes that are all 5, with this behind the base among the globals
+-- at 4, of a memory of so many bytes that are all 5, with this after the base among the globals
 abbrev pub before : ℕ → List Value → List (Option (List ℕ)) → State
 before size others segments = holding (I32 4 ∷ []) (I32 0 ∷ others) (replicate (size + 8) 5) segments
 
@@ -85,7 +85,7 @@ several_body =
 
 -- ---- a segment for all threads
 
--- so many of its bytes lie behind four times 256 bytes, and the flag four bytes further
+-- so many of its bytes lie after four times 256 bytes, and the flag four bytes further
 abbrev pub laying_body : ℕ → List ℕ
 laying_body len =
     0x00 ∷ 0x02 ∷ 0x40 ∷ 0x02 ∷ 0x40 ∷ 0x02 ∷ 0x40 ∷ 0x41 ∷ 0x84 ∷ 0x08 ∷ 0x41 ∷ 0x00

@@ -25,7 +25,7 @@ IsShortImmediate None (pos n) text = IsShort n text
 IsShortImmediate None (negsuc n) text = ⊥
 IsShortImmediate (Some bits) z text = IsWithin bits z × IsShortestSleb z text
 
--- of immediates one behind the other
+-- of immediates one after the other
 abbrev pub AreShortImmediates : Option ℕ → List ℤ → List ℕ → Type 0
 AreShortImmediates bits [] text = text ≡ []
 AreShortImmediates bits (z ∷ zs) text =
@@ -34,12 +34,12 @@ AreShortImmediates bits (z ∷ zs) text =
 
 -- ---- operators
 
--- a byte, and immediates behind it
+-- a byte, and immediates after it
 abbrev pub StandBehind : ℕ → Option ℕ → List ℤ → List ℕ → Type 0
 StandBehind code bits zs text =
     (back : List ℕ) × (text ≡ code ∷ back) × AreShortImmediates bits zs back
 
--- the numbers behind the first byte: for some a number that tells the operator, and the immediates
+-- the numbers after the first byte: for some a number that gives the operator, and the immediates
 abbrev pub values_of : Op → List ℤ
 values_of op = if is_prefix op.code then pos op.sub ∷ op.args else op.args
 
@@ -47,7 +47,7 @@ values_of op = if is_prefix op.code then pos op.sub ∷ op.args else op.args
 abbrev pub IsSpelled : Op → List ℕ → Type 0
 IsSpelled op text = StandBehind op.code (signed_bits op.code) (values_of op) text
 
--- operators one behind the other
+-- operators one after the other
 abbrev pub AreSpelled : List Op → List ℕ → Type 0
 AreSpelled [] text = text ≡ []
 AreSpelled (op ∷ ops) text =

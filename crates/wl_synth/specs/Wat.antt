@@ -1,5 +1,5 @@
--- Operators by their names in the text format (core specification, "Text Format"; those behind 0xfe
--- by the threads proposal).
+-- Operators by their names in the text format (core specification, "Text Format"; those with the
+-- prefix 0xfe by the threads proposal).
 use Rattle.std.specs.Prelude.{ℕ, ℤ, pos, negsuc, List, [], ◌∷◌}
 use Rattle.wl_ops.specs.declared.op.Op.{Op}
 

@@ -16,7 +16,7 @@ pub struct PassiveSegmentCopy {
 pub struct TlsPointerFixup {
     /// The place in the block where the pointer stands.
     pub dest: u32,
-    /// How far behind the base of the block it points.
+    /// How far past the base of the block it points.
     pub offset: i32,
 }
 
@@ -25,6 +25,6 @@ pub struct TlsPointerFixup {
 pub struct TlsGotFixup {
     /// The index of the global in the output.
     pub global: u32,
-    /// How far behind the base of the block the address is.
+    /// How far past the base of the block the address is.
     pub offset: i32,
 }

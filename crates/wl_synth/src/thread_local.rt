@@ -26,7 +26,7 @@ fn push_clear(body: &mut BodyBuilder, size: u32) -> Result<(), AllocError>
     ])
 }
 
-/// The place so far behind the base, which is the parameter, is put on the stack.
+/// The place so far past the base, which is the parameter, is put on the stack.
 fn push_place(body: &mut BodyBuilder, offset: u32) -> Result<(), AllocError>
     ensures { OnOk result (body.new ≡ body.old ++ place_ops offset) }
 {

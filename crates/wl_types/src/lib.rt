@@ -1,7 +1,7 @@
 //! The types of the output.
 //!
 //! Objects have types of their own, many of them the same. A [`TypeMerger`] takes them one by one,
-//! keeps each once, and tells the index that each has in the output.
+//! keeps each once, and returns the index that each has in the output.
 #![tactic(auto)]
 
 mod laws;

@@ -15,7 +15,7 @@ use Rattle.wl_why.specs.declared.certificate.Step.{Step}
 use Rattle.wl_why.proofs.DepthLaws.{HasDepth, depth_in_chain}
 use Rattle.wl_why.proofs.Numbering.{unit_here, same_unit_here}
 
--- the units behind the place, last first, go on from any chain to its unit up to the last one
+-- the units after the place, last first, go on from any chain to its unit up to the last one
 pub record ChainTo (steps : List Step) (last place : ℕ) (chain : List LinkUnit) : Type 0 where
   pub within : place < length steps
   pub on : (link : Link) → IsValid link steps → link.args.gc_sections ≡ true → (u w : LinkUnit) (front : List LinkUnit) → unit_at_place steps last ≡ Some u → unit_at_place steps place ≡ Some w → IsChain (IsRoot link) (Refers link) front w → IsChain (IsRoot link) (Refers link) (front ++ reverse chain) u

@@ -16,7 +16,7 @@ pub record IsBreadthFirst (link : Link) (steps : List Step) : Type 0 where
   pub first : (place from other : ℕ) (s : Step) (u : LinkUnit) → slice_get steps place ≡ Some s
       → s.from ≡ Some from → unit_at_place steps other ≡ Some u → Refers link u (step_unit s)
       → from ≤ other
-  -- steps that come from none stand in front
+  -- steps that come from none stand first
   pub ahead : (j k : ℕ) (s t : Step) → j < k → slice_get steps j ≡ Some s
       → slice_get steps k ≡ Some t → t.from ≡ None → s.from ≡ None
   -- the others stand in the order of those from which they come

@@ -38,7 +38,7 @@ pub record IsValid (link : Link) (steps : List Step) : Type 0 where
   -- where units are collected, a step that comes from none is of a root
   pub root : link.args.gc_sections ≡ true → (place : ℕ) (s : Step)
       → slice_get steps place ≡ Some s → s.from ≡ None → IsRoot link (step_unit s)
-  -- one that comes from another stands behind it, and that one's unit refers to its unit
+  -- one that comes from another follows it, and that one's unit refers to its unit
   pub from : link.args.gc_sections ≡ true → (place from : ℕ) (s : Step)
       → slice_get steps place ≡ Some s → s.from ≡ Some from
       → ComesFrom link steps from place (step_unit s)

@@ -21,7 +21,7 @@ unit_kind_name (DataSegment k) = codes "segment"
 unit_kind_name (FunctionImport k) = codes "funcimport"
 unit_kind_name (GlobalImport k) = codes "globalimport"
 
--- a unit behind a blank: its object's number, its kind, and its number among those of the kind
+-- a unit after a blank: its object's number, its kind, and its number among those of the kind
 abbrev pub unit_text : LinkUnit → List ℕ
 unit_text u =
     codes " " ++ decimal u.object ++ codes " " ++ unit_kind_name u.unit ++ codes " "
@@ -29,7 +29,7 @@ unit_text u =
 
 -- ---- kept units
 
--- the unit that a step comes from, behind a blank
+-- the unit that a step comes from, after a blank
 abbrev pub from_text : Option LinkUnit → List ℕ
 from_text None = []
 from_text (Some u) = codes " from" ++ unit_text u

@@ -20,7 +20,7 @@ mod explaining;
 mod units;
 mod walk;
 
-// What one tells.
+// What one says.
 mod chain;
 mod text;
 

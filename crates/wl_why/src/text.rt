@@ -35,7 +35,7 @@ fn unit_kind_name(unit: WasmGcUnit) -> &'static str
     }
 }
 
-/// A unit behind a blank.
+/// A unit after a blank.
 fn push_unit(page: &mut Page, unit: LinkUnit) -> Result<(), AllocError>
     ensures { OnOk result (page.new ≡ page.old ++ unit_text unit) }
 {
@@ -164,7 +164,7 @@ pub fn certificate_text(
     page.into_text()
 }
 
-/// Why units are kept, and which aren't, as text: that of a valid certificate. `docs/WHY.md` tells
+/// Why units are kept, and which aren't, as text: that of a valid certificate. `docs/WHY.md` says
 /// how to read it.
 ///
 /// # Errors

@@ -1,4 +1,4 @@
--- Items one behind the other.
+-- Items one after the other.
 use Rattle.std.proofs.Common.{rules, ℕ, ◌≡◌, ◌<◌, ◌≤◌, List, [], ◌∷◌, ◌++◌, Option, refl, sym, ap, subst, arith, All}
 use Rattle.std.specs.Option.{option_or}
 use Rattle.std.specs.List.{filter_map}
@@ -10,12 +10,12 @@ use Rattle.wl_words.specs.declared.modes.ValuePlace.{ValuePlace}
 use Rattle.wl_words.specs.Args.{input_of}
 use Rattle.wl_words.specs.declared.options.Setting.{Setting}
 
--- the value of an option stands at its word, or behind it
+-- the value of an option stands at its word, or after it
 pub value_from : (words : List (List ℕ)) (at : ℕ) (setting : Setting) (value : List ℕ) (place : ValuePlace) → HasValue words at setting value place → at ≤ place.word
 value_from words at setting value place (joined h is) = omega (arith, ap (λ (p : ValuePlace). p.word) is)
 value_from words at setting value place (parted h next is) = omega (arith, ap (λ (p : ValuePlace). p.word) is)
 
--- the next item stands behind
+-- the next item follows
 pub stands_on : (words : List (List ℕ)) (at : ℕ) (item : ArgItem) (next : ℕ) → StandsAtWord words at item next → at < next
 stands_on words at (Object place) next h = omega (arith, h.2)
 stands_on words at (Given flag) next h = omega (arith, h.1)

@@ -19,7 +19,7 @@ some_none x is = absurd cc
 
 -- ---- what a word names
 
--- a word names one option, with one value behind it
+-- a word names one option, with one value after it
 pub one_option : (words : List (List ℕ)) (at : ℕ) (s t : OptionKind) (u v : Option (List ℕ)) → NamesOption words at s u → NamesOption words at t v → (s ≡ t) × (u ≡ v)
 one_option words at s t u v h k =
     let same : h.word ≡ k.word = some_same _ _ (sym h.here ∙ k.here) in
@@ -58,7 +58,7 @@ same_memory m n is = cc
 
 -- ---- an option and its value
 
--- the option, whatever stands behind its equals sign
+-- the option, whatever follows its equals sign
 pub value_option : (words : List (List ℕ)) (at : ℕ) (s : Setting) (v : List ℕ) (p : ValuePlace) → HasValue words at s v p → (behind : Option (List ℕ)) × NamesOption words at (Value s) behind
 value_option words at s v p (joined h is) = (Some v, h)
 value_option words at s v p (parted h next is) = (None, h)

@@ -116,7 +116,7 @@ stop_of words at before e (unsound s v p has fault) =
 abbrev pub ItemsOrFault : List (List ℕ) → ℕ → Option ModeName → Type 0
 ItemsOrFault words at before = ((items : List ArgItem) × AreArgItems words at before items (length words)) ⊎ ((items : List ArgItem) × (stop : ℕ) × (e : ArgError) × AreArgItems words at before items stop × StopFault words stop (mode_after before items) e)
 
--- one item in front
+-- one item first
 item_before : (words : List (List ℕ)) (at : ℕ) (before : Option ModeName) (item : ArgItem) (next : ℕ) → StandsAtWord words at item next → KeepsMode before (mode_of_item item) → ItemsOrFault words next (option_or (mode_of_item item) before) → ItemsOrFault words at before
 item_before words at before item next h keeps (inl (items, rest)) = inl (item ∷ items, (next, h, keeps, rest))
 item_before words at before item next h keeps (inr (items, stop, e, rest, fault)) = inr (item ∷ items, stop, e, (next, h, keeps, rest), fault)

@@ -173,7 +173,7 @@ one_stop words at before e f (other asks is) (alone none fault) = absurd (none a
 one_stop words at before e f (alone none fault) (other asks is) = absurd (none asks)
 one_stop words at before e f (alone none fault) (alone also further) = one_fault words at e f fault further
 
--- the rest behind one item is that behind the other, where the two are one
+-- the rest after one item is that after the other, where the two are one
 abbrev rest_moved : (words : List (List ℕ)) (before : Option ModeName) (x y : ArgItem) (m n : ℕ) (xs : List ArgItem) (end : ℕ) → x ≡ y → m ≡ n → AreArgItems words m (option_or (mode_of_item x) before) xs end → AreArgItems words n (option_or (mode_of_item y) before) xs end
 rest_moved words before x y m n xs end same place rest =
     subst (λ (z : ArgItem). AreArgItems words n (option_or (mode_of_item z) before) xs end) same (subst (λ (k : ℕ). AreArgItems words k (option_or (mode_of_item x) before) xs end) place rest)

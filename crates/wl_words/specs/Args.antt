@@ -57,7 +57,7 @@ abbrev pub shared_memory_of : ArgItem → Option Bool
 shared_memory_of (Given flag.SharedMemory) = Some true
 shared_memory_of _ = None
 
--- whether the stack lies in front of the data
+-- whether the stack lies before the data
 abbrev pub stack_first_of : ArgItem → Option Bool
 stack_first_of (Given (flag.StackFirst on)) = Some on
 stack_first_of _ = None
@@ -254,11 +254,11 @@ compared_name words (mode.Check file) = placed_value words file
 compared_name words _ = None
 
 -- the names of the files that hold objects, in the order in which they are read: those of the
--- objects, and behind them those of the files that replace some
+-- objects, and after them those of the files that replace some
 abbrev pub object_files : List (List ℕ) → WasmArgs → List (List ℕ)
 object_files words args = object_names words args ++ replacing_names words args
 
--- the names of the files that are read, in order: behind those that hold objects that of the file
+-- the names of the files that are read, in order: after those that hold objects that of the file
 -- which is compared
 abbrev pub files_to_read : List (List ℕ) → WasmArgs → List (List ℕ)
 files_to_read words args = object_files words args ++ option_to_list (compared_name words args.mode)

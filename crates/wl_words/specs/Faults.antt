@@ -41,7 +41,7 @@ ValueFault setting.Generate value place e =
 ValueFault setting.Replace value place e = (replaced_object value ≡ None) × (e ≡ BadNumber place)
 ValueFault _ value place e = ⊥
 
--- no item stands at this word, and this is what is told of it
+-- no item stands at this word, and this is what is reported of it
 pub data ItemFault (words : List (List ℕ)) (at : ℕ) (e : ArgError) : Type 0 where
   unknown : IsUnknownOption words at → e ≡ UnknownOption at → ItemFault words at e
   lacking : LacksValue words at → e ≡ MissingValue at → ItemFault words at e

@@ -28,7 +28,7 @@ pub record NamesObject (words : List (List ℕ)) (at : ℕ) : Type 0 where
   pub here : slice_get words at ≡ Some word
   pub plain : is_option word ≡ false
 
--- the word of this number is an option's, which takes this, and this stands behind its equals sign
+-- the word of this number is an option's, which takes this, and this follows its equals sign
 pub record NamesOption (words : List (List ℕ)) (at : ℕ) (takes : OptionKind)
     (behind : Option (List ℕ)) : Type 0 where
   pub word : List ℕ
@@ -37,7 +37,7 @@ pub record NamesOption (words : List (List ℕ)) (at : ℕ) (takes : OptionKind)
   pub named : taken_by (front_of word) ≡ Some takes
   pub value : value_of word ≡ behind
 
--- behind the equals sign of the word of this number
+-- after the equals sign of the word of this number
 abbrev pub joined_place : ℕ → ValuePlace
 joined_place word = record { word = word; joined = true }
 
@@ -46,7 +46,7 @@ abbrev pub word_place : ℕ → ValuePlace
 word_place word = record { word = word; joined = false }
 
 -- the word of this number is an option's that takes a value, and this is the value, in that place:
--- behind the equals sign of the same word, or the next word
+-- after the equals sign of the same word, or the next word
 pub data HasValue (words : List (List ℕ)) (at : ℕ) (setting : Setting) (value : List ℕ)
     (place : ValuePlace) : Type 0 where
   joined : NamesOption words at (Value setting) (Some value) → place ≡ joined_place at

@@ -41,7 +41,7 @@ abbrev pub KeepsMode : Option ModeName → Option ModeName → Type 0
 KeepsMode (Some old) (Some new) = old ≡ new
 KeepsMode _ _ = ⊤
 
--- the value that stands in this place of the words: behind the first equals sign of its word, or
+-- the value that stands in this place of the words: after the first equals sign of its word, or
 -- the whole word
 abbrev pub placed_value : List (List ℕ) → ValuePlace → Option (List ℕ)
 placed_value words place =

@@ -13,7 +13,7 @@ use Rattle.wl_words.specs.Rows.{OptionRow}
 abbrev option_row : List ℕ → OptionKind → OptionRow
 option_row name takes = record { name = name; takes = takes }
 
--- the table of options: those of one letter stand behind one dash, the others behind one or two
+-- the table of options: those of one letter come after one dash, the others after one or two
 abbrev pub options : List OptionRow
 options =
     option_row (codes "export") (Value setting.Export)
@@ -65,7 +65,7 @@ is_equals byte = byte == 61
 abbrev pub front_of : List ℕ → List ℕ
 front_of word = before_first is_equals word
 
--- what stands behind the first equals sign
+-- what follows the first equals sign
 abbrev pub value_of : List ℕ → Option (List ℕ)
 value_of word =
     if nat_lt (position_or_len is_equals word) (length word)

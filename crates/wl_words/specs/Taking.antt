@@ -9,7 +9,7 @@ use Rattle.wl_words.specs.declared.args.WasmArgs.{WasmArgs}
 use Rattle.wl_words.specs.declared.error.ArgError.{ArgError}
 use Rattle.wl_words.specs.declared.error.ArgError.TheVariants.{OutOfMemory}
 
--- a list, and behind it what there may be
+-- a list, and after it what there may be
 abbrev pub put_behind : {X : Type 0} → List X → Option X → List X
 put_behind xs None = xs
 put_behind xs (Some x) = xs ++ x ∷ []

@@ -17,7 +17,7 @@ number_of bits text =
     then Some (digits_value 10 text)
     else None
 
--- the text behind stack-size and an equals sign
+-- the text after stack-size and an equals sign
 abbrev pub stack_size_text : List ℕ → Option (List ℕ)
 stack_size_text value =
     if bytes_eq (front_of value) (codes "stack-size") then value_of value else None

@@ -44,7 +44,7 @@ pub struct WasmArgs {
     pub allow_undefined: bool,
     /// Threads share the memory.
     pub shared_memory: bool,
-    /// The stack lies in front of the data.
+    /// The stack lies before the data.
     pub stack_first: bool,
     /// What nothing refers to is left out.
     pub gc_sections: bool,
@@ -89,7 +89,7 @@ fn get_word(words: &[String], at: usize) -> Option<&str>
     }
 }
 
-/// The value of the option in the word of this number, behind which this value stands, and where
+/// The value of the option in the word of this number, after which this value stands, and where
 /// it stands.
 fn value_at<'a>(
     words: &'a [String],
@@ -494,7 +494,7 @@ impl WasmArgs {
 }
 
 /// Words are items, and then they ask for one thing; or they are no items, and then one thing is
-/// told of them; and never both.
+/// reported of them; and never both.
 pub fn args_or_fault()
     ensures some { (words : List (List ℕ))
         → ((args : SpecArgs) × IsArgs words args) ⊎ ((e : SpecError) × WordsFault words e) }

@@ -26,7 +26,7 @@ pub enum ModeName {
 pub struct ValuePlace {
     /// The number, from 0, of the word that holds it.
     pub word: usize,
-    /// Whether it stands in the option's own word, behind its equals sign; else it is a word of
+    /// Whether it stands in the option's own word, after its equals sign; else it is a word of
     /// its own.
     pub joined: bool,
 }

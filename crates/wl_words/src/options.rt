@@ -16,7 +16,7 @@ pub enum Flag {
     AllowUndefined,
     /// Threads share the memory.
     SharedMemory,
-    /// Whether the stack lies in front of the data.
+    /// Whether the stack lies before the data.
     StackFirst(bool),
     /// Whether what nothing refers to is left out.
     GcSections(bool),
@@ -65,7 +65,7 @@ pub enum Setting {
     Replace,
 }
 
-/// An option of the memory, which may have a value behind an equals sign.
+/// An option of the memory, which may have a value after an equals sign.
 #[derive(Clone, Copy, PartialEq, Eq)]
 pub enum MemoryOption {
     /// The memory is imported; the value is its name, or its module and name with a comma between.
@@ -79,9 +79,9 @@ pub enum MemoryOption {
 pub enum OptionKind {
     /// No value.
     Nothing(Flag),
-    /// A value: behind an equals sign in its own word, or the next word.
+    /// A value: after an equals sign in its own word, or the next word.
     Value(Setting),
-    /// A value behind an equals sign, or none.
+    /// A value after an equals sign, or none.
     OptionalValue(MemoryOption),
 }
 
@@ -247,7 +247,7 @@ const OPTIONS: [OptionRow; 32] = [
     },
 ];
 
-/// A word, up to its first equals sign and behind it.
+/// A word, up to its first equals sign and after it.
 #[derive(Clone, Copy)]
 pub(crate) struct WordParts<'a> {
     pub(crate) front: &'a str,

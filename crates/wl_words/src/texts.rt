@@ -32,7 +32,7 @@ impl Texts {
         }
     }
 
-    /// Puts a copy of this text behind the others.
+    /// Appends a copy of this text to the others.
     pub fn push(&mut self, alloc: Global, text: &str) -> Result<(), AllocError>
         ensures ok { OnOk result (self.new ≡ self.old ++ text.now ∷ []) }
         ensures err { OnErr result (self.new ≡ self.old) }
@@ -41,7 +41,7 @@ impl Texts {
         Ok(())
     }
 
-    /// Puts a copy of this text behind the others, where it isn't empty.
+    /// Appends a copy of this text to the others, where it isn't empty.
     pub(crate) fn push_filled(&mut self, alloc: Global, text: &str) -> Result<(), AllocError>
         ensures { OnOk result (self.new ≡ self.old ++ nonempty (text.now ∷ [])) }
     {
