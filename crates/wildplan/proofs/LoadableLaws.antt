@@ -88,9 +88,9 @@ no_memory_host m (Some name) = refl
 
 -- those of all imports are those of the functions
 hosts_are : (input : Input) (plan : LinkPlan) (p : IsPlan input plan)
-    → host_types plan.layout.imports ≡ host_types p.entities.imports.functions
+    → host_types plan.layout.imports ≡ host_types p.spaces.imports.functions
 hosts_are input plan p =
-    let h = p.entities.imports in
+    let h = p.spaces.imports in
     let types = λ (i : PlannedImport). host_type i.entity in
     let memory = no_memory_host p.placing.memory input.link.args.import_memory in
     let globals = no_hosts input (global_imports input) h.globals h.are_globals in
@@ -121,7 +121,7 @@ behind_globals input (h ∷ hs) (i ∷ is) rest all = rw (all.0).entity (behind_
 memory_among : (input : Input) (plan : LinkPlan) (p : IsPlan input plan)
     → imported_memory plan.layout.imports ≡ imported_memory (memory_imports input p.placing)
 memory_among input plan p =
-    let h = p.entities.imports in
+    let h = p.spaces.imports in
     let rest = memory_imports input p.placing in
     ap (λ (is : List PlannedImport). imported_memory is) (h.all ∙ append_assoc h.functions h.globals rest)
     ∙ behind_functions input (output_types input) (function_imports input) h.functions (h.globals ++ rest) h.are_functions
@@ -191,7 +191,7 @@ loadable link plan is bodies typed =
     let input : Input = input_of link is.live in
     let p : IsPlan input plan = is.is_plan in
     let g = p.placing in
-    let imports = p.entities.imports in
+    let imports = p.spaces.imports in
     let hosts = hosts_are input plan p in
     let count = hosts_count input (output_types input) (function_imports input) imports.functions imports.are_functions in
     let same : length (function_imports input) ≡ length (host_function_part input) = length-map _ _ ∙ sym (length-map _ _) in

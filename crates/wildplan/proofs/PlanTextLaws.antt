@@ -63,3 +63,7 @@ pub replaced_refused : (args : WasmArgs) (read : Inputs) (held : Held) (e : Link
 replaced_refused args read held e is sound h = record {
   cause_is = λ other. planned sound (subst (λ (x : Held). HasLinkFault x.objects x.args e) is (h.cause_is other));
 }
+
+-- what refuses for want of memory alone refuses nothing
+pub never_refused : (args : WasmArgs) (read : Inputs) (e : LinkError) → Refuses (λ _. ⊥) e → Refuses (HasPlanFault (inputs_read args read) args) e
+never_refused args read e h = record { cause_is = λ other. absurd (h.cause_is other) }

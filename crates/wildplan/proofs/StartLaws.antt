@@ -135,5 +135,5 @@ start_alone link plan image is can loaded = at plan.layout.start_function is.is_
     at (Some s) h =
         let input : Input = input_of link is.live in
         let b = start_behind input s h in
-        let count = hosts_counted plan.layout.imports ∙ imported_functions input is.is_plan.placing plan.layout.imports is.is_plan.entities.imports in
+        let count = hosts_counted plan.layout.imports ∙ imported_functions input is.is_plan.placing plan.layout.imports is.is_plan.spaces.imports in
         loaded_alone plan image s b.k can loaded (start_typed link plan is s b) (omega (arith, count, b.index))
