@@ -1,7 +1,7 @@
 //! Objects that are replaced: a file is planned in the place of each.
 
 ghost use Rattle.std.specs.Prelude.{◌≡◌};
-ghost use Rattle.wl_words.specs.Replacing.{replaced_object, replacing_name};
+ghost use Rattle.wl_words.specs.Replacing.{is_decimal, object_number, replaced_object, replacing_name};
 ghost use Rattle.wl_words.specs.Texts.{texts};
 
 use crate::modes::ValuePlace;
@@ -28,10 +28,33 @@ impl ObjectReplacement {
     }
 }
 
+/// The text is decimal digits.
+fn is_decimal(text: &str) -> bool
+    ensures { result ≡ is_decimal text.now }
+{
+    for byte in text.as_bytes() {
+        if !byte.is_ascii_digit() {
+            return false;
+        }
+    }
+    !text.is_empty()
+}
+
+/// The number of an object that decimal digits write. One that passes the last number counts as
+/// that: there is no such object.
+fn object_number(text: &str) -> Option<usize>
+    ensures { result ≡ object_number text.now }
+{
+    if !is_decimal(text) {
+        return None;
+    }
+    Some(number_of(text).unwrap_or(u64::MAX) as usize)
+}
+
 /// The number of the object, by the option's value.
 pub(crate) fn replaced_object(value: &str) -> Option<usize>
     ensures { result ≡ replaced_object value.now }
 {
     let (number, _) = value.split_once(':')?;
-    Some(number_of(number)? as usize)
+    object_number(number)
 }
