@@ -16,6 +16,7 @@ import tempfile
 
 ROOT = pathlib.Path(__file__).resolve().parent.parent
 PROGRAM = ROOT / "crates" / "wildplan" / "out" / "wildplan"
+TESTS = ROOT / "crates" / "wl_tests" / "out" / "wl_tests_tests"
 EXAMPLES = ROOT / "examples"
 OBJECTS = ROOT / "tests" / "objects"
 REFUSER = ROOT / "tests" / "refuse_calls.c"
@@ -209,12 +210,26 @@ def beyond_a_limit(program, _refuser, folder):
     return f"{len(objects)} objects", wrong
 
 
+def a_session(_program, refuser, _folder):
+    """A test, of which each allocation is refused: where a push or a replacement is, the session's plan has to stay."""
+    if not TESTS.exists():
+        return "no tests are built", ["build them by rt test"]
+    words = ["plan::refused_room_changes_nothing"]
+    whole, count = ended(TESTS, refuser, words, 0)
+    wrong = [] if whole[0] == 0 and count else [f"none refused: status {whole[0]}, {count} allocations"]
+    for number in range(1, count + 1):
+        (status, _, _), _ = ended(TESTS, refuser, words, number)
+        if status != 0:
+            wrong.append(f"number {number} refused: status {status}")
+    return f"{count} allocations", wrong
+
+
 def main():
     def each(*case):
         count, wrong = refuse_each(*case)
         return f"{count} allocations", wrong
 
-    others = [("runs beyond a limit", beyond_a_limit)]
+    others = [("runs beyond a limit", beyond_a_limit), ("a session", a_session)]
     return tried("Refuses each allocation of the program in turn.", each, others)
 
 
