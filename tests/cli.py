@@ -626,10 +626,10 @@ def documented_words():
                     ends([word], "BadWords MissingValue 0")
                     ends([word, "0"], "BadWords BadNumber 1")
                     ends([f"{word}=0x:a"], "BadWords BadNumber 0")
-                    # A number that is right by itself is one of an object only once the words end.
-                    bound = 2 ** int(re.search(r"a number below 2\^(\d+)", value)[1])
-                    ends([word, f"{bound - 1}:a", "--static"], "BadWords UnknownOption 2")
-                    ends([word, f"{bound}:a", "--static"], "BadWords BadNumber 1")
+                    # Only once the words end is it said that a number is that of no object.
+                    for beyond in ["1", f"{2**64}"]:
+                        ends([word, f"{beyond}:a", "--static"], "BadWords UnknownOption 2")
+                        ends([word, f"{beyond}:a", ""], "BadWords BadNumber 1")
                     ends([f"{word}=1:a", ""], "BadWords BadNumber 0")
                     ends([f"{word}=0:a", ""], "ReadFault 0")
                 elif span := re.search(r"a number from (\d+) to (\d+)", value):
