@@ -54,7 +54,7 @@ pub(crate) fn plan_known<'a>(
     let features = check_features(alloc, files, args)?;
     check_entry(alloc, symbols)?;
     let live = collect_live_from(alloc, files, facts, symbols, args)?;
-    let input = LinkInput::new(files, symbols, &live, args);
+    let input = LinkInput::new(symbols, &live);
     plan_kept(alloc, &input, args, features)
 }
 

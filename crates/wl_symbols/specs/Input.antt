@@ -1,12 +1,9 @@
 -- What is bound: the objects and the options of a link, and what is kept of it.
-use Rattle.std.specs.Prelude.{◌≡◌, ℕ, Bool, false}
+use Rattle.std.specs.Prelude.{ℕ, Bool, false}
 use Rattle.wl_custom.specs.declared.symbols.WasmSymbolKind.{WasmSymbolKind}
 use Rattle.wl_custom.specs.declared.symbols.WasmSymbolKind.TheVariants.{Func, Data, Global, Section, Event, Table}
-use Rattle.wl_linking.specs.Object.{Object}
-use Rattle.std.specs.Prelude.{List}
-use Rattle.wl_symbols.specs.Link.{Link, link_of}
-use Rattle.wl_words.specs.declared.args.WasmArgs.{WasmArgs}
-use Rattle.wl_symbols.specs.Live.{Live, is_live, IsLiveOf}
+use Rattle.wl_symbols.specs.Link.{Link}
+use Rattle.wl_symbols.specs.Live.{Live, is_live}
 use Rattle.wl_symbols.specs.declared.units.WasmGcUnit.{WasmGcUnit}
 use Rattle.wl_symbols.specs.declared.units.WasmGcUnit.TheVariants.{FunctionImport, GlobalImport}
 
@@ -14,12 +11,6 @@ use Rattle.wl_symbols.specs.declared.units.WasmGcUnit.TheVariants.{FunctionImpor
 pub record Input : Type 0 where
   pub link : Link
   pub live : Live
-
--- the table of names is that of the objects and options, and the live set that of the table
-pub record IsFit (objects : List Object) (link : Link) (live : Live) (args : WasmArgs)
-    : Type 0 where
-  pub table : link ≡ link_of objects args
-  pub kept : IsLiveOf link live
 
 -- the unit is kept
 abbrev pub keeps : Input → ℕ → WasmGcUnit → Bool

@@ -2,7 +2,7 @@
 
 ghost use Rattle.std.specs.Prelude.{◌≡◌};
 ghost use Rattle.wl_symbols.specs.Live.{IsLiveOf};
-ghost use Rattle.wl_symbols.specs.Input.{IsFit, keeps_slot};
+ghost use Rattle.wl_symbols.specs.Input.{keeps_slot};
 
 use crate::live_set::LiveSet;
 use crate::table::SymbolTable;
@@ -11,43 +11,32 @@ use std::marker::Model;
 use wl_linking::{FileList, WasmSymbolKind};
 use wl_words::WasmArgs;
 
-/// What is bound: the objects, the table of their names, what is kept of them, and the options.
-/// Clauses see it as an `Input`: the link, and what is kept of it.
+/// What is bound: the objects and options of a table of names, and what is kept of them. Clauses
+/// see it as an `Input`: the link, and what is kept of it.
 #[derive(Drop)]
 pub struct LinkInput<'i, 'a> {
-    files: &'i FileList<'a>,
     symbols: &'i SymbolTable<'i, 'a>,
     live: &'i LiveSet,
-    args: &'i WasmArgs,
 }
 
 impl<'i, 'a> Model for LinkInput<'i, 'a> {
-    ghost use Rattle.wl_symbols.specs.Input.{Input, IsFit as Fits};
+    ghost use Rattle.wl_symbols.specs.Input.{Input};
+    ghost use Rattle.wl_symbols.specs.Live.{IsLiveOf as IsKept};
 
     ghost Value = { Input };
 
     ghost view = { λ i. record { link = i.symbols.now; live = i.live.now } };
 
-    ghost invariant = { λ i. Fits i.files.now i.symbols.now i.live.now i.args.now };
+    ghost invariant = { λ i. IsKept i.symbols.now i.live.now };
 }
 
 impl<'i, 'a> LinkInput<'i, 'a> {
-    /// The table has to be that of the objects and options, and the live set that of the table.
-    pub fn new(
-        files: &'i FileList<'a>,
-        symbols: &'i SymbolTable<'i, 'a>,
-        live: &'i LiveSet,
-        args: &'i WasmArgs,
-    ) -> Self
-        requires fit { IsFit files.now symbols.now live.now args.now }
+    /// The live set has to be that of the table.
+    pub fn new(symbols: &'i SymbolTable<'i, 'a>, live: &'i LiveSet) -> Self
+        requires kept { IsLiveOf symbols.now live.now }
         ensures { result ≡ record { link = symbols.now; live = live.now } }
     {
-        LinkInput {
-            files,
-            symbols,
-            live,
-            args,
-        }
+        LinkInput { symbols, live }
     }
 
     /// The objects.
@@ -55,7 +44,8 @@ impl<'i, 'a> LinkInput<'i, 'a> {
         ensures objects { result.now ≡ self.now.link.objects }
         ensures kept { IsLiveOf self.now.link self.now.live }
     {
-        self.files
+        let _ = self.live;
+        self.symbols.files()
     }
 
     /// The table of their names.
@@ -77,7 +67,7 @@ impl<'i, 'a> LinkInput<'i, 'a> {
     pub fn args(&self) -> &'i WasmArgs
         ensures { result.now ≡ self.now.link.args }
     {
-        self.args
+        self.symbols.args()
     }
 
     /// Whether an import slot of that kind and number is kept.
