@@ -140,10 +140,14 @@ fn by_symbol_name(table: &SymbolTable<'_, '_>, slot: &ImportSlot<'_, '_>) -> Opt
     None
 }
 
-/// What the linker makes of that kind and the field name stands for.
+/// What the linker makes of that kind and the field name stands for. Few names are those of what it
+/// makes, so few are looked up.
 fn by_field_name(table: &SymbolTable<'_, '_>, slot: &ImportSlot<'_, '_>) -> Option<SlotTarget>
     ensures { result ≡ by_field_name table.now slot.now }
 {
+    if WasmLinkerSymbol::parse(slot.field()).is_none() {
+        return None;
+    }
     let definition = table.lookup(slot.field())?;
     made_target(slot.kind(), definition)
 }
