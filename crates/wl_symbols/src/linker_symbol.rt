@@ -120,6 +120,10 @@ impl WasmLinkerSymbol {
     pub fn parse(name: &str) -> Option<Self>
         ensures { result ≡ symbol_named name.now }
     {
+        // Each of the names begins so, and few others do: the rest is compared with none.
+        let [b'_', b'_', ..] = name.as_bytes() else {
+            return None;
+        };
         match name {
             "__data_end" => Some(Self::DataEnd),
             "__global_base" => Some(Self::GlobalBase),
