@@ -14,7 +14,7 @@ use Rattle.wl_symbols.specs.declared.units.UnitCounts.{UnitCounts}
 use Rattle.wl_live.proofs.ReachLaws.{edge_between, edges_from-lt}
 
 -- how many of these edges lead from a marked node
-abbrev followed : List Bool → List Edge → ℕ
+abbrev pub followed : List Bool → List Edge → ℕ
 followed marks edges = count_by (λ (e : Edge). get_or marks e.from false) edges
 
 -- the edge between two numbers, of which each is that of a unit or isn't
@@ -24,7 +24,7 @@ edge_followed marks true false a b = refl
 edge_followed marks false true a b = refl
 edge_followed marks false false a b = refl
 
-edges_followed : (ns : List UnitCounts) (marks numbering : List Bool) (refs : List Reference) → followed marks (found (edge_of ns) refs) ≡ count_by (is_followed (record { units = ns; marks = marks; numbering = numbering })) refs
+pub edges_followed : (ns : List UnitCounts) (marks numbering : List Bool) (refs : List Reference) → followed marks (found (edge_of ns) refs) ≡ count_by (is_followed (record { units = ns; marks = marks; numbering = numbering })) refs
 edges_followed ns marks numbering [] = refl
 edges_followed ns marks numbering (r ∷ refs) =
     let f : Edge → ℕ = λ e. cond (get_or marks e.from false) 1 0 in

@@ -1,13 +1,13 @@
 //! Which units refer to which.
 
-ghost use Rattle.std.specs.Prelude.{◌≡◌, ◌↔◌, ◌⊎◌, true, Contains, IfOk, OnOk};
+ghost use Rattle.std.specs.Prelude.{◌≡◌, ◌↔◌, ◌⊎◌, true, List, Contains, IfOk, OnOk};
 ghost use Rattle.wl_symbols.specs.Units.{exists, units_of};
 ghost use Rattle.wl_symbols.specs.References.{RefersBySymbol, RefersByNumber, RefersBySlot, Refers};
 ghost use Rattle.wl_symbols.specs.Roots.{IsRoot};
 ghost use Rattle.wl_symbols.specs.declared.units.LinkUnit.{LinkUnit as UnitRecord};
-ghost use Rattle.wl_live.specs.Facts.{AreAllFacts};
+ghost use Rattle.wl_live.specs.Facts.{Facts, AreAllFacts};
 ghost use Rattle.wl_live.specs.Laying.{followed_references};
-ghost use Rattle.wl_live.specs.Table.{object_references};
+ghost use Rattle.wl_live.specs.Table.{link_edges, object_references};
 ghost use Rattle.wl_live.specs.UnitGraph.{IsGraphOf};
 
 use crate::marking::collect_numbers;
@@ -65,7 +65,9 @@ pub fn unit_graph(
     numbers: &UnitNumbers,
 ) -> Result<UnitGraph, AllocError>
     requires { numbers.now ≡ units_of symbols.now.objects }
-    ensures { IfOk result (IsGraphOf symbols.now) }
+    ensures graph { IfOk result (IsGraphOf symbols.now) }
+    ensures table { IfOk result (λ g. (facts : List Facts) → AreAllFacts symbols.now.objects facts
+        → g.edges ≡ link_edges symbols.now facts) }
 {
     numbers_are_one();
     let facts = all_facts(alloc, symbols.files())?;

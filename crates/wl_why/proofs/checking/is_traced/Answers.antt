@@ -17,7 +17,7 @@ returns-then-not-are_listed c =
     let places : ArePlaces (units_of c.args.symbols.now.objects) c.args.steps.now c.args.places.now = subst (λ (ns : List UnitCounts). ArePlaces ns c.args.steps.now c.args.places.now) c.requires.units c.requires.places in (
       λ f. absurd (false≢true f),
       λ valid.
-          let all = valid_roots numbering c.args.symbols.now c.args.steps.now c.args.places.now c.in_ok-graph.graph c.requires.collected places c.in_ok-graph.ensures valid in
+          let all = valid_roots numbering c.args.symbols.now c.args.steps.now c.args.places.now c.in_ok-graph.graph c.requires.collected places c.in_ok-graph.ensures.graph valid in
           let here = subst (λ (ns : List ℕ). All (λ n. get_or c.args.places.now n 0 < length c.args.steps.now) ns) (sym c.roots.ensures) all in
           absurd (false≢true (sym c.if-not-are_listed.true ∙ c.are_listed.ensures.1 here)),
     )
@@ -28,7 +28,7 @@ returns-then-not-are_closed c =
     let places : ArePlaces (units_of c.args.symbols.now.objects) c.args.steps.now c.args.places.now = subst (λ (ns : List UnitCounts). ArePlaces ns c.args.steps.now c.args.places.now) c.requires.units c.requires.places in (
       λ f. absurd (false≢true f),
       λ valid.
-          let all = valid_edges numbering c.args.symbols.now c.args.steps.now c.args.places.now c.in_ok-graph.graph c.requires.collected places c.in_ok-graph.ensures valid in
+          let all = valid_edges numbering c.args.symbols.now c.args.steps.now c.args.places.now c.in_ok-graph.graph c.requires.collected places c.in_ok-graph.ensures.graph valid in
           let here = subst (λ (es : List Edge). All (λ e. get_or c.args.places.now e.from 0 < length c.args.steps.now → get_or c.args.places.now e.to 0 < length c.args.steps.now) es) (sym c.edges.ensures) all in
           absurd (false≢true (sym c.if-not-are_closed.true ∙ c.are_closed.ensures.1 here)),
     )
@@ -47,10 +47,10 @@ returns c =
     let marks : c.mark_references.new.marks ≡ justified_marks c.args.places.now c.args.steps.now graph =
     edges ∙ ap (λ (m : List Bool). with_marks by_edge m graph.edges) (roots ∙ ap (λ (m : List Bool). with_marks by_root m graph.roots) c.in_ok-marks.ensures) in (
       λ t.
-          traced_valid numbering c.args.symbols.now c.args.steps.now c.args.places.now graph c.requires.collected placed c.in_ok-graph.ensures listed closed
+          traced_valid numbering c.args.symbols.now c.args.steps.now c.args.places.now graph c.requires.collected placed c.in_ok-graph.ensures.graph listed closed
           (subst (λ (m : List Bool). AreJustified c.args.steps.now m) marks (c.are_justified.ensures.0 t)),
       λ valid.
           c.are_justified.ensures.1
           (subst (λ (m : List Bool). AreJustified c.args.steps.now m) (sym marks)
-          (valid_justified numbering c.args.symbols.now c.args.steps.now c.args.places.now graph c.requires.collected placed c.in_ok-graph.ensures valid)),
+          (valid_justified numbering c.args.symbols.now c.args.steps.now c.args.places.now graph c.requires.collected placed c.in_ok-graph.ensures.graph valid)),
     )

@@ -32,7 +32,7 @@ returns-clause-valid c =
     let walk : IsWalk c.in_ok-graph.graph c.in_ok-links.links.roots visits = rw (← c.deref.ensures.value, c.roots.ensures) at c.in_ok-visits.ensures.walk in
     IfOk-weaker {X = Vec Step Global} c.visit_steps.result (λ v. AreVisitSteps c.args.units.now visits v.items) (λ v. IsValid c.args.symbols.now v.items)
     (λ v zip.
-    walk_valid numbering c.args.symbols.now c.in_ok-links.links c.in_ok-graph.graph visits v.items c.requires.collected c.in_ok-links.ensures edges walk
+    walk_valid numbering c.args.symbols.now c.in_ok-links.links c.in_ok-graph.graph visits v.items c.requires.collected c.in_ok-links.ensures.graph edges walk
     (subst (λ (us : List LinkUnit). AreVisitSteps us visits v.items) c.requires.units zip)) c.visit_steps.ensures
 
 pub returns-clause-order : goal.returns-clause-order
@@ -42,5 +42,5 @@ returns-clause-order c =
     let order : IsInOrder c.in_ok-graph.graph c.in_ok-links.links.roots visits = rw (← c.deref.ensures.value, c.roots.ensures) at c.in_ok-visits.ensures.order in
     IfOk-weaker {X = Vec Step Global} c.visit_steps.result (λ v. AreVisitSteps c.args.units.now visits v.items) (λ v. IsBreadthFirst c.args.symbols.now v.items)
     (λ v zip.
-    walk_order c.args.symbols.now c.in_ok-links.links c.in_ok-graph.graph visits v.items c.in_ok-links.ensures edges order
+    walk_order c.args.symbols.now c.in_ok-links.links c.in_ok-graph.graph visits v.items c.in_ok-links.ensures.graph edges order
     (subst (λ (us : List LinkUnit). AreVisitSteps us visits v.items) c.requires.units zip)) c.visit_steps.ensures
