@@ -31,7 +31,7 @@ use Rattle.wl_plan.specs.Functions.{IsOutputFunction, own_functions}
 use Rattle.wl_plan.specs.Imports.{IsFunctionImport, IsGlobalImport, memory_import, memory_imports}
 use Rattle.wl_plan.specs.LinkPlan.{IsPlanOf}
 use Rattle.wl_plan.specs.Origins.{PlannedFunction}
-use Rattle.wl_plan.specs.Placing.{IsMemoryFault, memory_pages, memory_steps, output_memory}
+use Rattle.wl_places.specs.Placing.{IsMemoryFault, memory_pages, memory_steps, output_memory}
 use Rattle.wl_plan.specs.Plan.{IsPlan}
 use Rattle.wl_plan.specs.PlannedImports.{PlannedImport}
 use Rattle.wl_plan.specs.Table.{IsElement}

@@ -24,7 +24,7 @@ use Rattle.wl_symbols.specs.Input.{Input, keeps}
 use Rattle.wl_plan.specs.Bodies.{body_in, new_number}
 use Rattle.wl_plan.specs.BodySteps.{AreNewNumbers, AreSoundBodies, HasSoundBody, IsBodyFrom}
 use Rattle.wl_plan.specs.Parsing.{link_error_of}
-use Rattle.wl_plan.specs.declared.placing.Placing.{Placing}
+use Rattle.wl_places.specs.declared.placing.Placing.{Placing}
 use Rattle.wl_plan.proofs.NumberLaws.{counts_at}
 
 -- ---- what lower crates say

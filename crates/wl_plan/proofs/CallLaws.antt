@@ -49,7 +49,7 @@ use Rattle.wl_plan.specs.PlannedImports.{PlannedImport, is_function_entity, is_f
 use Rattle.wl_plan.specs.Resolved.{IsNumbered}
 use Rattle.wl_plan.specs.Running.{CallsConstructors, HasMadeBody, HoldsPlan}
 use Rattle.wl_plan.specs.declared.layout.LinkPlan.{LinkPlan}
-use Rattle.wl_plan.specs.declared.placing.Placing.{Placing}
+use Rattle.wl_places.specs.declared.placing.Placing.{Placing}
 use Rattle.wl_lists.proofs.In.{in_map}
 use Rattle.wl_lists.proofs.In.{IsIn, in_filter, in_list, in_split}
 use Rattle.wl_lists.proofs.Places.{came_at, get_in_front, mapped_at}

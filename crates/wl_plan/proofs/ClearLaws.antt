@@ -15,11 +15,11 @@ use Rattle.wl_bind.specs.SpaceFaults.{IsSpaceTooLarge}
 use Rattle.wl_bind.specs.Undefined.{IsUndefinedData, IsUndefinedImport}
 use Rattle.wl_exports.specs.Faults.{IsExportFault}
 use Rattle.wl_exports.specs.Wrapped.{AreTooManyWrappers}
-use Rattle.wl_plan.specs.Addresses.{IsAddressTooHigh}
+use Rattle.wl_places.specs.Addresses.{IsAddressTooHigh}
 use Rattle.wl_plan.specs.Faults.{IsLaterFault, IsPlacedFault, IsValueFault, input_of, kept_fault, laid_fault, placed_fault, value_steps}
 use Rattle.wl_plan.specs.LinkPlan.{IsPlanOf}
 use Rattle.wl_plan.specs.declared.layout.LinkPlan.{LinkPlan}
-use Rattle.wl_plan.specs.declared.placing.Placing.{Placing}
+use Rattle.wl_places.specs.declared.placing.Placing.{Placing}
 use Rattle.wl_plan.proofs.LinkLaws.{feature_row, feature_is_row}
 use Rattle.wl_plan.proofs.PlanLaws.{index_row, index_is_row, place_row, place_is_row}
 

@@ -6,7 +6,7 @@ use Rattle.wl_data.specs.Segments.{SegmentLayout}
 use Rattle.wl_synth.specs.Memory.{FitsSegment, ShareNoByte, AreClear, AreDisjoint, segment_bytes, bytes_of_segment}
 use Rattle.wl_synth.specs.declared.parts.PassiveSegmentCopy.{PassiveSegmentCopy}
 use Rattle.wl_plan.specs.Running.{HoldsSegment}
-use Rattle.wl_plan.specs.Threads.{copies_from, copy_of}
+use Rattle.wl_places.specs.Copies.{copies_from, copy_of}
 
 -- ---- each copy is that of a segment
 

@@ -25,12 +25,12 @@ use Rattle.wl_symbols.specs.declared.relocated.FixupPlace.{FixupPlace}
 use Rattle.wl_symbols.specs.declared.relocated.FixupPlace.TheVariants.{Code, Segment}
 use Rattle.wl_symbols.specs.declared.relocated.Relocated.{Relocated}
 use Rattle.wl_linking.specs.Fitting.{IsWhole}
-use Rattle.wl_plan.specs.Addresses.{layouts_of, segment_start}
-use Rattle.wl_plan.specs.AddressSteps.{HasSegment}
+use Rattle.wl_places.specs.Addresses.{layouts_of, segment_start}
+use Rattle.wl_places.specs.AddressSteps.{HasSegment}
 use Rattle.wl_plan.specs.Bodies.{IsMovedAt}
 use Rattle.wl_plan.specs.Fixups.{address_taken, addend_left, value_or_pointer, IsFixup, IsTaken, AreFixups}
 use Rattle.wl_plan.specs.Plan.{IsPlan}
-use Rattle.wl_plan.specs.Placing.{IsPlacing, data_input}
+use Rattle.wl_places.specs.Placing.{IsPlacing, data_input}
 use Rattle.wl_plan.specs.Resolved.{IsNumbered}
 use Rattle.wl_plan.specs.Running.{IsPointerOf, pointer_to, pointer_by}
 use Rattle.wl_plan.specs.ThreadSteps.{IsFixupOf}
@@ -39,7 +39,7 @@ use Rattle.wl_output.specs.declared.fixups.Fixup.{Fixup}
 use Rattle.wl_output.specs.declared.fixups.FixupTo.{FixupTo}
 use Rattle.wl_output.specs.declared.fixups.FixupTo.TheVariants.{Value, Deferred}
 use Rattle.wl_plan.specs.declared.layout.LinkPlan.{LinkPlan}
-use Rattle.wl_plan.specs.declared.placing.Placing.{Placing}
+use Rattle.wl_places.specs.declared.placing.Placing.{Placing}
 use Rattle.wl_lists.proofs.In.{at_is_in}
 use Rattle.wl_lists.proofs.Beside.{zip_left}
 use Rattle.wl_plan.proofs.PointerLaws.{in_segment, in_template, template_of}

@@ -23,11 +23,11 @@ use Rattle.wl_bind.specs.GlobalSpace.{GlobalEntry, GlobalOf, global_space, local
 use Rattle.wl_bind.specs.Parts.{IsIndexOf, AreIndicesOf, AreRows}
 use Rattle.wl_plan.specs.Dropped.{is_dropped, dropped_in, unkept_slots, unkept_functions, unkept_globals, unkept_in, unkept_from}
 use Rattle.wl_plan.specs.Faults.{input_of}
-use Rattle.wl_plan.specs.IndexedMaps.{IsWholeMap}
+use Rattle.wl_places.specs.IndexedMaps.{IsWholeMap}
 use Rattle.wl_plan.specs.LinkPlan.{IsPlanOf}
 use Rattle.wl_plan.specs.Outline.{AreFew}
 use Rattle.wl_plan.specs.declared.layout.LinkPlan.{LinkPlan}
-use Rattle.wl_plan.specs.declared.placing.Placing.{Placing}
+use Rattle.wl_places.specs.declared.placing.Placing.{Placing}
 use Rattle.wl_plan.proofs.ListingLaws.{few_of_plan}
 
 -- ---- one list of entries

@@ -45,15 +45,15 @@ use Rattle.wl_bind.specs.Scan.{symbol_of, names_function}
 use Rattle.wl_bind.specs.declared.binding.FunctionTarget.{FunctionTarget}
 use Rattle.wl_bind.specs.declared.binding.FunctionTarget.TheVariants as function
 use Rattle.wl_symbols.specs.declared.relocated.Relocated.{Relocated}
-use Rattle.wl_plan.specs.Addresses.{symbol_address}
+use Rattle.wl_places.specs.Addresses.{symbol_address}
 use Rattle.wl_plan.specs.FixupSteps.{AreFixupSources, AnswersValue, AnswersFrom, HasRoom, counted_base, number_by, left_of, IsRefusedAt}
 use Rattle.wl_plan.specs.Fixups.{type_named, global_named, slot_named, address_taken, addend_left, value_or_pointer, field_taken, number_taken, IsTaken, IsAddressReason}
-use Rattle.wl_plan.specs.IndexedMaps.{IsWholeMap, AreWholeMaps}
+use Rattle.wl_places.specs.IndexedMaps.{IsWholeMap, AreWholeMaps}
 use Rattle.wl_plan.specs.Table.{slot_of, slot_of_entry, space_slots}
 use Rattle.wl_plan.specs.Threads.{address_named, bases_of, template_start, pointer_named}
 use Rattle.wl_output.specs.declared.fixups.FixupTo.{FixupTo}
 use Rattle.wl_plan.specs.declared.fixups.FixupSources.{FixupSources}
-use Rattle.wl_plan.specs.declared.placing.Placing.{Placing}
+use Rattle.wl_places.specs.declared.placing.Placing.{Placing}
 use Rattle.wl_lists.proofs.Rows.{rows_length, row_found}
 use Rattle.wl_plan.proofs.ListLaws.{of_range}
 use Rattle.wl_plan.proofs.SlotLaws.{TableLaws, slot_is}

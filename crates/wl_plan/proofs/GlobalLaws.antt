@@ -27,11 +27,11 @@ use Rattle.wl_bind.specs.Scan.{names_data, definition_of, got_mem_of, got_mem, g
 use Rattle.wl_symbols.specs.Relocations.{relocations}
 use Rattle.wl_bind.specs.declared.binding.FunctionTarget.{FunctionTarget}
 use Rattle.wl_symbols.specs.declared.relocated.Relocated.{Relocated}
-use Rattle.wl_plan.specs.Addresses.{address_of_definition, symbol_address, IsHigh, HasHighSymbol, IsAddressTooHigh}
-use Rattle.wl_plan.specs.AddressSteps.{IsHighAt}
+use Rattle.wl_places.specs.Addresses.{address_of_definition, symbol_address, IsHigh, HasHighSymbol, IsAddressTooHigh}
+use Rattle.wl_places.specs.AddressSteps.{IsHighAt}
 use Rattle.wl_plan.specs.Globals.{global_in}
-use Rattle.wl_plan.specs.IndexedMaps.{IsWholeMap, AreWholeMaps}
-use Rattle.wl_plan.specs.declared.placing.Placing.{Placing}
+use Rattle.wl_places.specs.IndexedMaps.{IsWholeMap, AreWholeMaps}
+use Rattle.wl_places.specs.declared.placing.Placing.{Placing}
 use Rattle.wl_lists.proofs.Rows.{row_of}
 
 -- ---- GOT lists

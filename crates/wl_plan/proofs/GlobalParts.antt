@@ -34,7 +34,7 @@ use Rattle.wl_plan.specs.declared.global_starts.Start.{Start}
 use Rattle.wl_output.specs.declared.entities.GlobalOrigin.TheVariants as origin
 use Rattle.wl_output.specs.declared.entities.MadeGlobal.{MadeGlobal}
 use Rattle.wl_plan.specs.declared.layout.PlannedGlobal.{PlannedGlobal}
-use Rattle.wl_plan.specs.declared.placing.Placing.{Placing}
+use Rattle.wl_places.specs.declared.placing.Placing.{Placing}
 use Rattle.wl_lists.proofs.Beside.{zip_joined}
 use Rattle.wl_lists.proofs.In.{Contains-map}
 use Rattle.wl_lists.proofs.Rows.{by_object_more}

@@ -18,7 +18,7 @@ use Rattle.wl_bind.specs.declared.binding.FunctionTarget.TheVariants.{Defined, S
 use Rattle.wl_plan.specs.Bodies.{AreMadeOps, IsBodyOf, IsBodyIn, IsEncodedBody, body_in, called}
 use Rattle.wl_plan.specs.BodySteps.{IsBodyFrom, AddsMadeBody, AddsBodies}
 use Rattle.wl_plan.specs.FunctionSteps.{linker_functions, own_function_part}
-use Rattle.wl_plan.specs.declared.placing.Placing.{Placing}
+use Rattle.wl_places.specs.declared.placing.Placing.{Placing}
 use Rattle.wl_lists.proofs.Beside.{zip_joined}
 use Rattle.wl_lists.proofs.Places.{there_is}
 use Rattle.wl_lists.proofs.Rows.{by_object_more}

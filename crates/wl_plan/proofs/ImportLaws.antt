@@ -29,10 +29,10 @@ use Rattle.wl_bind.specs.Shared.{function_imports, global_imports}
 use Rattle.wl_bind.specs.declared.binding.FunctionTarget.TheVariants.{Host}
 use Rattle.wl_plan.specs.ImportSteps.{AddsImports, HasTypeIndexIn, HasRowType, global_types_in, type_in_row, index_of_type}
 use Rattle.wl_plan.specs.Imports.{IsFunctionImport, IsGlobalImport, global_type_in, global_type_of_slot, memory_imports, AreImports}
-use Rattle.wl_plan.specs.IndexedMaps.{IsWholeMap, HaveTypeIndices}
+use Rattle.wl_places.specs.IndexedMaps.{IsWholeMap, HaveTypeIndices}
 use Rattle.wl_plan.specs.PlannedImports.{PlannedImport}
 use Rattle.wl_output.specs.declared.entities.OutputImportEntity.TheVariants.{Function, Global}
-use Rattle.wl_plan.specs.declared.placing.Placing.{Placing}
+use Rattle.wl_places.specs.declared.placing.Placing.{Placing}
 use Rattle.wl_lists.proofs.Beside.{zip_joined}
 use Rattle.wl_lists.proofs.Firsts.{in_firsts}
 use Rattle.wl_lists.proofs.In.{IsIn, at_is_in, in_at, in_filter}

@@ -1,9 +1,4 @@
 pub mod ListLaws
-pub mod KeptDataLaws
-pub mod ThreadDataLaws
-pub mod PlacingLaws
-pub mod AddressLaws
-pub mod IndexLaws
 pub mod UniqueParts
 pub mod UniqueSegments
 pub mod UniqueBodies

@@ -27,19 +27,20 @@ use Rattle.wl_exports.specs.Wrapped.{AreTooManyWrappers}
 use Rattle.wl_exports.specs.Wrappers.{wrapped}
 use Rattle.wl_index.specs.declared.index.TheConstants.{MAX_ENTRIES}
 use Rattle.wl_check.specs.Ranges.{IsSmall}
-use Rattle.wl_plan.specs.Addresses.{numbers_from}
+use Rattle.wl_places.specs.Addresses.{numbers_from, segment_space}
 use Rattle.wl_plan.specs.Bodies.{AreBodies, IsBodyOf, IsWrapperBody, object_debug_sections}
 use Rattle.wl_plan.specs.Contents.{AllWithin}
 use Rattle.wl_plan.specs.Faults.{IsLaterFault, input_of, kept_fault, laid_fault, link_fault}
 use Rattle.wl_plan.specs.Functions.{AreOutputFunctions, IsOutputFunction, IsWrapperFunction, own_functions}
 use Rattle.wl_plan.specs.Globals.{ArePlannedGlobals, IsPlannedGlobal, own_globals}
-use Rattle.wl_plan.specs.KeptData.{all_segments}
+use Rattle.wl_places.specs.KeptData.{all_segments}
 use Rattle.wl_plan.specs.LinkPlan.{IsLinkPlan, IsPlanOf}
 use Rattle.wl_plan.specs.ObjectSegments.{ObjectSegment, of_object, segments_of_objects}
 use Rattle.wl_plan.specs.Objects.{AreObjects}
 use Rattle.wl_plan.specs.Origins.{PlannedFunction}
 use Rattle.wl_plan.specs.Outline.{AreFew, HasWrapperRoom}
-use Rattle.wl_plan.specs.Placing.{AreTooManySegments, data_input, data_options}
+use Rattle.wl_places.specs.Placing.{AreTooManySegments, IsPlacing, data_input, data_options}
+use Rattle.wl_places.specs.declared.placing.Placing.{Placing}
 use Rattle.wl_plan.specs.Plan.{IsPlan}
 use Rattle.wl_plan.specs.PlanLines.{AreDebugSectionsSmall, ArePayloadsSmall, HasListing, first_function, first_global}
 use Rattle.wl_plan.specs.Table.{IsElement}
@@ -49,8 +50,6 @@ use Rattle.wl_lists.proofs.Beside.{zip_length}
 use Rattle.wl_lists.proofs.Places.{all_append}
 use Rattle.wl_plan.proofs.CallLaws.{imported_functions}
 use Rattle.wl_plan.proofs.DebugBounds.{SectionsStand, debug_within}
-use Rattle.wl_plan.proofs.KeptDataLaws.{SegmentsAreAligned, SegmentsAreSpanned, all_can}
-use Rattle.wl_plan.proofs.PlacingLaws.{numbers_few}
 use Rattle.wl_plan.proofs.PlanLaws.{few_by, front_within, hosts_within, index_is_row}
 use Rattle.wl_plan.proofs.PlannedLaws.{behind_index, wrapper_room}
 use Rattle.wl_plan.proofs.RunningLaws.{imported_globals}
@@ -186,8 +185,8 @@ kept_small false ds h = h
 -- what is known of objects and of what their references are bound to
 pub record LawsBelow : Type 0 where
   pub stand : SectionsStand
-  pub spanned : SegmentsAreSpanned
-  pub aligned : SegmentsAreAligned
+  pub placed : (input : Input) → AllByRecursion IsWhole input.link.objects → AllByRecursion AllCanBePlaced (all_segments input)
+  pub few : (input : Input) (g : Placing) → Clear (AreTooManySegments input) → IsPlacing input g → length (segment_space g) ≤ MAX_ENTRIES
   pub layouts : (d : DataInput) (places : DataPlaces) → IsDataPlaces d places → AllZip (HaveLayouts d.options) d.objects places.layouts
 
 all_but_last : (link : Link) → Clear (link_fault link) → Clear (IsLaterFault link)
@@ -227,11 +226,11 @@ listing_of laws input plan is table whole clear =
     let elements = elements_few input plan is table few in
     let laid : AllZip (HaveLayouts (data_options input)) (all_segments input) is.placing.places.layouts =
     laws.layouts (data_input input) is.placing.places is.placed.laid in
-    let numbers = numbers_few input (data_options input) is.placing.places.layouts (segments_none input clear) laid in
+    let numbers = laws.few input is.placing (segments_none input clear) is.placed in
     let many = as_many 0 is.placing.places.layouts in
     let same = is.places.data_layouts in
     let segments : length (segments_of_objects 0 is.placing.places.layouts) ≤ MAX_ENTRIES = omega (arith, numbers, many) in
-    let short = rows_short (data_options input) 0 (all_segments input) is.placing.places.layouts (all_can laws.spanned laws.aligned input 0 input.link.objects whole) laid in
+    let short = rows_short (data_options input) 0 (all_segments input) is.placing.places.layouts (laws.placed input whole) laid in
     record {
       types = omega (arith, types, types_few);
       functions = omega (arith, functions);

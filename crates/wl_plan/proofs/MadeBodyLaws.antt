@@ -15,13 +15,12 @@ use Rattle.wl_plan.specs.Bodies.{AreInitMemoryOps, AreInitTlsOps, AreMadeOps}
 use Rattle.wl_plan.specs.BodySteps.{AddsBodies, AddsMadeBody}
 use Rattle.wl_plan.specs.Functions.{own_functions}
 use Rattle.wl_plan.specs.FunctionSteps.{linker_functions}
-use Rattle.wl_plan.specs.Placing.{IsPlacing, data_input}
+use Rattle.wl_places.specs.Placing.{IsPlacing, data_input}
 use Rattle.wl_plan.specs.ThreadSteps.{IsBodyRefusal, IsSpelledFor, IsUnspelled}
-use Rattle.wl_plan.specs.declared.placing.Placing.{Placing}
+use Rattle.wl_places.specs.declared.placing.Placing.{Placing}
 use Rattle.wl_plan.proofs.CallLaws.{split_hosts, host_entry}
 use Rattle.wl_plan.proofs.FunctionLaws.{init_is, one_made}
 use Rattle.wl_plan.proofs.GrowLaws.{adds_made, adds_more, adds_same, adds_none}
-use Rattle.wl_plan.proofs.ThreadDataLaws.{flag_where_filled}
 use Rattle.wl_lists.proofs.In.{at_is_in, in_at}
 
 -- ---- what copies data for all threads
@@ -32,10 +31,10 @@ init_part input i at =
     ap (λ (b : Bool). if b then InitMemory ∷ [] else []) (init_is input (in_at (function_space input) i InitMemory at))
 
 -- without a flag there is none
-pub no_flag : (input : Input) (g : Placing) → IsPlacing input g → g.places.flag ≡ None → init_memory_part input ≡ []
-no_flag input g placed none =
+pub no_flag : ((i : Input) → has_init (data_input i) ≡ has_init_memory i) → (input : Input) (g : Placing) → IsPlacing input g → g.places.flag ≡ None → init_memory_part input ≡ []
+no_flag filled input g placed none =
     ap (λ (b : Bool). if b then InitMemory ∷ [] else [])
-    (sym (flag_where_filled input) ∙ at (has_init (data_input input)) (sym placed.laid.flag ∙ none))
+    (sym (filled input) ∙ at (has_init (data_input input)) (sym placed.laid.flag ∙ none))
   where
     at : (b : Bool) → (if b then Some (flag_place placed.laid.end.memory) else None) ≡ None → b ≡ false
     at true e = absurd cc

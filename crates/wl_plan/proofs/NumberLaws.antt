@@ -15,12 +15,12 @@ use Rattle.wl_ops.specs.Rewriting.{flattened, new_index}
 use Rattle.wl_index.specs.declared.index_map.WasmObjectIndexMap.{WasmObjectIndexMap}
 use Rattle.wl_symbols.specs.Input.{Input, keeps}
 use Rattle.wl_bind.specs.Parts.{IsIndexOf}
-use Rattle.wl_plan.specs.Addresses.{segment_space, segment_entry, local_segments, AreSegmentIndices}
+use Rattle.wl_places.specs.Addresses.{segment_space, segment_entry, local_segments, AreSegmentIndices}
 use Rattle.wl_plan.specs.Bodies.{new_number, same_segment}
 use Rattle.wl_plan.specs.BodySteps.{kept_number, AreNewNumbers, AreAllNumbers}
-use Rattle.wl_plan.specs.IndexedMaps.{IsWholeMap, AreWholeMaps}
-use Rattle.wl_plan.specs.Placing.{IsPlacing}
-use Rattle.wl_plan.specs.declared.placing.Placing.{Placing}
+use Rattle.wl_places.specs.IndexedMaps.{IsWholeMap, AreWholeMaps}
+use Rattle.wl_places.specs.Placing.{IsPlacing}
+use Rattle.wl_places.specs.declared.placing.Placing.{Placing}
 use Rattle.wl_lists.proofs.Beside.{zip_right, zip_left}
 use Rattle.wl_lists.proofs.Places.{came_at, mapped_at}
 use Rattle.wl_lists.proofs.Rows.{rows_length, row_of}

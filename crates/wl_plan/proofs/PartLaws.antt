@@ -39,7 +39,7 @@ use Rattle.wl_bind.specs.declared.binding.FunctionTarget.{FunctionTarget}
 use Rattle.wl_bind.specs.declared.binding.FunctionTarget.TheVariants as function
 use Rattle.wl_exports.specs.Exports.{ExportEntry}
 use Rattle.wl_exports.specs.Wrappers.{wrapped}
-use Rattle.wl_plan.specs.Addresses.{segment_space}
+use Rattle.wl_places.specs.Addresses.{segment_space}
 use Rattle.wl_plan.specs.Bodies.{IsBodyIn, IsBodyOf, IsRenumbered, IsWrapperBody, body_in, new_number, same_segment}
 use Rattle.wl_plan.specs.Functions.{IsOutputFunction, IsTypeNumber, IsWrapperFunction, origin_of, own_functions}
 use Rattle.wl_plan.specs.Origins.{Origin, OfObject, OfStub, OfWrapper, PlannedFunction}
@@ -47,7 +47,7 @@ use Rattle.wl_plan.specs.Plan.{IsPlan}
 use Rattle.wl_plan.specs.Running.{HasMadeBody}
 use Rattle.wl_plan.specs.Table.{IsElement, function_slots, output_table, slot_behind_first, slot_of, slot_of_entry, space_slots, wrapper_slots}
 use Rattle.wl_plan.specs.declared.layout.LinkPlan.{LinkPlan}
-use Rattle.wl_plan.specs.declared.placing.Placing.{Placing}
+use Rattle.wl_places.specs.declared.placing.Placing.{Placing}
 use Rattle.wl_plan.proofs.RunningLaws.{own_or_wrapper}
 use Rattle.wl_plan.proofs.SegmentLaws.{SegmentsHaveLayouts, same_pair}
 

@@ -31,7 +31,7 @@ use Rattle.wl_bind.specs.Signatures.{IsMismatch}
 use Rattle.wl_bind.specs.SpaceFaults.{IsSpaceTooLarge, index_fault}
 use Rattle.wl_bind.specs.Undefined.{IsUndefinedData, IsUndefinedImport}
 use Rattle.wl_bind.specs.declared.binding.FunctionTarget.TheVariants.{Host}
-use Rattle.wl_plan.specs.Addresses.{numbers_from, segment_space}
+use Rattle.wl_places.specs.Addresses.{numbers_from, segment_space}
 use Rattle.wl_exports.specs.Wrapped.{WrapperEntry, IsWrapper, AreWrappers}
 use Rattle.wl_exports.specs.Wrappers.{wrapped}
 use Rattle.wl_plan.specs.Bodies.{IsBodyFault, IsBodyOf, IsWrapperBody, AreBodies}
@@ -40,9 +40,9 @@ use Rattle.wl_plan.specs.Faults.{HasLargeBodies, IsNumberFault, IsPlacedFault, I
 use Rattle.wl_plan.specs.Functions.{IsOutputFunction, AreOwnFunctions, IsWrapperFunction, AreOutputFunctions, own_functions}
 use Rattle.wl_plan.specs.Origins.{PlannedFunction}
 use Rattle.wl_plan.specs.Outline.{AreFew, HasWrapperRoom}
-use Rattle.wl_plan.specs.Placing.{IsPlacing, AreTooManySegments, IsMemoryFault, data_input, place_steps}
+use Rattle.wl_places.specs.Placing.{IsPlacing, AreTooManySegments, IsMemoryFault, data_input, place_steps}
 use Rattle.wl_plan.specs.SizeSteps.{IsTooBig}
-use Rattle.wl_plan.specs.declared.placing.Placing.{Placing}
+use Rattle.wl_places.specs.declared.placing.Placing.{Placing}
 use Rattle.wl_linking.proofs.StepLaws.{IsRow, clear_both, refuses_for, refuses_memory, refuses_more, row_end, row_more, first_clear, rest_clear}
 use Rattle.wl_lists.proofs.Beside.{zip_length}
 use Rattle.wl_plan.specs.ThreadSteps.{IsBodyRefusal}

@@ -11,12 +11,12 @@ use Rattle.wl_bind.specs.SpaceFaults.{index_fault}
 use Rattle.wl_exports.specs.Faults.{IsExportFault}
 use Rattle.wl_exports.specs.Wrapped.{AreTooManyWrappers}
 use Rattle.wl_exports.specs.Wrappers.{wrapped}
-use Rattle.wl_plan.specs.Addresses.{HasHighExport, HasHighSymbol, IsAddressTooHigh}
+use Rattle.wl_places.specs.Addresses.{HasHighExport, HasHighSymbol, IsAddressTooHigh}
 use Rattle.wl_plan.specs.Faults.{IsPlacedFault, kept_fault, laid_fault, placed_fault, value_steps}
 use Rattle.wl_plan.specs.Outline.{AreChecked, HasWrapperRoom}
-use Rattle.wl_plan.specs.Placing.{IsPlacing, place_fault}
+use Rattle.wl_places.specs.Placing.{IsPlacing, place_fault}
 use Rattle.wl_plan.specs.declared.layout.LinkPlan.{LinkPlan}
-use Rattle.wl_plan.specs.declared.placing.Placing.{Placing}
+use Rattle.wl_places.specs.declared.placing.Placing.{Placing}
 use Rattle.wl_linking.proofs.StepLaws.{clear_end, clear_step, refuses_behind, refuses_here, refuses_more, row_behind, row_clear, row_refuses}
 use Rattle.wl_plan.proofs.PlanLaws.{OnePlacing, at_most, index_is_row, index_row, place_is_row, place_row, placed_clear, placed_refuses}
 

@@ -31,11 +31,11 @@ use Rattle.wl_symbols.specs.Relocations.{relocations}
 use Rattle.wl_symbols.specs.declared.relocated.FixupPlace.{FixupPlace}
 use Rattle.wl_symbols.specs.declared.relocated.FixupPlace.TheVariants.{Code, Segment}
 use Rattle.wl_symbols.specs.declared.relocated.Relocated.{Relocated}
-use Rattle.wl_plan.specs.Addresses.{layouts_of, segment_among, segment_start, start_of, numbers_from, segment_space}
-use Rattle.wl_plan.specs.KeptData.{kept_data, kept_from, kept_segments, segments_from}
-use Rattle.wl_plan.specs.Placing.{IsPlacing, data_input, data_options}
+use Rattle.wl_places.specs.Addresses.{layouts_of, segment_among, segment_start, start_of, numbers_from, segment_space}
+use Rattle.wl_places.specs.KeptData.{kept_data, kept_from, kept_segments, segments_from}
+use Rattle.wl_places.specs.Placing.{IsPlacing, data_input, data_options}
 use Rattle.wl_plan.specs.Threads.{address_named, template_at, template_start, pointer_at, pointer_of, tls_pointers}
-use Rattle.wl_plan.specs.declared.placing.Placing.{Placing}
+use Rattle.wl_places.specs.declared.placing.Placing.{Placing}
 use Rattle.wl_plan.proofs.FieldLaws.{IsListed, HasObject, object_of}
 use Rattle.wl_symbols.specs.Relocations.{EndsBefore}
 use Rattle.wl_lists.proofs.Later.{AllLater}

@@ -28,7 +28,7 @@ use Rattle.wl_symbols.specs.declared.relocated.Relocated.{Relocated}
 use Rattle.wl_plan.specs.Bodies.{body_in, new_number, IsMovedBy, IsMovedAt, IsMovedIn}
 use Rattle.wl_plan.specs.BodySteps.{AreNewNumbers, AreAllNumbers, AreSoundBodies, HasSoundBody}
 use Rattle.wl_plan.specs.PositionSteps.{is_code, share_body, goes_on, AreOfOneBody, AreKept, IsThere, stays, AddsMoved}
-use Rattle.wl_plan.specs.declared.placing.Placing.{Placing}
+use Rattle.wl_places.specs.declared.placing.Placing.{Placing}
 use Rattle.wl_lists.proofs.In.{at_is_in}
 use Rattle.wl_lists.proofs.Places.{came_at, all_at, append_split}
 use Rattle.wl_plan.proofs.BodyLaws.{UnmarkedNumberNone, body_at, none_told}

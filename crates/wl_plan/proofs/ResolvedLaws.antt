@@ -10,9 +10,9 @@ use Rattle.wl_bind.specs.Kinds.{IsWrongKind}
 use Rattle.wl_bind.specs.References.{IsSettled}
 use Rattle.wl_symbols.specs.declared.relocated.Relocated.{Relocated}
 use Rattle.wl_plan.specs.FixupSteps.{AnswersValue, HasRoom}
-use Rattle.wl_plan.specs.IndexedMaps.{AreWholeMaps}
+use Rattle.wl_places.specs.IndexedMaps.{AreWholeMaps}
 use Rattle.wl_plan.specs.Resolved.{IsNumbered, IsOf, answer_for, HasNoAddress}
-use Rattle.wl_plan.specs.declared.placing.Placing.{Placing}
+use Rattle.wl_places.specs.declared.placing.Placing.{Placing}
 use Rattle.wl_linking.proofs.StepLaws.{first_clear}
 use Rattle.wl_plan.proofs.FixupLaws.{IsKnown, Laws, map_of, reason_of, resolves_as}
 use Rattle.wl_plan.proofs.PlanLaws.{few_by}

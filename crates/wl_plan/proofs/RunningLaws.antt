@@ -41,21 +41,22 @@ use Rattle.wl_bind.specs.Shared.{function_imports, global_imports}
 use Rattle.wl_bind.specs.declared.binding.FunctionTarget.TheVariants as function
 use Rattle.wl_bind.specs.declared.binding.GlobalTarget.{GlobalTarget}
 use Rattle.wl_bind.specs.declared.binding.GlobalTarget.TheVariants as global
-use Rattle.wl_plan.specs.Addresses.{address_of_definition}
+use Rattle.wl_places.specs.Addresses.{address_of_definition}
 use Rattle.wl_plan.specs.Bodies.{AreBodies, IsBodyOf, IsEncodedBody, IsMadeBody}
 use Rattle.wl_plan.specs.Functions.{own_functions, origin_of, AreOutputFunctions, IsOutputFunction, IsWrapperFunction}
 use Rattle.wl_plan.specs.Globals.{is_in_block, may_change, IsMadeGlobal, IsPlannedGlobal, own_globals}
 use Rattle.wl_plan.specs.Imports.{AreImports, IsFunctionImport, IsGlobalImport, memory_imports, memory_import}
 use Rattle.wl_plan.specs.Origins.{Origin, OfLinker, OfInitMemory, OfStub, OfWrapper, PlannedFunction}
-use Rattle.wl_plan.specs.Placing.{data_input}
+use Rattle.wl_places.specs.Placing.{data_input}
 use Rattle.wl_plan.specs.Plan.{IsPlan}
 use Rattle.wl_plan.specs.PlannedImports.{PlannedImport, is_global_entity, is_global_import}
 use Rattle.wl_plan.specs.Resolved.{IsNumbered}
 use Rattle.wl_plan.specs.Running.{HasMadeBody, HasRoomFor, HoldsPlan, HoldsSegment, MakesBlock, LaysSegments}
-use Rattle.wl_plan.specs.Threads.{got_places, got_places_from, is_filled_template, place_in_block, shared_copies, IsGotFixup, IsThreadBlock}
+use Rattle.wl_plan.specs.Threads.{got_places, got_places_from, place_in_block, IsGotFixup, IsThreadBlock}
+use Rattle.wl_places.specs.Copies.{is_filled_template, shared_copies}
 use Rattle.wl_plan.specs.declared.layout.LinkPlan.{LinkPlan}
 use Rattle.wl_plan.specs.declared.layout.PlannedGlobal.{PlannedGlobal}
-use Rattle.wl_plan.specs.declared.placing.Placing.{Placing}
+use Rattle.wl_places.specs.declared.placing.Placing.{Placing}
 use Rattle.wl_plan.proofs.CopyLaws.{copies_clear, copies_disjoint, copies_fit, ends_less, separate_less}
 use Rattle.wl_plan.proofs.FunctionLaws.{made_is}
 use Rattle.wl_lists.proofs.Later.{AllLater}

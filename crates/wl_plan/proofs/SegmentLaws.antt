@@ -12,11 +12,11 @@ use Rattle.wl_linking.specs.Object.{Object}
 use Rattle.wl_symbols.specs.declared.units.WasmGcUnit.TheVariants.{DataSegment}
 use Rattle.wl_module.specs.Segments.{Segment}
 use Rattle.wl_symbols.specs.Input.{Input, keeps}
-use Rattle.wl_plan.specs.Addresses.{numbers_from, segment_space}
+use Rattle.wl_places.specs.Addresses.{numbers_from, segment_space}
 use Rattle.wl_plan.specs.Bodies.{same_segment}
-use Rattle.wl_plan.specs.KeptData.{kept_data, kept_from, kept_segments, segments_from, all_segments}
-use Rattle.wl_plan.specs.Placing.{IsPlacing, data_input}
-use Rattle.wl_plan.specs.declared.placing.Placing.{Placing}
+use Rattle.wl_places.specs.KeptData.{kept_data, kept_from, kept_segments, segments_from, all_segments}
+use Rattle.wl_places.specs.Placing.{IsPlacing, data_input}
+use Rattle.wl_places.specs.declared.placing.Placing.{Placing}
 use Rattle.wl_lists.proofs.Beside.{zip_left}
 use Rattle.wl_lists.proofs.Places.{append_split, came_at}
 

@@ -35,10 +35,10 @@ use Rattle.wl_bind.specs.Sameness.{same_target}
 use Rattle.wl_bind.specs.Scan.{table_functions}
 use Rattle.wl_bind.specs.declared.binding.FunctionTarget.{FunctionTarget}
 use Rattle.wl_bind.specs.declared.binding.FunctionTarget.TheVariants.{Defined, Made, Host, Stub}
-use Rattle.wl_plan.specs.IndexedMaps.{IsWholeMap, AreWholeMaps}
+use Rattle.wl_places.specs.IndexedMaps.{IsWholeMap, AreWholeMaps}
 use Rattle.wl_plan.specs.Table.{IsElement}
 use Rattle.wl_plan.specs.TableSteps.{index_at, table_minimums}
-use Rattle.wl_plan.specs.declared.placing.Placing.{Placing}
+use Rattle.wl_places.specs.declared.placing.Placing.{Placing}
 use Rattle.wl_lists.proofs.Beside.{zip_joined, zip_right}
 use Rattle.wl_lists.proofs.Firsts.{any_kept}
 use Rattle.wl_lists.proofs.Found.{any_last}
@@ -48,7 +48,7 @@ use Rattle.wl_lists.proofs.Places.{mapped_at, came_at, get_in_front, get_behind}
 use Rattle.wl_lists.proofs.Rows.{row_of_object}
 use Rattle.wl_plan.proofs.FunctionLaws.{ctors_stand, host_stands, if_in, kept_stands, take_next, tls_stands}
 use Rattle.wl_plan.proofs.ListLaws.{of_range}
-use Rattle.wl_plan.proofs.PlacingLaws.{greatest-append}
+use Rattle.wl_places.proofs.PlacingLaws.{greatest-append}
 
 -- ---- a function in the map of an object
 

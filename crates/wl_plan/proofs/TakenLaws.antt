@@ -20,10 +20,10 @@ use Rattle.wl_symbols.specs.Input.{Input}
 use Rattle.wl_symbols.specs.declared.relocated.Relocated.{Relocated}
 use Rattle.wl_plan.specs.FixupSteps.{Answers, AnswersValue, IsValueOf, left_of}
 use Rattle.wl_plan.specs.Fixups.{address_taken, addend_left, field_taken, value_or_pointer, IsTaken}
-use Rattle.wl_plan.specs.IndexedMaps.{IsWholeMap}
+use Rattle.wl_places.specs.IndexedMaps.{IsWholeMap}
 use Rattle.wl_plan.specs.Threads.{address_named, pointer_named, template_start}
 use Rattle.wl_output.specs.declared.fixups.FixupTo.TheVariants.{Value, Deferred}
-use Rattle.wl_plan.specs.declared.placing.Placing.{Placing}
+use Rattle.wl_places.specs.declared.placing.Placing.{Placing}
 use Rattle.wl_plan.proofs.DeferredLaws.{none_named}
 use Rattle.wl_plan.proofs.FixupLaws.{address_found, left_addend, left_zero}
 

@@ -43,11 +43,12 @@ use Rattle.wl_exports.specs.Wrappers.{wrapped}
 use Rattle.wl_plan.specs.Bodies.{new_number, IsMovedBy, IsRenumbered, body_in, IsBodyIn, IsMadeBody, AreMadeOps, IsEncodedBody, IsBodyFault, called, IsBodyOf, AreOwnBodies, IsWrapperBody, AreBodies, IsMovedAt}
 use Rattle.wl_plan.specs.Fixups.{StandsAt, type_named, global_named, field_taken, IsTaken, IsFieldOf, IsFixup, AreFixups}
 use Rattle.wl_plan.specs.Functions.{own_functions}
-use Rattle.wl_plan.specs.Threads.{got_places, shared_copies, IsGotFixup, IsThreadBlock}
+use Rattle.wl_plan.specs.Threads.{got_places, IsGotFixup, IsThreadBlock}
+use Rattle.wl_places.specs.Copies.{shared_copies}
 use Rattle.wl_output.specs.declared.fixups.Fixup.{Fixup}
 use Rattle.wl_output.specs.declared.fixups.FixupTo.{FixupTo}
 use Rattle.wl_output.specs.declared.fixups.FixupTo.TheVariants.{Value, Deferred}
-use Rattle.wl_plan.specs.declared.placing.Placing.{Placing}
+use Rattle.wl_places.specs.declared.placing.Placing.{Placing}
 use Rattle.wl_lists.proofs.Beside.{zip_right}
 use Rattle.wl_plan.proofs.PositionLaws.{stands as contained}
 use Rattle.wl_plan.proofs.UniqueParts.{some_one, cut_one, GivesOne, zip_one, AreOnce}

@@ -33,7 +33,7 @@ use Rattle.wl_output.specs.declared.entities.GlobalOrigin.{GlobalOrigin}
 use Rattle.wl_output.specs.declared.entities.OutputImportEntity.{OutputImportEntity}
 use Rattle.wl_output.specs.declared.entities.OutputImportEntity.TheVariants as imported
 use Rattle.wl_plan.specs.declared.layout.PlannedGlobal.{PlannedGlobal}
-use Rattle.wl_plan.specs.declared.placing.Placing.{Placing}
+use Rattle.wl_places.specs.declared.placing.Placing.{Placing}
 use Rattle.wl_lists.proofs.In.{IsIn, in_at, in_split}
 use Rattle.wl_plan.proofs.UniqueParts.{some_one, GivesOne, zip_one}
 use Rattle.wl_plan.proofs.UniqueBodies.{FormsAreOne, exported_one, ok_one}

@@ -15,13 +15,13 @@ use Rattle.wl_bind.specs.Parts.{StandOnce}
 use Rattle.wl_exports.specs.Wrapped.{AreOutputExports}
 use Rattle.wl_plan.specs.Extras.{AreTakenIf, AreOutputFeatures}
 use Rattle.wl_plan.specs.Fixups.{AreFixups}
-use Rattle.wl_plan.specs.Placing.{data_input, placing_of, IsPlacing}
+use Rattle.wl_places.specs.Placing.{data_input, placing_of, IsPlacing}
 use Rattle.wl_plan.specs.Plan.{HasEntities, HasPlaces, HasSpaces, HasCodeSize, HasBodies, IsPlan}
 use Rattle.wl_plan.specs.PlanParts.{Entities, Places, Spaces, Bodies, entities_of, places_of, spaces_of, bodies_of}
 use Rattle.wl_output.specs.declared.fixups.Fixup.{Fixup}
 use Rattle.wl_plan.specs.declared.layout.LinkPlan.{LinkPlan}
 use Rattle.wl_plan.specs.declared.layout.WasmLayout.{WasmLayout}
-use Rattle.wl_plan.specs.declared.placing.Placing.{Placing}
+use Rattle.wl_places.specs.declared.placing.Placing.{Placing}
 use Rattle.wl_plan.proofs.SegmentLaws.{SegmentsHaveLayouts}
 use Rattle.wl_plan.proofs.UniqueBodies.{FormsAreOne, bodies_one, section_one, text_one, fixups_one}
 use Rattle.wl_plan.proofs.UniqueEntities.{functions_one, imports_one, elements_one, start_one, globals_one}

@@ -11,9 +11,9 @@ use Rattle.wl_bind.specs.IndexMaps.{symbol_functions, got_mem_globals, got_func_
 use Rattle.wl_symbols.specs.Input.{Input}
 use Rattle.wl_bind.specs.OutputTypes.{output_types, local_types}
 use Rattle.wl_bind.specs.Parts.{StandOnce, IsIndexOf, AreIndicesOf, IsPlaceOf, ArePlacesOf, AreRows}
-use Rattle.wl_plan.specs.Addresses.{segment_space, local_segments}
-use Rattle.wl_plan.specs.IndexedMaps.{IsWholeMap, AreWholeMaps}
-use Rattle.wl_plan.specs.declared.placing.Placing.{Placing}
+use Rattle.wl_places.specs.Addresses.{segment_space, local_segments}
+use Rattle.wl_places.specs.IndexedMaps.{IsWholeMap, AreWholeMaps}
+use Rattle.wl_places.specs.declared.placing.Placing.{Placing}
 
 -- ---- lists
 

@@ -11,13 +11,13 @@ use Rattle.wl_data.specs.declared.options.DataOptions.{DataOptions}
 use Rattle.wl_symbols.specs.declared.units.WasmGcUnit.TheVariants.{DataSegment}
 use Rattle.wl_symbols.specs.Input.{Input, keeps}
 use Rattle.wl_bind.specs.Parts.{StandOnce}
-use Rattle.wl_plan.specs.Addresses.{numbers_from, segment_space}
-use Rattle.wl_plan.specs.KeptData.{kept_from, kept_segments, segments_from}
-use Rattle.wl_plan.specs.Placing.{data_input, data_options, IsPlacing}
-use Rattle.wl_plan.specs.declared.placing.Placing.{Placing}
+use Rattle.wl_places.specs.Addresses.{numbers_from, segment_space}
+use Rattle.wl_places.specs.KeptData.{kept_from, kept_segments, segments_from}
+use Rattle.wl_places.specs.Placing.{data_input, data_options, IsPlacing}
+use Rattle.wl_places.specs.declared.placing.Placing.{Placing}
 use Rattle.wl_lists.proofs.In.{in_map_filter, IsIn, in_split}
 use Rattle.wl_lists.proofs.Once.{once_from, distinct-append, distinct-map_filter, Distinct}
-use Rattle.wl_plan.proofs.AddressLaws.{index_of, original_of}
+use Rattle.wl_places.specs.AddressSteps.{index_of, original_of}
 use Rattle.wl_plan.proofs.SegmentLaws.{SegmentsHaveLayouts}
 
 -- ---- lists in which nothing stands twice

@@ -30,7 +30,7 @@ use Rattle.wl_plan.specs.BodySteps.{AddsMadeBody}
 use Rattle.wl_plan.specs.Functions.{own_functions, IsTypeNumber, IsOutputFunction, AreOwnFunctions, IsWrapperFunction, AreOutputFunctions}
 use Rattle.wl_plan.specs.Origins.{PlannedFunction, OfWrapper}
 use Rattle.wl_plan.specs.Table.{wrapper_slots}
-use Rattle.wl_plan.specs.declared.placing.Placing.{Placing}
+use Rattle.wl_places.specs.declared.placing.Placing.{Placing}
 use Rattle.wl_lists.proofs.Beside.{zip_joined, zip_right, zip_left, zip_length}
 use Rattle.wl_lists.proofs.Found.{and_then_some}
 use Rattle.wl_lists.proofs.Places.{get_in_front, all_at, item_at}

@@ -29,10 +29,11 @@ use Rattle.wl_symbols.specs.declared.relocated.FixupPlace.TheVariants.{Code, Seg
 use Rattle.wl_symbols.specs.declared.relocated.Relocated.{Relocated}
 use Rattle.wl_exports.specs.Exports.{ExportEntry, OfFunction}
 use Rattle.wl_exports.specs.Wrappers.{wrapped}
-use Rattle.wl_plan.specs.Addresses.{segment_space}
+use Rattle.wl_places.specs.Addresses.{segment_space}
 use Rattle.wl_plan.specs.Functions.{own_functions}
-use Rattle.wl_plan.specs.Threads.{IsThreadBlock, shared_copies}
-use Rattle.wl_plan.specs.declared.placing.Placing.{Placing}
+use Rattle.wl_plan.specs.Threads.{IsThreadBlock}
+use Rattle.wl_places.specs.Copies.{shared_copies}
+use Rattle.wl_places.specs.declared.placing.Placing.{Placing}
 
 -- ---- numbers of segments in bodies
 

@@ -13,7 +13,7 @@ use Rattle.wl_symbols.specs.declared.units.WasmGcUnit.TheVariants.{DefinedFuncti
 use Rattle.wl_bind.specs.FunctionSpace.{FunctionEntry}
 use Rattle.wl_symbols.specs.Input.{Input, keeps}
 use Rattle.wl_plan.specs.Bodies.{IsRenumbered, IsMadeBody, IsBodyOf, body_in, new_number}
-use Rattle.wl_plan.specs.declared.placing.Placing.{Placing}
+use Rattle.wl_places.specs.declared.placing.Placing.{Placing}
 
 -- ---- numbers of segments
 

@@ -17,12 +17,12 @@ use Rattle.wl_symbols.specs.Input.{Input}
 use Rattle.wl_bind.specs.SpaceFaults.{IsSpaceTooLarge}
 use Rattle.wl_exports.specs.Faults.{IsExportFault}
 use Rattle.wl_exports.specs.Wrapped.{AreTooManyWrappers}
-use Rattle.wl_plan.specs.Addresses.{IsAddressTooHigh}
+use Rattle.wl_places.specs.Addresses.{IsAddressTooHigh}
 use Rattle.wl_plan.specs.Bodies.{AreBodies, IsBodyFault}
 use Rattle.wl_plan.specs.Fixups.{IsFixupFault}
 use Rattle.wl_plan.specs.Globals.{IsGlobalFault}
-use Rattle.wl_plan.specs.Placing.{IsPlacing, place_steps}
-use Rattle.wl_plan.specs.declared.placing.Placing.{Placing}
+use Rattle.wl_places.specs.Placing.{IsPlacing, place_steps}
+use Rattle.wl_places.specs.declared.placing.Placing.{Placing}
 
 -- ---- where it is known where things lie
 

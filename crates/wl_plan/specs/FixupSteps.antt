@@ -21,15 +21,15 @@ use Rattle.wl_bind.specs.OutputTypes.{output_types}
 use Rattle.wl_bind.specs.References.{IsSettled}
 use Rattle.wl_bind.specs.Scan.{table_functions}
 use Rattle.wl_symbols.specs.declared.relocated.Relocated.{Relocated}
-use Rattle.wl_plan.specs.AddressSteps.{IsBook}
+use Rattle.wl_places.specs.AddressSteps.{IsBook}
 use Rattle.wl_plan.specs.Fixups.{address_taken, field_taken, address_refusal, IsTaken}
-use Rattle.wl_plan.specs.IndexedMaps.{AreWholeMaps}
+use Rattle.wl_places.specs.IndexedMaps.{AreWholeMaps}
 use Rattle.wl_plan.specs.Table.{space_slots}
 use Rattle.wl_plan.specs.Threads.{address_named}
 use Rattle.wl_plan.specs.declared.fixups.FixupSources.{FixupSources}
 use Rattle.wl_output.specs.declared.fixups.FixupTo.{FixupTo}
 use Rattle.wl_output.specs.declared.fixups.FixupTo.TheVariants.{Value}
-use Rattle.wl_plan.specs.declared.placing.Placing.{Placing}
+use Rattle.wl_places.specs.declared.placing.Placing.{Placing}
 
 -- there is room in the spaces of the output, and for the slots of the functions of the table
 pub record HasRoom (input : Input) : Type 0 where

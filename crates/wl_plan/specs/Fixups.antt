@@ -35,7 +35,7 @@ use Rattle.wl_plan.specs.Threads.{address_named, bases_of, pointer_named}
 use Rattle.wl_output.specs.declared.fixups.Fixup.{Fixup}
 use Rattle.wl_output.specs.declared.fixups.FixupTo.{FixupTo}
 use Rattle.wl_output.specs.declared.fixups.FixupTo.TheVariants.{Value, Deferred}
-use Rattle.wl_plan.specs.declared.placing.Placing.{Placing}
+use Rattle.wl_places.specs.declared.placing.Placing.{Placing}
 
 -- ---- what a relocation names
 

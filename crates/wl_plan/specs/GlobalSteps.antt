@@ -16,11 +16,11 @@ use Rattle.wl_bind.specs.Scan.{got_mem_of, got_func}
 use Rattle.wl_bind.specs.declared.binding.FunctionTarget.{FunctionTarget}
 use Rattle.wl_bind.specs.declared.binding.GlobalTarget.TheVariants.{Defined}
 use Rattle.wl_symbols.specs.declared.relocated.Relocated.{Relocated}
-use Rattle.wl_plan.specs.AddressSteps.{IsBook}
-use Rattle.wl_plan.specs.Addresses.{IsAddressTooHigh}
+use Rattle.wl_places.specs.AddressSteps.{IsBook}
+use Rattle.wl_places.specs.Addresses.{IsAddressTooHigh}
 use Rattle.wl_plan.specs.Bound.{AreBindings}
 use Rattle.wl_plan.specs.Globals.{IsConstant, i32_global, start_of_global, may_change, IsPlannedGlobal}
-use Rattle.wl_plan.specs.IndexedMaps.{AreWholeMaps}
+use Rattle.wl_places.specs.IndexedMaps.{AreWholeMaps}
 use Rattle.wl_plan.specs.Table.{slot_of}
 use Rattle.wl_plan.specs.declared.global_starts.GlobalSources.{GlobalSources}
 use Rattle.wl_plan.specs.declared.global_starts.Start.{Start}

@@ -29,14 +29,14 @@ use Rattle.wl_bind.specs.declared.binding.FunctionTarget.{FunctionTarget}
 use Rattle.wl_bind.specs.declared.binding.GlobalTarget.TheVariants.{Defined, Made, GotMem, GotFunc, Host}
 use Rattle.wl_bind.specs.declared.exported.DataSymbol.{DataSymbol}
 use Rattle.wl_symbols.specs.declared.relocated.Relocated.{Relocated}
-use Rattle.wl_plan.specs.Addresses.{address_of_definition, symbol_address, linker_address}
+use Rattle.wl_places.specs.Addresses.{address_of_definition, symbol_address, linker_address}
 use Rattle.wl_plan.specs.Table.{slot_of}
 use Rattle.wl_output.specs.declared.entities.GlobalOrigin.{GlobalOrigin}
 use Rattle.wl_output.specs.declared.entities.GlobalOrigin.TheVariants as origin
 use Rattle.wl_output.specs.declared.entities.MadeGlobal.{MadeGlobal}
 use Rattle.wl_output.specs.declared.entities.MadeGlobal.TheVariants as word
 use Rattle.wl_plan.specs.declared.layout.PlannedGlobal.{PlannedGlobal}
-use Rattle.wl_plan.specs.declared.placing.Placing.{Placing}
+use Rattle.wl_places.specs.declared.placing.Placing.{Placing}
 
 -- ---- constants
 

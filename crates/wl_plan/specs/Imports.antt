@@ -17,7 +17,7 @@ use Rattle.wl_bind.specs.Shared.{function_imports, global_imports}
 use Rattle.wl_plan.specs.Functions.{IsTypeNumber}
 use Rattle.wl_plan.specs.PlannedImports.{PlannedImport}
 use Rattle.wl_output.specs.declared.entities.OutputImportEntity.TheVariants.{Function, Global, Memory}
-use Rattle.wl_plan.specs.declared.placing.Placing.{Placing}
+use Rattle.wl_places.specs.declared.placing.Placing.{Placing}
 
 -- ---- functions and globals
 

@@ -1,14 +1,7 @@
 pub mod Origins
 pub mod OriginsSeen
 pub mod PlannedImports
-pub mod KeptData
-pub mod Placing
-pub mod PlacingSteps
-pub mod Addresses
-pub mod AddressSteps
 pub mod Threads
-pub mod IndexedMaps
-pub mod IndexSteps
 pub mod Dropped
 pub mod Functions
 pub mod FunctionSteps

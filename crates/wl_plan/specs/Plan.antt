@@ -13,13 +13,13 @@ use Rattle.wl_plan.specs.Fixups.{AreFixups}
 use Rattle.wl_plan.specs.Functions.{AreOutputFunctions}
 use Rattle.wl_plan.specs.Globals.{ArePlannedGlobals}
 use Rattle.wl_plan.specs.Imports.{AreImports, own_memory}
-use Rattle.wl_plan.specs.IndexedMaps.{AreWholeMaps}
-use Rattle.wl_plan.specs.Placing.{IsPlacing}
+use Rattle.wl_places.specs.IndexedMaps.{AreWholeMaps}
+use Rattle.wl_places.specs.Placing.{IsPlacing}
 use Rattle.wl_plan.specs.Table.{output_table, AreElements, function_slots}
 use Rattle.wl_output.specs.declared.fixups.Fixup.{Fixup}
 use Rattle.wl_plan.specs.declared.layout.LinkPlan.{LinkPlan}
 use Rattle.wl_plan.specs.declared.layout.WasmLayout.{WasmLayout}
-use Rattle.wl_plan.specs.declared.placing.Placing.{Placing}
+use Rattle.wl_places.specs.declared.placing.Placing.{Placing}
 
 -- ---- bindings and entities
 

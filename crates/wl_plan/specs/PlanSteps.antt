@@ -6,8 +6,8 @@ use Rattle.wl_bind.specs.Made.{has_init_memory, has_shared_tls}
 use Rattle.wl_symbols.specs.Input.{Input}
 use Rattle.wl_bind.specs.OutputTypes.{output_types}
 use Rattle.wl_exports.specs.Wrapped.{AreOutputExports, AreWrappers}
-use Rattle.wl_plan.specs.AddressSteps.{IsBook}
-use Rattle.wl_plan.specs.Addresses.{segment_space}
+use Rattle.wl_places.specs.AddressSteps.{IsBook}
+use Rattle.wl_places.specs.Addresses.{segment_space}
 use Rattle.wl_plan.specs.Bodies.{AreBodies}
 use Rattle.wl_plan.specs.Bound.{AreBindings}
 use Rattle.wl_plan.specs.Extras.{AreOutputFeatures, output_debug_sections}
@@ -15,13 +15,13 @@ use Rattle.wl_plan.specs.Fixups.{AreFixups}
 use Rattle.wl_plan.specs.Functions.{AreOutputFunctions}
 use Rattle.wl_plan.specs.Globals.{ArePlannedGlobals}
 use Rattle.wl_plan.specs.Imports.{AreImports, own_memory}
-use Rattle.wl_plan.specs.IndexedMaps.{AreWholeMaps}
+use Rattle.wl_places.specs.IndexedMaps.{AreWholeMaps}
 use Rattle.wl_plan.specs.Outline.{AreFew, HasWrapperRoom}
-use Rattle.wl_plan.specs.Placing.{IsPlacing}
+use Rattle.wl_places.specs.Placing.{IsPlacing}
 use Rattle.wl_plan.specs.SizeSteps.{HasSizes}
 use Rattle.wl_plan.specs.Table.{AreElements, function_slots, output_table}
-use Rattle.wl_plan.specs.declared.addresses.AddressBook.{AddressBook}
-use Rattle.wl_plan.specs.declared.placing.Placing.{Placing}
+use Rattle.wl_places.specs.declared.addresses.AddressBook.{AddressBook}
+use Rattle.wl_places.specs.declared.placing.Placing.{Placing}
 use Rattle.wl_plan.specs.declared.plan.LaidParts.{LaidParts}
 use Rattle.wl_plan.specs.declared.plan.OutputLists.{OutputLists}
 use Rattle.wl_plan.specs.declared.plan.OutputModule.{OutputModule}

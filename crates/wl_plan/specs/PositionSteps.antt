@@ -10,7 +10,7 @@ use Rattle.wl_symbols.specs.declared.relocated.FixupPlace.TheVariants.{Code, Seg
 use Rattle.wl_symbols.specs.declared.relocated.Relocated.{Relocated}
 use Rattle.wl_symbols.specs.declared.units.WasmGcUnit.TheVariants.{DefinedFunction}
 use Rattle.wl_plan.specs.Bodies.{IsMovedIn, body_in}
-use Rattle.wl_plan.specs.declared.placing.Placing.{Placing}
+use Rattle.wl_places.specs.declared.placing.Placing.{Placing}
 
 -- the field lies in code
 abbrev pub is_code : FixupPlace → Bool

@@ -19,7 +19,7 @@ use Rattle.wl_plan.specs.Fixups.{address_taken, IsAddressReason}
 use Rattle.wl_plan.specs.Table.{space_slots}
 use Rattle.wl_plan.specs.Threads.{bases_of}
 use Rattle.wl_plan.specs.declared.layout.WasmLayout.{WasmLayout}
-use Rattle.wl_plan.specs.declared.placing.Placing.{Placing}
+use Rattle.wl_places.specs.declared.placing.Placing.{Placing}
 
 -- a link of whole objects, of which this is kept, whose references are bound and whose things have
 -- their numbers

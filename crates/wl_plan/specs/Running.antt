@@ -13,7 +13,7 @@ use Rattle.wl_synth.specs.Machine.{World, State, I32, Done, Runs, have_types}
 use Rattle.wl_synth.specs.Memory.{InitsMemory}
 use Rattle.wl_synth.specs.ThreadLocal.{IsInitialized}
 use Rattle.wl_synth.specs.declared.parts.TlsPointerFixup.{TlsPointerFixup}
-use Rattle.wl_plan.specs.Addresses.{segment_start}
+use Rattle.wl_places.specs.Addresses.{segment_start}
 use Rattle.wl_plan.specs.Origins.{Origin, PlannedFunction}
 use Rattle.wl_plan.specs.PlannedImports.{PlannedImport, is_function_import, is_global_import}
 use Rattle.wl_symbols.specs.declared.linker_symbol.WasmLinkerSymbol.TheVariants.{CallCtors}
@@ -28,7 +28,8 @@ use Rattle.wl_ctors.specs.InitCalls.{AreInitCalls}
 use Rattle.wl_ctors.specs.declared.calls.InitCall.{InitCall}
 use Rattle.wl_symbols.specs.Input.{Input}
 use Rattle.wl_plan.specs.Bodies.{called}
-use Rattle.wl_plan.specs.Threads.{place_in_block, shared_copies, IsThreadBlock}
+use Rattle.wl_plan.specs.Threads.{place_in_block, IsThreadBlock}
+use Rattle.wl_places.specs.Copies.{shared_copies}
 use Rattle.wl_output.specs.declared.fixups.Fixup.{Fixup}
 use Rattle.wl_output.specs.declared.fixups.FixupTo.{FixupTo}
 use Rattle.wl_output.specs.declared.fixups.FixupTo.TheVariants.{Value, Deferred}
@@ -36,7 +37,7 @@ use Rattle.wl_plan.specs.declared.layout.LinkPlan.{LinkPlan}
 use Rattle.wl_output.specs.declared.entities.OutputImportEntity.TheVariants.{Function}
 use Rattle.wl_plan.specs.declared.layout.PlannedGlobal.{PlannedGlobal}
 use Rattle.wl_plan.specs.declared.layout.WasmLayout.{WasmLayout}
-use Rattle.wl_plan.specs.declared.placing.Placing.{Placing}
+use Rattle.wl_places.specs.declared.placing.Placing.{Placing}
 
 -- ---- the module
 

@@ -4,7 +4,7 @@ use Rattle.std.specs.List.{AllByRecursion, AllZip}
 use Rattle.std.specs.Option.{option_map, option_to_list}
 use Rattle.wl_symbols.specs.declared.entry.Definition.{Definition}
 use Rattle.wl_synth.specs.declared.parts.TlsGotFixup.{TlsGotFixup}
-use Rattle.wl_plan.specs.Addresses.{address_of_definition}
+use Rattle.wl_places.specs.Addresses.{address_of_definition}
 use Rattle.wl_linking.specs.declared.error.LinkError.{LinkError}
 use Rattle.wl_linking.specs.declared.error.LinkError.TheVariants as link
 use Rattle.wl_data.specs.Segments.{SegmentLayout}
@@ -18,23 +18,9 @@ use Rattle.wl_symbols.specs.Relocations.{relocations}
 use Rattle.wl_symbols.specs.declared.relocated.Relocated.{Relocated}
 use Rattle.wl_plan.specs.Bodies.{IsBodyFault}
 use Rattle.wl_plan.specs.Fixups.{IsFixup}
-use Rattle.wl_plan.specs.Threads.{is_filled_template, place_in_block, IsGotFixup}
+use Rattle.wl_plan.specs.Threads.{place_in_block, IsGotFixup}
 use Rattle.wl_output.specs.declared.fixups.Fixup.{Fixup}
-use Rattle.wl_plan.specs.declared.placing.Placing.{Placing}
-use Rattle.wl_plan.specs.declared.threads.Copied.{Copied}
-use Rattle.wl_plan.specs.declared.threads.Copied.TheVariants.{Shared, Template}
-
--- the segment is one of those that are copied so
-abbrev pub is_copied : Copied → SegmentLayout → Bool
-is_copied Shared l = l.shared_init
-is_copied Template l = is_filled_template l
-
--- the number of its bytes is one of 32 bits
-abbrev pub IsSmallLayout : SegmentLayout → Type 0
-IsSmallLayout l = length l.payload < 2 ^ 32
-
-abbrev pub AreSmallLayouts : List SegmentLayout → Type 0
-AreSmallLayouts layouts = AllByRecursion IsSmallLayout layouts
+use Rattle.wl_places.specs.declared.placing.Placing.{Placing}
 
 -- it is what a kept relocation becomes
 pub record IsFixupOf (input : Input) (g : Placing) (f : Fixup) : Type 0 where

@@ -24,37 +24,8 @@ use Rattle.wl_bind.specs.declared.binding.GlobalTarget.TheVariants.{Made, GotMem
 use Rattle.wl_symbols.specs.declared.relocated.FixupPlace.{FixupPlace}
 use Rattle.wl_symbols.specs.declared.relocated.FixupPlace.TheVariants.{Code, Segment}
 use Rattle.wl_symbols.specs.declared.relocated.Relocated.{Relocated}
-use Rattle.wl_plan.specs.Addresses.{layouts_of, segment_start, symbol_address, address_of_definition}
-use Rattle.wl_plan.specs.declared.placing.Placing.{Placing}
-
--- ---- copies
-
--- the copy of the segment that has that number in the output
-abbrev pub copy_of : ℕ → SegmentLayout → PassiveSegmentCopy
-copy_of number l =
-    record { segment_index = number; offset = l.output_memory_offset; len = length l.payload }
-
--- those of these segments that pass the test, the first of which has that number
-abbrev pub copies_from : (SegmentLayout → Bool) → ℕ → List SegmentLayout → List PassiveSegmentCopy
-copies_from test number [] = []
-copies_from test number (l ∷ layouts) =
-    (if test l then copy_of number l ∷ [] else []) ++ copies_from test (number + 1) layouts
-
--- the segments of the output: the number of each is its place
-abbrev pub all_layouts : Placing → List SegmentLayout
-all_layouts g = in_one_row g.places.layouts
-
--- those that the first thread copies into the memory; none of them is empty
-abbrev pub shared_copies : Placing → List PassiveSegmentCopy
-shared_copies g = copies_from (λ (l : SegmentLayout). l.shared_init) 0 (all_layouts g)
-
--- the segment goes into the block of each thread, and has bytes
-abbrev pub is_filled_template : SegmentLayout → Bool
-is_filled_template l = l.tls_template && not (length l.payload == 0)
-
--- those that each thread copies into its block
-abbrev pub template_copies : Placing → List PassiveSegmentCopy
-template_copies g = copies_from is_filled_template 0 (all_layouts g)
+use Rattle.wl_places.specs.Addresses.{layouts_of, segment_start, symbol_address, address_of_definition}
+use Rattle.wl_places.specs.declared.placing.Placing.{Placing}
 
 -- ---- pointers
 

@@ -16,7 +16,7 @@ ghost use Rattle.wl_bind.specs.GlobalSpace.{GlobalOf, global_space};
 ghost use Rattle.wl_bind.specs.declared.binding.GlobalTarget.TheVariants as global;
 ghost use Rattle.wl_synth.specs.Bodies.{call_sequence_ops};
 ghost use Rattle.wl_synth.specs.Encoding.{IsEncoded};
-ghost use Rattle.wl_plan.specs.Addresses.{segment_space};
+ghost use Rattle.wl_places.specs.Addresses.{segment_space};
 ghost use Rattle.wl_plan.specs.Bodies.{body_in, called, AreInitMemoryOps, AreInitTlsOps, AreOwnBodies, object_debug_sections};
 ghost use Rattle.wl_plan.specs.BodySteps.{kept_number, AreNewNumbers, AreAllNumbers, AreSoundBodies, HasSoundBody, IsBodyFrom, AddsMadeBody, AddsBodies, debug_in};
 ghost use Rattle.wl_plan.specs.Bound.{AreBindings};
@@ -24,28 +24,27 @@ ghost use Rattle.wl_plan.specs.Fixups.{AreFixups};
 ghost use Rattle.wl_plan.specs.FunctionSteps.{linker_functions, own_function_part};
 ghost use Rattle.wl_plan.specs.GlobalSteps.{AreSources};
 ghost use Rattle.wl_plan.specs.Globals.{IsGlobalFault};
-ghost use Rattle.wl_plan.specs.IndexedMaps.{AreWholeMaps};
-ghost use Rattle.wl_plan.specs.Placing.{IsPlacing};
+ghost use Rattle.wl_places.specs.IndexedMaps.{AreWholeMaps};
+ghost use Rattle.wl_places.specs.Placing.{IsPlacing};
 ghost use Rattle.wl_plan.specs.ThreadSteps.{body_error, IsBodyRefusal, IsSpelledFor, IsUnspelled};
 
 use crate::bindings::Bindings;
+use crate::functions::function_room;
 use crate::global_starts::GlobalSources;
 use crate::parsing::link_error;
-use crate::placing::Placing;
-use crate::threads::{Copied, all_copies, got_fixups, tls_pointers};
+use crate::threads::{got_fixups, tls_pointers};
 use std::alloc::{AllocError, Global};
 use std::borrow::CowSlice;
 use wl_bind::entries_have_types;
 use wl_ctors::InitCall;
 use wl_data::segments_have_layouts;
 use wl_index::{WASM_DEAD_INDEX, WasmObjectIndexMap};
-use wl_linking::{
-    DebugSectionInput, File, LinkError, parts_of_objects_stand, segments_keep_bounds, whole_objects,
-};
+use wl_linking::{DebugSectionInput, File, LinkError, parts_of_objects_stand, whole_objects};
 use wl_lists::ItemList;
 use wl_module::{WasmFunctionBody, copy_bytes};
 use wl_ops::remap_body_data_indices;
 use wl_output::Fixup;
+use wl_places::{Copied, Placing, all_copies, flag_is_where_memory_is_filled, segments_are_small};
 use wl_symbols::{
     LinkInput, WasmGcUnit, WasmLinkerSymbol, live_units_are_closed, unmarked_bodies_number_none,
 };
@@ -71,7 +70,7 @@ fn kept_number(index: u32) -> Option<u32>
 fn object_numbers(alloc: Global, indices: &[u32]) -> Result<ItemList<Option<u32>>, AllocError>
     ensures { IfOk result (λ numbers. numbers ≡ map kept_number indices.now) }
 {
-    let mut numbers = Vec::new(alloc);
+    let mut numbers = Vec::with_capacity(alloc, indices.len())?;
     for index in indices {
         numbers.push(kept_number(*index))?;
     }
@@ -290,8 +289,7 @@ fn init_tls_body(
     ensures err { IfErr result (IsUnspelled (AreInitTlsOps sources.now.book.now.input.now
         sources.now.book.now.placing.now)) }
 {
-    segments_have_layouts();
-    segments_keep_bounds();
+    segments_are_small();
     let book = sources.book;
     let layouts = book.placing.places.layouts.as_slice();
     let copies = all_copies(alloc, Copied::Template, layouts)?;
@@ -352,8 +350,7 @@ fn init_memory_body(
     ensures ok { IfOk result (λ body. IsSpelledFor (AreInitMemoryOps placing.now) body.items) }
     ensures err { IfErr result (IsUnspelled (AreInitMemoryOps placing.now)) }
 {
-    segments_have_layouts();
-    segments_keep_bounds();
+    segments_are_small();
     let layouts = placing.places.layouts.as_slice();
     let copies = all_copies(alloc, Copied::Shared, layouts)?;
     match encode_init_memory_body(alloc, flag, &copies) {
@@ -378,6 +375,7 @@ fn push_init_memory<'a>(
         bodies.old.items bodies.new.items) }
     ensures err { IfErr result (IsBodyRefusal input.now placing.now) }
 {
+    flag_is_where_memory_is_filled();
     if bindings.indices.init_memory().is_none() {
         return Ok(());
     }
@@ -527,10 +525,14 @@ pub(crate) fn own_bodies<'a>(
 {
     let input = sources.book.input;
     let placing = sources.book.placing;
-    let mut bodies = Vec::new(alloc);
+    let files = input.files().as_slice();
+    let mut bodies = Vec::with_capacity(
+        alloc,
+        function_room(files, sources.bindings.stubs.as_slice().len()),
+    )?;
     push_linker_made(alloc, &mut bodies, sources, fixups)?;
     push_stubs(alloc, &mut bodies, input, placing, sources.bindings)?;
-    for (object, file) in input.files().as_slice().iter().enumerate() {
+    for (object, file) in files.iter().enumerate() {
         let row = numbers[object].as_slice();
         push_bodies(alloc, &mut bodies, input, placing, object, file, row)?;
     }

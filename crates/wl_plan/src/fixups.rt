@@ -12,7 +12,6 @@ ghost use Rattle.wl_plan.specs.FixupSteps.{AreFixupSources, Answers, AnswersFrom
 ghost use Rattle.wl_plan.specs.Fixups.{no_address, address_refusal, IsFixup, AreFixups, IsFixupFault};
 ghost use Rattle.wl_plan.specs.Threads.{address_named, bases_of, template_start, pointer_named};
 
-use crate::addresses::AddressBook;
 use crate::threads::place_in_block;
 use std::alloc::Global;
 use wl_bind::{references_are_kept, same_targets_are_one, table_functions_stand_once};
@@ -21,6 +20,7 @@ use wl_index::{WasmDataAddress, WasmObjectIndexMap};
 use wl_linking::{File, LinkError, RelocationType, addends_are_words, whole_objects};
 use wl_lists::ItemList;
 use wl_output::{Fixup, FixupTo};
+use wl_places::AddressBook;
 use wl_reloc::{AddressBase, RelocError, Taking, deferred_tls_template_pointer, resolve_reloc};
 use wl_symbols::{FixupPlace, Relocated, kept_relocations};
 

@@ -7,18 +7,18 @@ ghost use Rattle.wl_bind.specs.ExportedData.{dynamic_data, forced_data};
 ghost use Rattle.wl_bind.specs.GlobalSpace.{GlobalOf, AddressOf, DataOf};
 ghost use Rattle.wl_bind.specs.Scan.{got_mem, got_func};
 ghost use Rattle.wl_bind.specs.declared.binding.GlobalTarget.TheVariants as global;
-ghost use Rattle.wl_plan.specs.Addresses.{address_of_definition, symbol_address};
+ghost use Rattle.wl_places.specs.Addresses.{address_of_definition, symbol_address};
 ghost use Rattle.wl_plan.specs.GlobalSteps.{AreSources, AnswersStart, asks_for_entry, func_slot};
 ghost use Rattle.wl_plan.specs.Globals.{constant_or_range, got_address, own_place, common_address, own_address, is_own, first_asking, is_in_block, made_start, may_change};
-ghost use Rattle.wl_plan.specs.declared.placing.Placing.{Placing as SpecPlacing};
+ghost use Rattle.wl_places.specs.declared.placing.Placing.{Placing as SpecPlacing};
 
-use crate::addresses::{AddressBook, linker_address};
 use crate::bindings::Bindings;
 use crate::table::slot_of;
 use wl_bind::{DataSymbol, FunctionTarget, got_mem_of};
 use wl_bytes::Form;
 use wl_index::{LINKER_MEMORY_BASE, LINKER_TABLE_BASE, WasmDataAddress, WasmObjectIndexMap};
 use wl_linking::LinkError;
+use wl_places::{AddressBook, linker_address};
 use wl_symbols::{Definition, LinkInput, Relocated, WasmLinkerSymbol, kept_relocations};
 
 // ---- numbers

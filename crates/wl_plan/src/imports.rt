@@ -7,12 +7,11 @@ ghost use Rattle.wl_bind.specs.OutputTypes.{output_types};
 ghost use Rattle.wl_bind.specs.Shared.{function_imports, global_imports};
 ghost use Rattle.wl_plan.specs.Bound.{AreBindings};
 ghost use Rattle.wl_plan.specs.ImportSteps.{AddsImports, HasTypeIndexIn, HasRowType, global_types_in, type_in_row, index_of_type};
-ghost use Rattle.wl_plan.specs.IndexedMaps.{AreWholeMaps, HaveTypeIndices};
+ghost use Rattle.wl_places.specs.IndexedMaps.{AreWholeMaps, HaveTypeIndices};
 ghost use Rattle.wl_plan.specs.Imports.{IsFunctionImport, IsGlobalImport, global_type_in, memory_imports, AreImports};
 
 use crate::bindings::Bindings;
 use crate::layout::OutputImport;
-use crate::placing::Placing;
 use std::alloc::{AllocError, Global};
 use wl_bind::{SlotTypes, types_have_indices};
 use wl_index::{WASM_DEAD_INDEX, WasmObjectIndexMap};
@@ -20,6 +19,7 @@ use wl_linking::{File, FileList};
 use wl_lists::ItemList;
 use wl_module::{GlobalType, ImportEntity};
 use wl_output::OutputImportEntity;
+use wl_places::Placing;
 use wl_symbols::{HostImport, LinkInput};
 use wl_words::WasmArgs;
 

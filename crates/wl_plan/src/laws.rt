@@ -1,6 +1,6 @@
 //! What callers may count on: functions with an empty body, each of which states a law of plans.
 
-ghost use Rattle.std.specs.Prelude.{◌≡◌, ℕ, List, Contains, Err};
+ghost use Rattle.std.specs.Prelude.{◌≡◌, ℕ, List, Err};
 ghost use Rattle.wl_linking.specs.Object.{Object as SpecObject};
 ghost use Rattle.wl_linking.specs.declared.error.LinkError.{LinkError as SpecError};
 ghost use Rattle.wl_reloc.specs.declared.error.RelocError.{RelocError as Why};
@@ -8,24 +8,19 @@ ghost use Rattle.wl_index.specs.declared.index_map.WasmObjectIndexMap.{WasmObjec
 ghost use Rattle.wl_symbols.specs.Link.{Link};
 ghost use Rattle.wl_words.specs.declared.args.WasmArgs.{WasmArgs as SpecArgs};
 ghost use Rattle.wl_symbols.specs.Input.{Input};
-ghost use Rattle.wl_data.specs.Segments.{KeptData};
-ghost use Rattle.wl_data.specs.DataPlaces.{has_init, has_tls, is_thread_local};
-ghost use Rattle.wl_bind.specs.Made.{has_init_memory, is_kept_thread_data, keeps_thread_data};
-ghost use Rattle.wl_bind.specs.Parts.{any_object};
 ghost use Rattle.wl_symbols.specs.declared.relocated.Relocated.{Relocated as KeptRelocation};
 ghost use Rattle.wl_plan.specs.Faults.{link_fault};
-ghost use Rattle.wl_plan.specs.IndexedMaps.{AreWholeMaps};
-ghost use Rattle.wl_plan.specs.KeptData.{kept_segments};
+ghost use Rattle.wl_places.specs.IndexedMaps.{AreWholeMaps};
 ghost use Rattle.wl_plan.specs.LinkPlan.{IsPlanOf, IsLinkPlan, HasLinkFault};
 ghost use Rattle.wl_plan.specs.Fixups.{AreFixups};
-ghost use Rattle.wl_plan.specs.Placing.{data_input, IsPlacing};
+ghost use Rattle.wl_places.specs.Placing.{IsPlacing};
 ghost use Rattle.wl_plan.specs.Plan.{HasEntities, HasPlaces, HasSpaces, HasBodies};
 ghost use Rattle.wl_plan.specs.PlanParts.{entities_of, places_of, spaces_of, bodies_of};
 ghost use Rattle.wl_plan.specs.declared.layout.WasmLayout.{WasmLayout as Layout};
 ghost use Rattle.wl_output.specs.declared.fixups.Fixup.{Fixup};
 ghost use Rattle.wl_plan.specs.Resolved.{IsNumbered, IsOf, answer_for, HasNoAddress};
 ghost use Rattle.wl_plan.specs.declared.layout.LinkPlan.{LinkPlan as SpecPlan};
-ghost use Rattle.wl_plan.specs.declared.placing.Placing.{Placing as Places};
+ghost use Rattle.wl_places.specs.declared.placing.Placing.{Placing as Places};
 
 use wl_bind::{
     entries_stand_once, references_are_kept, same_targets_are_one, stubs_have_no_slot,
@@ -103,19 +98,3 @@ pub fn only_addresses_are_refused()
     stubs_have_no_slot();
     same_targets_are_one();
 }
-
-/// The memory has the word that says whether segments are copied exactly where the output has the
-/// function that copies them.
-pub fn flag_is_where_memory_is_filled()
-    ensures { (input : Input) → has_init (data_input input) ≡ has_init_memory input }
-{}
-
-/// A segment that is laid out is a thread's exactly where it is kept and each thread has its own of
-/// it, and there is one among all that are laid out exactly where some object keeps one.
-pub fn kept_thread_data_is_laid()
-    ensures some { (input : Input) → has_tls (data_input input)
-        ≡ any_object (keeps_thread_data input) 0 input.link.objects }
-    ensures each { (input : Input) (object : ℕ) (o : SpecObject) (s : KeptData)
-        → Contains (kept_segments input object o) s
-        → is_thread_local s ≡ is_kept_thread_data input object o s.original }
-{}

@@ -1,7 +1,6 @@
 //! The plan of the output module: [`plan_link`] leads from the bytes of objects to it.
 #![tactic(auto)]
 
-mod addresses;
 mod bindings;
 mod bodies;
 mod extras;
@@ -10,8 +9,6 @@ mod functions;
 mod global_starts;
 mod globals;
 mod imports;
-mod index_maps;
-mod kept_data;
 mod laws;
 mod layout;
 mod lines;
@@ -23,7 +20,6 @@ mod objects;
 mod outline;
 mod parsing;
 mod part_laws;
-mod placing;
 mod plan;
 mod positions;
 mod running_laws;
@@ -33,10 +29,7 @@ mod table;
 mod threads;
 mod wrappers;
 
-pub use laws::{
-    flag_is_where_memory_is_filled, kept_thread_data_is_laid, link_plan_or_fault,
-    only_addresses_are_refused, parts_are_one, plan_or_fault,
-};
+pub use laws::{link_plan_or_fault, only_addresses_are_refused, parts_are_one, plan_or_fault};
 pub use layout::{
     FunctionOrigin, LinkPlan, OutputFunction, OutputImport, PlannedGlobal, WasmLayout,
     count_output_imports,
@@ -65,6 +58,7 @@ pub use wl_bind::TypeMerger;
 pub use wl_check::Line;
 pub use wl_index::{WASM_DEAD_INDEX, WasmObjectIndexMap};
 pub use wl_output::{Fixup, FixupTo, GlobalOrigin, MadeGlobal, OutputImportEntity};
+pub use wl_places::{flag_is_where_memory_is_filled, kept_thread_data_is_laid, placings_are_one};
 pub use wl_reloc::{RelocError, deferred_tls_template_pointer, resolve_reloc};
 pub use wl_sections::{
     BUILT_IN_SECTIONS, BuiltInSectionDetails, DynamicTagValues, NonAddressableIndexes,

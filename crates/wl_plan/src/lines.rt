@@ -11,7 +11,7 @@ ghost use Rattle.wl_plan.specs.PlanLines.{numbered_lines, type_line, import_line
 use crate::layout::{
     FunctionOrigin, LinkPlan, OutputFunction, OutputImport, PlannedGlobal, count_output_imports,
 };
-use crate::object_segments::{ObjectSegment, output_segments};
+use crate::object_segments::{ObjectSegment, output_segments, segment_count};
 use std::alloc::{AllocError, Global};
 use wl_check::{
     Line, ListingError, MadeFunction, SegmentState, push_body_line, push_debug_line, push_end_line,
@@ -361,11 +361,16 @@ const FUNCTION_LINES: usize = 64;
 /// How many bytes the line of a global that the linker makes takes, or some more.
 const GLOBAL_LINE: usize = 48;
 
+/// How many bytes the line of a segment takes, or some more.
+const SEGMENT_LINE: usize = 64;
+
 /// About how many bytes the listing takes: a text that has to grow is copied.
 fn expected_room(plan: &LinkPlan) -> usize {
     let globals = plan.layout.globals.as_slice().len();
     let mut room = plan.fixups.as_slice().len().saturating_mul(FIXUP_LINE);
     room = room.saturating_add(globals.saturating_mul(GLOBAL_LINE));
+    let segments = segment_count(plan.layout.object_data_layouts.as_slice());
+    room = room.saturating_add(segments.saturating_mul(SEGMENT_LINE));
     for body in plan.layout.function_bodies.as_slice() {
         let digits = body.bytes.as_slice().len().saturating_mul(2);
         room = room.saturating_add(digits.saturating_add(FUNCTION_LINES));

@@ -20,8 +20,8 @@ use wl_bind::{
 };
 use wl_check::listings_differ;
 use wl_data::segments_have_layouts;
-use wl_linking::segments_keep_bounds;
 use wl_module::sections_stand;
+use wl_places::segments_are_small;
 
 /// What the listing of a plan counts has 32 bits: that of objects none of which has more bytes than
 /// an object may have.
@@ -32,7 +32,7 @@ pub fn plans_have_listings()
         → AllWithin objects → IsLinkPlan objects args plan → HasListing plan }
 {
     sections_stand();
-    segments_keep_bounds();
+    segments_are_small();
     segments_have_layouts();
     table_functions_are_kept();
     table_functions_stand_once();

@@ -39,6 +39,15 @@ fn push_object_segments<'l, 'a>(
     Ok(())
 }
 
+/// How many segments the output has: so much room is taken for them.
+pub(crate) fn segment_count(objects: &[SegmentLayouts<'_>]) -> usize {
+    let mut count: usize = 0;
+    for layouts in objects {
+        count = count.saturating_add(layouts.as_slice().len());
+    }
+    count
+}
+
 /// The segments of all objects in a row.
 ///
 /// # Errors
@@ -49,7 +58,7 @@ pub fn output_segments<'l, 'a>(
 ) -> Result<Vec<ObjectSegment<'l, 'a>>, AllocError>
     ensures { IfOk result (λ segments. segments.items ≡ segments_of_objects 0 objects.now) }
 {
-    let mut segments = Vec::new(alloc);
+    let mut segments = Vec::with_capacity(alloc, segment_count(objects))?;
     for (object, layouts) in objects.iter().enumerate() {
         push_object_segments(&mut segments, object, layouts.as_slice())?;
     }

@@ -12,13 +12,13 @@ ghost use Rattle.wl_plan.specs.BodySteps.{AreAllNumbers, AreNewNumbers, AreSound
 ghost use Rattle.wl_plan.specs.PositionSteps.{share_body, goes_on, AreOfOneBody, AreKept, IsThere, stays, AddsMoved};
 
 use crate::parsing::link_error;
-use crate::placing::Placing;
 use std::alloc::{AllocError, Global};
 use std::borrow::CowSlice;
 use wl_linking::{File, LinkError, parts_of_objects_stand, whole_objects};
 use wl_lists::ItemList;
 use wl_module::WasmFunctionBody;
 use wl_ops::remap_body_data_indices;
+use wl_places::Placing;
 use wl_symbols::{
     FixupPlace, LinkInput, Relocated, kept_relocations, live_units_are_closed,
     unmarked_bodies_number_none,

@@ -11,12 +11,11 @@ ghost use Rattle.wl_bind.specs.Scan.{scan_of};
 ghost use Rattle.wl_bind.specs.declared.binding.FunctionTarget.{FunctionTarget as Target};
 ghost use Rattle.wl_bind.specs.declared.binding.FunctionTarget.TheVariants.{Defined};
 ghost use Rattle.wl_plan.specs.Bound.{AreBindings};
-ghost use Rattle.wl_plan.specs.IndexedMaps.{AreWholeMaps};
+ghost use Rattle.wl_places.specs.IndexedMaps.{AreWholeMaps};
 ghost use Rattle.wl_plan.specs.Table.{slot_of, slot_behind_first, space_slots, output_table, AreElements};
 ghost use Rattle.wl_plan.specs.TableSteps.{index_at, slot_among, table_minimums};
 
 use crate::bindings::Bindings;
-use crate::placing::Placing;
 use std::alloc::{AllocError, Global};
 use wl_bind::{
     FunctionTarget, RelocScan, entries_have_types, entries_stand_once, same_targets_are_one,
@@ -26,6 +25,7 @@ use wl_index::{LINKER_TABLE_BASE, WASM_DEAD_INDEX, WasmObjectIndexMap};
 use wl_linking::{File, whole_objects};
 use wl_lists::ItemList;
 use wl_module::{ImportEntity, TableType};
+use wl_places::Placing;
 use wl_symbols::{LinkInput, slots_are_numbered};
 
 /// The place of a function among those of the table.
@@ -182,8 +182,9 @@ pub(crate) fn element_functions(
     ensures { IfOk result (AreElements input.now) }
 {
     table_functions_are_kept();
-    let mut elements = Vec::new(alloc);
-    for target in listed(&bindings.scan) {
+    let targets = listed(&bindings.scan);
+    let mut elements = Vec::with_capacity(alloc, targets.len())?;
+    for target in targets {
         elements.push(function_index(input, placing, bindings, maps, *target))?;
     }
     Ok(ItemList::new(elements))

@@ -12,7 +12,7 @@ ghost use Rattle.wl_plan.specs.Bodies.{AreOwnBodies, AreBodies};
 ghost use Rattle.wl_plan.specs.Bound.{AreBindings};
 ghost use Rattle.wl_plan.specs.Functions.{AreOwnFunctions, AreOutputFunctions};
 ghost use Rattle.wl_plan.specs.Origins.{PlannedFunction};
-ghost use Rattle.wl_plan.specs.declared.placing.Placing.{Placing as Places};
+ghost use Rattle.wl_places.specs.declared.placing.Placing.{Placing as Places};
 
 use crate::bindings::Bindings;
 use crate::bodies::push_made;

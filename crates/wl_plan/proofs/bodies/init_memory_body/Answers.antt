@@ -8,9 +8,9 @@ use Rattle.wl_synth.specs.Encoding.{IsEncoded, EncodeFault}
 use Rattle.wl_plan.specs.Bodies.{AreInitMemoryOps}
 use Rattle.wl_synth.specs.declared.parts.PassiveSegmentCopy.{PassiveSegmentCopy}
 use Rattle.wl_index.specs.declared.index.TheConstants.{MAX_ENTRIES}
-use Rattle.wl_plan.specs.Threads.{copies_from, shared_copies}
-use Rattle.wl_plan.specs.ThreadSteps.{AreSmallLayouts, IsUnspelled}
-use Rattle.wl_plan.proofs.ThreadLaws.{all_small, row_length, unspelled_by}
+use Rattle.wl_places.specs.Copies.{copies_from, shared_copies, AreSmallLayouts}
+use Rattle.wl_plan.specs.ThreadSteps.{IsUnspelled}
+use Rattle.wl_plan.proofs.ThreadLaws.{row_length, unspelled_by}
 use Rattle.wl_plan.proofs.bodies.init_memory_body.Goals as goal
 
 pub all_copies-requires-clause-small : goal.all_copies-requires-clause-small
@@ -18,8 +18,7 @@ all_copies-requires-clause-small c =
     let g = c.args.placing.now in
     let same : c.as_slice-layouts.result.now ≡ g.places.layouts = search rules in
     subst (λ (rows : List (List SegmentLayout)). AllByRecursion AreSmallLayouts rows) (sym same)
-    (all_small c.segments_have_layouts.ensures c.segments_keep_bounds.ensures.spanned
-    c.segments_keep_bounds.ensures.aligned c.args.input.now g c.requires.whole c.requires.placed)
+    (c.segments_are_small.ensures.small c.args.input.now g c.requires.whole c.requires.placed)
 
 pub all_copies-requires-clause-room : goal.all_copies-requires-clause-room
 all_copies-requires-clause-room c =

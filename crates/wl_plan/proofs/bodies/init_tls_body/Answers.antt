@@ -7,9 +7,10 @@ use Rattle.wl_synth.specs.declared.parts.TlsGotFixup.{TlsGotFixup}
 use Rattle.wl_linking.specs.declared.error.LinkError.{LinkError}
 use Rattle.wl_index.specs.declared.index.TheConstants.{MAX_ENTRIES}
 use Rattle.wl_plan.specs.Bodies.{AreInitTlsOps}
-use Rattle.wl_plan.specs.Threads.{IsGotFixup, copies_from, got_places, is_filled_template, template_copies, tls_pointers}
-use Rattle.wl_plan.specs.ThreadSteps.{AreSmallLayouts, IsUnspelled}
-use Rattle.wl_plan.proofs.ThreadLaws.{all_small, row_length, unspelled_by}
+use Rattle.wl_plan.specs.Threads.{IsGotFixup, got_places, tls_pointers}
+use Rattle.wl_places.specs.Copies.{copies_from, is_filled_template, template_copies, AreSmallLayouts}
+use Rattle.wl_plan.specs.ThreadSteps.{IsUnspelled}
+use Rattle.wl_plan.proofs.ThreadLaws.{row_length, unspelled_by}
 use Rattle.wl_plan.proofs.bodies.init_tls_body.Goals as goal
 
 pub all_copies-requires-clause-small : goal.all_copies-requires-clause-small
@@ -18,8 +19,7 @@ all_copies-requires-clause-small c =
     let g = s.book.now.placing.now in
     let same : c.as_slice-layouts.result.now ≡ g.places.layouts = search rules in
     subst (λ (rows : List (List SegmentLayout)). AllByRecursion AreSmallLayouts rows) (sym same)
-    (all_small c.segments_have_layouts.ensures c.segments_keep_bounds.ensures.spanned
-    c.segments_keep_bounds.ensures.aligned s.book.now.input.now g c.requires.whole c.requires.sources.book.placed)
+    (c.segments_are_small.ensures.small s.book.now.input.now g c.requires.whole c.requires.sources.book.placed)
 
 pub all_copies-requires-clause-room : goal.all_copies-requires-clause-room
 all_copies-requires-clause-room c =

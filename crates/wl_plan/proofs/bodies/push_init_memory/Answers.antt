@@ -15,7 +15,7 @@ pub returns-in-None-clause-ok : goal.returns-in-None-clause-ok
 returns-in-None-clause-ok c =
     let input = c.args.input.now in
     let g = c.args.placing.now in
-    adds_no_init input g c.args.bodies.now.items (no_flag input g c.requires.placed c.in-None.is)
+    adds_no_init input g c.args.bodies.now.items (no_flag c.flag_is_where_memory_is_filled.ensures input g c.requires.placed c.in-None.is)
 
 pub returns-in_err-body-clause-err : goal.returns-in_err-body-clause-err
 returns-in_err-body-clause-err c =

@@ -14,8 +14,8 @@ pub returns-clause-whole : goal.returns-clause-whole
 returns-clause-whole c =
     let laws : LawsBelow = record {
       stand = c.sections_stand.ensures;
-      spanned = c.segments_keep_bounds.ensures.spanned;
-      aligned = c.segments_keep_bounds.ensures.aligned;
+      placed = c.segments_are_small.ensures.placed;
+      few = c.segments_are_small.ensures.few;
       layouts = c.segments_have_layouts.ensures;
     } in
     let table : (input : Input) → AllByRecursion IsWhole input.link.objects → IsLiveOf input.link input.live → Clear (index_fault input) → TableIs input = λ input whole kept clear. record {
@@ -31,8 +31,8 @@ pub returns-clause-read : goal.returns-clause-read
 returns-clause-read c =
     let laws : LawsBelow = record {
       stand = c.sections_stand.ensures;
-      spanned = c.segments_keep_bounds.ensures.spanned;
-      aligned = c.segments_keep_bounds.ensures.aligned;
+      placed = c.segments_are_small.ensures.placed;
+      few = c.segments_are_small.ensures.few;
       layouts = c.segments_have_layouts.ensures;
     } in
     let table : (input : Input) → AllByRecursion IsWhole input.link.objects → IsLiveOf input.link input.live → Clear (index_fault input) → TableIs input = λ input whole kept clear. record {

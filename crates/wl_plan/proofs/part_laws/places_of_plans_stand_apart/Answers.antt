@@ -1,4 +1,4 @@
-use Rattle.wl_plan.specs.Placing.{data_input}
+use Rattle.wl_places.specs.Placing.{data_input}
 use Rattle.wl_plan.proofs.part_laws.places_of_plans_stand_apart.Goals as goal
 
 pub returns-clause-memory : goal.returns-clause-memory

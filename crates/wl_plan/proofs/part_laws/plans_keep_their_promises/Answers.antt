@@ -1,7 +1,7 @@
 use Rattle.std.proofs.Common.{sym, subst}
 use Rattle.std.specs.List.{AllZip}
 use Rattle.wl_bind.specs.Parts.{StandOnce}
-use Rattle.wl_plan.specs.Placing.{data_input}
+use Rattle.wl_places.specs.Placing.{data_input}
 use Rattle.wl_plan.proofs.ClearLaws.{is_clear}
 use Rattle.wl_plan.proofs.part_laws.plans_keep_their_promises.Goals as goal
 

@@ -12,7 +12,7 @@ use Rattle.wl_plan.specs.Fixups.{AreFixups, IsFixupFault}
 use Rattle.wl_plan.specs.FixupSteps.{HasRoom}
 use Rattle.wl_plan.specs.Globals.{ArePlannedGlobals, IsGlobalFault}
 use Rattle.wl_plan.specs.Table.{function_slots, space_slots}
-use Rattle.wl_plan.specs.declared.placing.Placing.{Placing}
+use Rattle.wl_places.specs.declared.placing.Placing.{Placing}
 use Rattle.wl_linking.proofs.StepLaws.{clear_both}
 use Rattle.wl_plan.proofs.SlotLaws.{TableLaws, few_in_table}
 use Rattle.wl_plan.proofs.WrapperLaws.{dead_are}

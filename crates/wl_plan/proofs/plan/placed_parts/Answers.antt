@@ -1,6 +1,6 @@
 use Rattle.std.proofs.Common.{◌≡◌, rules}
 use Rattle.std.proofs.lemmas.Result.{err_from_is_err_and}
-use Rattle.wl_plan.specs.Addresses.{IsAddressTooHigh}
+use Rattle.wl_places.specs.Addresses.{IsAddressTooHigh}
 use Rattle.wl_plan.specs.Faults.{placed_fault, value_steps}
 use Rattle.wl_linking.proofs.StepLaws.{refuses_behind, refuses_memory}
 use Rattle.wl_plan.proofs.PlannedLaws.{export_refuses, low_clear, placed_ok, symbol_refuses}

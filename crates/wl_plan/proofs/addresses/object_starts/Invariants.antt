@@ -1,7 +1,0 @@
-use Rattle.std.proofs.Common.{◌≡◌, take}
-use Rattle.wl_plan.specs.AddressSteps.{starts_among}
-use Rattle.wl_plan.proofs.addresses.object_starts.Given as goal
-
-abbrev pub invariant-loop-layout : goal.invariant-loop-layout
-invariant-loop-layout l =
-    l.starts.items ≡ starts_among (take l.layout-index l.layouts) l.count

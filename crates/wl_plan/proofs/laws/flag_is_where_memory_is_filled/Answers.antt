@@ -1,5 +1,0 @@
-use Rattle.wl_plan.proofs.ThreadDataLaws.{flag_where_filled}
-use Rattle.wl_plan.proofs.laws.flag_is_where_memory_is_filled.Goals as goal
-
-pub returns : goal.returns
-returns c = flag_where_filled
