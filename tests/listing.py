@@ -88,10 +88,10 @@ def documented():
     """The forms of the lines are those of docs/LISTING.md, in its order; a field has a name in capitals there."""
     cells = [row[0] for row in table_of(ROOT / "docs" / "LISTING.md", "| line | stands for |")]
     spans = [span for cell in cells for span in re.findall(r"`([^`]*)`", cell)]
-    told = [re.sub(r"\b[A-Z]+\b(,\.\.)?", "_", span) for span in spans]
+    reported = [re.sub(r"\b[A-Z]+\b(,\.\.)?", "_", span) for span in spans]
     known = [re.sub(r"\{\w+\}", "_", kind.form) for kind in listing.KINDS]
     wanted = ["wildplan 1", *known, "end"]
-    note(f"lines that only one of it and docs/LISTING.md has: {set(told) ^ set(wanted)}", told == wanted)
+    note(f"lines that only one of it and docs/LISTING.md has: {set(reported) ^ set(wanted)}", reported == wanted)
 
 
 def main():

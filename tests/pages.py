@@ -165,11 +165,11 @@ def refusals(page, lines, reasons):
 
 def refusal_names():
     """The names of refusals, of docs/ERRORS.md, and those of reasons, of docs/FORMAT.md and docs/ERRORS.md."""
-    told = (DOCS / "ERRORS.md").read_text()
+    text = (DOCS / "ERRORS.md").read_text()
     kinds = ("`Malformed`", "`Unsupported`")
     tables = [rows for title, rows in documents.tables_of(DOCS / "FORMAT.md") if title[0] in kinds]
     reasons = {name for rows in tables for row in rows for name in row[0].split(", ")}
-    return set(re.findall(r"`error: (\w+)", told)), reasons | set(re.findall(r"`error: Unsupported O (\w+)`", told))
+    return set(re.findall(r"`error: (\w+)", text)), reasons | set(re.findall(r"`error: Unsupported O (\w+)`", text))
 
 
 def commands_of(block):
@@ -284,8 +284,8 @@ def spans(page):
             command(page, span)
         first, _, rest = span.partition(" ")
         if first in words and rest:
-            told = re.sub(r"\b[A-Z]+\b(,\.\.)?", "_", span.rstrip())
-            is_form = any(form.startswith(told) for form in forms)
+            reported = re.sub(r"\b[A-Z]+\b(,\.\.)?", "_", span.rstrip())
+            is_form = any(form.startswith(reported) for form in forms)
             note(page, f"no line of a listing: {span}", is_form or listing.read_line(span) is not None)
 
 

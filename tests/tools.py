@@ -439,8 +439,8 @@ def documented():
     code = (ROOT / "crates" / "wl_words" / "src" / "options.rt").read_text()
     unknown = set(re.findall(r'name: "([\w-]+)"', code)) - link_line.OPTIONS.keys()
     same("options of the program that aren't known", unknown, set())
-    told = re.findall(r"`error: (\w+)([^`]*)`", (ROOT / "docs" / "ERRORS.md").read_text())
-    for kind, rest in told:
+    reported = re.findall(r"`error: (\w+)([^`]*)`", (ROOT / "docs" / "ERRORS.md").read_text())
+    for kind, rest in reported:
         letters = ["O" if word in ("O", "P") else "-" for word in rest.split() if word != ".."]
         if "O" in letters and "O" not in linker.REFUSALS.get(kind, "").replace("S", "-"):
             note(f"{kind}: its objects aren't explained", False)
