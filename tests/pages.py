@@ -27,9 +27,9 @@ PROGRAM = pathlib.Path(sys.argv[1]).resolve() if sys.argv[1:] else None
 SOURCES = ["crates/*/src/**/*", "crates/*/specs/**/*", "crates/*/proofs/**/*", "crates/*/must-fail/*", "tests/**/*",
            "tools/*", "examples/**/*", ".ci/*", "wildplan", "crates.txt", "Makefile", "HANDLES"]
 # Names of others: conventions of toolchains, and what stands for any name in a rule.
-FOREIGN = {"__indirect_function_table", "__wasm_call_dtors", "basic_streambuf", "x_at", "xN"}
+FOREIGN = {"__indirect_function_table", "__wasm_call_dtors", "basic_streambuf", "x_at", "xN", "WASM32_WASIP1"}
 # Programs whose commands stand on pages, but for those of the repository.
-TOOLS = {"ar", "apt-get", "c++filt", "cat", "clang", "clang++", "curl", "git", "llvm-nm", "llvm-objcopy",
+TOOLS = {"ar", "apt-get", "c++filt", "cargo", "cat", "clang", "clang++", "curl", "git", "llvm-nm", "llvm-objcopy",
          "llvm-readobj", "man", "node", "printf", "rattle", "rustc", "rustup", "ulimit", "wasm-ld", "wasm-objdump",
          "wasm-validate"}
 # The calls of rt.

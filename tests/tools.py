@@ -456,10 +456,13 @@ def installed():
         libraries.append(run(["clang", "--target=wasm32-wasi", "--print-libgcc-file-name"]).stdout.strip())
     for_c = [name for name in ["clang", "node"] if not shutil.which(name)]
     for_c += [path for path in libraries if not pathlib.Path(path).is_file()]
+    for_stb = [*for_c, *(name for name in ["/usr/include/stb/stb_image.h"] if not pathlib.Path(name).is_file())]
     source = "the source of zlib, whose folder the environment variable ZLIB_SOURCE names"
     for_zlib = for_c if os.environ.get("ZLIB_SOURCE") else [*for_c, source]
     for_rust = [] if rust() else ["rustc with std for wasm32-wasi"]
-    return {"Hello world in C": for_c, "A library of C": for_zlib, "A program in Rust": for_rust}
+    for_cargo = for_rust or ([] if cargo() else ["cargo beside rustc"])
+    return {"Hello world in C": for_c, "A library of C": for_stb, "zlib": for_zlib, "A program in Rust": for_rust,
+            "A program in Rust, by cargo": for_cargo}
 
 
 def rust():
@@ -471,6 +474,12 @@ def rust():
                 if ended.returncode == 0 and pathlib.Path(ended.stdout.strip()).is_dir():
                     return program, target
     return None
+
+
+def cargo():
+    """The cargo beside that rustc, or none."""
+    beside = pathlib.Path(shutil.which(rust()[0])).parent / "cargo"
+    return str(beside) if beside.exists() else None
 
 
 def programs(folder):
@@ -485,11 +494,14 @@ def programs(folder):
             print(f"skipped: {heading}: it needs {', '.join(missing)}")
             continue
         text = page.split(f"\n## {heading}\n")[1].split("\n## ")[0]
-        commands = "\n".join(line.strip() for line in text.splitlines() if line.startswith("    "))
-        if heading == "A program in Rust":
+        commands = re.sub("(?m)^ +", "", re.search(r"(?:    .*\n)+", text)[0])
+        environment = ENVIRONMENT
+        if heading.startswith("A program in Rust"):
             program, target = rust()
-            commands = commands.replace("rustc ", f"{program} ", 1).replace("wasm32-wasi", target)
-        ended = run(["sh", "-ec", commands], cwd=folder)
+            commands = commands.replace("rustc ", f"{program} ", 1).replace("cargo build", f"{cargo()} build --offline")
+            commands = commands.replace("wasm32-wasi", target).replace("WASM32_WASI", target.replace("-", "_").upper())
+            environment = {**ENVIRONMENT, "RUSTC": program}
+        ended = run(["sh", "-ec", commands], cwd=folder, env=environment)
         wanted = re.search(r"prints\s+`([^`]+)`", text)[1]
         same(f"{heading}: {ended.stderr}", (ended.returncode, ended.stdout.strip()), (0, wanted))
 
