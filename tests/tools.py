@@ -449,6 +449,19 @@ def documented():
             same(f"the objects of {kind}", "".join(letters).rstrip("-"), explained[: len(letters)].rstrip("-"))
 
 
+def every_option():
+    """Each option that a wasm-ld lists in its help is in the table, but for what it prints of itself."""
+    for program in linkers():
+        options = re.findall(r"(?m)^  -{1,2}([A-Za-z][\w-]*)", run([program, "--help"]).stdout)
+        known = {name for name in options if name in link_line.OPTIONS or prefix_of(name)}
+        same(f"options of {program} that aren't known", set(options) - known, {"help", "version"})
+
+
+def prefix_of(name):
+    """Whether an option begins with a name of the table that stands for all such."""
+    return any(option.takes == "prefix" and name.startswith(option.name) for option in link_line.OPTIONS.values())
+
+
 def installed():
     """What the programs of docs/LINKER.md need and isn't there, by the heading of each."""
     libraries = ["/usr/lib/wasm32-wasi/libc.a"]
@@ -508,6 +521,7 @@ def programs(folder):
 
 def main():
     documented()
+    every_option()
     link_lines()
     with tempfile.TemporaryDirectory() as name:
         folder = pathlib.Path(name).resolve()

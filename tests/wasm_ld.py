@@ -43,7 +43,7 @@ UNTRIED = {
 CASES = {}
 counts = counting.Counts()
 note = counts.note
-untold = []
+unsaid = []
 linkers = {}
 program = None
 folder = None
@@ -122,7 +122,7 @@ def unknown(*options):
         spoken = [each(f"--no-entry names.o {spelled}") for spelled in tried]
         known = [ended for ends in spoken for ended in ends if "unknown argument" not in ended.said]
         if not known and max(linkers, default=0) < NEWEST:
-            untold.append(option)
+            unsaid.append(option)
         else:
             note(f"no wasm-ld knows {option}", known)
 
@@ -735,8 +735,8 @@ def main():
         shutil.copytree(OBJECTS, folder / "objects")
         for tried in [*CASES.values(), messages, made_names, iostream]:
             tried()
-    if linkers and untold:
-        print(f"skipped: whether a newer wasm-ld knows {', '.join(untold)}")
+    if linkers and unsaid:
+        print(f"skipped: whether a newer wasm-ld knows {', '.join(unsaid)}")
     counts.end()
 
 
