@@ -289,7 +289,7 @@ def statuses(folder):
 
 
 def warnings(folder):
-    """What the program takes without a word and isn't what is meant is said."""
+    """What the program takes silently, and isn't what is meant, is said."""
     dtors, finished, lost = "__wasm_call_dtors", "no linking section", "buffered output is lost"
     cases = [
         ("main(+a)", []),
