@@ -222,7 +222,7 @@ def ended_by(line):
     """How a command of wildplan ends, or None where its files aren't in the repository."""
     words = shlex.split(line)[1:]
     objects = [name for name in map(file_of, words) if name.endswith(".o")]
-    if PROGRAM is None or not objects or set("|$<>") & set(line):
+    if PROGRAM is None or not objects and "--generate" not in words or set("|$<>") & set(line):
         return None
     if not all((ROOT / name).is_file() for name in objects):
         return None
@@ -241,8 +241,8 @@ def printed_by(line):
 
 
 def transcript(page, number, block):
-    """A block of commands after a dollar sign, each with all that it prints."""
-    for part in re.split(r"(?m)^\$ ", "\n".join(block))[1:]:
+    """A block of commands after a dollar sign, each with all that it prints. A backslash at its end continues a line."""
+    for part in re.split(r"(?m)^\$ ", re.sub(r"\\\n *", "", "\n".join(block)))[1:]:
         line, *shown = part.rstrip("\n").split("\n")
         command(page, line)
         ended = ended_by(line)
