@@ -3,6 +3,7 @@
 
 The last line is `N passed, M failed`."""
 
+import os
 import pathlib
 import re
 import subprocess
@@ -114,6 +115,15 @@ def main():
     note("lines of a class", [line.index for line in small.of(listing.Function)] == [0, 1])
     ended = subprocess.run([sys.executable, ROOT / "tools" / "listing.py"], input=SMALL.encode(), capture_output=True)
     note("the lines of JSON", ended.returncode == 0 and len(ended.stdout.splitlines()) == len(small.lines))
+    reader, writer = os.pipe()
+    os.close(reader)
+    command = [sys.executable, ROOT / "tools" / "listing.py"]
+    ended = subprocess.run(command, input=SMALL.encode(), stdout=writer, stderr=subprocess.PIPE)
+    os.close(writer)
+    note("nobody reads the JSON", ended.returncode == 0 and not ended.stderr)
+    ended = subprocess.run([*command, ROOT / "none.plan"], capture_output=True, text=True)
+    note("a file that there is not", ended.returncode == 1 and ended.stderr.startswith("listing.py: ") and
+         "Traceback" not in ended.stderr)
     counts.end()
 
 
