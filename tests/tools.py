@@ -330,8 +330,8 @@ def kept_listings():
     """The listings of the repository, with the objects of each: of those of examples/ its page has the commands."""
     listings = {}
     for _, block in documents.blocks_of(EXAMPLES / "README.md"):
-        words = block[0].split()
-        if block[0].startswith("./wildplan ") and words[-1].endswith(".plan"):
+        words = re.sub(r"\\\n", "", "\n".join(block)).split("\n")[0].split()
+        if words[0] == "./wildplan" and words[-1].endswith(".plan"):
             listings[ROOT / words[-1]] = [ROOT / word for word in words if word.endswith(".o")]
     for listing in [*EXAMPLES.glob("*.plan"), *OBJECTS.glob("*.plan")]:
         alone = listing.with_suffix(".o")
