@@ -469,6 +469,7 @@ def installed():
         libraries.append(run(["clang", "--target=wasm32-wasi", "--print-libgcc-file-name"]).stdout.strip())
     for_c = [name for name in ["clang", "node"] if not shutil.which(name)]
     for_c += [path for path in libraries if not pathlib.Path(path).is_file()]
+    for_c += ["a PATH without wasm-opt, which clang would run on the listing"] * bool(shutil.which("wasm-opt"))
     for_stb = [*for_c, *(name for name in ["/usr/include/stb/stb_image.h"] if not pathlib.Path(name).is_file())]
     source = "the source of zlib, whose folder the environment variable ZLIB_SOURCE names"
     for_zlib = for_c if os.environ.get("ZLIB_SOURCE") else [*for_c, source]
