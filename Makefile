@@ -6,7 +6,7 @@
 #     make check           runs tests/chain.py and tests/cli.py
 #     make check-pages     runs the checks that need neither program nor prover
 #
-# PREFIX says where to, DESTDIR what stands in front of that while a package is made, and PROGRAM which program.
+# PREFIX says where to, DESTDIR what is put before it while a package is made, and PROGRAM which program.
 
 PREFIX = /usr/local
 DESTDIR =

@@ -9,7 +9,7 @@ import sys
 
 
 def object_bytes(source):
-    """The bytes that a file in hexadecimal stands for, without what stands behind #."""
+    """The bytes that a file in hexadecimal stands for, without what follows #."""
     lines = source.read_text().splitlines()
     return bytes.fromhex(" ".join(line.split("#")[0] for line in lines))
 

@@ -62,8 +62,8 @@ def functions_in(text, every):
         if head is None or not every and function[1] != "pub ":
             continue
         signature = one_line(code[function.end() : head.start()])
-        clauses, behind = clauses_from(code, head.start())
-        is_law = LAW.match(code, behind) and not signature.startswith("(&")
+        clauses, end = clauses_from(code, head.start())
+        is_law = LAW.match(code, end) and not signature.startswith("(&")
         yield f"fn{' law' if is_law else ''} {function[2]}{signature} | {' | '.join(sorted(clauses))}"
 
 

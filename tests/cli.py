@@ -237,12 +237,12 @@ def modes(folder):
 
 def about():
     """A lone `--help` or `--version` is answered; the help names each option, and the version is that of the changes."""
-    told = run(["--help"])
-    names = set(re.findall(r"(?<![\w-])-{1,2}([\w-]+)", told.stdout.decode()))
+    help_text = run(["--help"])
+    names = set(re.findall(r"(?<![\w-])-{1,2}([\w-]+)", help_text.stdout.decode()))
     code = (ROOT / "crates" / "wl_words" / "src" / "options.rt").read_text()
     wanted = set(re.findall(r'name: "([\w-]+)"', code)) | {"help", "version"}
     note(f"the options of --help: {names ^ wanted}", names == wanted)
-    check("--help", told, 0, told.stdout)
+    check("--help", help_text, 0, help_text.stdout)
     version = re.search(r"^## (\d+\.\d+\.\d+)", (ROOT / "CHANGELOG.md").read_text(), re.M)
     check("--version", run(["--version"]), 0, f"wildplan {version[1]}\n".encode())
     for given in [["--help", "--version"], ["-help"], ["--version", "a.o"]]:
@@ -403,10 +403,10 @@ def rows(folder):
             contents[listing] += "".join(line + "\n" for line in lines_of(rest)).encode()
         elif kind and kind != "#":
             objects, answer = line.split(" = ")
-            status, told = answer.split(" ", 1)
+            status, reported = answer.split(" ", 1)
             for row in rows_of(objects):
                 files = files_of(row, stretches, folder)
-                out, err = (contents[told], b"") if status == "0" else (b"", f"error: {told}\n".encode())
+                out, err = (contents[reported], b"") if status == "0" else (b"", f"error: {reported}\n".encode())
                 check(f"{rule}: {row}", run([*words, *files]), int(status), out, err)
                 for path, content in given.items():
                     note(f"{rule}: {row}: a file that words name has changed", path.read_bytes() == content, "rows")
@@ -521,13 +521,13 @@ def note(title, sound, of="the documents"):
 
 
 def documented_names():
-    """The names of faults that docs/FORMAT.md explains are those that rows show, but for those not reported yet."""
+    """The names of faults that docs/FORMAT.md explains are those that rows show."""
     answers = re.findall(r"^.* = 1 (Malformed|Unsupported) \d+ (\w+)$", ROWS.read_text(), re.M)
     for fault, cause in [("Malformed", "likely cause"), ("Unsupported", "what it is")]:
-        told = {name for kind, name in answers if kind == fault}
+        reported = {name for kind, name in answers if kind == fault}
         rows = table_of(FORMAT, f"| `{fault}` | {cause} |")
-        explained = {name for names, text in rows if not text.startswith("not told yet") for name in names.split(", ")}
-        note(f"the names of `{fault}`: {explained ^ told}", explained == told)
+        explained = {name for names, _ in rows for name in names.split(", ")}
+        note(f"the names of `{fault}`: {explained ^ reported}", explained == reported)
 
 
 def numbers_in(cell, base):
@@ -545,32 +545,32 @@ def numbers_in(cell, base):
 
 def documented_operators(folder):
     """What docs/FORMAT.md calls an operator is decoded, with what it says follows it, and nothing else is."""
-    behind = {
+    rests = {
         "nothing": "", "the type of a block": "40", "a u32": "00", "two u32": "0000", "a list of u32": "010000",
         "a list of value types": "017f", "the type of a block, and a list of catches": "4000",
         "a memory argument": "0000", "a memory argument, and a byte": "000000", "an s32": "00", "an s64": "00",
         "four bytes": "00" * 4, "eight bytes": "00" * 8, "sixteen bytes": "00" * 16, "a byte": "00",
         "a byte that is 70 or 6f": "70",
     }
-    told = {}
+    known = {}
     for cell, what in table_of(FORMAT, "| first byte | after it |"):
         firsts = numbers_in(cell, 16)
         each = what.split(", ") if what.startswith(("an s32", "four")) else [what] * len(firsts)
-        told |= {bytes([first]): text for first, text in zip(firsts, each)}
+        known |= {bytes([first]): text for first, text in zip(firsts, each)}
     prefix = ""
     for first, numbers, what in table_of(FORMAT, "| first byte | number | after it |"):
         prefix = first or prefix
-        told |= {bytes.fromhex(prefix) + leb128(number): what for number in numbers_in(numbers, 10)}
+        known |= {bytes.fromhex(prefix) + leb128(number): what for number in numbers_in(numbers, 10)}
     made = folder / "documented.o"
     tried = [bytes([first]) for first in range(252)] + [bytes([255])]
     tried += [bytes([first]) + leb128(number) for first in (252, 253, 254) for number in range(0x120)]
     for spelled in tried:
-        what = told.get(spelled, "nothing")
-        what = max((name for name in behind if what.startswith(name)), key=len)
-        made.write_bytes(object_with_body(bytes.fromhex("00fc00") + spelled + bytes.fromhex(behind[what] + "0b")))
+        what = known.get(spelled, "nothing")
+        what = max((name for name in rests if what.startswith(name)), key=len)
+        made.write_bytes(object_with_body(bytes.fromhex("00fc00") + spelled + bytes.fromhex(rests[what] + "0b")))
         line = run([*FLAGS, made]).stderr.decode()
         refused = line.endswith((" Body\n", " Operator\n"))
-        note(f"the operator {spelled.hex()}: {line}", refused == (spelled not in told))
+        note(f"the operator {spelled.hex()}: {line}", refused == (spelled not in known))
 
 
 def documented_options():
@@ -592,8 +592,8 @@ def documented_refusals():
     refusals = (folder / "wl_linking" / "src" / "error.rt").read_text().split("pub enum LinkError {")[1].split("\n}")[0]
     faults = (folder / "wl_words" / "src" / "error.rt").read_text().split("pub enum ArgError {")[1].split("\n}")[0]
     wanted = {name for text in [refusals, faults] for name in re.findall(r"^    (\w+)", text, re.M)} - {"OutOfMemory"}
-    told = re.findall(r"^\|.*", ERRORS.read_text(), re.M)
-    lines = {words[-1] for row in told for words in re.findall(r"`error: (BadWords )?(\w+)", row.split("|")[1])}
+    reported = re.findall(r"^\|.*", ERRORS.read_text(), re.M)
+    lines = {words[-1] for row in reported for words in re.findall(r"`error: (BadWords )?(\w+)", row.split("|")[1])}
     explained = lines - {"ReadFault", "NotUtf8"}
     note(f"the refusals of {ERRORS.name}: {explained ^ wanted}", explained == wanted)
 
@@ -796,8 +796,8 @@ def symbol_kinds(texts):
     and false by a match over them, but that of the predicates."""
     kinds = r"(?:\|?\s*WasmSymbolKind::\w+\s*)+"
     compared = rf"[=!]= WasmSymbolKind::|matches!\(\s*[\w.]+,\s*{kinds}"
-    told = rf"match [^{{}}]*{{(?:\s*{kinds}=>\s*(?:true|false),)+\s*}}"
-    found = [name for name, text in texts.items() if name != SYMBOLS and re.search(rf"{compared}|{told}", text)]
+    judged = rf"match [^{{}}]*{{(?:\s*{kinds}=>\s*(?:true|false),)+\s*}}"
+    found = [name for name, text in texts.items() if name != SYMBOLS and re.search(rf"{compared}|{judged}", text)]
     note(f"written out in {found}", not found, "kinds of symbols")
 
 
@@ -838,8 +838,8 @@ def relocation_types():
             continue
         for path in sorted(source.rglob("*.rt")):
             code = re.sub(r"""//[^\n]*|'(\\.|[^'\\])'|"(\\.|[^"\\])*\"""", "", path.read_text())
-            told = re.findall(r"\bRelocationType::(\w+)", " ".join(patterns_in(code)))
-            note(f"{path.relative_to(ROOT)} goes by cases on {', '.join(told)}", not told, "relocation types")
+            reported = re.findall(r"\bRelocationType::(\w+)", " ".join(patterns_in(code)))
+            note(f"{path.relative_to(ROOT)} goes by cases on {', '.join(reported)}", not reported, "relocation types")
 
 
 def launcher_options():

@@ -28,10 +28,10 @@ def wrong_reads(program, refuser, words, answer):
     wrong, last = [], 0
     for number in range(1, count + 1):
         (status, out, err), _ = ended(program, refuser, words, number, "read")
-        told = READ_FAULT.fullmatch(err)
-        if status != 3 or out or not told or int(told[1]) < last:
+        reported = READ_FAULT.fullmatch(err)
+        if status != 3 or out or not reported or int(reported[1]) < last:
             wrong.append(f"read {number}: status {status}, {len(out)} bytes, {err!r}")
-        last = int(told[1]) if told else last
+        last = int(reported[1]) if reported else last
     return count, wrong
 
 

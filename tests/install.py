@@ -55,20 +55,20 @@ def make(target, prefix, program):
 def man_page(page):
     """The page is sound, and has every option and every line."""
     if is_there("mandoc"):
-        told = output_of(["mandoc", "-Tlint", "-Wwarning", page])
-        note(f"the man page: {told}", not told)
+        reported = output_of(["mandoc", "-Tlint", "-Wwarning", page])
+        note(f"the man page: {reported}", not reported)
     if is_there("groff"):
         environment = {**os.environ, "GROFF_NO_SGR": "1"}
-        told = output_of(["groff", "-man", "-Tascii", "-rLL=200n", page], env=environment)
-        text = "".join(told[k] for k in range(len(told)) if "\b" not in told[k : k + 2])
+        reported = output_of(["groff", "-man", "-Tascii", "-rLL=200n", page], env=environment)
+        text = "".join(reported[k] for k in range(len(reported)) if "\b" not in reported[k : k + 2])
         for option in make_pages.options():
             for name in option.names:
                 note(f"the man page lacks {name}", name in text)
         for rows in make_pages.rows_under("ERRORS.md", "line", "cause", "way out"):
             for line, *_ in rows:
                 note(f"the man page lacks {line}", line.split("`")[1] in text)
-        told = output_of(["groff", "-man", "-ww", "-z", page])
-        note(f"groff warns: {told}", not told)
+        reported = output_of(["groff", "-man", "-ww", "-z", page])
+        note(f"groff warns: {reported}", not reported)
 
 
 def completed(shell, script, words):
@@ -79,8 +79,8 @@ def completed(shell, script, words):
         code = f"source {script}; COMP_WORDS=({marked}); COMP_CWORD={len(words) - 1}; _wildplan; " \
             'printf "%s\\n" "${COMPREPLY[@]}"'
         return output_of(["bash", "--norc", "-c", code]).splitlines()
-    told = output_of(["fish", "--no-config", "-c", f"source {script}; complete -C '{line}'"])
-    return [row.split("\t")[0] for row in told.splitlines()]
+    reported = output_of(["fish", "--no-config", "-c", f"source {script}; complete -C '{line}'"])
+    return [row.split("\t")[0] for row in reported.splitlines()]
 
 
 def completions(shell, script, folder):
@@ -113,13 +113,13 @@ def installed(folder, program):
     prefix = folder / "to"
     place = prefix / "usr"
     os.utime(program, (0, 0))
-    status, told = make("install", prefix, program)
-    note(f"an old program is installed: {told}", status and "a source is newer" in told and not place.exists())
+    status, reported = make("install", prefix, program)
+    note(f"an old program is installed: {reported}", status and "a source is newer" in reported and not place.exists())
     os.utime(program)
-    status, told = make("install", prefix, program)
-    note(f"make install: {told}", status == 0)
-    told = output_of([place / "bin" / "wildplan"])
-    note(f"the installed program says {told}", told == "error: BadWords NoInputs\n")
+    status, reported = make("install", prefix, program)
+    note(f"make install: {reported}", status == 0)
+    reported = output_of([place / "bin" / "wildplan"])
+    note(f"the installed program says {reported}", reported == "error: BadWords NoInputs\n")
     man_page(place / PAGE)
     for shell in ["bash", "fish"]:
         if is_there(shell):
@@ -128,8 +128,8 @@ def installed(folder, program):
         zsh(place / COMPLETIONS["zsh"])
     for name in LICENCES:
         note(f"{name} isn't installed", (place / "share" / "doc" / "wildplan" / name).exists())
-    status, told = make("uninstall", prefix, program)
-    note(f"make uninstall: {told}", status == 0)
+    status, reported = make("uninstall", prefix, program)
+    note(f"make uninstall: {reported}", status == 0)
     left = [path for path in prefix.rglob("*") if not path.is_dir()]
     note(f"left: {left}", not left)
 

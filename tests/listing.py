@@ -3,6 +3,7 @@
 
 The last line is `N passed, M failed`."""
 
+import os
 import pathlib
 import re
 import subprocess
@@ -88,10 +89,10 @@ def documented():
     """The forms of the lines are those of docs/LISTING.md, in its order; a field has a name in capitals there."""
     cells = [row[0] for row in table_of(ROOT / "docs" / "LISTING.md", "| line | stands for |")]
     spans = [span for cell in cells for span in re.findall(r"`([^`]*)`", cell)]
-    told = [re.sub(r"\b[A-Z]+\b(,\.\.)?", "_", span) for span in spans]
+    reported = [re.sub(r"\b[A-Z]+\b(,\.\.)?", "_", span) for span in spans]
     known = [re.sub(r"\{\w+\}", "_", kind.form) for kind in listing.KINDS]
     wanted = ["wildplan 1", *known, "end"]
-    note(f"lines that only one of it and docs/LISTING.md has: {set(told) ^ set(wanted)}", told == wanted)
+    note(f"lines that only one of it and docs/LISTING.md has: {set(reported) ^ set(wanted)}", reported == wanted)
 
 
 def main():
@@ -114,6 +115,15 @@ def main():
     note("lines of a class", [line.index for line in small.of(listing.Function)] == [0, 1])
     ended = subprocess.run([sys.executable, ROOT / "tools" / "listing.py"], input=SMALL.encode(), capture_output=True)
     note("the lines of JSON", ended.returncode == 0 and len(ended.stdout.splitlines()) == len(small.lines))
+    reader, writer = os.pipe()
+    os.close(reader)
+    command = [sys.executable, ROOT / "tools" / "listing.py"]
+    ended = subprocess.run(command, input=SMALL.encode(), stdout=writer, stderr=subprocess.PIPE)
+    os.close(writer)
+    note("nobody reads the JSON", ended.returncode == 0 and not ended.stderr)
+    ended = subprocess.run([*command, ROOT / "none.plan"], capture_output=True, text=True)
+    note("a file that there is not", ended.returncode == 1 and ended.stderr.startswith("listing.py: ") and
+         "Traceback" not in ended.stderr)
     counts.end()
 
 

@@ -286,8 +286,8 @@ class Reader:
 
     def begins_rule(self):
         """Whether a rule begins here."""
-        behind = self.tokens[self.place + 1 : self.place + 2]
-        return self.next()[1] is not None and bool(behind) and behind[0][3] == "="
+        after = self.tokens[self.place + 1 : self.place + 2]
+        return self.next()[1] is not None and bool(after) and after[0][3] == "="
 
     def read(self):
         """All rules, by their names."""
@@ -430,7 +430,7 @@ def compare(rules, folder, plan, text):
 
 
 def texts_by_hand(rules, folder, plan):
-    """Texts worked out by hand are listings, or have their first fault in the line that is told."""
+    """Texts worked out by hand are listings, or have their first fault in the line that is reported."""
     for text, line in [*((text, None) for text in GOOD), *BAD]:
         said = compare(rules, folder, plan, text)
         is_told = not said.startswith(b"bad ") if line is None else said == b"bad %d\n" % line

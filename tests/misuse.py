@@ -38,7 +38,7 @@ pub(crate) fn changed_under_a_plan(
 WANTED = "src/misuse.rt:16:17: error[borrow-e0502]: cannot borrow `*objects` as mutable"
 
 
-def told(copy):
+def reported(copy):
     """What rt says of a copy of the program that has the wrong function."""
     shutil.copytree(ROOT / "crates", copy / "crates", ignore=shutil.ignore_patterns("out"))
     for name in ("crates.txt", "HANDLES"):
@@ -54,7 +54,7 @@ def told(copy):
 
 def main():
     with tempfile.TemporaryDirectory() as name:
-        said = told(pathlib.Path(name))
+        said = reported(pathlib.Path(name))
     is_refused = WANTED in said
     if not is_refused:
         print(said)

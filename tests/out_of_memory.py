@@ -126,8 +126,8 @@ def ended(program, refuser, words, number, calls="memory", piece=None):
     streams = {"stdin": subprocess.DEVNULL, "capture_output": True, "pass_fds": [writer]}
     run = subprocess.run([program, *words], env=given, timeout=120, **streams)
     os.close(writer)
-    with os.fdopen(reader, "rb") as told:
-        count = int(told.read() or 0)
+    with os.fdopen(reader, "rb") as reported:
+        count = int(reported.read() or 0)
     return (run.returncode, run.stdout, run.stderr), count
 
 

@@ -27,9 +27,9 @@ PROGRAM = pathlib.Path(sys.argv[1]).resolve() if sys.argv[1:] else None
 SOURCES = ["crates/*/src/**/*", "crates/*/specs/**/*", "crates/*/proofs/**/*", "crates/*/must-fail/*", "tests/**/*",
            "tools/*", "examples/**/*", ".ci/*", "wildplan", "crates.txt", "Makefile", "HANDLES"]
 # Names of others: conventions of toolchains, and what stands for any name in a rule.
-FOREIGN = {"__indirect_function_table", "__wasm_call_dtors", "basic_streambuf", "x_at", "xN"}
+FOREIGN = {"__indirect_function_table", "__wasm_call_dtors", "basic_streambuf", "x_at", "xN", "WASM32_WASIP1"}
 # Programs whose commands stand on pages, but for those of the repository.
-TOOLS = {"ar", "apt-get", "c++filt", "cat", "clang", "clang++", "curl", "git", "llvm-nm", "llvm-objcopy",
+TOOLS = {"ar", "apt-get", "c++filt", "cargo", "cat", "clang", "clang++", "curl", "git", "llvm-nm", "llvm-objcopy",
          "llvm-readobj", "man", "node", "printf", "rattle", "rustc", "rustup", "ulimit", "wasm-ld", "wasm-objdump",
          "wasm-validate"}
 # The calls of rt.
@@ -165,11 +165,11 @@ def refusals(page, lines, reasons):
 
 def refusal_names():
     """The names of refusals, of docs/ERRORS.md, and those of reasons, of docs/FORMAT.md and docs/ERRORS.md."""
-    told = (DOCS / "ERRORS.md").read_text()
+    text = (DOCS / "ERRORS.md").read_text()
     kinds = ("`Malformed`", "`Unsupported`")
     tables = [rows for title, rows in documents.tables_of(DOCS / "FORMAT.md") if title[0] in kinds]
     reasons = {name for rows in tables for row in rows for name in row[0].split(", ")}
-    return set(re.findall(r"`error: (\w+)", told)), reasons | set(re.findall(r"`error: Unsupported O (\w+)`", told))
+    return set(re.findall(r"`error: (\w+)", text)), reasons | set(re.findall(r"`error: Unsupported O (\w+)`", text))
 
 
 def commands_of(block):
@@ -222,7 +222,7 @@ def ended_by(line):
     """How a command of wildplan ends, or None where its files aren't in the repository."""
     words = shlex.split(line)[1:]
     objects = [name for name in map(file_of, words) if name.endswith(".o")]
-    if PROGRAM is None or not objects or set("|$<>") & set(line):
+    if PROGRAM is None or not objects and "--generate" not in words or set("|$<>") & set(line):
         return None
     if not all((ROOT / name).is_file() for name in objects):
         return None
@@ -241,8 +241,8 @@ def printed_by(line):
 
 
 def transcript(page, number, block):
-    """A block of commands after a dollar sign, each with all that it prints."""
-    for part in re.split(r"(?m)^\$ ", "\n".join(block))[1:]:
+    """A block of commands after a dollar sign, each with all that it prints. A backslash at its end continues a line."""
+    for part in re.split(r"(?m)^\$ ", re.sub(r"\\\n *", "", "\n".join(block)))[1:]:
         line, *shown = part.rstrip("\n").split("\n")
         command(page, line)
         ended = ended_by(line)
@@ -284,8 +284,8 @@ def spans(page):
             command(page, span)
         first, _, rest = span.partition(" ")
         if first in words and rest:
-            told = re.sub(r"\b[A-Z]+\b(,\.\.)?", "_", span.rstrip())
-            is_form = any(form.startswith(told) for form in forms)
+            reported = re.sub(r"\b[A-Z]+\b(,\.\.)?", "_", span.rstrip())
+            is_form = any(form.startswith(reported) for form in forms)
             note(page, f"no line of a listing: {span}", is_form or listing.read_line(span) is not None)
 
 

@@ -1,4 +1,4 @@
-// Loaded into a program in front of the C library, it refuses one of the program's calls: that of the number
+// Loaded into a program before the C library, it refuses one of the program's calls: that of the number
 // REFUSED, counted from 1, among the calls of the kind CALLS, which is "memory", "read" or "write". Where the number
 // is 0, or beyond the last one, it refuses none. Where PIECE is given, each read or write of that kind moves at most so
 // many bytes. At the end it writes how many calls there were to the descriptor COUNTED. Only calls from the program's
@@ -19,13 +19,13 @@ static void *(*real_calloc)(size_t, size_t);
 static ssize_t (*real_read)(int, void *, size_t);
 static ssize_t (*real_write)(int, const void *, size_t);
 
-// The addresses of the program's own code and data, from the first to the one behind the last.
-static uintptr_t first, behind;
+// The addresses of the program's own code and data, from the first to the one after the last.
+static uintptr_t first, after_last;
 static const char *counted = "memory";
 static long seen, refused;
 static size_t piece = SIZE_MAX;
 
-// Of what is loaded the program is told first, and nothing else is asked for.
+// Of what is loaded the program is reported first, and nothing else is asked for.
 static int note_program(struct dl_phdr_info *info, size_t size, void *unused) {
     (void)size;
     (void)unused;
@@ -33,8 +33,8 @@ static int note_program(struct dl_phdr_info *info, size_t size, void *unused) {
         const ElfW(Phdr) *part = &info->dlpi_phdr[i];
         if (part->p_type != PT_LOAD) continue;
         uintptr_t from = info->dlpi_addr + part->p_vaddr;
-        if (!behind || from < first) first = from;
-        if (from + part->p_memsz > behind) behind = from + part->p_memsz;
+        if (!after_last || from < first) first = from;
+        if (from + part->p_memsz > after_last) after_last = from + part->p_memsz;
     }
     return 1;
 }
@@ -64,7 +64,7 @@ __attribute__((destructor)) static void end(void) {
 
 static int is_counted(const char *kind, void *caller) {
     uintptr_t at = (uintptr_t)caller;
-    return first <= at && at < behind && !strcmp(kind, counted);
+    return first <= at && at < after_last && !strcmp(kind, counted);
 }
 
 static int is_refused(const char *kind, void *caller) {

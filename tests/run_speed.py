@@ -171,8 +171,8 @@ def results_in_c(folder, times):
     source.write_text(IN_C)
     subprocess.run(["cc", "-O1", "-o", built, source], check=True)
     words = [str(built), str(SEED), *map(str, times)]
-    told = subprocess.run(words, check=True, capture_output=True, text=True).stdout
-    return dict(zip(times, told.split()))
+    reported = subprocess.run(words, check=True, capture_output=True, text=True).stdout
+    return dict(zip(times, reported.split()))
 
 
 def instructions(program, folder, made):

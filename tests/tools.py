@@ -289,7 +289,7 @@ def statuses(folder):
 
 
 def warnings(folder):
-    """What the program takes without a word and isn't what is meant is said."""
+    """What the program takes silently, and isn't what is meant, is said."""
     dtors, finished, lost = "__wasm_call_dtors", "no linking section", "buffered output is lost"
     cases = [
         ("main(+a)", []),
@@ -330,8 +330,8 @@ def kept_listings():
     """The listings of the repository, with the objects of each: of those of examples/ its page has the commands."""
     listings = {}
     for _, block in documents.blocks_of(EXAMPLES / "README.md"):
-        words = block[0].split()
-        if block[0].startswith("./wildplan ") and words[-1].endswith(".plan"):
+        words = re.sub(r"\\\n", "", "\n".join(block)).split("\n")[0].split()
+        if words[0] == "./wildplan" and words[-1].endswith(".plan"):
             listings[ROOT / words[-1]] = [ROOT / word for word in words if word.endswith(".o")]
     for listing in [*EXAMPLES.glob("*.plan"), *OBJECTS.glob("*.plan")]:
         alone = listing.with_suffix(".o")
@@ -439,14 +439,27 @@ def documented():
     code = (ROOT / "crates" / "wl_words" / "src" / "options.rt").read_text()
     unknown = set(re.findall(r'name: "([\w-]+)"', code)) - link_line.OPTIONS.keys()
     same("options of the program that aren't known", unknown, set())
-    told = re.findall(r"`error: (\w+)([^`]*)`", (ROOT / "docs" / "ERRORS.md").read_text())
-    for kind, rest in told:
+    reported = re.findall(r"`error: (\w+)([^`]*)`", (ROOT / "docs" / "ERRORS.md").read_text())
+    for kind, rest in reported:
         letters = ["O" if word in ("O", "P") else "-" for word in rest.split() if word != ".."]
         if "O" in letters and "O" not in linker.REFUSALS.get(kind, "").replace("S", "-"):
             note(f"{kind}: its objects aren't explained", False)
         elif "O" in letters:
             explained = linker.REFUSALS[kind].replace("S", "-") * len(letters)
             same(f"the objects of {kind}", "".join(letters).rstrip("-"), explained[: len(letters)].rstrip("-"))
+
+
+def every_option():
+    """Each option that a wasm-ld lists in its help is in the table, but for what it prints of itself."""
+    for program in linkers():
+        options = re.findall(r"(?m)^  -{1,2}([A-Za-z][\w-]*)", run([program, "--help"]).stdout)
+        known = {name for name in options if name in link_line.OPTIONS or prefix_of(name)}
+        same(f"options of {program} that aren't known", set(options) - known, {"help", "version"})
+
+
+def prefix_of(name):
+    """Whether an option begins with a name of the table that stands for all such."""
+    return any(option.takes == "prefix" and name.startswith(option.name) for option in link_line.OPTIONS.values())
 
 
 def installed():
@@ -456,10 +469,14 @@ def installed():
         libraries.append(run(["clang", "--target=wasm32-wasi", "--print-libgcc-file-name"]).stdout.strip())
     for_c = [name for name in ["clang", "node"] if not shutil.which(name)]
     for_c += [path for path in libraries if not pathlib.Path(path).is_file()]
+    for_c += ["a PATH without wasm-opt, which clang would run on the listing"] * bool(shutil.which("wasm-opt"))
+    for_stb = [*for_c, *(name for name in ["/usr/include/stb/stb_image.h"] if not pathlib.Path(name).is_file())]
     source = "the source of zlib, whose folder the environment variable ZLIB_SOURCE names"
     for_zlib = for_c if os.environ.get("ZLIB_SOURCE") else [*for_c, source]
     for_rust = [] if rust() else ["rustc with std for wasm32-wasi"]
-    return {"Hello world in C": for_c, "A library of C": for_zlib, "A program in Rust": for_rust}
+    for_cargo = for_rust or ([] if cargo() else ["cargo beside rustc"])
+    return {"Hello world in C": for_c, "A library of C": for_stb, "zlib": for_zlib, "A program in Rust": for_rust,
+            "A program in Rust, by cargo": for_cargo}
 
 
 def rust():
@@ -471,6 +488,12 @@ def rust():
                 if ended.returncode == 0 and pathlib.Path(ended.stdout.strip()).is_dir():
                     return program, target
     return None
+
+
+def cargo():
+    """The cargo beside that rustc, or none."""
+    beside = pathlib.Path(shutil.which(rust()[0])).parent / "cargo"
+    return str(beside) if beside.exists() else None
 
 
 def programs(folder):
@@ -485,17 +508,21 @@ def programs(folder):
             print(f"skipped: {heading}: it needs {', '.join(missing)}")
             continue
         text = page.split(f"\n## {heading}\n")[1].split("\n## ")[0]
-        commands = "\n".join(line.strip() for line in text.splitlines() if line.startswith("    "))
-        if heading == "A program in Rust":
+        commands = re.sub("(?m)^ +", "", re.search(r"(?:    .*\n)+", text)[0])
+        environment = ENVIRONMENT
+        if heading.startswith("A program in Rust"):
             program, target = rust()
-            commands = commands.replace("rustc ", f"{program} ", 1).replace("wasm32-wasi", target)
-        ended = run(["sh", "-ec", commands], cwd=folder)
+            commands = commands.replace("rustc ", f"{program} ", 1).replace("cargo build", f"{cargo()} build --offline")
+            commands = commands.replace("wasm32-wasi", target).replace("WASM32_WASI", target.replace("-", "_").upper())
+            environment = {**ENVIRONMENT, "RUSTC": program}
+        ended = run(["sh", "-ec", commands], cwd=folder, env=environment)
         wanted = re.search(r"prints\s+`([^`]+)`", text)[1]
         same(f"{heading}: {ended.stderr}", (ended.returncode, ended.stdout.strip()), (0, wanted))
 
 
 def main():
     documented()
+    every_option()
     link_lines()
     with tempfile.TemporaryDirectory() as name:
         folder = pathlib.Path(name).resolve()

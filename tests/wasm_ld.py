@@ -43,7 +43,7 @@ UNTRIED = {
 CASES = {}
 counts = counting.Counts()
 note = counts.note
-untold = []
+unsaid = []
 linkers = {}
 program = None
 folder = None
@@ -122,7 +122,7 @@ def unknown(*options):
         spoken = [each(f"--no-entry names.o {spelled}") for spelled in tried]
         known = [ended for ends in spoken for ended in ends if "unknown argument" not in ended.said]
         if not known and max(linkers, default=0) < NEWEST:
-            untold.append(option)
+            unsaid.append(option)
         else:
             note(f"no wasm-ld knows {option}", known)
 
@@ -468,8 +468,8 @@ def pages():
     line(given, "BadMemorySize Maximum 65536 131072")
     shows(f"{given} {file('page.o', PAGE_OBJECT)}", listing.Memory,
           lambda lines: lines[0].minimum == lines[0].maximum == 1)
-    told = re.search(r"`printf '([^']*)' > page.o`", PAGE.read_text())[1]
-    content = re.sub(r"\\(\d+)", lambda mark: chr(int(mark[1], 8)), told).encode()
+    reported = re.search(r"`printf '([^']*)' > page.o`", PAGE.read_text())[1]
+    content = re.sub(r"\\(\d+)", lambda mark: chr(int(mark[1], 8)), reported).encode()
     note(f"the object of a page: {content}", content == PAGE_OBJECT)
 
 
@@ -626,11 +626,11 @@ MESSAGES = [
 def messages():
     """The last column of docs/ERRORS.md has what wasm-ld says in the place of a line."""
     tables = documents.tables_of(ROOT / "docs" / "ERRORS.md")
-    told = [row for title, table in tables if title == ["line", "cause", "way out", "wasm-ld"] for row in table]
+    reported = [row for title, table in tables if title == ["line", "cause", "way out", "wasm-ld"] for row in table]
     for given, wanted, said in MESSAGES:
         line(given, wanted)
         words = {word for word in wanted.split()[:2] if word.isalpha()}
-        cells = [row[3] for row in told if words <= set(re.findall(r"\w+", row[0]))]
+        cells = [row[3] for row in reported if words <= set(re.findall(r"\w+", row[0]))]
         spans = [span for cell in cells for span in re.findall(r"`([^`]*)`", cell)]
         texts = said if isinstance(said, dict) else {0: said}
         for since, text in texts.items():
@@ -714,8 +714,8 @@ def installed():
     for suffix in VERSIONS:
         path = shutil.which(f"wasm-ld{suffix}")
         if path:
-            told = subprocess.run([path, "--version"], capture_output=True, text=True).stdout
-            found[int(re.search(r"LLD (\d+)", told)[1])] = path
+            reported = subprocess.run([path, "--version"], capture_output=True, text=True).stdout
+            found[int(re.search(r"LLD (\d+)", reported)[1])] = path
     return found
 
 
@@ -735,8 +735,8 @@ def main():
         shutil.copytree(OBJECTS, folder / "objects")
         for tried in [*CASES.values(), messages, made_names, iostream]:
             tried()
-    if linkers and untold:
-        print(f"skipped: whether a newer wasm-ld knows {', '.join(untold)}")
+    if linkers and unsaid:
+        print(f"skipped: whether a newer wasm-ld knows {', '.join(unsaid)}")
     counts.end()
 
 

@@ -39,7 +39,7 @@ THROUGH_THE_PROGRAM = {
         (f"{WHOLE} -z stack-size=1000", "The size of the stack is a multiple of 16"),
     ],
     "a memory of one page, which doesn't hold the stack": [
-        ("--no-entry --initial-memory 65536", "A first page alone doesn't hold the stack behind the data"),
+        ("--no-entry --initial-memory 65536", "A first page alone doesn't hold the stack after the data"),
     ],
     "the end of the heap": [
         (f"{WHOLE} --export __heap_end", "The heap ends where the memory does at the start"),
@@ -85,7 +85,7 @@ THROUGH_THE_PROGRAM = {
     "two functions, of which the first calls the second": [
         (WHOLE, "An object that is cut off has a plan only where a section has just ended and the "
          "rest fits together"),
-        ("--entry b", "The entry is a function that an object defines, and is exported behind the memory"),
+        ("--entry b", "The entry is a function that an object defines, and is exported after the memory"),
     ],
     "an object as clang writes it": [
         ("", "An object as compilers write it: its stack pointer has no name, and its numbers are padded"),
@@ -93,10 +93,10 @@ THROUGH_THE_PROGRAM = {
     "one object twice": [
         ("", "Two objects define the same functions"),
         (WHOLE, "No two symbols that other objects see have one name, and the earliest that "
-         "repeats one is told"),
+         "repeats one is reported"),
     ],
     "generated objects": [
-        ("--generate 3", "One line tells how many objects were made, and what became of them"),
+        ("--generate 3", "One line says how many objects were made, and what became of them"),
         ("--generate 1", "A single object calls nothing"),
         ("--no-gc-sections --generate 3", "Without collection nothing is dropped"),
         ("--generate 0", "No objects can't be made"),
@@ -133,7 +133,7 @@ THROUGH_THE_PROGRAM = {
     "bad objects: numbers, names, bytes too many": [
         (WHOLE, "A number may be padded to five bytes, of which the last has four bits"),
         (WHOLE, "Names are UTF-8, those of skipped sections too"),
-        (WHOLE, "Bytes behind a section's items are too many"),
+        (WHOLE, "Bytes after a section's items are too many"),
     ],
     "bad objects: types, symbols, versions": [
         (WHOLE, "Types are those of functions, of seven value types"),
@@ -154,7 +154,7 @@ THROUGH_THE_PROGRAM = {
         (KEPT, "Where nothing keeps the call, nobody looks at its type."),
     ],
     "absolute symbols": [
-        (WHOLE, "An absolute symbol has the address that it tells"),
+        (WHOLE, "An absolute symbol has the address that it gives"),
         (WHOLE, "An absolute address below the data of threads has no place in it"),
     ],
     "types that are used, and one that nothing uses": [
@@ -164,7 +164,7 @@ THROUGH_THE_PROGRAM = {
     "why one function is kept": [("--entry b --why", "A kept function has a cause, and the others are named")],
     "the sizes of two functions": [(f"{WHOLE} --map", "Sizes of functions, and of the sections")],
     "a run of one function": [("--entry a --run a", "A function runs that calls another")],
-    "runs behind the one that lays the shared segment": [
+    "runs after the one that lays the shared segment": [
         (f"{SHARED} --run segment_word", "The function at the start lays the segment that all threads have in common"),
         (f"{SHARED} --run flag_word", "And it leaves that it is done"),
     ],
@@ -178,9 +178,9 @@ THROUGH_THE_PROGRAM = {
     ],
     "the base of the heap and the stack pointer, where the stack comes first": [
         (f"{WHOLE} --stack-first -z stack-size=1048576 --export=__data_end --export=__heap_base",
-         "Where the stack comes first it ends where data begins, and the heap begins at a multiple of 16 behind "
+         "Where the stack comes first it ends where data begins, and the heap begins at a multiple of 16 after "
          "the data"),
-        (f"{WHOLE} --stack-first --initial-memory=65536", "A first page holds the stack in front of the data"),
+        (f"{WHOLE} --stack-first --initial-memory=65536", "A first page holds the stack before the data"),
     ],
     "bodies of calls and of wrappers": [
         (WHOLE, "Constructors of two objects are called by priority, and their results dropped"),
@@ -197,7 +197,7 @@ THROUGH_THE_PROGRAM = {
          "begins"),
     ],
     "the value of an absolute address": [
-        (WHOLE, "An absolute symbol has the address that it tells"),
+        (WHOLE, "An absolute symbol has the address that it gives"),
         (WHOLE, "An absolute address below the data of threads has no place in it"),
     ],
     "the body that fills a thread's block": [

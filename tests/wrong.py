@@ -40,13 +40,13 @@ def copy_repository(to):
             shutil.copy(ROOT / name, to)
 
 
-def verdict_of(told):
+def verdict_of(reported):
     """What a try came to and the goal that it names, of what `rt must-fail` prints after the name of the edit."""
     weak = {"only because a proof file": "by a name alone", "only by a limit": "by a limit alone"}
     for words, verdict in weak.items():
-        if told.startswith(f"refused, as it must be ({words}"):
-            return verdict, told.partition("): ")[2]
-    verdict, _, reason = told.partition(": ")
+        if reported.startswith(f"refused, as it must be ({words}"):
+            return verdict, reported.partition("): ")[2]
+    verdict, _, reason = reported.partition(": ")
     if verdict == "refused, as it must be":
         return ("refused" if reason else "no goal is named"), reason.removeprefix("note: ")
     return verdict.lower(), reason
@@ -58,15 +58,15 @@ def tried(crate, copy):
     # What rt says on standard error goes to the caller's.
     streams = {"stdin": subprocess.DEVNULL, "stdout": subprocess.PIPE}
     ended = subprocess.run(["rt", "must-fail", crate], cwd=copy, text=True, errors="replace", **streams)
-    told = {}
+    reported = {}
     for said in re.split(r"^rt: ", ended.stdout, flags=re.M):
         name, parted, verdict = said.removeprefix(f"must-fail {crate}/").partition(".edit: ")
         if parted:
-            told[name] = " ".join(verdict.split())
-    if not told:
+            reported[name] = " ".join(verdict.split())
+    if not reported:
         sys.stderr.write(ended.stdout)
     names = sorted(edit.stem for edit in (WRONG / crate).glob("*.edit"))
-    return [(name, *verdict_of(told.get(name, "not tried"))) for name in names]
+    return [(name, *verdict_of(reported.get(name, "not tried"))) for name in names]
 
 
 def main():

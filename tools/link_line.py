@@ -66,13 +66,10 @@ Bstatic | none | idle | there are no shared libraries
 Bsymbolic | none | idle | there are no shared libraries
 build-id | optional | idle | a plan has no build id
 call_shared | none | idle | there are no shared libraries
-call_shared | none | idle | there are no shared libraries
 color-diagnostics | optional | idle | no line has a colour
 compress-relocations | none | idle | fields keep their size
 demangle | none | idle | names are never demangled
 dn | none | idle | there are no shared libraries
-dn | none | idle | there are no shared libraries
-dy | none | idle | there are no shared libraries
 dy | none | idle | there are no shared libraries
 eh-frame-hdr | none | idle | a module has no such thing
 end-group | none | idle | members of archives are taken whatever their order
@@ -81,9 +78,9 @@ error-unresolved-symbols | none | idle | undefined names are refused anyway
 fatal-warnings | none | idle | a warning never changes the status
 flavor | value | idle | there is one kind of plan
 lto- | prefix | idle | no bitcode is read
-M | none | idle | no map is written; the listing says where things are
+M | none | idle | no map with names is written; the listing says where things are
 m | joined | idle | all is wasm32
-Map | value | idle | no map is written; the listing says where things are
+Map | value | idle | no map with names is written; the listing says where things are
 merge-data-segments | none | idle | each segment stays one
 mllvm | value | idle | no code is generated
 no-allow-multiple-definition | none | idle | two strong definitions of one name are never taken
@@ -91,18 +88,16 @@ no-as-needed | none | idle | there are no shared libraries
 no-color-diagnostics | none | idle | no line has a colour
 no-demangle | none | idle | names are never demangled
 no-fatal-warnings | none | idle | a warning never changes the status
+no-lto- | prefix | idle | no bitcode is read
 no-merge-data-segments | none | idle | each segment stays one
 no-pie | none | idle | addresses are final anyway
 no-print-gc-sections | none | idle | what is dropped isn't listed
 no-shlib-sigcheck | none | idle | there are no shared libraries
-no-shlib-sigcheck | none | idle | there are no shared libraries
-non_shared | none | idle | there are no shared libraries
 non_shared | none | idle | there are no shared libraries
 O | joined | idle | nothing is optimised
 print-gc-sections | none | idle | what is dropped isn't listed
-print-map | none | idle | no map is written; the listing says where things are
+print-map | none | idle | no map with names is written; the listing says where things are
 reproduce | value | idle | the objects are kept beside the listing
-rpath | value | idle | there are no shared libraries
 rpath | value | idle | there are no shared libraries
 save-temps | none | idle | the objects are kept beside the listing
 soname | value | idle | there are no shared libraries

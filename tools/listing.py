@@ -16,6 +16,7 @@ from __future__ import annotations
 
 import dataclasses
 import json
+import os
 import re
 import sys
 
@@ -336,13 +337,18 @@ def read_listing(text):
 def main():
     if len(sys.argv) > 2:
         sys.exit(__doc__)
-    content = open(sys.argv[1], "rb").read() if sys.argv[1:] else sys.stdin.buffer.read()
     try:
+        content = open(sys.argv[1], "rb").read() if sys.argv[1:] else sys.stdin.buffer.read()
         plan = read_listing(content)
-    except ListingError as error:
+    except (ListingError, OSError) as error:
         sys.exit(f"listing.py: {error}")
-    for line in plan.lines:
-        print(json.dumps({"line": type(line).__name__, **dataclasses.asdict(line)}, default=bytes.hex))
+    try:
+        for line in plan.lines:
+            print(json.dumps({"line": type(line).__name__, **dataclasses.asdict(line)}, default=bytes.hex))
+        sys.stdout.flush()
+    except BrokenPipeError:
+        # Nobody reads any more, as after `head`: what is left goes nowhere.
+        os.dup2(os.open(os.devnull, os.O_WRONLY), sys.stdout.fileno())
 
 
 if __name__ == "__main__":

@@ -1,4 +1,4 @@
-/* A thread's own count and buffer, a total that all threads have in common, and what the linker tells of a
+/* A thread's own count and buffer, a total that all threads have in common, and what the linker says of a
    thread's block: its size, its alignment, and the function that makes it. */
 _Thread_local int count = 5;
 static _Thread_local char buffer[24] __attribute__((aligned(16)));
