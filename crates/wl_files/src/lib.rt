@@ -2,7 +2,7 @@
 //! what comes of them.
 //!
 //! [`Files`] and [`Sink`] say what calls on them mean. [`MemFiles`] and [`MemSink`] hold bytes in
-//! memory and fail where they are told to; [`StdFiles`] and [`StdSink`] are the files and streams
+//! memory and fail where they are asked to; [`StdFiles`] and [`StdSink`] are the files and streams
 //! of the system. [`read_object`] reads a whole file, and [`write_all`] writes all of some bytes.
 #![tactic(auto)]
 

@@ -16,7 +16,7 @@ pub struct MemFile<'n> {
     pub bytes: Vec<u8>,
 }
 
-/// Files in memory, for tests: they fail at the calls that they are told to fail.
+/// Files in memory, for tests: they fail at the calls that they are asked to fail.
 #[derive(Drop)]
 pub struct MemFiles<'n> {
     alloc: Global,

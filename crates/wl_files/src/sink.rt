@@ -34,7 +34,7 @@ pub trait Sink {
 }
 
 /// A sink in memory, for tests: it has room for a number of bytes, takes a piece of them at a
-/// time, and fails at the calls that it is told to fail.
+/// time, and fails at the calls that it is asked to fail.
 #[derive(Drop)]
 pub struct MemSink {
     bytes: Vec<u8>,
