@@ -1,5 +1,5 @@
 -- How many bytes and segments the output has at most.
-use Rattle.std.proofs.Common.{◌≡◌, ℕ, Bool, not, List, [], ◌∷◌, length, filter, ap, arith, inl, inr}
+use Rattle.std.proofs.Common.{Bool, not, List, [], ◌∷◌, length, filter, ap, arith, inl, inr}
 use Rattle.std.specs.List.{AllByRecursion, AllZip}
 use Rattle.std.proofs.lemmas.Bool.{cases_Bool}
 use Rattle.wl_linking.specs.Fitting.{IsWhole}
