@@ -525,14 +525,11 @@ pub(crate) fn own_bodies<'a>(
 {
     let input = sources.book.input;
     let placing = sources.book.placing;
-    let files = input.files().as_slice();
-    let mut bodies = Vec::with_capacity(
-        alloc,
-        function_room(files, sources.bindings.stubs.as_slice().len()),
-    )?;
+    let room = function_room(input, sources.bindings.stubs.as_slice().len());
+    let mut bodies = Vec::with_capacity(alloc, room)?;
     push_linker_made(alloc, &mut bodies, sources, fixups)?;
     push_stubs(alloc, &mut bodies, input, placing, sources.bindings)?;
-    for (object, file) in files.iter().enumerate() {
+    for (object, file) in input.files().as_slice().iter().enumerate() {
         let row = numbers[object].as_slice();
         push_bodies(alloc, &mut bodies, input, placing, object, file, row)?;
     }

@@ -217,9 +217,9 @@ const MADE_FUNCTIONS: usize = 3;
 
 /// About how many functions aren't imported: those that objects define, dropped ones too, those that
 /// the linker makes, and so many stubs. Lists with an item for each take so much room at once.
-pub(crate) fn function_room(files: &[File<'_>], stubs: usize) -> usize {
+pub(crate) fn function_room(input: &LinkInput<'_, '_>, stubs: usize) -> usize {
     let mut count = stubs.saturating_add(MADE_FUNCTIONS);
-    for file in files {
+    for file in input.files().as_slice() {
         count = count.saturating_add(file.num_defined_functions());
     }
     count
@@ -241,14 +241,11 @@ pub(crate) fn own_functions<'a>(
     ensures { IfOk result
         (λ functions. AreOwnFunctions input.now (output_types input.now) functions.items) }
 {
-    let files = input.files().as_slice();
-    let mut functions = Vec::with_capacity(
-        alloc,
-        function_room(files, bindings.stubs.as_slice().len()),
-    )?;
+    let room = function_room(input, bindings.stubs.as_slice().len());
+    let mut functions = Vec::with_capacity(alloc, room)?;
     push_linker_made(alloc, &mut functions, input, bindings)?;
     push_stubs(alloc, &mut functions, input, bindings)?;
-    for (object, file) in files.iter().enumerate() {
+    for (object, file) in input.files().as_slice().iter().enumerate() {
         let types = maps[object].type_indices.as_slice();
         push_functions(&mut functions, input, types, object, file)?;
     }

@@ -182,9 +182,8 @@ pub(crate) fn element_functions(
     ensures { IfOk result (AreElements input.now) }
 {
     table_functions_are_kept();
-    let targets = listed(&bindings.scan);
-    let mut elements = Vec::with_capacity(alloc, targets.len())?;
-    for target in targets {
+    let mut elements = Vec::with_capacity(alloc, listed(&bindings.scan).len())?;
+    for target in listed(&bindings.scan) {
         elements.push(function_index(input, placing, bindings, maps, *target))?;
     }
     Ok(ItemList::new(elements))

@@ -12,11 +12,11 @@ loop-object-init c =
     let input = c.args.sources.now.book.now.input.now in
     let g = c.args.sources.now.book.now.placing.now in
     let new = c.push_stubs.new.bodies.items in
-    let both : AddsBodies input g (linker_part input) c.new-bodies.result.items new =
-    adds_more input g (linker_functions input) (stub_part input) c.new-bodies.result.items
+    let both : AddsBodies input g (linker_part input) c.in_ok-bodies.bodies.items new =
+    adds_more input g (linker_functions input) (stub_part input) c.in_ok-bodies.bodies.items
     c.push_linker_made.new.bodies.items new c.in_ok-push_linker_made.ensures.ok c.in_ok-push_stubs.ensures in
     adds_same input g (linker_part input) (linker_part input ++ []) [] new (sym (append-nil (linker_part input)))
-    (subst (λ (bs : List Body). AddsBodies input g (linker_part input) bs new) c.new-bodies.ensures.items both)
+    (subst (λ (bs : List Body). AddsBodies input g (linker_part input) bs new) c.in_ok-bodies.ensures.items both)
 
 pub push_bodies-requires-clause-here : goal.push_bodies-requires-clause-here
 push_bodies-requires-clause-here c =

@@ -16,13 +16,13 @@ loop-object-init c =
     let input = c.args.input.now in
     let ctors : List FunctionEntry = linker_functions input in
     let stubs : List FunctionEntry = stub_part input in
-    let start = c.new-functions.result.items in
+    let start = c.in_ok-functions.functions.items in
     let middle = c.push_linker_made.new.functions.items in
     let new = c.push_stubs.new.functions.items in
-    let both : AddsFunctions input (ctors ++ stubs) c.new-functions.result.items c.push_stubs.new.functions.items =
+    let both : AddsFunctions input (ctors ++ stubs) c.in_ok-functions.functions.items c.push_stubs.new.functions.items =
     adds_more input ctors stubs start middle new c.in_ok-push_linker_made.ensures c.in_ok-push_stubs.ensures in
     adds_same input (ctors ++ stubs) ((ctors ++ stubs) ++ []) [] new (sym (append-nil (ctors ++ stubs)))
-    (subst (λ (fs : List PlannedFunction). AddsFunctions input (ctors ++ stubs) fs new) c.new-functions.ensures.items
+    (subst (λ (fs : List PlannedFunction). AddsFunctions input (ctors ++ stubs) fs new) c.in_ok-functions.ensures.items
     both)
 
 pub bounds-maps-object : goal.bounds-maps-object
