@@ -166,7 +166,9 @@ THROUGH_THE_PROGRAM = {
     "a run of one function": [("--entry a --run a", "A function runs that calls another")],
     "runs after the one that lays the shared segment": [
         (f"{SHARED} --run segment_word", "The function at the start lays the segment that all threads have in common"),
+        (f"{SHARED} --run segment_word", "Called again, that function changes nothing"),
         (f"{SHARED} --run flag_word", "And it leaves that it is done"),
+        (f"{SHARED} --run flag_word", "The flag tells so after a second call too"),
     ],
     "features of a payload, and one that ends too early": [
         (WHOLE, "Features are read"),
@@ -185,10 +187,14 @@ THROUGH_THE_PROGRAM = {
     "bodies of calls and of wrappers": [
         (WHOLE, "Constructors of two objects are called by priority, and their results dropped"),
         ("--no-entry --export=f", "A wrapper hands on its parameters, and keeps the result"),
+        ("--allow-undefined --no-gc-sections --no-entry",
+         "A constructor is called by its index behind the imports, and its result dropped"),
+        ("--allow-undefined --no-gc-sections --no-entry --export=f", "A wrapper calls by indices behind the imports"),
     ],
     "sizes of bodies and of segments": [
         (f"{WHOLE} --map", "A section counts its bytes and their count, and nothing where it is empty"),
         (f"{WHOLE} --map", "An active segment has its address, a passive one has none"),
+        (f"{WHOLE} --map", "A passive segment is its kind, its length and its bytes"),
     ],
     "a body with another number of a segment": [(WHOLE, "A field after such a number moves with it")],
     "a padded number in a body": [(WHOLE, "A padded number of a segment is written in its shortest form")],
