@@ -273,6 +273,9 @@ THROUGH_THE_PROGRAM = {
 AT_CALLS = {
     "the base of the heap behind data, where the stack comes first": ["data/heap_begins_behind_the_data"],
     "pages that hold the data and the stack": ["data/memory_holds_the_stack", "data/heap_begins_behind_the_data"],
+    "addresses of the names that the linker makes, without an end of the heap": ["data/names_of_the_linker_have_addresses"],
+    "the stack pointer, where the stack comes first and where it comes last": ["data/the_stack_begins_at_its_high_end"],
+    "steps of a search through generated objects": ["search_steps/steps_are_kept_units_and_what_they_refer_to"],
     "each call of a file that fails": ["files/each_failing_call_of_a_file_is_a_fault"],
     "each write that fails": ["files/each_failing_write_leaves_a_front", "files/a_stream_that_takes_nothing_is_a_fault"],
     "a file with a limit": ["files/a_file_has_a_limit"],
