@@ -168,7 +168,7 @@ THROUGH_THE_PROGRAM = {
         (f"{SHARED} --run segment_word", "The function at the start lays the segment that all threads have in common"),
         (f"{SHARED} --run segment_word", "Called again, that function changes nothing"),
         (f"{SHARED} --run flag_word", "And it leaves that it is done"),
-        (f"{SHARED} --run flag_word", "The flag tells so after a second call too"),
+        (f"{SHARED} --run flag_word", "The flag says so after a second call too"),
     ],
     "features of a payload, and one that ends too early": [
         (WHOLE, "Features are read"),
@@ -188,8 +188,8 @@ THROUGH_THE_PROGRAM = {
         (WHOLE, "Constructors of two objects are called by priority, and their results dropped"),
         ("--no-entry --export=f", "A wrapper hands on its parameters, and keeps the result"),
         ("--allow-undefined --no-gc-sections --no-entry",
-         "A constructor is called by its index behind the imports, and its result dropped"),
-        ("--allow-undefined --no-gc-sections --no-entry --export=f", "A wrapper calls by indices behind the imports"),
+         "A constructor is called by its index after the imports, and its result dropped"),
+        ("--allow-undefined --no-gc-sections --no-entry --export=f", "A wrapper calls by indices after the imports"),
     ],
     "sizes of bodies and of segments": [
         (f"{WHOLE} --map", "A section counts its bytes and their count, and nothing where it is empty"),

@@ -60,8 +60,8 @@ marks_are live size =
     (length-map (all_units live.units) (is_live live) ∙ (length-all live.units ∙ sym size))
     (mark_at live size)
 
-pub marks_told : (link : Link) (live : Live) (ns : List UnitCounts) → IsLiveOf link live → ns ≡ units_of link.objects → map (is_live live) (all_units ns) ≡ live.marks
-marks_told link live ns of is = ap (λ (l : List UnitCounts). map (is_live live) (all_units l)) (is ∙ sym of.units) ∙ marks_are live of.sized
+pub marks_live : (link : Link) (live : Live) (ns : List UnitCounts) → IsLiveOf link live → ns ≡ units_of link.objects → map (is_live live) (all_units ns) ≡ live.marks
+marks_live link live ns of is = ap (λ (l : List UnitCounts). map (is_live live) (all_units l)) (is ∙ sym of.units) ∙ marks_are live of.sized
 
 -- ---- the steps
 
@@ -77,6 +77,6 @@ steps_are link live facts marks edges on units are listed =
     let there : edges ≡ found (edge_of live.units) (references link live.units facts) = listed ∙ ap (λ (ns : List UnitCounts). found (edge_of ns) (references link ns facts)) (sym units) in
     rw (on, are, there, edges_followed live.units live.marks live.numbering (references link live.units facts)) refl
 
-pub steps_told : (link : Link) (live : Live) (facts : List Facts) (marks again : List Bool) (edges : List Edge) (units followed steps : ℕ) → link.args.gc_sections ≡ true → IsLiveOf link live → marks ≡ live.marks → again ≡ live.marks → edges ≡ link_edges link facts → units ≡ count_set again → followed ≡ count_by (λ (e : Edge). get_or marks e.from false) edges → steps ≡ units + followed → steps ≡ steps_to link facts live
-steps_told link live facts marks again edges units followed steps on of are are_again listed counted by_edges sum =
+pub steps_found : (link : Link) (live : Live) (facts : List Facts) (marks again : List Bool) (edges : List Edge) (units followed steps : ℕ) → link.args.gc_sections ≡ true → IsLiveOf link live → marks ≡ live.marks → again ≡ live.marks → edges ≡ link_edges link facts → units ≡ count_set again → followed ≡ count_by (λ (e : Edge). get_or marks e.from false) edges → steps ≡ units + followed → steps ≡ steps_to link facts live
+steps_found link live facts marks again edges units followed steps on of are are_again listed counted by_edges sum =
     sum ∙ rw (counted, by_edges, are, are_again) (steps_are link live facts live.marks edges on of.units refl listed)

@@ -156,7 +156,7 @@ fn steps_at_most(
         .ok_or(AllocError)
 }
 
-/// Finds what is kept, and tells by how many steps the count of steps grew.
+/// Finds what is kept, and says by how many the steps grew.
 fn counted<L: Ledger>(
     alloc: Global,
     files: &FileList<'_>,
