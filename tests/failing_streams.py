@@ -61,13 +61,18 @@ def byte_by_byte(program, refuser, folder):
 
 def piece_by_piece(program, refuser, folder):
     """Each write takes 16 bytes. Where one fails the output has what the ones before it took."""
-    whole, count = ended(program, refuser, [*WHOLE, SOUND], 0, "write", 16)
-    wrong = [] if (whole, count) == ((0, LISTING, b""), -(-len(LISTING) // 16)) else [f"{whole} by {count} writes"]
-    for number in range(1, count + 1):
-        got, _ = ended(program, refuser, [*WHOLE, SOUND], number, "write", 16)
-        if got != (4, LISTING[: 16 * (number - 1)], b""):
-            wrong.append(f"write {number}: {got}")
-    return f"{count} writes", wrong
+    writes, wrong = 0, []
+    for made in (SOUND, EXAMPLES / "bare_module.o"):
+        listing = made.with_suffix(".plan").read_bytes()
+        whole, count = ended(program, refuser, [*WHOLE, made], 0, "write", 16)
+        if (whole, count) != ((0, listing, b""), -(-len(listing) // 16)):
+            wrong.append(f"{whole} by {count} writes")
+        for number in range(1, count + 1):
+            got, _ = ended(program, refuser, [*WHOLE, made], number, "write", 16)
+            if got != (4, listing[: 16 * (number - 1)], b""):
+                wrong.append(f"write {number} of {made.name}: {got}")
+        writes += count
+    return f"{writes} writes", wrong
 
 
 def nothing_is_taken(program, refuser, folder):

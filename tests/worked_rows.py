@@ -166,7 +166,9 @@ THROUGH_THE_PROGRAM = {
     "a run of one function": [("--entry a --run a", "A function runs that calls another")],
     "runs after the one that lays the shared segment": [
         (f"{SHARED} --run segment_word", "The function at the start lays the segment that all threads have in common"),
+        (f"{SHARED} --run segment_word", "Called again, that function changes nothing"),
         (f"{SHARED} --run flag_word", "And it leaves that it is done"),
+        (f"{SHARED} --run flag_word", "The flag says so after a second call too"),
     ],
     "features of a payload, and one that ends too early": [
         (WHOLE, "Features are read"),
@@ -185,10 +187,14 @@ THROUGH_THE_PROGRAM = {
     "bodies of calls and of wrappers": [
         (WHOLE, "Constructors of two objects are called by priority, and their results dropped"),
         ("--no-entry --export=f", "A wrapper hands on its parameters, and keeps the result"),
+        ("--allow-undefined --no-gc-sections --no-entry",
+         "A constructor is called by its index after the imports, and its result dropped"),
+        ("--allow-undefined --no-gc-sections --no-entry --export=f", "A wrapper calls by indices after the imports"),
     ],
     "sizes of bodies and of segments": [
         (f"{WHOLE} --map", "A section counts its bytes and their count, and nothing where it is empty"),
         (f"{WHOLE} --map", "An active segment has its address, a passive one has none"),
+        (f"{WHOLE} --map", "A passive segment is its kind, its length and its bytes"),
     ],
     "a body with another number of a segment": [(WHOLE, "A field after such a number moves with it")],
     "a padded number in a body": [(WHOLE, "A padded number of a segment is written in its shortest form")],
@@ -267,6 +273,9 @@ THROUGH_THE_PROGRAM = {
 AT_CALLS = {
     "the base of the heap behind data, where the stack comes first": ["data/heap_begins_behind_the_data"],
     "pages that hold the data and the stack": ["data/memory_holds_the_stack", "data/heap_begins_behind_the_data"],
+    "addresses of the names that the linker makes, without an end of the heap": ["data/names_of_the_linker_have_addresses"],
+    "the stack pointer, where the stack comes first and where it comes last": ["data/the_stack_begins_at_its_high_end"],
+    "steps of a search through generated objects": ["search_steps/steps_are_kept_units_and_what_they_refer_to"],
     "each call of a file that fails": ["files/each_failing_call_of_a_file_is_a_fault"],
     "each write that fails": ["files/each_failing_write_leaves_a_front", "files/a_stream_that_takes_nothing_is_a_fault"],
     "a file with a limit": ["files/a_file_has_a_limit"],

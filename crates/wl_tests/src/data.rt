@@ -3,10 +3,11 @@
 use std::alloc::Global;
 use wl_data::{
     KeptSegment, all_can_be_placed, ensure_memory_covers, heap_base_address, heap_base_after_data,
-    heap_end_from_initial_pages, layout_object_data, stack_high_after_data,
+    heap_end_from_initial_pages, layout_object_data, stack_high_after_data, stack_pointer_init,
 };
 use wl_linking::LinkError;
 use wl_module::MemoryType;
+use wl_symbols::WasmLinkerSymbol;
 
 /// Whether that is the address that was found.
 fn is_found(found: Result<u32, LinkError>, want: u32) -> bool {
@@ -85,4 +86,28 @@ fn are_laid(alloc: Global, segments: &[KeptSegment<'_>]) -> bool {
 fn segments_stand_in_a_row(rt: HostRuntime) {
     let segments = [segment(b"abc", true, 1), segment(b"defg", true, 4)];
     assert!(rt; are_laid(rt.alloc(), &segments));
+}
+
+/// Whether that is the address of a name, where data without bytes lies at 1024 and the end of the
+/// heap isn't known.
+fn is_address(name: WasmLinkerSymbol, want: Option<u32>) -> bool {
+    match &name.data_address(1024, 1024, 65536, None, false) {
+        Ok(address) => *address == want,
+        Err(_) => false,
+    }
+}
+
+#[test]
+fn names_of_the_linker_have_addresses(rt: HostRuntime) {
+    assert!(rt; is_address(WasmLinkerSymbol::DataEnd, Some(1024)));
+    assert!(rt; is_address(WasmLinkerSymbol::GlobalBase, Some(1024)));
+    assert!(rt; is_address(WasmLinkerSymbol::DsoHandle, Some(1024)));
+    assert!(rt; is_address(WasmLinkerSymbol::WasmFirstPageEnd, Some(65536)));
+    assert!(rt; is_address(WasmLinkerSymbol::HeapEnd, None));
+}
+
+#[test]
+fn the_stack_begins_at_its_high_end(rt: HostRuntime) {
+    assert!(rt; is_found(stack_pointer_init(2000000, 1048576, true), 1048576));
+    assert!(rt; is_found(stack_pointer_init(1024, 65536, false), 66560));
 }

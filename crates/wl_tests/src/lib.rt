@@ -27,6 +27,8 @@ mod reach;
 #[cfg(test)]
 mod samples;
 #[cfg(test)]
+mod search_steps;
+#[cfg(test)]
 mod sections;
 #[cfg(test)]
 mod session;
