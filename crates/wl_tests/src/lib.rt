@@ -15,6 +15,10 @@ mod files;
 #[cfg(test)]
 mod generated;
 #[cfg(test)]
+mod layout;
+#[cfg(test)]
+mod lists;
+#[cfg(test)]
 mod live;
 #[cfg(test)]
 mod load;

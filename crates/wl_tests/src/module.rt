@@ -3,7 +3,7 @@
 use std::alloc::Global;
 use wl_module::{DataKind, ImportEntity, read_imports, read_segments, split_sections};
 
-/// Whether a type section, and a custom section `ab` with two bytes, are told apart.
+/// Whether a type section, and a custom section `ab` with two bytes, are distinguished.
 fn is_split(alloc: Global) -> bool {
     match split_sections(alloc, b"\0asm\x01\0\0\0\x01\x01\0\0\x05\x02ab\x07\x08") {
         Ok(sections) => {

@@ -33,7 +33,7 @@ fn told(alloc: Global, planned: &Result<LinkPlan<'_>, LinkError>) -> Option<Vec<
 }
 
 /// Puts a copy of an object at the end, and says whether it is there.
-fn push_copy(alloc: Global, list: &mut ObjectList, bytes: &[u8]) -> bool {
+pub(crate) fn push_copy(alloc: Global, list: &mut ObjectList, bytes: &[u8]) -> bool {
     match Vec::from_slice(alloc, bytes) {
         Ok(bytes) => list.push(bytes).is_ok(),
         Err(_) => false,

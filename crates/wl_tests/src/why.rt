@@ -59,7 +59,7 @@ fn is_valid(
     check_why(alloc, files, symbols, args, &certificate)
 }
 
-/// How many of the rows are told right, from the first on.
+/// How many of the rows are reported right, from the first on.
 fn rows_told_right(
     alloc: Global,
     files: &FileList<'_>,
