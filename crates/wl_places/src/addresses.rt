@@ -70,7 +70,10 @@ fn starts_row(starts: &[ItemList<WasmDataAddress>], object: usize) -> &[WasmData
     starts[object].as_slice()
 }
 
-/// Where each segment of each object begins.
+/// Where each segment of each object begins, object by object and by its number there.
+///
+/// # Errors
+/// `AllocError` where memory runs out.
 pub fn all_starts(
     alloc: Global,
     input: &LinkInput<'_, '_>,
@@ -90,7 +93,8 @@ pub fn all_starts(
 
 // ---- definitions
 
-/// What says where definitions lie.
+/// What says where definitions lie: of each symbol of data the address, counted in bytes from the
+/// start of the memory, or from that of each thread's block.
 #[derive(Drop)]
 pub struct AddressBook<'b, 'i, 'a> {
     /// The link, and what is kept of it.
@@ -264,6 +268,9 @@ impl<'b, 'i, 'a> AddressBook<'b, 'i, 'a> {
 }
 
 /// Refuses exported data of the linker's past the last address.
+///
+/// # Errors
+/// `TooLarge` where the address of one is past the last one.
 pub fn check_exported(
     input: &LinkInput<'_, '_>,
     placing: &Placing<'_>,

@@ -72,7 +72,11 @@ fn push_copies(
     Ok(())
 }
 
-/// The copies of those segments of the output that are copied so, in order.
+/// The copies of those segments of the output that are copied so, in order (object file linking,
+/// version 2; the threads proposal). A segment's number is its place among all of the output.
+///
+/// # Errors
+/// `AllocError` where memory runs out.
 pub fn all_copies(
     alloc: Global,
     copied: Copied,
