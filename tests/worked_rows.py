@@ -278,13 +278,17 @@ AT_CALLS = {
     "steps of a search through generated objects": ["search_steps/steps_are_kept_units_and_what_they_refer_to"],
     "each call of a file that fails": ["files/each_failing_call_of_a_file_is_a_fault"],
     "each write that fails": ["files/each_failing_write_leaves_a_front", "files/a_stream_that_takes_nothing_is_a_fault"],
-    "a file with a limit": ["files/a_file_has_a_limit"],
+    "a file with a limit": ["files/a_file_has_a_limit", "files/a_file_may_have_as_many_bytes_as_the_limit"],
+    "the third call of a file, which fails": ["files/the_read_that_finds_the_end_may_fail"],
+    "a payload of two features, and one that is cut off": ["features/features_are_listed_with_their_prefixes"],
+    "sections that are kept where the rest is stripped": ["words/sections_are_kept_by_their_names"],
     "generated objects, byte by byte": ["generated/makes_both_objects_of_a_chain"],
     "certificates that aren't valid": ["why/certificates_are_valid_or_not"],
     "fuel of a run": ["load/fuel_is_a_step_for_each_operator"],
     "names of objects that are replaced": ["session/a_name_follows_replacements"],
     "plans of objects that are replaced": ["plan/plans_follow_replacements"],
     "objects that a session refuses": ["plan/a_refused_object_changes_nothing"],
+    "one object twice in a session, of which the second is replaced": ["plan/a_replaced_object_defines_nothing_more"],
 }
 
 # Examples that stand in another script: what each shows, the script, and the function or the title of the case there.

@@ -1,7 +1,7 @@
 //! Whole files, and streams, in memory.
 
 use crate::check::LISTING;
-use crate::samples::PAIR;
+use crate::samples::{NOTHING, PAIR};
 use std::alloc::{AllocError, Global};
 use wl_files::{MemFiles, MemSink, ReadObject, read_object, write_all};
 
@@ -27,6 +27,45 @@ fn each_failing_call_of_a_file_is_a_fault(rt: HostRuntime) {
         assert!(rt; matches!(fault(rt.alloc(), call, 1000), Ok(Some(ReadObject::Fault))));
     }
     assert!(rt; matches!(fault(rt.alloc(), 79, 1000), Ok(None)));
+}
+
+/// Why this file isn't read under a limit, where the call of that number fails, if one does.
+fn fault_of(
+    alloc: Global,
+    bytes: &[u8],
+    limit: usize,
+    failing: Option<u64>,
+) -> Result<Option<ReadObject>, AllocError> {
+    let mut files = MemFiles::new(alloc);
+    files.add("a.o", bytes)?;
+    if let Some(call) = failing {
+        files.fail(call)?;
+    }
+    Ok(read_object(alloc, &mut files, "a.o", limit).err())
+}
+
+#[test]
+fn a_file_may_have_as_many_bytes_as_the_limit(rt: HostRuntime) {
+    let alloc = rt.alloc();
+    assert!(rt; matches!(fault_of(alloc, NOTHING, 8, None), Ok(None)));
+    assert!(rt;
+        matches!(
+            fault_of(alloc, b"\0asm\x01\0\0\0\0", 8, None),
+            Ok(Some(ReadObject::TooLong))
+        )
+    );
+}
+
+#[test]
+fn the_read_that_finds_the_end_may_fail(rt: HostRuntime) {
+    // A begin, a read of all eight bytes, and one of nothing.
+    assert!(rt;
+        matches!(
+            fault_of(rt.alloc(), NOTHING, 1000, Some(3)),
+            Ok(Some(ReadObject::Fault))
+        )
+    );
+    assert!(rt; matches!(fault_of(rt.alloc(), NOTHING, 1000, Some(4)), Ok(None)));
 }
 
 /// Whether a stream that takes so many bytes a call, and fails at the call of that number, takes

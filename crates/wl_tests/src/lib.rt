@@ -11,6 +11,8 @@ mod check;
 #[cfg(test)]
 mod data;
 #[cfg(test)]
+mod features;
+#[cfg(test)]
 mod files;
 #[cfg(test)]
 mod generated;
@@ -40,3 +42,5 @@ mod session;
 mod steps;
 #[cfg(test)]
 mod why;
+#[cfg(test)]
+mod words;

@@ -3,7 +3,8 @@
 ghost use Rattle.std.specs.Prelude.{◌≤◌, length};
 ghost use Rattle.wl_bytes.specs.declared.reader.TheConstants.{MAX_LEN};
 
-use crate::samples::{CALLER, NOTHING, STRONG, WEAK, args_of};
+use crate::check::LISTING;
+use crate::samples::{CALLER, NOTHING, PAIR, STRONG, WEAK, args_of};
 use std::alloc::Global;
 use wl_linking::LinkError;
 use wl_plan::{LinkPlan, ObjectList, Session, listing, plan_link};
@@ -151,6 +152,50 @@ fn stays_under_options(alloc: Global) -> bool {
 #[test]
 fn a_refused_object_changes_nothing(rt: HostRuntime) {
     assert!(rt; stays_under_options(rt.alloc()));
+}
+
+/// Whether the plan of a session is that of two functions alone, of which the first calls the second.
+fn is_plan_of_a_pair(alloc: Global, session: &Session<'_>) -> bool {
+    match told(alloc, &session.plan(alloc)) {
+        Some(text) => text.as_slice() == LISTING,
+        None => false,
+    }
+}
+
+/// Whether no plan is made for two functions of one name, of which the object of that number has
+/// the second one.
+fn is_defined_twice(alloc: Global, session: &Session<'_>, second: usize) -> bool {
+    matches!(
+        session.plan(alloc).err(),
+        Some(LinkError::DuplicateSymbol { object, .. }) if object == second
+    )
+}
+
+/// Whether the same object twice has no plan, and that of one once the other has no sections, which
+/// stays where what would replace it is no object.
+fn plans_one_of_two(alloc: Global, args: &WasmArgs) -> bool {
+    let mut session = Session::new(alloc, args);
+    session.push(PAIR).is_ok()
+        && is_plan_of_a_pair(alloc, &session)
+        && session.push(PAIR).is_ok()
+        && is_defined_twice(alloc, &session, 1)
+        && session.replace(1, NOTHING).is_ok()
+        && is_plan_of_a_pair(alloc, &session)
+        && is_malformed(session.replace(0, b"\0asm\x01\0\0"), 0)
+        && is_plan_of_a_pair(alloc, &session)
+}
+
+/// Whether it is so under these options.
+fn plans_one_of_two_under_options(alloc: Global) -> bool {
+    match args_of(alloc, &WORDS) {
+        Some(args) => plans_one_of_two(alloc, &args),
+        None => false,
+    }
+}
+
+#[test]
+fn a_replaced_object_defines_nothing_more(rt: HostRuntime) {
+    assert!(rt; plans_one_of_two_under_options(rt.alloc()));
 }
 
 /// Whether the session has the plan of these objects. It asks twice, for room may be refused once.
