@@ -18,7 +18,6 @@ use Rattle.wl_symbols.specs.Units.{defined_number}
 use Rattle.wl_symbols.specs.SlotTargets.{own_number}
 use Rattle.wl_bind.specs.FunctionSpace.{FunctionEntry, FunctionOf, function_space, function_slot_entry, own_function_entry, local_functions}
 use Rattle.wl_bind.specs.GlobalSpace.{GlobalEntry, GlobalOf, global_space, global_slot_entry, own_global_entry, local_globals}
-use Rattle.wl_bind.specs.IndexMaps.{IsIndexMap, AreIndexMaps}
 use Rattle.wl_symbols.specs.Input.{Input, keeps}
 use Rattle.wl_bind.specs.Parts.{AreIndicesOf, AreRows, IsIndexOf, IsPlaceOf}
 use Rattle.wl_bind.specs.References.{there}
@@ -26,6 +25,7 @@ use Rattle.wl_bind.specs.declared.binding.FunctionTarget.TheVariants as function
 use Rattle.wl_bind.specs.declared.binding.GlobalTarget.TheVariants as global
 use Rattle.wl_exports.specs.Exports.{OfFunction, OfGlobal, export_of}
 use Rattle.wl_exports.specs.ExportSteps.{IsPlainIf, index_at, unless_dead}
+use Rattle.wl_exports.specs.Sources.{HasIndices, HaveIndices}
 use Rattle.wl_lists.proofs.Places.{range_at}
 use Rattle.wl_exports.proofs.ListLaws.{behind_at}
 
@@ -108,11 +108,11 @@ pub record HasMap (input : Input) (maps : List WasmObjectIndexMap) (object : ℕ
       (global_at name (index_at map_is.global_indices index))
 
 pub has_map : (input : Input) (maps : List WasmObjectIndexMap) (object : ℕ) (o : Object)
-    → AreIndexMaps input maps → length (function_space input) ≤ MAX_ENTRIES
+    → HaveIndices input maps → length (function_space input) ≤ MAX_ENTRIES
     → length (global_space input) ≤ MAX_ENTRIES → slice_get input.link.objects object ≡ Some o
     → HasMap input maps object o
 has_map input maps object o are functions globals here =
-    let row = rows_at (IsIndexMap input) 0 object object input.link.objects maps o are (omega arith) here in
+    let row = rows_at (HasIndices input) 0 object object input.link.objects maps o are (omega arith) here in
     record {
       map_is = row.0;
       at = row.1;

@@ -1,6 +1,7 @@
 //! What `--export-dynamic` exports.
 
 ghost use Rattle.std.specs.Prelude.{◌≡◌, true, Some, None, slice_get, OnOk, if◌then◌else◌};
+ghost use Rattle.wl_linking.specs.Object.{Object};
 ghost use Rattle.wl_exports.specs.DataSteps.{AreDataPlaces};
 ghost use Rattle.wl_exports.specs.Exports.{candidate, candidates_in, candidates, dynamic_exports};
 ghost use Rattle.wl_exports.specs.ExportSteps.{IsPlainIf, AddsExports, takes};
@@ -43,18 +44,16 @@ fn candidate_export<'a>(
     places: &DataPlaces,
     wanted: Wanted,
     object: usize,
-    file: &File<'a>,
     number: u32,
     symbol: &WasmSymbol<'a>,
 ) -> Option<OutputExport<'a>>
     requires sources { AreSources sources.now }
     requires places { AreDataPlaces sources.now.input.now places.now }
     requires dynamic { sources.now.input.now.link.args.export_dynamic ≡ true }
-    requires here { slice_get sources.now.input.now.link.objects object ≡ Some file.now }
-    requires at { slice_get file.now.symbols number ≡ Some symbol.now }
-    ensures { IsPlainIf sources.now.input.now
-        (if takes wanted symbol.now.kind
-        then candidate sources.now.input.now object number file.now symbol.now else None) result }
+    ensures { (o : Object) → slice_get sources.now.input.now.link.objects object ≡ Some o
+        → slice_get o.symbols number ≡ Some symbol.now
+        → IsPlainIf sources.now.input.now (if takes wanted symbol.now.kind
+        then candidate sources.now.input.now object number o symbol.now else None) result }
 {
     live_units_are_closed();
     let symbols = sources.input.symbols();
@@ -87,7 +86,7 @@ fn push_symbols<'a>(
 {
     file.stands_for_an_object();
     for (i, symbol) in file.symbols().iter().enumerate() {
-        let export = candidate_export(sources, places, wanted, object, file, i as u32, symbol);
+        let export = candidate_export(sources, places, wanted, object, i as u32, symbol);
         push_some(exports, export)?;
     }
     Ok(())

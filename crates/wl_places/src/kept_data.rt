@@ -2,8 +2,6 @@
 
 ghost use Rattle.std.specs.Prelude.{◌≡◌, [], ◌∷◌, ◌++◌, if◌then◌else◌, Some, IfOk, OnOk, slice_get};
 ghost use Rattle.wl_linking.specs.Fitting.{IsWhole};
-ghost use Rattle.wl_symbols.specs.declared.units.WasmGcUnit.TheVariants.{DataSegment};
-ghost use Rattle.wl_symbols.specs.Input.{keeps};
 ghost use Rattle.wl_bind.specs.ThreadData.{is_thread_segment};
 ghost use Rattle.wl_places.specs.KeptData.{alignment_of, payload_start, kept_data, kept_segments, all_segments};
 
@@ -58,10 +56,9 @@ fn kept_data<'a>(
 }
 
 /// Appends the segment of that number to others, if it is kept.
-fn push_kept<'a>(
+fn push_if<'a>(
     kept: &mut Vec<KeptSegment<'a>>,
-    input: &LinkInput<'_, 'a>,
-    object: usize,
+    is_kept: bool,
     file: &File<'a>,
     number: u32,
     segment: &WasmDataSegment<'a>,
@@ -71,13 +68,9 @@ fn push_kept<'a>(
     requires here { slice_get file.now.segments number ≡ Some segment.now }
     requires tls { tls ≡ is_thread_segment file.now number }
     ensures { OnOk result (kept.new.items ≡ kept.old.items
-        ++ (if keeps input.now object (DataSegment number)
-        then kept_data file.now number segment.now ∷ [] else [])) }
+        ++ (if is_kept then kept_data file.now number segment.now ∷ [] else [])) }
 {
-    if input
-        .live()
-        .is_live(object, WasmGcUnit::DataSegment(number))
-    {
+    if is_kept {
         kept.push(kept_data(file, number, segment, tls))?;
     }
     Ok(())
@@ -97,7 +90,9 @@ fn kept_segments<'a>(
     let mut kept = Vec::with_capacity(alloc, file.segments().len())?;
     for (number, segment) in file.segments().iter().enumerate() {
         let tls = thread[number];
-        push_kept(&mut kept, input, object, file, number as u32, segment, tls)?;
+        let unit = WasmGcUnit::DataSegment(number as u32);
+        let is_kept = input.live().is_live(object, unit);
+        push_if(&mut kept, is_kept, file, number as u32, segment, tls)?;
     }
     Ok(ItemList::new(kept))
 }

@@ -12,10 +12,9 @@ use Rattle.wl_exports.proofs.ShownLaws.{shown_candidate}
 use Rattle.wl_exports.proofs.dynamic.candidate_export.Goals as goal
 
 pub returns-then-is_candidate : goal.returns-then-is_candidate
-returns-then-is_candidate c =
+returns-then-is_candidate c = λ o here at.
     let input = c.args.sources.now.input.now in
     let s = c.args.symbol.now in
-    let o = c.args.file.now in
     let object = c.args.object in
     let number = c.args.number in
     let kinds = ap (λ (t : LinkedSymbol). t.kind) c.symbol.view_is in
@@ -29,7 +28,7 @@ returns-then-is_candidate c =
     ap (λ (l : Link). is_candidate l object number s) (sym c.symbols-symbols.ensures)
     ∙ (sym c.is_candidate.ensures ∙ c.if-is_candidate.true) in
     let shown = shown_candidate c.live_units_are_closed.ensures.root input object number o s
-    c.requires.sources.settled.kept c.requires.dynamic c.requires.here c.requires.at has candidate in
+    c.requires.sources.settled.kept c.requires.dynamic here at has candidate in
     let P : List ℕ → Type 0 = λ n. IsPlainIf input (option_map (export_of n) (defined_entity input object number o s))
     c.symbol_export.result in
     subst (λ (e : Option ExportEntry). IsPlainIf input e c.symbol_export.result)

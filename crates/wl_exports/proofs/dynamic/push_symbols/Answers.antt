@@ -15,6 +15,8 @@ loop-i-preserved c =
     let is : s ≡ get_or c.args.file.now.symbols i s =
     c.symbol-item.is ∙ ap (λ (xs : List LinkedSymbol). get_or xs i s) items in
     let f = wanted_candidate input c.args.wanted c.args.object c.args.file.now in
+    let at = item_at c.args.file.now.symbols i s lt is in
     adds_symbol input f c.args.file.now.symbols i s c.args.exports.now.items c.loop-i.exports.items
-    c.push_some.new.exports.items (item_at c.args.file.now.symbols i s lt is) c.loop-i.invariant
-    (c.in_ok-push_some.ensures input (f i s) c.candidate_export-export.ensures)
+    c.push_some.new.exports.items at c.loop-i.invariant
+    (c.in_ok-push_some.ensures input (f i s)
+    (c.candidate_export-export.ensures c.args.file.now c.requires.here at))

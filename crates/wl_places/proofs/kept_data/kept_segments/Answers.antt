@@ -12,14 +12,14 @@ index-tls-requires c =
     let within : c.loop-number.number < length file.segments = search rules in
     omega (arith, long, within)
 
-pub push_kept-requires-clause-here : goal.push_kept-requires-clause-here
-push_kept-requires-clause-here c =
+pub push_if-requires-clause-here : goal.push_if-requires-clause-here
+push_if-requires-clause-here c =
     let within : c.loop-number.number < length c.args.file.now.segments = search rules in
     let at : c.segment-item.result ≡ get_or c.args.file.now.segments c.loop-number.number c.segment-item.result = search rules in
     item_at c.args.file.now.segments c.loop-number.number c.segment-item.result within at
 
-pub push_kept-requires-clause-tls : goal.push_kept-requires-clause-tls
-push_kept-requires-clause-tls c =
+pub push_if-requires-clause-tls : goal.push_if-requires-clause-tls
+push_if-requires-clause-tls c =
     let file = c.args.file.now in
     let k = c.loop-number.number in
     let within : k < length file.segments = search rules in
