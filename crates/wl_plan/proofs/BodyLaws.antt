@@ -1,8 +1,10 @@
 -- What becomes of the bodies of kept functions.
-use Rattle.std.proofs.Common.{◌≡◌, ◌∙◌, ◌<◌, ℕ, ◌+◌, Bool, true, false, not, ◌||◌, ◌==◌, List, [], ◌∷◌, length, refl, sym, ap, subst, arith, inl, inr, Option, Some, None, slice_get, if◌then◌else◌, eqb-true, lt-ltb}
+use Rattle.std.proofs.Common.{◌≡◌, ◌∙◌, ◌<◌, ℕ, zero, suc, ◌+◌, Bool, true, false, not, ◌||◌, ◌==◌, List, [], ◌∷◌, ◌++◌, length, Contains, refl, sym, ap, subst, arith, inl, inr, Option, Some, None, slice_get, if◌then◌else◌, eqb-true, lt-ltb}
 use Rattle.std.specs.Option.{option_and_then}
 use Rattle.std.proofs.Math.Bool.{or-false}
 use Rattle.std.proofs.lemmas.Bool.{cases_lt}
+use Rattle.std.proofs.lemmas.Option.{slice_get_within}
+use Rattle.std.proofs.lemmas.List.Elements.{Contains-append_cases}
 use Rattle.wl_module.specs.Bodies.{Body}
 use Rattle.wl_bytes.specs.Outcome.{HasCause}
 use Rattle.wl_bytes.specs.declared.read_error.ReadError.{ReadError}
@@ -21,8 +23,9 @@ use Rattle.wl_ops.specs.Numbers.{HasNumbers, AreTold}
 use Rattle.wl_ops.specs.Rewriting.{new_index, Rewrites, LacksIndex, RemapFault, IsRemapped}
 use Rattle.wl_ops.specs.declared.op.DataIndexImm.{DataIndexImm}
 use Rattle.wl_symbols.specs.Input.{Input, keeps}
-use Rattle.wl_plan.specs.Bodies.{body_in, new_number}
-use Rattle.wl_plan.specs.BodySteps.{AreNewNumbers, AreSoundBodies, HasSoundBody, IsBodyFrom}
+use Rattle.wl_plan.specs.Bodies.{body_in, new_number, IsBodyIn}
+use Rattle.wl_plan.specs.BodySteps.{AreNewNumbers, AreSoundBodies, AreMovedIn, AreRewritten, IsTakenFrom}
+use Rattle.wl_plan.specs.declared.rewriting.RewrittenBody.{RewrittenBody}
 use Rattle.wl_plan.specs.Parsing.{link_error_of}
 use Rattle.wl_places.specs.declared.placing.Placing.{Placing}
 use Rattle.wl_plan.proofs.NumberLaws.{counts_at}
@@ -68,6 +71,19 @@ pub body_at : (input : Input) (object function : ℕ) (o : Object) (b : Body)
     → slice_get input.link.objects object ≡ Some o → slice_get o.bodies function ≡ Some b
     → body_in input object function ≡ Some b
 body_at input object function o b here there = rw here there
+
+pub object_is_there : (input : Input) (object function : ℕ) (b : Body)
+    → body_in input object function ≡ Some b → object < length input.link.objects
+object_is_there input object function b is =
+    let f : IsFound input object function b = found input object function b is in
+    slice_get_within input.link.objects object f.o f.here
+
+-- the body is that of a kept function of the object, in a link of whole objects
+pub record HasSoundBody (input : Input) (object : ℕ) (b : Body) : Type 0 where
+  pub sound : AreSoundBodies input
+  pub function : ℕ
+  pub here : body_in input object function ≡ Some b
+  pub is_kept : keeps input object (DefinedFunction function) ≡ true
 
 -- ---- no refusal but want of memory
 
@@ -191,20 +207,23 @@ bytes_are f false (n ∷ ns) own copy e r =
     absurd (let none = eqb-true (length (n ∷ ns)) 0 (not_not (length (n ∷ ns) == 0) e) in omega (arith, none))
 
 -- what becomes of a body
-pub renumbered_is : (input : Input) (g : Placing) (object : ℕ) (own b : Body)
+pub renumbered_is : (input : Input) (g : Placing) (object function : ℕ) (own b : Body)
     (numbers : List (Option ℕ)) (fields after copy old : List ℕ) (changed : Bool)
-    → AreNewNumbers input g object numbers → old ≡ own.bytes
+    → body_in input object function ≡ Some own → AreNewNumbers input g object numbers
+    → old ≡ own.bytes
     → IsRemapped (new_index numbers) fields (changed, (copy, after)) old
     → b.bytes ≡ (if changed then copy else own.bytes) → b.owned ≡ (own.owned || changed)
     → b.code_offset ≡ own.code_offset → b.object_index ≡ object
-    → IsBodyFrom input g object own b
-renumbered_is input g object own b numbers fields after copy old changed new same m bytes owned offset index =
+    → IsBodyIn input g object function b
+renumbered_is input g object function own b numbers fields after copy old changed found new same m bytes owned offset index =
     let ns : List DataIndexImm = m.numbers in
     let some : changed ≡ not (length ns == 0) = m.some in
     let r : Rewrites (new_index numbers) 0 ns own.bytes copy =
     subst (λ (t : List ℕ). Rewrites (new_index numbers) 0 ns t copy) same m.bytes in
     let here : b.bytes ≡ copy = bytes ∙ bytes_are (new_index numbers) changed ns own.bytes copy some r in
     record {
+      own = own;
+      here = found;
       bytes = record {
         numbers = ns;
         theirs = subst (λ (t : List ℕ). AreTold ns t) same m.theirs;
@@ -218,11 +237,67 @@ renumbered_is input g object own b numbers fields after copy old changed new sam
     }
 
 -- what becomes of one that numbers no segment
-pub copied_is : (input : Input) (g : Placing) (object : ℕ) (own b : Body)
-    (numbers : List (Option ℕ)) → AreNewNumbers input g object numbers → AreTold [] own.bytes
-    → b.bytes ≡ own.bytes → b.owned ≡ own.owned → b.code_offset ≡ own.code_offset
-    → b.object_index ≡ object → IsBodyFrom input g object own b
-copied_is input g object own b numbers new told bytes owned offset index =
-    renumbered_is input g object own b numbers [] [] own.bytes own.bytes false new refl
-    (record { numbers = []; theirs = told; some = refl; bytes = refl; places = tt }) bytes
-    (owned ∙ sym (or-false own.owned)) offset index
+pub copied_is : (input : Input) (g : Placing) (object function : ℕ) (own b : Body)
+    → body_in input object function ≡ Some own → AreTold [] own.bytes → b.bytes ≡ own.bytes
+    → b.owned ≡ own.owned → b.code_offset ≡ own.code_offset → b.object_index ≡ object
+    → IsBodyIn input g object function b
+copied_is input g object function own b found told bytes owned offset index = record {
+  own = own;
+  here = found;
+  bytes = record { numbers = []; theirs = told; rewritten = bytes };
+  owned = owned ∙ sym (or-false own.owned);
+  code_offset = offset;
+  object_index = index;
+}
+
+-- where its fields stand then
+pub fields_moved : (input : Input) (g : Placing) (object : ℕ) (numbers : List (Option ℕ))
+    (fields after copy old body : List ℕ) (changed : Bool) → AreNewNumbers input g object numbers
+    → old ≡ body → IsRemapped (new_index numbers) fields (changed, (copy, after)) old
+    → AreMovedIn input g object body fields after
+fields_moved input g object numbers fields after copy old body changed new same m = record {
+  numbers = m.numbers;
+  theirs = subst (λ (t : List ℕ). AreTold m.numbers t) same m.theirs;
+  row = numbers;
+  are_new = new;
+  moved = m.places;
+}
+
+-- ---- bodies that were rewritten with their fields
+
+pub only_one : {X : Type 0} (x y : X) → Contains (x ∷ []) y → x ≡ y
+only_one x y (zero, lt, is) = is
+only_one x y (suc k, lt, is) = absurd (omega (arith, lt))
+
+-- what is taken from them is the body of its function
+pub taken_is : (input : Input) (g : Placing) (bodies : List RewrittenBody) (object function : ℕ)
+    (b : Body) → AreRewritten input g bodies → IsTakenFrom bodies object function b
+    → IsBodyIn input g object function b
+taken_is input g bodies object function b are t =
+    let one : IsBodyIn input g (t.one).object (t.one).function (t.one).body = are t.one t.listed in
+    rw t.body_is
+    (subst (λ i. IsBodyIn input g i function (t.one).body) t.object_is
+    (subst (λ k. IsBodyIn input g (t.one).object k (t.one).body) t.function_is one))
+
+-- one more of them
+pub one_more_rewritten : (input : Input) (g : Placing) (old new : List RewrittenBody)
+    (more : RewrittenBody) → AreRewritten input g old
+    → IsBodyIn input g more.object more.function more.body → new ≡ old ++ more ∷ []
+    → AreRewritten input g new
+one_more_rewritten input g old new more are is grown one listed =
+    elim (Contains-append_cases old (more ∷ []) one
+    (subst (λ (bs : List RewrittenBody). Contains bs one) grown listed)) [
+      | inl before ↦ are one before
+      | inr last ↦
+          subst (λ (x : RewrittenBody). IsBodyIn input g x.object x.function x.body)
+          (only_one more one last) is
+    ]
+
+-- two lists with one more are the same in the last one
+pub last_is : {X : Type 0} (xs ys : List X) (x y : X) → xs ++ x ∷ [] ≡ ys ++ y ∷ [] → x ≡ y
+last_is [] [] x y e = cc (e)
+last_is [] (z ∷ []) x y e = absurd cc
+last_is [] (z ∷ (w ∷ ys)) x y e = absurd cc
+last_is (z ∷ []) [] x y e = absurd cc
+last_is (z ∷ (w ∷ xs)) [] x y e = absurd cc
+last_is (z ∷ xs) (w ∷ ys) x y e = last_is xs ys x y (cc (e))

@@ -1,5 +1,5 @@
 -- A link that has a plan has no cause in any step.
-use Rattle.wl_linking.specs.Steps.{Clear, Step, NoStep}
+use Rattle.wl_linking.specs.Steps.{Clear, NoStep}
 use Rattle.wl_linking.specs.declared.error.LinkError.{LinkError}
 use Rattle.wl_linking.proofs.StepLaws.{IsRow, first_clear, rest_clear, row_end, row_more}
 use Rattle.wl_symbols.specs.Link.{Link}
@@ -11,7 +11,6 @@ use Rattle.wl_bind.specs.Bound.{bind_fault, bind_steps}
 use Rattle.wl_bind.specs.Conflicts.{IsStubConflict, IsHostConflict}
 use Rattle.wl_bind.specs.Kinds.{IsWrongKind}
 use Rattle.wl_bind.specs.Signatures.{IsMismatch}
-use Rattle.wl_bind.specs.SpaceFaults.{IsSpaceTooLarge}
 use Rattle.wl_bind.specs.Undefined.{IsUndefinedData, IsUndefinedImport}
 use Rattle.wl_exports.specs.Faults.{IsExportFault}
 use Rattle.wl_exports.specs.Wrapped.{AreTooManyWrappers}

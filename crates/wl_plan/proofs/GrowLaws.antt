@@ -15,8 +15,8 @@ use Rattle.wl_bind.specs.FunctionSpace.{FunctionEntry, FunctionOf, stub_part, fu
 use Rattle.wl_symbols.specs.Input.{Input, keeps}
 use Rattle.wl_bind.specs.Parts.{by_object}
 use Rattle.wl_bind.specs.declared.binding.FunctionTarget.TheVariants.{Defined, Stub}
-use Rattle.wl_plan.specs.Bodies.{AreMadeOps, IsBodyOf, IsBodyIn, IsEncodedBody, body_in, called}
-use Rattle.wl_plan.specs.BodySteps.{IsBodyFrom, AddsMadeBody, AddsBodies}
+use Rattle.wl_plan.specs.Bodies.{AreMadeOps, IsBodyOf, IsBodyIn, IsEncodedBody, called}
+use Rattle.wl_plan.specs.BodySteps.{AddsMadeBody, AddsBodies}
 use Rattle.wl_plan.specs.FunctionSteps.{linker_functions, own_function_part}
 use Rattle.wl_places.specs.declared.placing.Placing.{Placing}
 use Rattle.wl_lists.proofs.Beside.{zip_joined}
@@ -51,20 +51,11 @@ adds_same input g entries others old new same a =
 
 -- ---- functions of an object
 
-pub adds_kept : (input : Input) (g : Placing) (object function : ℕ) (own b : Body)
+pub adds_kept : (input : Input) (g : Placing) (object function : ℕ) (b : Body)
     (old new : List Body) → keeps input object (DefinedFunction function) ≡ true
-    → body_in input object function ≡ Some own → IsBodyFrom input g object own b
-    → new ≡ old ++ b ∷ []
+    → IsBodyIn input g object function b → new ≡ old ++ b ∷ []
     → AddsBodies input g (own_function_part input object function) old new
-adds_kept input g object function own b old new kept here is grown =
-    let body : IsBodyIn input g object function b = record {
-      own = own;
-      here = here;
-      bytes = is.bytes;
-      owned = is.owned;
-      code_offset = is.code_offset;
-      object_index = is.object_index;
-    } in
+adds_kept input g object function b old new kept body grown =
     adds_same input g (FunctionOf (Defined object function) ∷ [])
     (own_function_part input object function) old new (sym (one_own input object function kept))
     (adds_one input g (FunctionOf (Defined object function)) old new b body grown)

@@ -1,6 +1,6 @@
 -- What is answered by the layout of a plan is answered by the slots of the space alone: no wrapper
 -- has a slot.
-use Rattle.std.proofs.Common.{◌≡◌, ◌∙◌, ℕ, zero, suc, List, [], ◌∷◌, ◌++◌, map, refl, ap, Option, Some, None, slice_get}
+use Rattle.std.proofs.Common.{◌≡◌, ℕ, zero, suc, List, [], ◌∷◌, ◌++◌, map, refl, ap, Option, Some, None, slice_get}
 use Rattle.std.specs.Prelude.{Result, Ok, Err}
 use Rattle.wl_custom.specs.RelocationTypes.{taking_of}
 use Rattle.wl_custom.specs.Symbols.{Symbol}
@@ -12,14 +12,14 @@ use Rattle.wl_exports.specs.Wrappers.{wrapped}
 use Rattle.wl_index.specs.declared.index.TheConstants.{WASM_DEAD_INDEX}
 use Rattle.wl_index.specs.declared.index_map.WasmObjectIndexMap.{WasmObjectIndexMap}
 use Rattle.wl_linking.specs.Object.{Object}
-use Rattle.wl_reloc.specs.Resolving.{Resolver, behind_first, function_index, resolved, slot_in, slot_of, taken}
+use Rattle.wl_reloc.specs.Resolving.{Resolver, behind_first, function_index, slot_in, slot_of, taken}
 use Rattle.wl_reloc.specs.declared.addresses.AddressBases.{AddressBases}
 use Rattle.wl_reloc.specs.declared.error.RelocError.{RelocError}
 use Rattle.wl_symbols.specs.Input.{Input}
 use Rattle.wl_symbols.specs.declared.relocated.Relocated.{Relocated}
 use Rattle.wl_plan.specs.Plan.{IsPlan}
 use Rattle.wl_plan.specs.Resolved.{answer_by, answer_for}
-use Rattle.wl_plan.specs.Table.{function_slots, space_slots}
+use Rattle.wl_plan.specs.Table.{space_slots}
 use Rattle.wl_plan.specs.declared.layout.LinkPlan.{LinkPlan}
 
 -- by these slots

@@ -1,5 +1,5 @@
 -- What the linker makes under a name is listed under it.
-use Rattle.std.proofs.Common.{◌≡◌, ◌∙◌, inl, inr, ℕ, List, ◌++◌, refl, sym, ap, subst, Option, Some, Contains}
+use Rattle.std.proofs.Common.{◌≡◌, ◌∙◌, inl, inr, List, ◌++◌, refl, sym, ap, subst, Some, Contains}
 use Rattle.wl_module.specs.Types.{FunctionType}
 use Rattle.wl_lists.proofs.Beside.{zip_left}
 use Rattle.wl_lists.proofs.In.{IsIn, in_split, list_in, place_in}

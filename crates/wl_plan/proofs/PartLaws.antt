@@ -1,9 +1,9 @@
 -- The parts of a plan fit one another: types, bodies, numbers of segments, and slots.
-use Rattle.std.proofs.Common.{◌≡◌, ◌≢◌, ◌∙◌, ◌⊎◌, inl, inr, ℕ, zero, suc, ◌+◌, ◌-◌, ◌<◌, ◌≤◌, ◌||◌, ◌&&◌, Bool, true, false, max, List, [], ◌∷◌, ◌++◌, length, map, refl, sym, ap, subst, arith, Option, Some, None, slice_get, get_or, length-append, Contains, position}
-use Rattle.std.specs.List.{AllZip, filter_map, cons_option, list_any}
-use Rattle.std.specs.Option.{option_map, option_and_then, unwrap_or}
+use Rattle.std.proofs.Common.{◌≡◌, ◌≢◌, ◌∙◌, inl, inr, ℕ, zero, suc, ◌+◌, ◌-◌, ◌<◌, ◌≤◌, ◌||◌, ◌&&◌, Bool, true, false, List, [], ◌∷◌, ◌++◌, length, map, refl, sym, ap, subst, arith, Option, Some, None, slice_get, get_or, length-append, Contains, position}
+use Rattle.std.specs.List.{AllZip, filter_map, cons_option}
+use Rattle.std.specs.Option.{option_map, unwrap_or}
 use Rattle.std.proofs.Math.Nat.{le-max_left}
-use Rattle.std.proofs.lemmas.Bool.{and_parts, cases_Bool}
+use Rattle.std.proofs.lemmas.Bool.{cases_Bool}
 use Rattle.std.proofs.lemmas.List.Quantifiers.{position-Some}
 use Rattle.std.proofs.lemmas.Option.{same_Some, slice_get_within}
 use Rattle.wl_module.specs.Bodies.{Body}
@@ -11,12 +11,11 @@ use Rattle.wl_module.specs.Types.{FunctionType}
 use Rattle.wl_module.specs.declared.limits.TableType.{TableType}
 use Rattle.wl_custom.specs.RelocationTypes.{is_table_index, is_table_number, is_global_index}
 use Rattle.wl_index.specs.declared.index.TheConstants.{WASM_DEAD_INDEX}
-use Rattle.wl_linking.specs.Object.{Object}
 use Rattle.wl_lists.proofs.Beside.{zip_length, zip_left, zip_right}
 use Rattle.wl_lists.proofs.Firsts.{in_firsts}
 use Rattle.wl_lists.proofs.Found.{any_in}
 use Rattle.wl_lists.proofs.In.{IsIn, at_is_in, in_split, list_in, place_in}
-use Rattle.wl_lists.proofs.Places.{append_split, came_at, item_at, there_is}
+use Rattle.wl_lists.proofs.Places.{append_split, came_at, there_is}
 use Rattle.wl_ops.specs.Decoding.{AreTaken}
 use Rattle.wl_ops.specs.Numbers.{AreTold, HasNumbers}
 use Rattle.wl_ops.specs.Rewriting.{Rewrites, renumbered}
@@ -30,11 +29,11 @@ use Rattle.wl_symbols.specs.declared.relocated.Relocated.{Relocated}
 use Rattle.wl_symbols.specs.declared.units.WasmGcUnit.TheVariants.{DataSegment}
 use Rattle.wl_bind.specs.EntryTypes.{function_slot, type_of_entry}
 use Rattle.wl_bind.specs.FunctionSpace.{FunctionEntry, FunctionOf, InitMemory, function_space}
-use Rattle.wl_bind.specs.Made.{has_table, imports_table, table_size}
+use Rattle.wl_bind.specs.Made.{has_table, table_size}
 use Rattle.wl_bind.specs.OutputTypes.{output_types}
 use Rattle.wl_bind.specs.Parts.{StandOnce}
 use Rattle.wl_bind.specs.Sameness.{same_target}
-use Rattle.wl_bind.specs.Scan.{asks_for_table, function_of, names_function, table_function_of, table_functions, unless_stub}
+use Rattle.wl_bind.specs.Scan.{asks_for_table, names_function, table_function_of, table_functions}
 use Rattle.wl_bind.specs.declared.binding.FunctionTarget.{FunctionTarget}
 use Rattle.wl_bind.specs.declared.binding.FunctionTarget.TheVariants as function
 use Rattle.wl_exports.specs.Exports.{ExportEntry}
@@ -45,11 +44,11 @@ use Rattle.wl_plan.specs.Functions.{IsOutputFunction, IsTypeNumber, IsWrapperFun
 use Rattle.wl_plan.specs.Origins.{Origin, OfObject, OfStub, OfWrapper, PlannedFunction}
 use Rattle.wl_plan.specs.Plan.{IsPlan}
 use Rattle.wl_plan.specs.Running.{HasMadeBody}
-use Rattle.wl_plan.specs.Table.{IsElement, function_slots, output_table, slot_behind_first, slot_of, slot_of_entry, space_slots, wrapper_slots}
+use Rattle.wl_plan.specs.Table.{IsElement, slot_behind_first, slot_of_entry, space_slots, wrapper_slots}
 use Rattle.wl_plan.specs.declared.layout.LinkPlan.{LinkPlan}
 use Rattle.wl_places.specs.declared.placing.Placing.{Placing}
 use Rattle.wl_plan.proofs.RunningLaws.{own_or_wrapper}
-use Rattle.wl_plan.proofs.SegmentLaws.{SegmentsHaveLayouts, same_pair}
+use Rattle.wl_plan.proofs.SegmentLaws.{same_pair}
 
 -- ---- types and bodies
 

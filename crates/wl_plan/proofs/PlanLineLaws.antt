@@ -1,14 +1,13 @@
 -- The listing of a plan, part by part.
 use Rattle.std.proofs.Common.{◌≡◌, ◌∙◌, ℕ, List, [], ◌∷◌, ◌++◌, map, refl, sym, ap, subst, append-nil}
 use Rattle.std.specs.Prelude.{Result, Ok, Err, OnOk}
-use Rattle.std.specs.List.{AllByRecursion, flat_map}
+use Rattle.std.specs.List.{flat_map}
 use Rattle.std.proofs.lemmas.List.Concat.{flat_map-append}
 use Rattle.wl_module.specs.Bodies.{Body}
 use Rattle.wl_module.specs.Exports.{Exported}
 use Rattle.wl_module.specs.Types.{FunctionType}
 use Rattle.wl_custom.specs.Debug.{DebugInput}
 use Rattle.wl_output.specs.declared.fixups.Fixup.{Fixup}
-use Rattle.wl_check.specs.Ranges.{InRange}
 use Rattle.wl_check.specs.Spelled.{AnswersListing, IsListing, ReadsListing}
 use Rattle.wl_check.specs.Texts.{line_text}
 use Rattle.wl_check.specs.declared.listing.ListingError.{ListingError}

@@ -1,21 +1,23 @@
 -- What planning answers, by the answers of its steps.
-use Rattle.std.proofs.Common.{◌≡◌, ◌+◌, length, refl, subst, inl, inr}
-use Rattle.std.specs.Prelude.{IfErr, OnOk, Result, Ok, Err}
+use Rattle.std.proofs.Common.{◌≡◌, ℕ, ◌+◌, List, [], ◌∷◌, length, refl, inl, inr}
 use Rattle.wl_linking.specs.Steps.{Clear, Refuses, Step, NoStep}
 use Rattle.wl_linking.specs.declared.error.LinkError.{LinkError}
 use Rattle.wl_linking.specs.declared.error.LinkError.TheVariants.{TooLarge}
 use Rattle.wl_linking.specs.declared.error.Quantity.TheVariants.{Address, Space}
 use Rattle.wl_bind.specs.FunctionSpace.{function_space}
 use Rattle.wl_symbols.specs.Input.{Input}
+use Rattle.wl_bind.specs.IndexMaps.{IsIndexMap, AreIndexMaps}
 use Rattle.wl_bind.specs.SpaceFaults.{index_fault}
-use Rattle.wl_exports.specs.Faults.{IsExportFault}
+use Rattle.wl_index.specs.declared.index_map.WasmObjectIndexMap.{WasmObjectIndexMap}
+use Rattle.wl_lists.specs.Rows.{AreRows}
+use Rattle.wl_exports.specs.Sources.{HasIndices, HaveIndices}
 use Rattle.wl_exports.specs.Wrapped.{AreTooManyWrappers}
 use Rattle.wl_exports.specs.Wrappers.{wrapped}
 use Rattle.wl_places.specs.Addresses.{HasHighExport, HasHighSymbol, IsAddressTooHigh}
 use Rattle.wl_plan.specs.Faults.{IsPlacedFault, kept_fault, laid_fault, placed_fault, value_steps}
-use Rattle.wl_plan.specs.Outline.{AreChecked, HasWrapperRoom}
+use Rattle.wl_places.specs.IndexedMaps.{IsWholeMap, AreWholeMaps}
+use Rattle.wl_plan.specs.Outline.{HasWrapperRoom}
 use Rattle.wl_places.specs.Placing.{IsPlacing, place_fault}
-use Rattle.wl_plan.specs.declared.layout.LinkPlan.{LinkPlan}
 use Rattle.wl_places.specs.declared.placing.Placing.{Placing}
 use Rattle.wl_linking.proofs.StepLaws.{clear_end, clear_step, refuses_behind, refuses_here, refuses_more, row_behind, row_clear, row_refuses}
 use Rattle.wl_plan.proofs.PlanLaws.{OnePlacing, at_most, index_is_row, index_row, place_is_row, place_row, placed_clear, placed_refuses}
@@ -46,24 +48,18 @@ pub record AreNumbered (input : Input) : Type 0 where
   pub indexed : Clear (index_fault input)
   pub few : Clear (AreTooManyWrappers input)
 
-behind_refuses : (input : Input) (e : LinkError) → AreNumbered input
+pub behind_refuses : (input : Input) (e : LinkError) → AreNumbered input
     → Refuses (laid_fault input) e → Refuses (kept_fault input) e
 behind_refuses input e clear h =
     row_behind (index_row input) (index_is_row input) (behind_index input) e clear.indexed
     (refuses_behind (AreTooManyWrappers input) (laid_fault input) e clear.few h)
 
--- all that is answered from there on is answered of what is kept
-pub kept_err : (input : Input) (r : Result LinkPlan LinkError) → AreNumbered input
-    → IfErr r (Refuses (laid_fault input)) → IfErr r (Refuses (kept_fault input))
-kept_err input (Ok plan) indexed h = tt
-kept_err input (Err e) indexed h = behind_refuses input e indexed h
-
-pub kept_clear : (input : Input) (r : Result LinkPlan LinkError) → AreNumbered input
-    → OnOk r (Clear (laid_fault input)) → OnOk r (Clear (kept_fault input))
-kept_clear input (Err e) indexed h = tt
-kept_clear input (Ok plan) indexed h =
-    row_clear (index_row input) (index_is_row input) (behind_index input) indexed.indexed
-    (clear_step (AreTooManyWrappers input) (laid_fault input) indexed.few h)
+-- nothing is refused where nothing behind it is
+pub kept_clear : (input : Input) → AreNumbered input → Clear (laid_fault input)
+    → Clear (kept_fault input)
+kept_clear input clear h =
+    row_clear (index_row input) (index_is_row input) (behind_index input) clear.indexed
+    (clear_step (AreTooManyWrappers input) (laid_fault input) clear.few h)
 
 -- ---- from the placing of data on
 
@@ -115,12 +111,27 @@ placed_ok input g symbols exports values =
 
 -- ---- exports
 
-pub checked_sound : (input : Input) (r : Result (Unit {0}) LinkError) (u : Unit {0}) → r ≡ Ok u
-    → AreChecked input r → Clear (IsExportFault input)
-checked_sound input r u is h =
-    subst (λ (x : Result (Unit {0}) LinkError). OnOk x (Clear (IsExportFault input))) is h.sound
+-- what the maps of objects say, of which less is asked
+rows_say : {O X : Type 0} (P Q : ℕ → O → X → Type 0)
+    → ((n : ℕ) (o : O) (x : X) → P n o x → Q n o x) → (n : ℕ) (os : List O) (xs : List X)
+    → AreRows P n os xs → AreRows Q n os xs
+rows_say P Q less n [] [] are = tt
+rows_say P Q less n [] (x ∷ xs) are = absurd are
+rows_say P Q less n (o ∷ os) [] are = absurd are
+rows_say P Q less n (o ∷ os) (x ∷ xs) are =
+    (less n o x are.0, rows_say P Q less (n + 1) os xs are.1)
 
-pub checked_refused : (input : Input) (r : Result (Unit {0}) LinkError) (e : LinkError) → r ≡ Err e
-    → AreChecked input r → Refuses (IsExportFault input) e
-checked_refused input r e is h =
-    subst (λ (x : Result (Unit {0}) LinkError). IfErr x (Refuses (IsExportFault input))) is h.refused
+-- maps have the indices of functions and globals, before and after data is placed
+pub index_maps_have : (input : Input) (maps : List WasmObjectIndexMap) → AreIndexMaps input maps
+    → HaveIndices input maps
+index_maps_have input maps are =
+    rows_say (IsIndexMap input) (HasIndices input)
+    (λ n o m is. record { functions = is.functions; globals = is.globals }) 0 input.link.objects
+    maps are
+
+pub whole_maps_have : (input : Input) (g : Placing) (maps : List WasmObjectIndexMap)
+    → AreWholeMaps input g maps → HaveIndices input maps
+whole_maps_have input g maps are =
+    rows_say (IsWholeMap input g) (HasIndices input)
+    (λ n o m is. record { functions = is.functions; globals = is.globals }) 0 input.link.objects
+    maps are

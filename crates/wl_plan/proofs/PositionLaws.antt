@@ -3,7 +3,7 @@ use Rattle.std.proofs.Common.{◌≡◌, ◌∙◌, ◌≤◌, ◌<◌, ℕ, zer
 use Rattle.std.specs.List.{AllByRecursion, AllZip}
 use Rattle.std.proofs.lemmas.Bool.{cases_lt, and_parts}
 use Rattle.std.proofs.lemmas.List.{drop_all}
-use Rattle.std.proofs.lemmas.Option.{slice_get-get_or, slice_get_within}
+use Rattle.std.proofs.lemmas.Option.{slice_get_within}
 use Rattle.std.proofs.lemmas.List.Elements.{Contains-append_left, Contains-append_right}
 use Rattle.wl_module.specs.Bodies.{Body}
 use Rattle.wl_linking.specs.Fitting.{IsWhole, IsFitting, code_pieces}
@@ -26,12 +26,12 @@ use Rattle.wl_symbols.specs.declared.relocated.FixupPlace.{FixupPlace}
 use Rattle.wl_symbols.specs.declared.relocated.FixupPlace.TheVariants.{Code, Segment}
 use Rattle.wl_symbols.specs.declared.relocated.Relocated.{Relocated}
 use Rattle.wl_plan.specs.Bodies.{body_in, new_number, IsMovedBy, IsMovedAt, IsMovedIn}
-use Rattle.wl_plan.specs.BodySteps.{AreNewNumbers, AreAllNumbers, AreSoundBodies, HasSoundBody}
-use Rattle.wl_plan.specs.PositionSteps.{is_code, share_body, goes_on, AreOfOneBody, AreKept, IsThere, stays, AddsMoved}
+use Rattle.wl_plan.specs.BodySteps.{AreNewNumbers, AreAllNumbers, AreSoundBodies, AreMovedIn}
+use Rattle.wl_plan.specs.PositionSteps.{is_code, share_body, goes_on, AreOfOneBody, AreKept, IsThere, stays, IsMoving, AddsMoved}
 use Rattle.wl_places.specs.declared.placing.Placing.{Placing}
 use Rattle.wl_lists.proofs.In.{at_is_in}
 use Rattle.wl_lists.proofs.Places.{came_at, all_at, append_split}
-use Rattle.wl_plan.proofs.BodyLaws.{UnmarkedNumberNone, body_at, none_told}
+use Rattle.wl_plan.proofs.BodyLaws.{UnmarkedNumberNone, body_at, none_told, only_one}
 use Rattle.wl_plan.proofs.FixupListLaws.{all_more}
 
 -- ---- where a kept relocation is from
@@ -234,13 +234,6 @@ codes : (p : FixupPlace) → is_code p ≡ true → p ≡ Code
 codes Code e = refl
 codes Segment e = absurd cc
 
-first_code : (first other : Relocated) → share_body first other ≡ true → is_code first.place ≡ true
-first_code first other e =
-    let same_unit : Bool = first.site.unit == other.site.unit in
-    let same_object : Bool = first.object == other.object in
-    let both : Bool = is_code first.place && is_code other.place in
-    (and_parts (is_code first.place) (is_code other.place) (and_parts both same_object (and_parts (both && same_object) same_unit e).0).0).0
-
 -- what two fields of one body have in common
 pub record AreShared (first other : Relocated) : Type 0 where
   pub place : other.place ≡ Code
@@ -307,6 +300,13 @@ all_moved input g object body numbers ns (r ∷ rs) (q ∷ new) are told there m
       (there.0).here m.0,
   all_moved input g object body numbers ns rs new are told there.1 m.1,
 )
+
+pub run_moved : (input : Input) (g : Placing) (object : ℕ) (body : Body) (rs : List Relocated)
+    (old new : List ℕ) → old ≡ map position_of rs → AllByRecursion (IsThere input object body) rs
+    → AreMovedIn input g object body.bytes old new → AllZip (IsMovedIn input g) rs new
+run_moved input g object body rs old new are there m =
+    all_moved input g object body m.row m.numbers rs new m.are_new m.theirs there
+    (subst (λ (ps : List ℕ). AllMove (new_index m.row) m.numbers ps new) are m.moved)
 
 -- ---- where they lie
 
@@ -384,20 +384,6 @@ one_stays : (input : Input) (g : Placing) (r : Relocated) → r.place ≡ Segmen
 one_stays input g r is =
     (subst (λ (p : FixupPlace). IsMovedAt input g p r r.site.position) (sym is) refl, tt)
 
--- and fields of data stand alone
-pub data_stays : (input : Input) (g : Placing) (first : Relocated) (rs : List Relocated)
-    → slice_get rs 0 ≡ Some first → first.place ≡ Segment → AreOfOneBody rs
-    → AllZip (IsMovedIn input g) rs (map position_of rs)
-data_stays input g first [] at is one = tt
-data_stays input g first (r ∷ []) at is one =
-    let same : first ≡ r = cc (at) in
-    one_stays input g r (subst (λ (x : Relocated). x.place ≡ Segment) same is)
-data_stays input g first (r ∷ (q ∷ others)) at is one =
-    let same : first ≡ r = cc (at) in
-    let code : is_code r.place ≡ true = first_code r q one.0 in
-    absurd (never_code r.place (subst (λ (x : Relocated). x.place ≡ Segment) same is)
-    (codes r.place code))
-
 -- ---- runs
 
 -- one more field of the body
@@ -428,45 +414,11 @@ pub has_first : (run : List Relocated) → (length run == 0) ≡ false → 0 < l
 has_first [] none = absurd cc
 has_first (r ∷ run) some = omega arith
 
--- what is done, the run, and what is left: where the next field begins a run of its own
-pub after_run : (input : Input) (g : Placing) (done run left more next : List Relocated)
-    (r : Relocated) (old new positions : List ℕ) → done ++ (run ++ left) ≡ relocations input
-    → left ≡ r ∷ more → next ≡ r ∷ [] → positions ≡ old ++ new
-    → AllZip (IsMovedIn input g) done old → AllZip (IsMovedIn input g) run new
-    → (all : List Relocated) × (all ++ (next ++ more) ≡ relocations input) × (AreOfOneBody next)
-    × AllZip (IsMovedIn input g) all positions
-after_run input g done run left more next r old new positions whole steps is are zip moved = (
-  done ++ run,
-  rw is (append_assoc done run (r ∷ more) ∙ rw steps at whole),
-  rw is tt,
-  rw are (moved_more input g done run old new zip moved),
-)
-
--- and where it goes on
-pub in_run : (input : Input) (g : Placing) (done run left more next : List Relocated)
-    (r : Relocated) (old positions : List ℕ) → done ++ (run ++ left) ≡ relocations input
-    → left ≡ r ∷ more → next ≡ run ++ r ∷ [] → positions ≡ old → goes_on run r ≡ true
-    → AreOfOneBody run → AllZip (IsMovedIn input g) done old
-    → (all : List Relocated) × (all ++ (next ++ more) ≡ relocations input) × (AreOfOneBody next)
-    × AllZip (IsMovedIn input g) all positions
-in_run input g done run left more next r old positions whole steps is are on one zip = (
-  done,
-  rw is (ap (λ (rs : List Relocated). done ++ rs) (append_assoc run (r ∷ []) more)
-      ∙ rw steps at whole),
-  rw is (one_more run r on one),
-  rw are zip,
-)
-
--- where none is left, all are done but for the last run
-pub all_done : (input : Input) (g : Placing) (done run left : List Relocated)
-    (old new positions : List ℕ) → done ++ (run ++ left) ≡ relocations input → left ≡ []
-    → positions ≡ old ++ new → AllZip (IsMovedIn input g) done old
-    → AllZip (IsMovedIn input g) run new → AllZip (IsMovedIn input g) (relocations input) positions
-all_done input g done run left old new positions whole none are zip moved =
-    let is : done ++ run ≡ relocations input =
-    sym (ap (λ (rs : List Relocated). done ++ rs) (append-nil run)) ∙ rw none at whole in
-    subst (λ (rs : List Relocated). AllZip (IsMovedIn input g) rs positions) is
-    (rw are (moved_more input g done run old new zip moved))
+-- a list of one is kept where that is
+only_kept : (input : Input) (r q : Relocated) → Contains (relocations input) r
+    → Contains (r ∷ []) q → Contains (relocations input) q
+only_kept input r q kept c =
+    subst (λ (x : Relocated). Contains (relocations input) x) (only_one r q c) kept
 
 -- ---- the first field of a run
 
@@ -495,20 +447,12 @@ unit_within law input first run o sound kept at code here =
     subst (λ (p : Object). first.site.unit < length p.bodies) same
     (slice_get_within (b.o).bodies first.site.unit b.body b.there)
 
--- the body is sound
-pub first_sound : WholeFit → (input : Input) (first : Relocated) (run : List Relocated)
-    (o : Object) (body : Body) → AreSoundBodies input → AreKept input run
-    → slice_get run 0 ≡ Some first → first.place ≡ Code
-    → slice_get input.link.objects first.object ≡ Some o
-    → slice_get o.bodies first.site.unit ≡ Some body → HasSoundBody input first.object body
-first_sound law input first run o body sound kept at code here there =
-    let b : IsInBody input first = first_there law input first run sound kept at code in
-    record {
-      sound = sound;
-      function = first.site.unit;
-      here = body_at input first.object first.site.unit o body here there;
-      is_kept = b.is_kept;
-    }
+-- the body is that of a kept function
+pub first_here : WholeFit → (input : Input) (first : Relocated) (run : List Relocated)
+    → AreSoundBodies input → AreKept input run → slice_get run 0 ≡ Some first
+    → first.place ≡ Code → keeps input first.object (DefinedFunction first.site.unit) ≡ true
+first_here law input first run sound kept at code =
+    (first_there law input first run sound kept at code).is_kept
 
 -- ---- bodies that number no segment
 
@@ -534,7 +478,7 @@ unmoved fit law input g first run numbers sound new kept at code one off =
     (all_there fit input first b.body run sound kept at code here one)
     (all_stay (new_index numbers) (map position_of run))
 
--- ---- runs that stay
+-- ---- fields that stay
 
 row_at : {X : Type 0} (xs : List X) (k : ℕ) → k < length xs → (x : X) × (slice_get xs k ≡ Some x)
 row_at [] k lt = absurd (omega (arith, lt))
@@ -545,55 +489,35 @@ not_marked : (b : Bool) → not (true && b) ≡ true → b ≡ false
 not_marked true e = absurd cc
 not_marked false e = refl
 
-stays_at : WholeFit → UnmarkedNumberNone → (input : Input) (g : Placing) (first : Relocated)
-    (run : List Relocated) (rows : List (List (Option ℕ))) (p : FixupPlace) → AreSoundBodies input
-    → AreAllNumbers input g rows → AreKept input run → slice_get run 0 ≡ Some first
-    → AreOfOneBody run → first.place ≡ p → stays input first ≡ true
-    → AllZip (IsMovedIn input g) run (map position_of run)
-stays_at fit law input g first run rows Segment sound new kept at one is e =
-    data_stays input g first run at is one
-stays_at fit law input g first run rows Code sound new kept at one is e =
+-- a field that stays is where it stood
+stays_at : WholeFit → UnmarkedNumberNone → (input : Input) (g : Placing) (r : Relocated)
+    (rows : List (List (Option ℕ))) (p : FixupPlace) → AreSoundBodies input
+    → AreAllNumbers input g rows → Contains (relocations input) r → r.place ≡ p
+    → stays input r ≡ true → AllZip (IsMovedIn input g) (r ∷ []) (position_of r ∷ [])
+stays_at fit law input g r rows Segment sound new kept is e = one_stays input g r is
+stays_at fit law input g r rows Code sound new kept is e =
     let marked : Bool = numbers_segments input.live
-    (record { object = first.object; unit = DefinedFunction first.site.unit }) in
+    (record { object = r.object; unit = DefinedFunction r.site.unit }) in
     let off : marked ≡ false =
     not_marked marked (subst (λ (q : FixupPlace). not (is_code q && marked) ≡ true) is e) in
-    let within = object_within fit input first run sound kept at is in
+    let all : AreKept input (r ∷ []) = λ q c. only_kept input r q kept c in
+    let within = object_within fit input r (r ∷ []) sound all refl is in
     let len = new.len in
-    let row = row_at rows first.object (omega (arith, within, len)) in
-    unmoved fit law input g first run row.0 sound (new.each first.object row.0 row.1) kept at is
-    one off
-
--- fields that stay come behind the others as they stand
-run_stays : WholeFit → UnmarkedNumberNone → (input : Input) (g : Placing) (first : Relocated)
-    (run : List Relocated) (rows : List (List (Option ℕ))) → AreSoundBodies input
-    → AreAllNumbers input g rows → AreKept input run → slice_get run 0 ≡ Some first
-    → AreOfOneBody run → stays input first ≡ true
-    → AllZip (IsMovedIn input g) run (map position_of run)
-run_stays fit law input g first run rows sound new kept at one e =
-    stays_at fit law input g first run rows first.place sound new kept at one refl e
+    let row = row_at rows r.object (omega (arith, within, len)) in
+    unmoved fit law input g r (r ∷ []) row.0 sound (new.each r.object row.0 row.1) all refl is tt off
 
 -- what doesn't stay lies in code
 code_if : (p : FixupPlace) (b : Bool) → not (is_code p && b) ≡ false → p ≡ Code
 code_if Code b e = refl
 code_if Segment b e = absurd cc
 
-goes_in_code : (input : Input) (r : Relocated) → stays input r ≡ false → r.place ≡ Code
-goes_in_code input r e =
-    code_if r.place (numbers_segments input.live
-    (record { object = r.object; unit = DefinedFunction r.site.unit })) e
-
 -- the same of the field in front
-pub head_stays : WholeFit → UnmarkedNumberNone → (input : Input) (g : Placing) (d : Relocated)
-    (run : List Relocated) (rows : List (List (Option ℕ))) → AreSoundBodies input
-    → AreAllNumbers input g rows → AreKept input run → 0 < length run → AreOfOneBody run
-    → stays input (get_or run 0 d) ≡ true → AllZip (IsMovedIn input g) run (map position_of run)
-head_stays fit law input g d run rows sound new kept some one e =
-    run_stays fit law input g (get_or run 0 d) run rows sound new kept
-    (slice_get-get_or run 0 d some) one e
-
-pub head_in_code : (input : Input) (d : Relocated) (run : List Relocated)
-    → stays input (get_or run 0 d) ≡ false → (get_or run 0 d).place ≡ Code
-head_in_code input d run e = goes_in_code input (get_or run 0 d) e
+pub head_in_code : (input : Input) (d : Relocated) (run : List Relocated) → 0 < length run
+    → IsMoving input run → (get_or run 0 d).place ≡ Code
+head_in_code input d [] some moving = absurd (omega (arith, some))
+head_in_code input d (r ∷ run) some moving =
+    code_if r.place (numbers_segments input.live
+    (record { object = r.object; unit = DefinedFunction r.site.unit })) moving
 
 -- of no fields nothing comes behind the others
 pub none_moved : (input : Input) (g : Placing) (run : List Relocated) (old : List ℕ)
@@ -601,6 +525,92 @@ pub none_moved : (input : Input) (g : Placing) (run : List Relocated) (old : Lis
 none_moved input g [] old e = record { moved = []; are = tt; grown = sym (append-nil old) }
 none_moved input g (r ∷ run) old e =
     let none = eqb-true (length (r ∷ run)) 0 e in absurd (omega (arith, none))
+
+-- ---- the walk
+
+-- what is done, the fields of a body that moves, and what is left
+pub record AreMovedTo (input : Input) (g : Placing) (run left : List Relocated)
+    (positions : List ℕ) : Type 0 where
+  pub done : List Relocated
+  pub whole : done ++ (run ++ left) ≡ relocations input
+  pub one : AreOfOneBody run
+  pub moving : IsMoving input run
+  pub are : AllZip (IsMovedIn input g) done positions
+
+-- before the first
+pub moved_to_first : (input : Input) (g : Placing) → AreMovedTo input g [] (relocations input) []
+moved_to_first input g = record { done = []; whole = refl; one = tt; moving = tt; are = tt }
+
+-- the fields of a body that moves are kept
+pub run_is_kept : (input : Input) (g : Placing) (run left : List Relocated) (positions : List ℕ)
+    → AreMovedTo input g run left positions → AreKept input run
+run_is_kept input g run left positions m = part_is_kept input m.done run left m.whole
+
+-- where the next field begins anew, the others are done
+pub run_done : (input : Input) (g : Placing) (run left : List Relocated) (old new : List ℕ)
+    → AreMovedTo input g run left old → AddsMoved input g run old new
+    → AreMovedTo input g [] left new
+run_done input g run left old new m adds = record {
+  done = m.done ++ run;
+  whole = append_assoc m.done run left ∙ m.whole;
+  one = tt;
+  moving = tt;
+  are = rw adds.grown (moved_more input g m.done run old adds.moved m.are adds.are);
+}
+
+-- a field that stays is done
+pub stays_done : WholeFit → UnmarkedNumberNone → (input : Input) (g : Placing)
+    (rows : List (List (Option ℕ))) (run left more : List Relocated) (r : Relocated)
+    (old new : List ℕ) → AreSoundBodies input → AreAllNumbers input g rows
+    → AreMovedTo input g run left old → left ≡ r ∷ more → (length run == 0) ≡ true
+    → stays input r ≡ true → new ≡ old ++ position_of r ∷ [] → AreMovedTo input g run more new
+stays_done fit law input g rows [] left more r old new sound numbers m is none stay grown =
+    let whole : m.done ++ r ∷ more ≡ relocations input = rw is at m.whole in
+    let kept : Contains (relocations input) r =
+    part_is_kept input m.done (r ∷ []) more whole r (zero, omega arith, refl) in
+    record {
+      done = m.done ++ r ∷ [];
+      whole = append_assoc m.done (r ∷ []) more ∙ whole;
+      one = tt;
+      moving = tt;
+      are = rw grown (moved_more input g m.done (r ∷ []) old (position_of r ∷ []) m.are
+          (stays_at fit law input g r rows r.place sound numbers kept refl stay));
+    }
+stays_done fit law input g rows (q ∷ run) left more r old new sound numbers m is none stay grown =
+    let e = eqb-true (length (q ∷ run)) 0 none in absurd (omega (arith, e))
+
+-- a field that moves goes on, or begins a body
+pub one_goes_on : (input : Input) (g : Placing) (run left more next : List Relocated)
+    (r : Relocated) (positions : List ℕ) → AreMovedTo input g run left positions
+    → left ≡ r ∷ more → goes_on run r ≡ true
+    → ((length run == 0) ≡ true → stays input r ≡ false) → next ≡ run ++ r ∷ []
+    → AreMovedTo input g next more positions
+one_goes_on input g [] left more next r positions m is on moves are = record {
+  done = m.done;
+  whole = rw are (rw is at m.whole);
+  one = rw are tt;
+  moving = rw are (moves refl);
+  are = m.are;
+}
+one_goes_on input g (q ∷ run) left more next r positions m is on moves are =
+    record {
+      done = m.done;
+      whole = rw are (ap (λ (rs : List Relocated). m.done ++ rs) (append_assoc (q ∷ run) (r ∷ []) more)
+          ∙ rw is at m.whole);
+      one = rw are (one_more (q ∷ run) r on m.one);
+      moving = rw are m.moving;
+      are = m.are;
+    }
+
+-- where none is left, all are done but for the last run
+pub all_done : (input : Input) (g : Placing) (run left : List Relocated) (old new : List ℕ)
+    → AreMovedTo input g run left old → left ≡ [] → AddsMoved input g run old new
+    → AllZip (IsMovedIn input g) (relocations input) new
+all_done input g run left old new m none adds =
+    let d = run_done input g run left old new m adds in
+    let is : d.done ≡ relocations input = sym (append-nil d.done)
+    ∙ subst (λ (rs : List Relocated). d.done ++ rs ≡ relocations input) none d.whole in
+    subst (λ (rs : List Relocated). AllZip (IsMovedIn input g) rs new) is d.are
 
 -- ---- vectors
 

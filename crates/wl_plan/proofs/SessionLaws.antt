@@ -13,7 +13,7 @@ use Rattle.wl_linking.specs.declared.error.LinkError.TheVariants.{OutOfMemory, M
 use Rattle.wl_symbols.specs.Link.{link_of}
 use Rattle.wl_symbols.specs.Repeats.{IsDuplicate}
 use Rattle.wl_words.specs.declared.args.WasmArgs.{WasmArgs}
-use Rattle.wl_session.specs.After.{Replacement, replaced, after}
+use Rattle.wl_session.specs.After.{Replacement, after}
 use Rattle.wl_plan.specs.Faults.{link_fault}
 use Rattle.wl_plan.specs.LinkPlan.{HasLinkFault, IsLinkPlan, IsPlanOf}
 use Rattle.wl_plan.specs.declared.layout.LinkPlan.{LinkPlan}

@@ -1,18 +1,22 @@
 -- How bodies of the output come to be.
-use Rattle.std.specs.Prelude.{◌≡◌, ℕ, ◌==◌, [], ◌∷◌, ◌++◌, ◌||◌, true, not, List, length, if◌then◌else◌, Option, Some, None, slice_get}
+use Rattle.std.specs.Prelude.{◌≡◌, ℕ, ◌==◌, [], ◌∷◌, ◌++◌, true, List, length, if◌then◌else◌, Option, Some, None, Contains, slice_get}
 use Rattle.std.specs.List.{AllByRecursion, AllZip}
 use Rattle.wl_module.specs.Bodies.{Body}
 use Rattle.wl_custom.specs.Debug.{DebugInput}
 use Rattle.wl_linking.specs.Fitting.{IsWhole}
 use Rattle.wl_linking.specs.Steps.{Clear}
-use Rattle.wl_ops.specs.Rewriting.{new_index}
+use Rattle.wl_ops.specs.Numbers.{AreTold}
+use Rattle.wl_ops.specs.Rewriting.{new_index, AllMove}
+use Rattle.wl_ops.specs.declared.op.DataIndexImm.{DataIndexImm}
 use Rattle.wl_index.specs.declared.index.TheConstants.{WASM_DEAD_INDEX}
 use Rattle.wl_live.specs.Faults.{IsKeptFault}
 use Rattle.wl_symbols.specs.Live.{IsLiveOf}
-use Rattle.wl_symbols.specs.declared.units.WasmGcUnit.TheVariants.{DefinedFunction, DataSegment}
+use Rattle.wl_symbols.specs.declared.units.WasmGcUnit.TheVariants.{DataSegment}
 use Rattle.wl_bind.specs.FunctionSpace.{FunctionEntry}
 use Rattle.wl_symbols.specs.Input.{Input, keeps}
-use Rattle.wl_plan.specs.Bodies.{IsRenumbered, IsMadeBody, IsBodyOf, body_in, new_number}
+use Rattle.wl_plan.specs.Bodies.{IsBodyIn, IsMadeBody, IsBodyOf, new_number}
+use Rattle.wl_plan.specs.declared.rewriting.Renumbering.{Renumbering}
+use Rattle.wl_plan.specs.declared.rewriting.RewrittenBody.{RewrittenBody}
 use Rattle.wl_places.specs.declared.placing.Placing.{Placing}
 
 -- ---- numbers of segments
@@ -44,19 +48,33 @@ pub record AreSoundBodies (input : Input) : Type 0 where
   pub kept : IsLiveOf input.link input.live
   pub clear : Clear (IsKeptFault input.link)
 
--- the body is that of a kept function of the object, in such a link
-pub record HasSoundBody (input : Input) (object : ℕ) (b : Body) : Type 0 where
-  pub sound : AreSoundBodies input
-  pub function : ℕ
-  pub here : body_in input object function ≡ Some b
-  pub is_kept : keeps input object (DefinedFunction function) ≡ true
+-- the numbers are those of such a link
+pub record IsRenumbering (r : Renumbering) : Type 0 where
+  pub sound : AreSoundBodies r.input.now
+  pub numbers : AreAllNumbers r.input.now r.placing.now r.rows.now
 
--- what becomes of a body of an object
-pub record IsBodyFrom (input : Input) (g : Placing) (object : ℕ) (own b : Body) : Type 0 where
-  pub bytes : IsRenumbered input g object own.bytes b.bytes
-  pub owned : b.owned ≡ (own.owned || not (length bytes.numbers == 0))
-  pub code_offset : b.code_offset ≡ own.code_offset
-  pub object_index : b.object_index ≡ object
+-- fields of a body of the object, which stood there, stand here once it has those numbers
+pub record AreMovedIn (input : Input) (g : Placing) (object : ℕ) (body old new : List ℕ)
+    : Type 0 where
+  pub numbers : List DataIndexImm
+  pub theirs : AreTold numbers body
+  pub row : List (Option ℕ)
+  pub are_new : AreNewNumbers input g object row
+  pub moved : AllMove (new_index row) numbers old new
+
+-- the bodies are those that the output has of their functions
+abbrev pub AreRewritten : Input → Placing → List RewrittenBody → Type 0
+AreRewritten input g bodies = (one : RewrittenBody) → Contains bodies one
+    → IsBodyIn input g one.object one.function one.body
+
+-- the body is one of these, that of the function
+pub record IsTakenFrom (bodies : List RewrittenBody) (object function : ℕ) (b : Body)
+    : Type 0 where
+  pub one : RewrittenBody
+  pub listed : Contains bodies one
+  pub object_is : one.object ≡ object
+  pub function_is : one.function ≡ function
+  pub body_is : b ≡ one.body
 
 -- ---- lists that grow
 

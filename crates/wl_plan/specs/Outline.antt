@@ -1,15 +1,11 @@
 -- What of the output is known before it is known where its data lies.
-use Rattle.std.specs.Prelude.{◌≤◌, ◌+◌, List, length, Result, OnOk, IfErr}
-use Rattle.wl_module.specs.Types.{FunctionType}
-use Rattle.wl_linking.specs.Steps.{Clear, Refuses}
-use Rattle.wl_linking.specs.declared.error.LinkError.{LinkError}
+use Rattle.std.specs.Prelude.{◌≤◌, ◌+◌, length}
 use Rattle.wl_index.specs.declared.index.TheConstants.{MAX_ENTRIES}
 use Rattle.wl_features.specs.Taken.{AreTaken}
 use Rattle.wl_bind.specs.FunctionSpace.{function_space}
 use Rattle.wl_bind.specs.GlobalSpace.{global_space}
 use Rattle.wl_symbols.specs.Input.{Input}
 use Rattle.wl_bind.specs.OutputTypes.{output_types}
-use Rattle.wl_exports.specs.Faults.{IsExportFault}
 use Rattle.wl_exports.specs.Interface.{IsInterface}
 use Rattle.wl_exports.specs.Wrappers.{wrapped}
 use Rattle.wl_plan.specs.Bound.{AreBindings}
@@ -32,12 +28,3 @@ pub record HasOutline (input : Input) (o : Outline) : Type 0 where
   pub functions : AreOutputFunctions input (output_types input) o.functions
   pub interface : IsInterface input o.interface
   pub features : AreTaken input.link o.features
-
--- the same outline with these types of the output
-abbrev pub with_types : Outline → List FunctionType → Outline
-with_types o types = record o { bindings = record o.bindings { types = types } }
-
--- it says whether there can be the exports
-pub record AreChecked (input : Input) (r : Result (Unit {0}) LinkError) : Type 0 where
-  pub sound : OnOk r (Clear (IsExportFault input))
-  pub refused : IfErr r (Refuses (IsExportFault input))

@@ -5,12 +5,13 @@ use Rattle.wl_bind.specs.FunctionSpace.{InitMemory, function_space}
 use Rattle.wl_bind.specs.Made.{has_init_memory, has_shared_tls}
 use Rattle.wl_symbols.specs.Input.{Input}
 use Rattle.wl_bind.specs.OutputTypes.{output_types}
-use Rattle.wl_exports.specs.Wrapped.{AreOutputExports, AreWrappers}
+use Rattle.wl_exports.specs.Wrapped.{AreWrappers}
 use Rattle.wl_places.specs.AddressSteps.{IsBook}
 use Rattle.wl_places.specs.Addresses.{segment_space}
 use Rattle.wl_plan.specs.Bodies.{AreBodies}
+use Rattle.wl_plan.specs.BodySteps.{IsRenumbering}
 use Rattle.wl_plan.specs.Bound.{AreBindings}
-use Rattle.wl_plan.specs.Extras.{AreOutputFeatures, output_debug_sections}
+use Rattle.wl_plan.specs.Extras.{output_debug_sections}
 use Rattle.wl_plan.specs.Fixups.{AreFixups}
 use Rattle.wl_plan.specs.Functions.{AreOutputFunctions}
 use Rattle.wl_plan.specs.Globals.{ArePlannedGlobals}
@@ -22,13 +23,12 @@ use Rattle.wl_plan.specs.SizeSteps.{HasSizes}
 use Rattle.wl_plan.specs.Table.{AreElements, function_slots, output_table}
 use Rattle.wl_places.specs.declared.addresses.AddressBook.{AddressBook}
 use Rattle.wl_places.specs.declared.placing.Placing.{Placing}
-use Rattle.wl_plan.specs.declared.plan.LaidParts.{LaidParts}
-use Rattle.wl_plan.specs.declared.plan.OutputLists.{OutputLists}
 use Rattle.wl_plan.specs.declared.plan.OutputModule.{OutputModule}
 use Rattle.wl_plan.specs.declared.plan.OutputNames.{OutputNames}
 use Rattle.wl_plan.specs.declared.plan.OutputParts.{OutputParts}
 use Rattle.wl_plan.specs.declared.plan.OutputValues.{OutputValues}
 use Rattle.wl_plan.specs.declared.plan.PlacedThings.{PlacedThings}
+use Rattle.wl_plan.specs.declared.rewriting.Renumbering.{Renumbering}
 
 -- they are those of one link, and there is room for its segments
 pub record ArePlacedThings (t : PlacedThings) : Type 0 where
@@ -46,6 +46,12 @@ pub record IsBookOf (t : PlacedThings) (book : AddressBook) : Type 0 where
   pub book_is : IsBook book
   pub input : book.input.now ≡ t.input.now
   pub placing : book.placing.now ≡ t.placing.now
+
+-- and so are the numbers of segments
+pub record IsRenumberingOf (t : PlacedThings) (r : Renumbering) : Type 0 where
+  pub is : IsRenumbering r
+  pub input : r.input.now ≡ t.input.now
+  pub placing : r.placing.now ≡ t.placing.now
 
 -- what takes its numbers from where things lie
 pub record HasValues (input : Input) (g : Placing) (values : OutputValues) : Type 0 where
@@ -66,14 +72,6 @@ pub record HasPartsOf (input : Input) (g : Placing) (parts : OutputParts) : Type
   pub names : HasNames input g parts.names
   pub sizes : HasSizes parts.bodies g.places.layouts parts.sizes
 
--- the lists that are made before it is known where things lie, and the maps
-pub record AreLists (input : Input) (g : Placing) (lists : OutputLists) : Type 0 where
-  pub types : lists.types ≡ output_types input
-  pub functions : AreOutputFunctions input (output_types input) lists.functions
-  pub exports : AreOutputExports input lists.exports
-  pub features : AreOutputFeatures input.link lists.features
-  pub maps : AreWholeMaps input g lists.maps
-
 -- what the options and the bindings say
 pub record IsOutputModule (input : Input) (g : Placing) (m : OutputModule) : Type 0 where
   pub memory : m.memory ≡ own_memory input g
@@ -82,10 +80,3 @@ pub record IsOutputModule (input : Input) (g : Placing) (m : OutputModule) : Typ
       (has_init_memory input ≡ false)
       (λ index. slice_get (function_space input) index ≡ Some InitMemory)
   pub shared_tls : m.shared_memory_tls ≡ has_shared_tls input
-
--- where things lie, and what is made from that
-pub record AreLaid (input : Input) (l : LaidParts) : Type 0 where
-  pub placed : IsPlacing input l.placing
-  pub maps : AreWholeMaps input l.placing l.maps
-  pub parts : HasPartsOf input l.placing l.parts
-  pub whole : IsOutputModule input l.placing l.whole

@@ -51,6 +51,11 @@ stays input r =
     not (is_code r.place && numbers_segments input.live
     (record { object = r.object; unit = DefinedFunction r.site.unit }))
 
+-- the first of them doesn't stay, if there is one
+abbrev pub IsMoving : Input → List Relocated → Type 0
+IsMoving input [] = ⊤
+IsMoving input (first ∷ others) = stays input first ≡ false
+
 -- the list grows by where these fields stand in what the output has
 pub record AddsMoved (input : Input) (g : Placing) (run : List Relocated) (old new : List ℕ)
     : Type 0 where

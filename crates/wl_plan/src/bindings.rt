@@ -1,10 +1,6 @@
 //! What the references of a link are bound to, what the linker makes for them, and what is called
 //! at the start.
 
-ghost use Rattle.std.specs.Prelude.{◌≡◌, IfOk};
-
-use std::alloc::{AllocError, Global};
-use std::mem;
 use wl_bind::{LinkerDefinedIndices, RelocScan, SharedUnresolvedImports, TypeMerger};
 use wl_ctors::InitCall;
 use wl_lists::ItemList;
@@ -26,16 +22,4 @@ pub(crate) struct Bindings<'a> {
     pub(crate) types: TypeMerger,
     /// What is called at the start, in order.
     pub(crate) calls: ItemList<InitCall>,
-}
-
-impl<'a> Bindings<'a> {
-    /// Takes the types of the output out.
-    ///
-    /// # Errors
-    /// `AllocError` where memory runs out.
-    pub(crate) fn take_types(&mut self, alloc: Global) -> Result<ItemList<FuncType>, AllocError>
-        ensures { IfOk result (λ types. record self.new { types = types } ≡ self.old) }
-    {
-        mem::replace(&mut self.types, TypeMerger::new(alloc)).into_types()
-    }
 }

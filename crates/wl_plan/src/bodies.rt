@@ -1,9 +1,7 @@
 //! The bodies of the functions, and the debug sections beside them.
 
-ghost use Rattle.std.specs.Prelude.{◌≡◌, ◌≤◌, ◌<◌, ◌^◌, ◌++◌, ◌||◌, length, map, true, if◌then◌else◌, Some, OnOk, IfOk, IfErr, slice_get};
+ghost use Rattle.std.specs.Prelude.{◌≡◌, ◌≤◌, ◌<◌, ◌^◌, ◌++◌, length, map, true, Some, OnOk, IfOk, IfErr, slice_get};
 ghost use Rattle.std.specs.List.{AllByRecursion};
-ghost use Rattle.std.specs.Cow.{cow_slice_items};
-ghost use Rattle.wl_module.specs.Slices.{is_owned};
 ghost use Rattle.wl_linking.specs.Fitting.{IsWhole};
 ghost use Rattle.wl_linking.specs.Steps.{Clear};
 ghost use Rattle.wl_linking.specs.declared.error.LinkError.TheVariants.{OutOfMemory};
@@ -17,138 +15,37 @@ ghost use Rattle.wl_bind.specs.declared.binding.GlobalTarget.TheVariants as glob
 ghost use Rattle.wl_synth.specs.Bodies.{call_sequence_ops};
 ghost use Rattle.wl_synth.specs.Encoding.{IsEncoded};
 ghost use Rattle.wl_places.specs.Addresses.{segment_space};
-ghost use Rattle.wl_plan.specs.Bodies.{body_in, called, AreInitMemoryOps, AreInitTlsOps, AreOwnBodies, object_debug_sections};
-ghost use Rattle.wl_plan.specs.BodySteps.{kept_number, AreNewNumbers, AreAllNumbers, AreSoundBodies, HasSoundBody, IsBodyFrom, AddsMadeBody, AddsBodies, debug_in};
+ghost use Rattle.wl_plan.specs.Bodies.{body_in, called, AreInitMemoryOps, AreInitTlsOps, AreOwnBodies, IsBodyIn, object_debug_sections};
+ghost use Rattle.wl_plan.specs.BodySteps.{IsRenumbering, AreRewritten, AddsMadeBody, AddsBodies, debug_in};
 ghost use Rattle.wl_plan.specs.Bound.{AreBindings};
 ghost use Rattle.wl_plan.specs.Fixups.{AreFixups};
 ghost use Rattle.wl_plan.specs.FunctionSteps.{linker_functions, own_function_part};
 ghost use Rattle.wl_plan.specs.GlobalSteps.{AreSources};
 ghost use Rattle.wl_plan.specs.Globals.{IsGlobalFault};
-ghost use Rattle.wl_places.specs.IndexedMaps.{AreWholeMaps};
 ghost use Rattle.wl_places.specs.Placing.{IsPlacing};
 ghost use Rattle.wl_plan.specs.ThreadSteps.{body_error, IsBodyRefusal, IsSpelledFor, IsUnspelled};
 
 use crate::bindings::Bindings;
 use crate::functions::function_room;
 use crate::global_starts::GlobalSources;
-use crate::parsing::link_error;
+use crate::rewriting::{Renumbering, RewrittenBody, rewrite, take_next};
 use crate::threads::{got_fixups, tls_pointers};
 use std::alloc::{AllocError, Global};
 use std::borrow::CowSlice;
 use wl_bind::entries_have_types;
 use wl_ctors::InitCall;
-use wl_data::segments_have_layouts;
-use wl_index::{WASM_DEAD_INDEX, WasmObjectIndexMap};
-use wl_linking::{DebugSectionInput, File, LinkError, parts_of_objects_stand, whole_objects};
+use wl_linking::{DebugSectionInput, File, LinkError, whole_objects};
 use wl_lists::ItemList;
 use wl_module::{WasmFunctionBody, copy_bytes};
-use wl_ops::remap_body_data_indices;
 use wl_output::Fixup;
 use wl_places::{Copied, Placing, all_copies, flag_is_where_memory_is_filled, segments_are_small};
-use wl_symbols::{
-    LinkInput, WasmGcUnit, WasmLinkerSymbol, live_units_are_closed, unmarked_bodies_number_none,
-};
+use wl_symbols::{LinkInput, WasmGcUnit, WasmLinkerSymbol, unmarked_bodies_number_none};
 use wl_synth::{
     SynthError, UNREACHABLE_FUNCTION_BODY, encode_call_sequence_body, encode_init_memory_body,
     encode_init_tls_body,
 };
 
-// ---- numbers of segments
-
-/// The number, unless it says that there is none.
-fn kept_number(index: u32) -> Option<u32>
-    ensures { result ≡ kept_number index }
-{
-    if index == WASM_DEAD_INDEX {
-        None
-    } else {
-        Some(index)
-    }
-}
-
-/// The numbers of an object's segments in the output; none for what isn't kept.
-fn object_numbers(alloc: Global, indices: &[u32]) -> Result<ItemList<Option<u32>>, AllocError>
-    ensures { IfOk result (λ numbers. numbers ≡ map kept_number indices.now) }
-{
-    let mut numbers = Vec::with_capacity(alloc, indices.len())?;
-    for index in indices {
-        numbers.push(kept_number(*index))?;
-    }
-    Ok(ItemList::new(numbers))
-}
-
-/// Those of all objects, object by object.
-///
-/// # Errors
-/// `AllocError` where memory runs out.
-pub(crate) fn all_numbers(
-    alloc: Global,
-    input: &LinkInput<'_, '_>,
-    placing: &Placing<'_>,
-    maps: &[WasmObjectIndexMap],
-) -> Result<ItemList<ItemList<Option<u32>>>, AllocError>
-    requires maps { AreWholeMaps input.now placing.now maps.now }
-    requires placed { IsPlacing input.now placing.now }
-    requires room { length (segment_space placing.now) ≤ MAX_ENTRIES }
-    ensures { IfOk result (AreAllNumbers input.now placing.now) }
-{
-    segments_have_layouts();
-    let _live = input.live();
-    let mut numbers = Vec::new(alloc);
-    for map in maps {
-        numbers.push(object_numbers(alloc, map.segment_indices.as_slice())?)?;
-    }
-    Ok(ItemList::new(numbers))
-}
-
-/// The bytes of a body that was rewritten, or wasn't.
-fn rewritten<'a>(
-    alloc: Global,
-    bytes: &CowSlice<'a, u8>,
-    copy: CowSlice<'a, u8>,
-    changed: bool,
-) -> Result<CowSlice<'a, u8>, AllocError>
-    ensures bytes { IfOk result (λ b. cow_slice_items b
-        ≡ (if changed then cow_slice_items copy.entry else cow_slice_items bytes.now)) }
-    ensures owned { IfOk result (λ b. is_owned b ≡ (is_owned bytes.now || changed)) }
-{
-    if changed {
-        Ok(CowSlice::Owned(copy.into_owned(alloc)?))
-    } else {
-        copy_bytes(alloc, bytes)
-    }
-}
-
-/// The body of a kept function of an object, with the numbers that segments have in the output.
-///
-/// # Errors
-/// Want of memory alone: kept bodies are decoded, and what they number is kept.
-fn renumbered<'a>(
-    alloc: Global,
-    input: &LinkInput<'_, '_>,
-    placing: &Placing<'_>,
-    body: &WasmFunctionBody<'a>,
-    object: usize,
-    numbers: &[Option<u32>],
-) -> Result<WasmFunctionBody<'a>, LinkError>
-    requires sound { HasSoundBody input.now object body.now }
-    requires numbers { AreNewNumbers input.now placing.now object numbers.now }
-    ensures ok { IfOk result (IsBodyFrom input.now placing.now object body.now) }
-    ensures err { IfErr result (λ e. e ≡ OutOfMemory) }
-{
-    live_units_are_closed();
-    parts_of_objects_stand();
-    let mut copy = copy_bytes(alloc, &body.bytes)?;
-    let changed = match remap_body_data_indices(alloc, &mut copy, numbers, &mut []) {
-        Ok(changed) => changed,
-        Err(error) => return Err(link_error(object, error)),
-    };
-    Ok(WasmFunctionBody {
-        bytes: rewritten(alloc, &body.bytes, copy, changed)?,
-        code_offset: body.code_offset,
-        object_index: object,
-    })
-}
+// ---- bodies of objects
 
 /// The body of a function of an object as it is there.
 fn copied<'a>(
@@ -169,31 +66,36 @@ fn copied<'a>(
 }
 
 /// The body of a kept function of an object in the output. One that numbers no segments is copied;
-/// the live set knows which do.
+/// the live set knows which do. Another was rewritten with its fields, or is now.
 ///
 /// # Errors
 /// Want of memory alone.
 fn output_body<'a>(
     alloc: Global,
-    input: &LinkInput<'_, '_>,
-    placing: &Placing<'_>,
+    renumbering: &Renumbering<'_, '_, 'a>,
+    rewritten: &mut Vec<RewrittenBody<'a>>,
     site: (usize, u32),
     body: &WasmFunctionBody<'a>,
-    numbers: &[Option<u32>],
 ) -> Result<WasmFunctionBody<'a>, LinkError>
-    requires sound { AreSoundBodies input.now }
-    requires here { body_in input.now site.0 site.1 ≡ Some body.now }
-    requires kept { keeps input.now site.0 (DefinedFunction site.1) ≡ true }
-    requires numbers { AreNewNumbers input.now placing.now site.0 numbers.now }
-    ensures ok { IfOk result (IsBodyFrom input.now placing.now site.0 body.now) }
+    requires renumbering { IsRenumbering renumbering.now }
+    requires rewritten { AreRewritten renumbering.now.input.now renumbering.now.placing.now
+        rewritten.old.items }
+    requires here { body_in renumbering.now.input.now site.0 site.1 ≡ Some body.now }
+    requires kept { keeps renumbering.now.input.now site.0 (DefinedFunction site.1) ≡ true }
+    ensures ok { IfOk result
+        (IsBodyIn renumbering.now.input.now renumbering.now.placing.now site.0 site.1) }
+    ensures rewritten { AreRewritten renumbering.now.input.now renumbering.now.placing.now
+        rewritten.new.items }
     ensures err { IfErr result (λ e. e ≡ OutOfMemory) }
 {
     unmarked_bodies_number_none();
     let (object, function) = site;
-    if input.live().numbers_segments(object, function) {
-        renumbered(alloc, input, placing, body, object, numbers)
-    } else {
-        Ok(copied(alloc, body, object)?)
+    if !renumbering.input.live().numbers_segments(object, function) {
+        return Ok(copied(alloc, body, object)?);
+    }
+    match take_next(rewritten, site) {
+        Some(body) => Ok(body),
+        None => rewrite(alloc, renumbering, site, body, &mut []),
     }
 }
 
@@ -414,26 +316,29 @@ fn push_stubs<'a>(
 fn push_kept<'a>(
     alloc: Global,
     bodies: &mut Vec<WasmFunctionBody<'a>>,
-    input: &LinkInput<'_, 'a>,
-    placing: &Placing<'a>,
+    renumbering: &Renumbering<'_, '_, 'a>,
+    rewritten: &mut Vec<RewrittenBody<'a>>,
     site: (usize, usize),
     body: &WasmFunctionBody<'a>,
-    numbers: &[Option<u32>],
 ) -> Result<(), LinkError>
-    requires sound { AreSoundBodies input.now }
+    requires renumbering { IsRenumbering renumbering.now }
+    requires rewritten { AreRewritten renumbering.now.input.now renumbering.now.placing.now
+        rewritten.old.items }
     requires few { site.1 < 2 ^ 32 }
-    requires here { body_in input.now site.0 site.1 ≡ Some body.now }
-    requires numbers { AreNewNumbers input.now placing.now site.0 numbers.now }
-    ensures ok { OnOk result (AddsBodies input.now placing.now
-        (own_function_part input.now site.0 site.1) bodies.old.items bodies.new.items) }
+    requires here { body_in renumbering.now.input.now site.0 site.1 ≡ Some body.now }
+    ensures ok { OnOk result (AddsBodies renumbering.now.input.now renumbering.now.placing.now
+        (own_function_part renumbering.now.input.now site.0 site.1)
+        bodies.old.items bodies.new.items) }
+    ensures rewritten { AreRewritten renumbering.now.input.now renumbering.now.placing.now
+        rewritten.new.items }
     ensures err { IfErr result (λ e. e ≡ OutOfMemory) }
 {
     let (object, function) = (site.0, site.1 as u32);
     let unit = WasmGcUnit::DefinedFunction(function);
-    if !input.live().is_live(object, unit) {
+    if !renumbering.input.live().is_live(object, unit) {
         return Ok(());
     }
-    let kept = output_body(alloc, input, placing, (object, function), body, numbers)?;
+    let kept = output_body(alloc, renumbering, rewritten, (object, function), body)?;
     bodies.push(kept)?;
     Ok(())
 }
@@ -442,17 +347,20 @@ fn push_kept<'a>(
 fn push_bodies<'a>(
     alloc: Global,
     bodies: &mut Vec<WasmFunctionBody<'a>>,
-    input: &LinkInput<'_, 'a>,
-    placing: &Placing<'a>,
+    renumbering: &Renumbering<'_, '_, 'a>,
+    rewritten: &mut Vec<RewrittenBody<'a>>,
     object: usize,
     file: &File<'a>,
-    numbers: &[Option<u32>],
 ) -> Result<(), LinkError>
-    requires sound { AreSoundBodies input.now }
-    requires here { slice_get input.now.link.objects object ≡ Some file.now }
-    requires numbers { AreNewNumbers input.now placing.now object numbers.now }
-    ensures ok { OnOk result (AddsBodies input.now placing.now
-        (functions_of input.now object file.now) bodies.old.items bodies.new.items) }
+    requires renumbering { IsRenumbering renumbering.now }
+    requires rewritten { AreRewritten renumbering.now.input.now renumbering.now.placing.now
+        rewritten.old.items }
+    requires here { slice_get renumbering.now.input.now.link.objects object ≡ Some file.now }
+    ensures ok { OnOk result (AddsBodies renumbering.now.input.now renumbering.now.placing.now
+        (functions_of renumbering.now.input.now object file.now)
+        bodies.old.items bodies.new.items) }
+    ensures rewritten { AreRewritten renumbering.now.input.now renumbering.now.placing.now
+        rewritten.new.items }
     ensures err { IfErr result (λ e. e ≡ OutOfMemory) }
 {
     file.stands_for_an_object();
@@ -461,11 +369,10 @@ fn push_bodies<'a>(
         push_kept(
             alloc,
             bodies,
-            input,
-            placing,
+            renumbering,
+            rewritten,
             (object, function),
             body,
-            numbers,
         )?;
     }
     Ok(())
@@ -499,7 +406,8 @@ fn push_linker_made<'a>(
     push_init_memory(alloc, bodies, input, placing, bindings)
 }
 
-/// The bodies of the functions of the space that aren't imported, in order.
+/// The bodies of the functions of the space that aren't imported, in order, of which some were
+/// rewritten with their fields.
 ///
 /// # Errors
 /// `ConstantRange` where a constant of a body that the linker makes is above 2147483647.
@@ -507,31 +415,38 @@ pub(crate) fn own_bodies<'a>(
     alloc: Global,
     sources: &GlobalSources<'_, '_, '_, 'a>,
     fixups: &[Fixup],
-    numbers: &[ItemList<Option<u32>>],
+    renumbering: &Renumbering<'_, '_, 'a>,
+    rewritten: &mut Vec<RewrittenBody<'a>>,
 ) -> Result<Vec<WasmFunctionBody<'a>>, LinkError>
-    requires sound { AreSoundBodies sources.now.book.now.input.now }
     requires sources { AreSources sources.now }
     requires fixups { AreFixups sources.now.book.now.input.now sources.now.book.now.placing.now
         fixups.now }
     requires room { length (segment_space sources.now.book.now.placing.now) ≤ MAX_ENTRIES }
     requires low { Clear (IsGlobalFault sources.now.book.now.input.now
         sources.now.book.now.placing.now) }
-    requires numbers { AreAllNumbers sources.now.book.now.input.now
-        sources.now.book.now.placing.now numbers.now }
+    requires renumbering { IsRenumbering renumbering.now }
+    requires input { renumbering.now.input.now ≡ sources.now.book.now.input.now }
+    requires placing { renumbering.now.placing.now ≡ sources.now.book.now.placing.now }
+    requires rewritten { AreRewritten renumbering.now.input.now renumbering.now.placing.now
+        rewritten.old.items }
     ensures ok { IfOk result (λ bodies. AreOwnBodies sources.now.book.now.input.now
         sources.now.book.now.placing.now bodies.items) }
     ensures err { IfErr result (IsBodyRefusal sources.now.book.now.input.now
         sources.now.book.now.placing.now) }
 {
     let input = sources.book.input;
-    let placing = sources.book.placing;
     let room = function_room(input, sources.bindings.stubs.as_slice().len());
     let mut bodies = Vec::with_capacity(alloc, room)?;
     push_linker_made(alloc, &mut bodies, sources, fixups)?;
-    push_stubs(alloc, &mut bodies, input, placing, sources.bindings)?;
+    push_stubs(
+        alloc,
+        &mut bodies,
+        input,
+        sources.book.placing,
+        sources.bindings,
+    )?;
     for (object, file) in input.files().as_slice().iter().enumerate() {
-        let row = numbers[object].as_slice();
-        push_bodies(alloc, &mut bodies, input, placing, object, file, row)?;
+        push_bodies(alloc, &mut bodies, renumbering, rewritten, object, file)?;
     }
     Ok(bodies)
 }

@@ -110,7 +110,7 @@ pub(crate) struct GlobalSources<'g, 'b, 'i, 'a> {
 }
 
 /// What a global starts with, and whether it may change.
-#[derive(Clone, Copy, Debug, PartialEq, Eq)]
+#[derive(Clone, Copy)]
 pub(crate) struct Start {
     pub(crate) number: u32,
     pub(crate) mutable: bool,

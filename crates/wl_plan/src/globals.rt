@@ -390,6 +390,9 @@ fn push_all<'a>(
     Ok(())
 }
 
+/// How many globals the linker makes at most, beside those that have an address of a symbol.
+const MADE_GLOBALS: usize = 14;
+
 /// The globals of the output that aren't imported: what the linker makes, and then what objects
 /// define.
 ///
@@ -408,7 +411,8 @@ pub(crate) fn planned_globals<'a>(
     ensures err { IfErr result (Refuses
         (IsGlobalFault sources.now.book.now.input.now sources.now.book.now.placing.now)) }
 {
-    let room = sources.mem_count().saturating_add(sources.func_count());
+    let entries = sources.mem_count().saturating_add(sources.func_count());
+    let room = entries.saturating_add(MADE_GLOBALS);
     let mut globals = Vec::with_capacity(alloc, room)?;
     push_all(alloc, &mut globals, sources)?;
     Ok(ItemList::new(globals))

@@ -22,6 +22,7 @@ mod parsing;
 mod part_laws;
 mod plan;
 mod positions;
+mod rewriting;
 mod running_laws;
 mod session;
 mod sizes;

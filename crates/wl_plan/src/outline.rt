@@ -10,12 +10,12 @@ ghost use Rattle.wl_bind.specs.References.{IsSettled};
 ghost use Rattle.wl_bind.specs.Signatures.{IsMismatch};
 ghost use Rattle.wl_bind.specs.OutputTypes.{output_types};
 ghost use Rattle.wl_exports.specs.Interface.{IsInterface};
-ghost use Rattle.wl_exports.specs.Sources.{AreSources};
+ghost use Rattle.wl_exports.specs.Sources.{AreSources, HaveIndices};
 ghost use Rattle.wl_exports.specs.Wrapped.{AreTooManyWrappers};
 ghost use Rattle.wl_features.specs.Taken.{AreTaken};
 ghost use Rattle.wl_plan.specs.Bound.{AreBindings};
 ghost use Rattle.wl_plan.specs.Functions.{AreOutputFunctions};
-ghost use Rattle.wl_plan.specs.Outline.{AreFew, AreChecked, HasOutline};
+ghost use Rattle.wl_plan.specs.Outline.{AreFew, HasOutline};
 
 use crate::bindings::Bindings;
 use crate::functions::own_functions;
@@ -24,7 +24,7 @@ use crate::wrappers::with_wrappers;
 use std::alloc::{AllocError, Global};
 use wl_bind::BoundIndices;
 use wl_ctors::init_calls;
-use wl_exports::{ExportSources, OutputInterface, check_exports, output_interface};
+use wl_exports::{ExportSources, OutputInterface, output_interface};
 use wl_features::FeatureList;
 use wl_index::WasmObjectIndexMap;
 use wl_linking::LinkError;
@@ -72,7 +72,7 @@ fn bindings_of<'a>(
 }
 
 /// What the exports of a link whose references are bound are made from.
-fn sources_of<'s, 'i, 'a>(
+pub(crate) fn sources_of<'s, 'i, 'a>(
     input: &'s LinkInput<'i, 'a>,
     args: &'a WasmArgs,
     bindings: &'s Bindings<'a>,
@@ -81,11 +81,12 @@ fn sources_of<'s, 'i, 'a>(
 ) -> ExportSources<'s, 'i, 'a>
     requires args { args.now ≡ input.now.link.args }
     requires bindings { AreBindings input.now bindings.now }
-    requires maps { AreIndexMaps input.now maps.now }
+    requires maps { HaveIndices input.now maps.now }
     requires few { AreFew input.now }
     requires features { AreTaken input.now.link features.now }
     ensures sources { AreSources result }
     ensures input { result.input.now ≡ input.now }
+    ensures maps { result.maps.now ≡ maps.now }
 {
     ExportSources {
         input,
@@ -109,6 +110,7 @@ fn seen_of<'a>(
     requires bindings { AreBindings input.now bindings.now }
     requires sources { AreSources sources.now }
     requires same { sources.now.input.now ≡ input.now }
+    requires maps { AreIndexMaps input.now sources.now.maps.now }
     ensures interface { IfOk result (λ r. IsInterface input.now r.0) }
     ensures functions { IfOk result
         (λ r. AreOutputFunctions input.now (output_types input.now) r.1) }
@@ -122,8 +124,7 @@ fn seen_of<'a>(
     Ok((interface, functions))
 }
 
-/// What is known of the output of a link whose references are bound, with the maps of its objects,
-/// and why there can't be its exports, if there can't: it is reported when all else is judged.
+/// What is known of the output of a link whose references are bound, with the maps of its objects.
 ///
 /// # Errors
 /// `TooLarge` where with the wrappers there are more than 4294967294 functions.
@@ -133,14 +134,7 @@ pub(crate) fn outline_of<'a>(
     args: &'a WasmArgs,
     bound: BoundIndices<'a>,
     features: FeatureList<'a>,
-) -> Result<
-    (
-        Outline<'a>,
-        ItemList<WasmObjectIndexMap>,
-        Result<(), LinkError>,
-    ),
-    LinkError,
->
+) -> Result<(Outline<'a>, ItemList<WasmObjectIndexMap>), LinkError>
     requires settled { IsSettled input.now }
     requires signatures { Clear (IsMismatch input.now) }
     requires args { args.now ≡ input.now.link.args }
@@ -149,19 +143,17 @@ pub(crate) fn outline_of<'a>(
     requires features { AreTaken input.now.link features }
     ensures outline { IfOk result (λ r. HasOutline input.now r.0) }
     ensures maps { IfOk result (λ r. AreIndexMaps input.now r.1) }
-    ensures checked { IfOk result (λ r. AreChecked input.now r.2) }
     ensures clear { OnOk result (Clear (AreTooManyWrappers input.now)) }
     ensures err { IfErr result (Refuses (AreTooManyWrappers input.now)) }
 {
     let (bindings, maps) = bindings_of(alloc, input, bound)?;
     let sources = sources_of(input, args, &bindings, maps.as_slice(), &features);
     let (interface, functions) = seen_of(alloc, input, &bindings, &sources)?;
-    let checked = check_exports(alloc, &sources);
     let outline = Outline {
         bindings,
         functions,
         interface,
         features,
     };
-    Ok((outline, maps, checked))
+    Ok((outline, maps))
 }

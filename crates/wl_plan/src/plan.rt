@@ -1,54 +1,55 @@
 //! The plan of a link, part by part, where it is known what is kept.
 
 ghost use Rattle.std.specs.Prelude.{◌≡◌, ◌≤◌, length, OnOk, IfOk, IfErr};
+ghost use Rattle.std.specs.List.{AllZip};
 ghost use Rattle.wl_linking.specs.Steps.{Clear, Refuses};
 ghost use Rattle.wl_linking.specs.declared.error.LinkError.TheVariants.{OutOfMemory};
 ghost use Rattle.wl_index.specs.declared.index.TheConstants.{MAX_ENTRIES};
+ghost use Rattle.wl_exports.specs.Sources.{AreSources};
 ghost use Rattle.wl_features.specs.Taken.{AreTaken};
 ghost use Rattle.wl_bind.specs.FunctionSpace.{function_space};
 ghost use Rattle.wl_bind.specs.IndexMaps.{AreIndexMaps};
-ghost use Rattle.wl_symbols.specs.Input.{Input};
 ghost use Rattle.wl_places.specs.Addresses.{segment_space, IsAddressTooHigh};
-ghost use Rattle.wl_plan.specs.Bodies.{AreBodies};
-ghost use Rattle.wl_plan.specs.BodySteps.{AreAllNumbers, AreSoundBodies};
+ghost use Rattle.wl_symbols.specs.Relocations.{relocations};
+ghost use Rattle.wl_plan.specs.Bodies.{AreBodies, IsMovedIn};
+ghost use Rattle.wl_plan.specs.BodySteps.{AreRewritten, AreSoundBodies};
 ghost use Rattle.wl_plan.specs.Bound.{AreBindings};
-ghost use Rattle.wl_plan.specs.Faults.{IsNumberFault, value_steps, placed_fault, laid_fault, kept_fault};
+ghost use Rattle.wl_plan.specs.Faults.{IsNumberFault, value_steps, placed_fault, kept_fault};
 ghost use Rattle.wl_plan.specs.Fixups.{AreFixups};
 ghost use Rattle.wl_plan.specs.Globals.{IsGlobalFault};
 ghost use Rattle.wl_places.specs.IndexedMaps.{AreWholeMaps};
-ghost use Rattle.wl_plan.specs.Outline.{AreChecked, AreFew, HasOutline, HasWrapperRoom, with_types};
+ghost use Rattle.wl_plan.specs.Outline.{AreFew, HasOutline, HasWrapperRoom};
 ghost use Rattle.wl_places.specs.Placing.{IsPlacing};
 ghost use Rattle.wl_plan.specs.Plan.{IsPlan};
-ghost use Rattle.wl_plan.specs.PlanSteps.{ArePlacedThings, IsBookOf, HasValues, HasNames, HasPartsOf, AreLists, IsOutputModule, AreLaid};
+ghost use Rattle.wl_plan.specs.PlanSteps.{ArePlacedThings, IsBookOf, IsRenumberingOf, HasValues, HasNames, HasPartsOf, IsOutputModule};
 ghost use Rattle.wl_plan.specs.ThreadSteps.{IsBodyRefusal};
-ghost use Rattle.wl_places.specs.declared.placing.Placing.{Placing as Places};
 
 use crate::bindings::Bindings;
-use crate::bodies::{all_numbers, own_bodies};
+use crate::bodies::own_bodies;
 use crate::extras::{output_debug_sections, output_features};
 use crate::fixups::{FixupSources, all_fixups};
 use crate::global_starts::GlobalSources;
 use crate::globals::planned_globals;
 use crate::imports::output_imports;
 use crate::layout::{LinkPlan, OutputFunction, OutputImport, PlannedGlobal, WasmLayout};
-use crate::outline::{Outline, outline_of};
-use crate::positions::moved_positions;
+use crate::outline::{Outline, outline_of, sources_of};
+use crate::positions::moved_fields;
+use crate::rewriting::{Renumbering, RewrittenBody, all_numbers};
 use crate::sizes::{SectionSizes, section_sizes};
 use crate::table::{element_functions, output_table, space_slots};
 use crate::wrappers::{push_wrapper_bodies, push_wrapper_slots};
-use std::alloc::Global;
-use std::mem;
+use std::alloc::{AllocError, Global};
 use wl_bind::{
     build_index_maps, entries_stand_once, same_targets_are_one, table_functions_stand_once,
 };
 use wl_bytes::shortest_form_is_one;
 use wl_ctors::init_calls_are_one;
-use wl_exports::Wrapper;
+use wl_exports::{ExportSources, Wrapper, check_exports};
 use wl_features::FeatureList;
 use wl_index::WasmObjectIndexMap;
 use wl_linking::{DebugSectionInput, LinkError};
 use wl_lists::ItemList;
-use wl_module::{FuncType, MemoryType, OutputExport, TableType, WasmFunctionBody};
+use wl_module::{MemoryType, TableType, WasmFunctionBody};
 use wl_ops::numbers_are_one;
 use wl_output::Fixup;
 use wl_places::{
@@ -85,13 +86,15 @@ fn output_bodies<'a>(
     things: &PlacedThings<'_, '_, 'a>,
     book: &AddressBook<'_, '_, 'a>,
     fixups: &[Fixup],
-    numbers: &[ItemList<Option<u32>>],
+    renumbering: &Renumbering<'_, '_, 'a>,
+    rewritten: &mut Vec<RewrittenBody<'a>>,
 ) -> Result<ItemList<WasmFunctionBody<'a>>, LinkError>
     requires things { ArePlacedThings things.now }
-    requires sound { AreSoundBodies things.now.input.now }
     requires book { IsBookOf things.now book.now }
     requires fixups { AreFixups things.now.input.now things.now.placing.now fixups.now }
-    requires numbers { AreAllNumbers things.now.input.now things.now.placing.now numbers.now }
+    requires renumbering { IsRenumberingOf things.now renumbering.now }
+    requires rewritten { AreRewritten things.now.input.now things.now.placing.now
+        rewritten.old.items }
     requires low { Clear (IsAddressTooHigh things.now.input.now things.now.placing.now) }
     requires globals { Clear (IsGlobalFault things.now.input.now things.now.placing.now) }
     ensures ok { IfOk result (AreBodies things.now.input.now things.now.placing.now) }
@@ -103,7 +106,7 @@ fn output_bodies<'a>(
         bindings,
         maps: things.maps,
     };
-    let mut bodies = own_bodies(alloc, &sources, fixups, numbers)?;
+    let mut bodies = own_bodies(alloc, &sources, fixups, renumbering, rewritten)?;
     push_wrapper_bodies(
         alloc,
         &mut bodies,
@@ -138,12 +141,12 @@ fn output_values<'a>(
     alloc: Global,
     things: &PlacedThings<'_, '_, 'a>,
     book: &AddressBook<'_, '_, 'a>,
-    numbers: &[ItemList<Option<u32>>],
+    positions: &[u32],
 ) -> Result<OutputValues<'a>, LinkError>
     requires things { ArePlacedThings things.now }
-    requires sound { AreSoundBodies things.now.input.now }
     requires book { IsBookOf things.now book.now }
-    requires numbers { AreAllNumbers things.now.input.now things.now.placing.now numbers.now }
+    requires positions { AllZip (IsMovedIn things.now.input.now things.now.placing.now)
+        (relocations things.now.input.now) positions.now }
     requires low { Clear (IsAddressTooHigh things.now.input.now things.now.placing.now) }
     ensures ok { IfOk result (HasValues things.now.input.now things.now.placing.now) }
     ensures clear { OnOk result
@@ -170,13 +173,12 @@ fn output_values<'a>(
     let elements = element_functions(alloc, input, placing, bindings, maps)?;
     let count = space_len(things);
     let mut slots = space_slots(alloc, input, bindings, elements.as_slice(), count)?;
-    let positions = moved_positions(alloc, input, placing, numbers)?;
     let sources = FixupSources {
         book,
         maps,
         slots: slots.as_slice(),
     };
-    let fixups = all_fixups(alloc, &sources, &positions)?;
+    let fixups = all_fixups(alloc, &sources, positions)?;
     push_wrapper_slots(&mut slots, things.wrappers)?;
     Ok(OutputValues {
         globals,
@@ -221,21 +223,19 @@ struct OutputParts<'a> {
     sizes: SectionSizes,
 }
 
-/// All parts that are made from where things lie, where it was judged whether there can be the
-/// exports: that is reported after all that is judged here, but before sizes.
+/// All parts that are made from where things lie, where there can be these exports.
 fn output_parts<'a>(
     alloc: Global,
     things: &PlacedThings<'_, '_, 'a>,
     book: &AddressBook<'_, '_, 'a>,
-    args: &'a WasmArgs,
-    checked: Result<(), LinkError>,
+    exports: &ExportSources<'_, '_, 'a>,
 ) -> Result<OutputParts<'a>, LinkError>
     requires things { ArePlacedThings things.now }
     requires sound { AreSoundBodies things.now.input.now }
     requires book { IsBookOf things.now book.now }
-    requires args { args.now ≡ things.now.input.now.link.args }
+    requires exports { AreSources exports.now }
+    requires input { exports.now.input.now ≡ things.now.input.now }
     requires low { Clear (IsAddressTooHigh things.now.input.now things.now.placing.now) }
-    requires checked { AreChecked things.now.input.now checked }
     ensures ok { IfOk result (HasPartsOf things.now.input.now things.now.placing.now) }
     ensures clear { OnOk result (Clear (value_steps things.now.input.now things.now.placing.now)) }
     ensures err { IfErr result
@@ -246,16 +246,22 @@ fn output_parts<'a>(
     init_calls_are_one();
     body_or_fault();
     entries_stand_once();
-    let numbers = all_numbers(alloc, things.input, things.placing, things.maps)?;
-    let numbers = numbers.as_slice();
-    let values = output_values(alloc, things, book, numbers)?;
+    let rows = all_numbers(alloc, things.input, things.placing, things.maps)?;
+    let renumbering = Renumbering {
+        input: things.input,
+        placing: things.placing,
+        rows: rows.as_slice(),
+    };
+    let mut moved = moved_fields(alloc, &renumbering)?;
+    let values = output_values(alloc, things, book, &moved.positions)?;
     let fixups = values.fixups.as_slice();
-    let bodies = output_bodies(alloc, things, book, fixups, numbers)?;
-    checked?;
+    let bodies = output_bodies(alloc, things, book, fixups, &renumbering, &mut moved.bodies)?;
+    // Reported where each value was found, and before sizes.
+    check_exports(alloc, exports)?;
     let layouts = things.placing.places.layouts.as_slice();
     let sizes = section_sizes(bodies.as_slice(), layouts)?;
     Ok(OutputParts {
-        names: output_names(alloc, things, args)?,
+        names: output_names(alloc, things, exports.args)?,
         bodies,
         values,
         sizes,
@@ -263,77 +269,12 @@ fn output_parts<'a>(
 }
 
 /// What the options and the bindings say of the module as a whole.
-#[derive(Clone, Copy, PartialEq, Eq)]
+#[derive(Clone, Copy)]
 struct OutputModule {
     memory: Option<MemoryType>,
     table: Option<TableType>,
     start_function: Option<u32>,
     shared_memory_tls: bool,
-}
-
-/// Lists that are made before it is known where things lie, and the maps of the objects.
-#[derive(Drop)]
-struct OutputLists<'a> {
-    types: ItemList<FuncType>,
-    functions: ItemList<OutputFunction<'a>>,
-    exports: ItemList<OutputExport<'a>>,
-    features: FeatureList<'a>,
-    maps: ItemList<WasmObjectIndexMap>,
-}
-
-/// The plan of these parts, where things lie there.
-fn plan_of<'a>(
-    input: &LinkInput<'_, 'a>,
-    lists: OutputLists<'a>,
-    parts: OutputParts<'a>,
-    whole: OutputModule,
-    placing: Placing<'a>,
-) -> LinkPlan<'a>
-    requires placed { IsPlacing input.now placing }
-    requires lists { AreLists input.now placing lists }
-    requires parts { HasPartsOf input.now placing parts }
-    requires whole { IsOutputModule input.now placing whole }
-    ensures { IsPlan input.now result }
-{
-    let OutputParts {
-        bodies,
-        values,
-        names,
-        sizes,
-    } = parts;
-    let Placing {
-        places,
-        memory_base,
-        ..
-    } = placing;
-    LinkPlan {
-        layout: WasmLayout {
-            output_types: lists.types,
-            imports: names.imports,
-            function_type_indices: lists.functions,
-            function_bodies: bodies,
-            globals: values.globals,
-            memory: whole.memory,
-            table: whole.table,
-            element_functions: values.elements,
-            function_table_slots: values.slots,
-            object_data_layouts: places.layouts,
-            exports: lists.exports,
-            start_function: whole.start_function,
-            memory_base,
-            tls_base: places.tls_base,
-            shared_memory_tls: whole.shared_memory_tls,
-            tls_size: places.tls_size,
-            tls_align: places.tls_align,
-            data_end: places.data_end,
-            code_section_size: sizes.code,
-            data_section_size: sizes.segments,
-            features: lists.features,
-            debug_sections: names.debug_sections,
-            object_index_maps: lists.maps,
-        },
-        fixups: values.fixups,
-    }
 }
 
 /// What the options and the bindings say of the module as a whole.
@@ -356,28 +297,6 @@ fn output_module(
     }
 }
 
-/// The lists of an outline, which are taken out of it, with these types and maps.
-fn take_lists<'a>(
-    alloc: Global,
-    args: &'a WasmArgs,
-    outline: &mut Outline<'a>,
-    types: ItemList<FuncType>,
-    maps: ItemList<WasmObjectIndexMap>,
-) -> OutputLists<'a>
-    ensures { (input : Input) (placing : Places) → args.now ≡ input.link.args
-        → HasOutline input (with_types outline.old types)
-        → AreWholeMaps input placing maps → AreLists input placing result }
-{
-    let features = mem::replace(&mut outline.features, FeatureList::empty(alloc));
-    OutputLists {
-        types,
-        functions: mem::replace(&mut outline.functions, ItemList::empty(alloc)),
-        exports: mem::replace(&mut outline.interface.exports, ItemList::empty(alloc)),
-        features: output_features(alloc, args, features),
-        maps,
-    }
-}
-
 /// All parts that are made from where things lie, and the maps of the objects with their data, of a
 /// link with that outline.
 fn placed_parts<'a>(
@@ -387,13 +306,11 @@ fn placed_parts<'a>(
     outline: &Outline<'a>,
     placing: &Placing<'a>,
     maps: ItemList<WasmObjectIndexMap>,
-    checked: Result<(), LinkError>,
 ) -> Result<(ItemList<WasmObjectIndexMap>, OutputParts<'a>), LinkError>
     requires sound { AreSoundBodies input.now }
     requires outline { HasOutline input.now outline.now }
     requires placed { IsPlacing input.now placing.now }
     requires maps { AreIndexMaps input.now maps }
-    requires checked { AreChecked input.now checked }
     requires few { AreFew input.now }
     requires wrapper_room { HasWrapperRoom input.now }
     requires segments { length (segment_space placing.now) ≤ MAX_ENTRIES }
@@ -419,79 +336,77 @@ fn placed_parts<'a>(
         functions: outline.functions.as_slice(),
         wrappers: outline.interface.wrappers.as_slice(),
     };
-    let parts = output_parts(alloc, &things, &book, args, checked)?;
+    let bindings = &outline.bindings;
+    let exports = sources_of(input, args, bindings, maps.as_slice(), &outline.features);
+    let parts = output_parts(alloc, &things, &book, &exports)?;
     Ok((maps, parts))
 }
 
-/// Where things lie, and what is made from that, with the types of the output.
-#[derive(Drop)]
-struct LaidParts<'a> {
+/// The plan of a link with that outline, where things lie there, of these parts.
+///
+/// # Errors
+/// `AllocError` where memory runs out.
+fn plan_of<'a>(
+    alloc: Global,
+    input: &LinkInput<'_, 'a>,
+    outline: Outline<'a>,
     placing: Placing<'a>,
     maps: ItemList<WasmObjectIndexMap>,
     parts: OutputParts<'a>,
-    whole: OutputModule,
-    types: ItemList<FuncType>,
-}
-
-/// Places data, and makes what needs to know where things lie. At the end the types are taken out
-/// of the outline.
-fn laid_parts<'a>(
-    alloc: Global,
-    input: &LinkInput<'_, 'a>,
-    args: &'a WasmArgs,
-    outline: &mut Outline<'a>,
-    maps: ItemList<WasmObjectIndexMap>,
-    checked: Result<(), LinkError>,
-) -> Result<LaidParts<'a>, LinkError>
-    requires sound { AreSoundBodies input.now }
-    requires outline { HasOutline input.now outline.old }
-    requires maps { AreIndexMaps input.now maps }
-    requires checked { AreChecked input.now checked }
-    requires few { AreFew input.now }
-    requires wrapper_room { HasWrapperRoom input.now }
-    requires args { args.now ≡ input.now.link.args }
-    ensures laid { IfOk result (AreLaid input.now) }
-    ensures outline { IfOk result (λ l. HasOutline input.now (with_types outline.new l.types)) }
-    ensures clear { OnOk result (Clear (laid_fault input.now)) }
-    ensures err { IfErr result (Refuses (laid_fault input.now)) }
+) -> Result<LinkPlan<'a>, AllocError>
+    requires outline { HasOutline input.now outline }
+    requires placed { IsPlacing input.now placing }
+    requires maps { AreWholeMaps input.now placing maps }
+    requires parts { HasPartsOf input.now placing parts }
+    ensures { IfOk result (IsPlan input.now) }
 {
-    placings_are_one();
-    let placing = place_data(alloc, input, outline.bindings.indices.needs())?;
-    let (maps, parts) = placed_parts(alloc, input, args, outline, &placing, maps, checked)?;
     let whole = output_module(input, &placing, &outline.bindings);
-    let types = outline.bindings.take_types(alloc)?;
-    Ok(LaidParts {
-        placing,
-        maps,
-        parts,
-        whole,
-        types,
+    let Outline {
+        bindings,
+        functions,
+        interface,
+        features,
+    } = outline;
+    let output_types = bindings.types.into_types()?;
+    let OutputParts {
+        bodies,
+        values,
+        names,
+        sizes,
+    } = parts;
+    let Placing {
+        places,
+        memory_base,
+        ..
+    } = placing;
+    Ok(LinkPlan {
+        layout: WasmLayout {
+            output_types,
+            imports: names.imports,
+            function_type_indices: functions,
+            function_bodies: bodies,
+            globals: values.globals,
+            memory: whole.memory,
+            table: whole.table,
+            element_functions: values.elements,
+            function_table_slots: values.slots,
+            object_data_layouts: places.layouts,
+            exports: interface.exports,
+            start_function: whole.start_function,
+            memory_base,
+            tls_base: places.tls_base,
+            shared_memory_tls: whole.shared_memory_tls,
+            tls_size: places.tls_size,
+            tls_align: places.tls_align,
+            data_end: places.data_end,
+            code_section_size: sizes.code,
+            data_section_size: sizes.segments,
+            features: output_features(alloc, input.args(), features),
+            debug_sections: names.debug_sections,
+            object_index_maps: maps,
+        },
+        fixups: values.fixups,
     })
-}
-
-/// The plan of a link with that outline, whose lists are taken out of it.
-fn plan_outlined<'a>(
-    alloc: Global,
-    input: &LinkInput<'_, 'a>,
-    args: &'a WasmArgs,
-    outline: &mut Outline<'a>,
-    maps: ItemList<WasmObjectIndexMap>,
-    checked: Result<(), LinkError>,
-) -> Result<LinkPlan<'a>, LinkError>
-    requires sound { AreSoundBodies input.now }
-    requires outline { HasOutline input.now outline.old }
-    requires maps { AreIndexMaps input.now maps }
-    requires checked { AreChecked input.now checked }
-    requires few { AreFew input.now }
-    requires wrapper_room { HasWrapperRoom input.now }
-    requires args { args.now ≡ input.now.link.args }
-    ensures ok { IfOk result (IsPlan input.now) }
-    ensures clear { OnOk result (Clear (laid_fault input.now)) }
-    ensures err { IfErr result (Refuses (laid_fault input.now)) }
-{
-    let laid = laid_parts(alloc, input, args, outline, maps, checked)?;
-    let lists = take_lists(alloc, args, outline, laid.types, laid.maps);
-    Ok(plan_of(input, lists, laid.parts, laid.whole, laid.placing))
 }
 
 /// The plan of a link, of which it is known what is kept.
@@ -515,7 +430,12 @@ pub(crate) fn plan_kept<'a>(
     ensures clear { OnOk result (Clear (kept_fault input.now)) }
     ensures err { IfErr result (Refuses (kept_fault input.now)) }
 {
+    placings_are_one();
+    // What references lead to, and the number of each thing; the wrappers come on top.
     let bound = build_index_maps(alloc, input)?;
-    let (mut outline, maps, checked) = outline_of(alloc, input, args, bound, features)?;
-    plan_outlined(alloc, input, args, &mut outline, maps, checked)
+    let (outline, maps) = outline_of(alloc, input, args, bound, features)?;
+    // Segments, stack, memory and heap, and then what takes its value from where these lie.
+    let placing = place_data(alloc, input, outline.bindings.indices.needs())?;
+    let (maps, parts) = placed_parts(alloc, input, args, &outline, &placing, maps)?;
+    Ok(plan_of(alloc, input, outline, placing, maps, parts)?)
 }

@@ -14,7 +14,7 @@ use wl_linking::{LinkError, Quantity};
 use wl_module::WasmFunctionBody;
 
 /// How many bytes the two sections take.
-#[derive(Clone, Copy, PartialEq, Eq)]
+#[derive(Clone, Copy)]
 pub(crate) struct SectionSizes {
     /// The code section.
     pub(crate) code: u64,

@@ -1,4 +1,4 @@
-use Rattle.std.proofs.Common.{◌≡◌, ◌∙◌, ◌≤◌, ◌+◌, ℕ, List, [], ◌∷◌, ◌++◌, length, map, sym, ap, subst, arith}
+use Rattle.std.proofs.Common.{◌≡◌, ◌∙◌, List, [], ◌∷◌, ◌++◌, length, map, sym, ap, subst, arith}
 use Rattle.std.specs.List.{AllByRecursion, flat_map}
 use Rattle.std.proofs.lemmas.Result.{IfOk-weaker}
 use Rattle.wl_lists.proofs.Places.{all_append}
@@ -8,8 +8,8 @@ use Rattle.wl_check.specs.Texts.{line_text}
 use Rattle.wl_check.specs.declared.line.Line.{Line}
 use Rattle.wl_check.specs.declared.line.Line.TheVariants.{Version, Fix, Feature, End}
 use Rattle.wl_plan.specs.ObjectSegments.{ObjectSegment, segments_of_objects}
-use Rattle.wl_plan.specs.PlanLines.{numbered_lines, type_line, import_line, function_line, body_line, global_line, memory_lines, table_lines, slot_line, segment_line, export_line, start_lines, debug_line, output_segments, lines_of, HasListing, HaveNumbers, ArePayloadsSmall, AreDebugSectionsSmall}
-use Rattle.wl_plan.proofs.PlanLineLaws.{IsWritten, lines_are, on_ok, written_first, written_last, written_more}
+use Rattle.wl_plan.specs.PlanLines.{numbered_lines, type_line, import_line, function_line, body_line, global_line, memory_lines, table_lines, slot_line, segment_line, export_line, start_lines, debug_line, output_segments, lines_of, HasListing, ArePayloadsSmall, AreDebugSectionsSmall}
+use Rattle.wl_plan.proofs.PlanLineLaws.{lines_are, on_ok, written_first, written_last, written_more}
 use Rattle.wl_plan.proofs.lines.listing.Goals as goal
 
 pub returns-clause-text : goal.returns-clause-text

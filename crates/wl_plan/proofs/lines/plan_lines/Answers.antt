@@ -1,7 +1,7 @@
-use Rattle.std.proofs.Common.{◌≡◌, ◌∙◌, ap, Err}
+use Rattle.std.proofs.Common.{◌∙◌, ap, Err}
 use Rattle.wl_check.specs.Spelled.{IsListing}
 use Rattle.wl_check.specs.declared.listing.ListingError.{ListingError}
-use Rattle.wl_plan.specs.PlanLines.{lines_of, listing_text}
+use Rattle.wl_plan.specs.PlanLines.{lines_of}
 use Rattle.wl_plan.proofs.PlanLineLaws.{none_bad, read_is}
 use Rattle.wl_plan.proofs.lines.plan_lines.Goals as goal
 

@@ -1,6 +1,3 @@
-use Rattle.std.proofs.Common.{sym, subst}
-use Rattle.std.specs.List.{AllZip}
-use Rattle.wl_bind.specs.Parts.{StandOnce}
 use Rattle.wl_places.specs.Placing.{data_input}
 use Rattle.wl_plan.proofs.ClearLaws.{is_clear}
 use Rattle.wl_plan.proofs.part_laws.plans_keep_their_promises.Goals as goal

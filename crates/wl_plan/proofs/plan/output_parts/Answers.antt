@@ -11,7 +11,6 @@ use Rattle.wl_plan.specs.Fixups.{IsFixupFault}
 use Rattle.wl_plan.specs.Globals.{IsGlobalFault}
 use Rattle.wl_plan.specs.SizeSteps.{IsTooBig}
 use Rattle.wl_linking.proofs.StepLaws.{clear_end, clear_step, refuses_behind, refuses_for, refuses_here}
-use Rattle.wl_plan.proofs.PlannedLaws.{checked_refused, checked_sound}
 use Rattle.wl_plan.proofs.PlanLaws.{bodies_few, body_refuses, first_of_both, number_refuses, segments_few, size_clear, size_refuses, values_clear}
 use Rattle.wl_plan.proofs.UniqueBodies.{FormsAreOne}
 use Rattle.wl_plan.proofs.plan.output_parts.Goals as goal
@@ -21,7 +20,7 @@ section_sizes-requires-clause-bodies c =
     let input = c.args.things.now.input.now in
     let few = bodies_few input c.args.things.now.placing.now c.in_ok-bodies.bodies
     c.requires.things.wrapper_room c.in_ok-bodies.ensures.ok in
-    let same : c.as_slice.result.now ≡ c.in_ok-bodies.bodies = search rules in
+    let same : c.as_slice-2.result.now ≡ c.in_ok-bodies.bodies = search rules in
     subst (λ (bodies : List Body). length bodies ≤ MAX_ENTRIES) (sym same) few
 
 pub section_sizes-requires-clause-layouts : goal.section_sizes-requires-clause-layouts
@@ -38,7 +37,7 @@ returns-in_err-sizes-clause-err c =
     let input = c.args.things.now.input.now in
     let g = c.args.things.now.placing.now in
     let e = c.in_err-sizes.field-0.0 in
-    let bodies : c.as_slice.result.now ≡ c.in_ok-bodies.bodies = search rules in
+    let bodies : c.as_slice-2.result.now ≡ c.in_ok-bodies.bodies = search rules in
     let layouts : c.as_slice-layouts.result.now ≡ g.places.layouts = search rules in
     let big : IsTooBig c.in_ok-bodies.bodies g.places.layouts e =
     subst (λ (rows : List (List SegmentLayout)). IsTooBig c.in_ok-bodies.bodies rows e) layouts
@@ -57,7 +56,7 @@ returns-in_err-sizes-clause-err c =
     let fault = size_refuses input g c.in_ok-bodies.bodies e c.in_ok-bodies.ensures.ok big in
     rw (p.1, p.2) (refuses_behind (IsValueFault input g) _ e values
     (refuses_behind (IsExportFault input) (Step (IsSizeFault input g) NoStep) e
-    (checked_sound input c.args.checked c.in_ok-checked.field-0 c.in_ok-checked.was c.requires.checked)
+    (rw c.requires.input at c.in_ok-check_exports.ensures.clear)
     (refuses_here (IsSizeFault input g) NoStep e (refuses_for (IsSizeFault input g) e fault))))
 
 pub returns-clause-clear : goal.returns-clause-clear
@@ -71,7 +70,7 @@ returns-clause-clear c =
       calls = c.init_calls_are_one.ensures;
       encoded = c.body_or_fault.ensures.one;
     } in
-    let bodies : c.as_slice.result.now ≡ c.in_ok-bodies.bodies = search rules in
+    let bodies : c.as_slice-2.result.now ≡ c.in_ok-bodies.bodies = search rules in
     let layouts : c.as_slice-layouts.result.now ≡ g.places.layouts = search rules in
     let small : Clear (IsTooBig c.in_ok-bodies.bodies g.places.layouts) =
     subst (λ (rows : List (List SegmentLayout)). Clear (IsTooBig c.in_ok-bodies.bodies rows))
@@ -83,7 +82,7 @@ returns-clause-clear c =
     c.in_ok-bodies.bodies c.in_ok-bodies.ensures.ok c.in_ok-values.ensures.clear in
     clear_step (IsValueFault input g) _ values
     (clear_step (IsExportFault input) (Step (IsSizeFault input g) NoStep)
-    (checked_sound input c.args.checked c.in_ok-checked.field-0 c.in_ok-checked.was c.requires.checked)
+    (rw c.requires.input at c.in_ok-check_exports.ensures.clear)
     (clear_step (IsSizeFault input g) NoStep
     (size_clear forms input g c.in_ok-bodies.bodies (c.entries_stand_once.ensures.functions input)
     (c.entries_stand_once.ensures.globals input)
@@ -100,13 +99,13 @@ returns-in_err-values-clause-err c =
     (refuses_here (IsValueFault input g) _ c.in_err-values.field-0.0
     (number_refuses input g c.in_err-values.field-0.0 c.in_err-values.ensures.err))
 
-pub returns-in_err-checked-clause-err : goal.returns-in_err-checked-clause-err
-returns-in_err-checked-clause-err c =
-    let residual = c.from_residual-in_err-checked in
+pub returns-in_err-check_exports-clause-err : goal.returns-in_err-check_exports-clause-err
+returns-in_err-check_exports-clause-err c =
+    let residual = c.from_residual-in_err-check_exports in
     let p = err_from_is_err_and residual.result residual.ensures.1 in
     let input = c.args.things.now.input.now in
     let g = c.args.things.now.placing.now in
-    let e = c.in_err-checked.field-0.0 in
+    let e = c.in_err-check_exports.field-0.0 in
     let forms : FormsAreOne = record {
       unsigned = c.shortest_form_is_one.ensures.unsigned;
       signed = c.shortest_form_is_one.ensures.signed;
@@ -117,7 +116,7 @@ returns-in_err-checked-clause-err c =
     let values : Clear (IsValueFault input g) =
     values_clear forms c.body_or_fault.ensures.either input g (c.entries_stand_once.ensures.globals input)
     c.in_ok-bodies.bodies c.in_ok-bodies.ensures.ok c.in_ok-values.ensures.clear in
-    let refused = checked_refused input c.args.checked e c.in_err-checked.was c.requires.checked in
+    let refused = rw c.requires.input at c.in_err-check_exports.ensures.err in
     rw (p.1, p.2) (refuses_behind (IsValueFault input g) _ e values
     (refuses_here (IsExportFault input) _ e refused))
 

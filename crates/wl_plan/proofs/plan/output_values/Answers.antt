@@ -76,15 +76,10 @@ returns-clause-ok c =
 pub all_fixups-requires-clause-positions : goal.all_fixups-requires-clause-positions
 all_fixups-requires-clause-positions c =
     let input = c.args.things.now.input.now in
-    let g = c.args.things.now.placing.now in
     let book = c.args.book.now in
-    let positions = c.deref.result.now in
-    let same : positions ≡ c.in_ok-positions.positions.items = search rules in
-    let moved : AllZip (IsMovedIn input g) (relocations input) positions =
-    subst (λ (ps : List ℕ). AllZip (IsMovedIn input g) (relocations input) ps) (sym same)
-    c.in_ok-positions.ensures.ok in
+    let positions = c.args.positions.now in
     let placed : AllZip (IsMovedIn input book.placing.now) (relocations input) positions =
     subst (λ (p : Placing). AllZip (IsMovedIn input p) (relocations input) positions)
-    (sym c.requires.book.placing) moved in
+    (sym c.requires.book.placing) c.requires.positions in
     subst (λ (i : Input). AllZip (IsMovedIn i book.placing.now) (relocations i) positions)
     (sym c.requires.book.input) placed

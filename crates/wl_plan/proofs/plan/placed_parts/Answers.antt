@@ -1,9 +1,11 @@
-use Rattle.std.proofs.Common.{◌≡◌, rules}
+use Rattle.std.proofs.Common.{◌≡◌, List, rules, subst, sym}
 use Rattle.std.proofs.lemmas.Result.{err_from_is_err_and}
 use Rattle.wl_places.specs.Addresses.{IsAddressTooHigh}
 use Rattle.wl_plan.specs.Faults.{placed_fault, value_steps}
 use Rattle.wl_linking.proofs.StepLaws.{refuses_behind, refuses_memory}
-use Rattle.wl_plan.proofs.PlannedLaws.{export_refuses, low_clear, placed_ok, symbol_refuses}
+use Rattle.wl_exports.specs.Sources.{HaveIndices}
+use Rattle.wl_index.specs.declared.index_map.WasmObjectIndexMap.{WasmObjectIndexMap}
+use Rattle.wl_plan.proofs.PlannedLaws.{export_refuses, low_clear, placed_ok, symbol_refuses, whole_maps_have}
 use Rattle.wl_plan.proofs.plan.placed_parts.Goals as goal
 
 pub returns-in_err-maps-clause-err : goal.returns-in_err-maps-clause-err
@@ -64,3 +66,10 @@ output_parts-requires-clause-things c =
       wrapper_room = c.requires.wrapper_room;
       room = c.requires.segments;
     }
+
+pub sources_of-exports-requires-clause-maps : goal.sources_of-exports-requires-clause-maps
+sources_of-exports-requires-clause-maps c =
+    let input = c.args.input.now in
+    let same : c.as_slice-5.result.now ≡ c.in_ok-maps.maps = search rules in
+    subst (λ (ms : List WasmObjectIndexMap). HaveIndices input ms) (sym same)
+    (whole_maps_have input c.args.placing.now c.in_ok-maps.maps c.in_ok-maps.ensures.ok)

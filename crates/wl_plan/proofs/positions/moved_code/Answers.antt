@@ -9,15 +9,15 @@ moved_file-requires-clause-here c =
     let files = c.as_slice-files.ensures.objects ∙ c.files.ensures.objects in
     let lt : c.args.first.object < length c.as_slice-files.result.now =
     subst (λ (os : List Object). c.args.first.object < length os) (sym files) c.requires.within in
-    object_here c.args.input.now.link.objects c.as_slice-files.result.now c.args.first.object
-    c.index-files-object.result files lt c.index-files-object.is
+    object_here c.args.renumbering.now.input.now.link.objects c.as_slice-files.result.now c.args.first.object
+    c.index-files-first.result files lt c.index-files-first.is
 
 pub moved_file-requires-clause-unit : goal.moved_file-requires-clause-unit
 moved_file-requires-clause-unit c =
     let files = c.as_slice-files.ensures.objects ∙ c.files.ensures.objects in
     let lt : c.args.first.object < length c.as_slice-files.result.now =
     subst (λ (os : List Object). c.args.first.object < length os) (sym files) c.requires.within in
-    unit_within c.whole_objects.ensures.fitting c.args.input.now c.args.first c.args.run.now
-    c.index-files-object.result c.requires.sound c.requires.kept c.requires.at c.requires.place
-    (object_here c.args.input.now.link.objects c.as_slice-files.result.now c.args.first.object
-    c.index-files-object.result files lt c.index-files-object.is)
+    unit_within c.whole_objects.ensures.fitting c.args.renumbering.now.input.now c.args.first c.args.run.now
+    c.index-files-first.result c.requires.renumbering.sound c.requires.kept c.requires.at c.requires.place
+    (object_here c.args.renumbering.now.input.now.link.objects c.as_slice-files.result.now c.args.first.object
+    c.index-files-first.result files lt c.index-files-first.is)

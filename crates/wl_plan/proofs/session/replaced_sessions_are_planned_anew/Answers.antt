@@ -1,4 +1,4 @@
-use Rattle.std.proofs.Common.{◌≡◌, List, ℕ, subst, sym}
+use Rattle.std.proofs.Common.{◌≡◌, subst, sym}
 use Rattle.wl_session.specs.After.{after}
 use Rattle.wl_plan.specs.LinkPlan.{HasLinkFault, IsLinkPlan}
 use Rattle.wl_plan.specs.Session.{Held, holding}

@@ -2,7 +2,7 @@ use Rattle.std.proofs.Common.{◌≡◌, ◌∙◌, ℕ, List, Option, map, take
 use Rattle.std.proofs.lemmas.List.{take_all}
 use Rattle.wl_plan.specs.BodySteps.{AreAllNumbers}
 use Rattle.wl_plan.proofs.NumberLaws.{numbers_of, all_numbered}
-use Rattle.wl_plan.proofs.bodies.all_numbers.Goals as goal
+use Rattle.wl_plan.proofs.rewriting.all_numbers.Goals as goal
 
 pub returns : goal.returns
 returns c =

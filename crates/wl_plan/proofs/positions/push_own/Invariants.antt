@@ -1,8 +1,0 @@
-use Rattle.std.proofs.Common.{◌≡◌, ◌++◌, map, take}
-use Rattle.wl_plan.proofs.PositionLaws.{position_of}
-use Rattle.wl_plan.proofs.positions.push_own.Given as goal
-
-abbrev pub invariant-loop-relocated : goal.invariant-loop-relocated
-invariant-loop-relocated l =
-    l.positions.items
-    ≡ l.initial.positions.items ++ map position_of (take l.relocated-index l.relocations)

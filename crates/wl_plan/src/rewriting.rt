@@ -1,0 +1,198 @@
+//! The bodies of objects that number segments, as the output has them: with its numbers, and with
+//! the fields in them where they stand then.
+
+ghost use Rattle.std.specs.Prelude.{◌≡◌, ◌≤◌, ◌<◌, ◌||◌, ◌++◌, ◌∷◌, [], List, length, map, true, if◌then◌else◌, Some, All, Contains, IfOk, IfErr, IfSome, OnOk, IsTrue};
+ghost use Rattle.std.specs.Cow.{cow_slice_items};
+ghost use Rattle.wl_module.specs.Slices.{is_owned};
+ghost use Rattle.wl_linking.specs.declared.error.LinkError.TheVariants.{OutOfMemory};
+ghost use Rattle.wl_index.specs.declared.index.TheConstants.{MAX_ENTRIES};
+ghost use Rattle.wl_symbols.specs.Input.{keeps};
+ghost use Rattle.wl_symbols.specs.declared.units.WasmGcUnit.TheVariants.{DefinedFunction};
+ghost use Rattle.wl_places.specs.Addresses.{segment_space};
+ghost use Rattle.wl_places.specs.IndexedMaps.{AreWholeMaps};
+ghost use Rattle.wl_places.specs.Placing.{IsPlacing};
+ghost use Rattle.wl_plan.specs.Bodies.{body_in, IsBodyIn};
+ghost use Rattle.wl_plan.specs.BodySteps.{kept_number, AreNewNumbers, AreAllNumbers, AreMovedIn, IsRenumbering, IsTakenFrom};
+ghost use Rattle.wl_plan.specs.declared.rewriting.RewrittenBody.{RewrittenBody as Rewritten};
+
+use crate::parsing::link_error;
+use std::alloc::{AllocError, Global};
+use std::borrow::CowSlice;
+use wl_data::segments_have_layouts;
+use wl_index::{WASM_DEAD_INDEX, WasmObjectIndexMap};
+use wl_linking::{LinkError, parts_of_objects_stand};
+use wl_lists::ItemList;
+use wl_module::{WasmFunctionBody, copy_bytes};
+use wl_ops::remap_body_data_indices;
+use wl_places::Placing;
+use wl_symbols::{LinkInput, live_units_are_closed};
+
+// ---- numbers of segments
+
+/// The number, unless it says that there is none.
+fn kept_number(index: u32) -> Option<u32>
+    ensures { result ≡ kept_number index }
+{
+    if index == WASM_DEAD_INDEX {
+        None
+    } else {
+        Some(index)
+    }
+}
+
+/// The numbers of an object's segments in the output; none for what isn't kept.
+fn object_numbers(alloc: Global, indices: &[u32]) -> Result<ItemList<Option<u32>>, AllocError>
+    ensures { IfOk result (λ numbers. numbers ≡ map kept_number indices.now) }
+{
+    let mut numbers = Vec::with_capacity(alloc, indices.len())?;
+    for index in indices {
+        numbers.push(kept_number(*index))?;
+    }
+    Ok(ItemList::new(numbers))
+}
+
+/// Those of all objects, object by object.
+///
+/// # Errors
+/// `AllocError` where memory runs out.
+pub(crate) fn all_numbers(
+    alloc: Global,
+    input: &LinkInput<'_, '_>,
+    placing: &Placing<'_>,
+    maps: &[WasmObjectIndexMap],
+) -> Result<ItemList<ItemList<Option<u32>>>, AllocError>
+    requires maps { AreWholeMaps input.now placing.now maps.now }
+    requires placed { IsPlacing input.now placing.now }
+    requires room { length (segment_space placing.now) ≤ MAX_ENTRIES }
+    ensures { IfOk result (AreAllNumbers input.now placing.now) }
+{
+    segments_have_layouts();
+    let _live = input.live();
+    let mut numbers = Vec::new(alloc);
+    for map in maps {
+        numbers.push(object_numbers(alloc, map.segment_indices.as_slice())?)?;
+    }
+    Ok(ItemList::new(numbers))
+}
+
+/// What bodies are rewritten by.
+#[derive(Clone, Copy)]
+pub(crate) struct Renumbering<'r, 'i, 'a> {
+    /// The link, and what is kept of it.
+    pub(crate) input: &'r LinkInput<'i, 'a>,
+    /// Where its data lies.
+    pub(crate) placing: &'r Placing<'a>,
+    /// The numbers of all segments in the output, object by object.
+    pub(crate) rows: &'r [ItemList<Option<u32>>],
+}
+
+impl<'r, 'i, 'a> Renumbering<'r, 'i, 'a> {
+    /// The numbers of the segments of that object.
+    fn row(&self, object: usize) -> &'r [Option<u32>]
+        requires numbers { AreAllNumbers self.now.input.now self.now.placing.now self.now.rows.now }
+        requires within { object < length self.now.input.now.link.objects }
+        ensures { AreNewNumbers self.now.input.now self.now.placing.now object result.now }
+    {
+        self.rows[object].as_slice()
+    }
+}
+
+// ---- one body
+
+/// The bytes of a body that was rewritten, or wasn't.
+fn new_bytes<'a>(
+    alloc: Global,
+    bytes: &CowSlice<'a, u8>,
+    copy: CowSlice<'a, u8>,
+    changed: bool,
+) -> Result<CowSlice<'a, u8>, AllocError>
+    ensures bytes { IfOk result (λ b. cow_slice_items b
+        ≡ (if changed then cow_slice_items copy.entry else cow_slice_items bytes.now)) }
+    ensures owned { IfOk result (λ b. is_owned b ≡ (is_owned bytes.now || changed)) }
+{
+    if changed {
+        Ok(CowSlice::Owned(copy.into_owned(alloc)?))
+    } else {
+        copy_bytes(alloc, bytes)
+    }
+}
+
+/// The body of that function of an object, which is kept, with the numbers that segments have in the
+/// output; fields of it, which are places in it, move along.
+///
+/// # Errors
+/// Want of memory alone: kept bodies are decoded, and what they number is kept.
+pub(crate) fn rewrite<'a>(
+    alloc: Global,
+    renumbering: &Renumbering<'_, '_, 'a>,
+    site: (usize, u32),
+    body: &WasmFunctionBody<'a>,
+    fields: &mut [u32],
+) -> Result<WasmFunctionBody<'a>, LinkError>
+    requires renumbering { IsRenumbering renumbering.now }
+    requires here { body_in renumbering.now.input.now site.0 site.1 ≡ Some body.now }
+    requires kept { keeps renumbering.now.input.now site.0 (DefinedFunction site.1) ≡ true }
+    requires fields { All (λ p. p ≤ length body.now.bytes) fields.old }
+    ensures ok { IfOk result
+        (IsBodyIn renumbering.now.input.now renumbering.now.placing.now site.0 site.1) }
+    ensures moved { OnOk result (AreMovedIn renumbering.now.input.now renumbering.now.placing.now
+        site.0 body.now.bytes fields.old fields.new) }
+    ensures len { length fields.new ≡ length fields.old }
+    ensures err { IfErr result (λ e. e ≡ OutOfMemory) }
+{
+    live_units_are_closed();
+    parts_of_objects_stand();
+    let (object, _) = site;
+    let mut copy = copy_bytes(alloc, &body.bytes)?;
+    let changed = match remap_body_data_indices(alloc, &mut copy, renumbering.row(object), fields) {
+        Ok(changed) => changed,
+        Err(error) => return Err(link_error(object, error)),
+    };
+    Ok(WasmFunctionBody {
+        bytes: new_bytes(alloc, &body.bytes, copy, changed)?,
+        code_offset: body.code_offset,
+        object_index: object,
+    })
+}
+
+// ---- bodies that were rewritten with their fields
+
+/// The body of a function of an object as the output has it.
+#[derive(Drop)]
+pub(crate) struct RewrittenBody<'a> {
+    /// The object's number.
+    pub(crate) object: usize,
+    /// The function's, where definitions alone are counted.
+    pub(crate) function: u32,
+    /// The body.
+    pub(crate) body: WasmFunctionBody<'a>,
+}
+
+/// Whether the last of these bodies is that of the function.
+fn ends_with(bodies: &[RewrittenBody<'_>], site: (usize, u32)) -> bool
+    ensures { IsTrue result → (before : List Rewritten) × (last : Rewritten)
+        × (bodies.now ≡ before ++ last ∷ []) × (last.object ≡ site.0) × (last.function ≡ site.1) }
+{
+    match bodies.last() {
+        Some(last) => last.object == site.0 && last.function == site.1,
+        None => false,
+    }
+}
+
+/// Takes the last of these bodies, if it is that of the function.
+pub(crate) fn take_next<'a>(
+    bodies: &mut Vec<RewrittenBody<'a>>,
+    site: (usize, u32),
+) -> Option<WasmFunctionBody<'a>>
+    ensures taken { IfSome result (IsTakenFrom bodies.old.items site.0 site.1) }
+    ensures left { (one : Rewritten) → Contains bodies.new.items one
+        → Contains bodies.old.items one }
+{
+    if !ends_with(bodies, site) {
+        return None;
+    }
+    match bodies.pop() {
+        Some(last) => Some(last.body),
+        None => None,
+    }
+}
