@@ -1,5 +1,8 @@
 //! Payloads of target features sections.
 
+ghost use Rattle.std.specs.Prelude.{◌≤◌, length};
+ghost use Rattle.wl_bytes.specs.declared.reader.TheConstants.{MAX_LEN};
+
 use std::alloc::Global;
 use wl_bytes::{ReadError, Why};
 use wl_custom::{
@@ -7,7 +10,9 @@ use wl_custom::{
 };
 
 /// Whether there are two features: one that the object uses, and one that it can't be linked with.
-fn has_one_of_each(alloc: Global, payload: &[u8]) -> bool {
+fn has_one_of_each(alloc: Global, payload: &[u8]) -> bool
+    requires { length payload.now ≤ MAX_LEN }
+{
     match parse_target_features_payload(alloc, payload) {
         Ok(features) => {
             features.len() == 2
@@ -21,7 +26,9 @@ fn has_one_of_each(alloc: Global, payload: &[u8]) -> bool {
 }
 
 /// Whether the payload ends before the list does.
-fn is_cut_off(alloc: Global, payload: &[u8]) -> bool {
+fn is_cut_off(alloc: Global, payload: &[u8]) -> bool
+    requires { length payload.now ≤ MAX_LEN }
+{
     matches!(
         parse_target_features_payload(alloc, payload).err(),
         Some(ReadError::Malformed(Why::Truncated))

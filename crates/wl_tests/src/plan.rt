@@ -167,7 +167,7 @@ fn is_plan_of_a_pair(alloc: Global, session: &Session<'_>) -> bool {
 fn is_defined_twice(alloc: Global, session: &Session<'_>, second: usize) -> bool {
     matches!(
         session.plan(alloc).err(),
-        Some(LinkError::DuplicateSymbol { object, .. }) if object == second
+        Some(LinkError::DuplicateSymbol { second_object, .. }) if second_object == second
     )
 }
 
