@@ -1,6 +1,7 @@
 #!/usr/bin/env python3
 """Holds docs/CLAIMS.md against the repository: each function, definition and clause that a row of it names is there and
-is public, and each wrong body that a row names is an edit in must-fail/ or tests/wrong/.
+is public, and each wrong body that a row names is an edit in must-fail/ or tests/wrong/. No clause of a public
+function speaks in the words of specs/steps/, which are those of proofs.
 
     tests/claims.py
 
@@ -102,7 +103,19 @@ def names_in(cell, public, spoken):
             note(f"{name} is neither public, nor a clause or a field of what is named", public.has(name) or name in inner)
 
 
+def clauses_of_steps():
+    """Sees that what specs/steps/ of a crate defines stands in no clause of a public function."""
+    imported = re.compile(r"^ghost use Rattle\.\w+\.specs\.steps\.\w+\.\{([^}]*)\};", re.M)
+    for path in sorted(ROOT.glob("crates/*/src/**/*.rt")):
+        text = path.read_text()
+        words = {name.split(" as ")[-1].strip() for names in imported.findall(text) for name in names.split(",")}
+        for function in clauses.functions_in(text, every=False) if words else ():
+            cited = words & set(re.findall(r"[\w-]+", function.partition(" | ")[2]))
+            note(f"{path.relative_to(ROOT)}: {function.split('(')[0]} is said by {sorted(cited)}", not cited)
+
+
 def main():
+    clauses_of_steps()
     public, known, named = Public(), edits(), set()
     for part in documents.parts_of(PAGE):
         heading, spoken = part[0], set()

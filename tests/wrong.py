@@ -2,13 +2,13 @@
 """Tries the wrong bodies of tests/wrong, which the proofs must refuse: those of crates whose proof takes too
 long for the gate.
 
-    tests/wrong.py [CRATE..]
+    tests/wrong.py [CRATE | CRATE/NAME]..
 
-tests/wrong/CRATE/NAME.edit has the form of an edit of must-fail/. The edits of a crate are laid into a copy of
-the repository as its must-fail/, and `rt must-fail` tries them there, over what `rt check` has kept here, so
-run that first: what isn't kept is proved anew. It prints a row for each edit, with the goal that the refusal
-names. A refusal that names no goal of a contract shows nothing, and counts as none. The last line is
-`N refused, M not`, and the status 1 where M isn't 0."""
+tests/wrong/CRATE/NAME.edit has the form of an edit of must-fail/. Each is made in a copy of the repository,
+where `rt check --only` then asks for the functions that it changes, over what `rt check` has kept here, so run
+that first: what isn't kept is proved anew. It prints a row for each edit, with the goal that the refusal names.
+A refusal that names no goal of a contract shows nothing, and counts as none. The last line is `N refused, M not`,
+and the status 1 where M isn't 0."""
 
 import pathlib
 import re
@@ -19,19 +19,22 @@ import tempfile
 
 ROOT = pathlib.Path(__file__).resolve().parent.parent
 WRONG = ROOT / "tests" / "wrong"
-# What `rt check` keeps of a crate: its own work, and what the crates above it read of it.
-KEPT = ("incremental", "rlib")
+# What `rt check` keeps of a crate: what the crates above it read of it, and its own work.
+LIBRARY, WORK = "rlib", "incremental"
+# What the prover says of a file of proofs that merely lacks a name.
+NAME_ALONE = re.compile(r"(\./)?proofs/.*(has no field|is not in scope|has no `|was not admitted)")
+REASON = re.compile(r"(note: \S+:\d+:\d+:|\S+:\d+:\d+: error)")
 
 
-def copy_repository(to):
-    """Copies the crates and what `rt check` has kept of them, but none of their edits, nor what was built."""
+def copy_repository(to, crates):
+    """Copies all crates with their libraries, and of those that are asked for what `rt check` has kept."""
 
     def unwanted(folder, names):
         place = pathlib.Path(folder).relative_to(ROOT / "crates").parts
         if len(place) == 1:
             return {"must-fail"} & set(names)
         if len(place) == 2 and place[1] == "out":
-            return set(names) - set(KEPT)
+            return set(names) - {LIBRARY, *([WORK] if place[0] in crates else [])}
         return set()
 
     shutil.copytree(ROOT / "crates", to / "crates", ignore=unwanted)
@@ -40,52 +43,83 @@ def copy_repository(to):
             shutil.copy(ROOT / name, to)
 
 
-def verdict_of(reported):
-    """What a try came to and the goal that it names, of what `rt must-fail` prints after the name of the edit."""
-    weak = {"only because a proof file": "by a name alone", "only by a limit": "by a limit alone"}
-    for words, verdict in weak.items():
-        if reported.startswith(f"refused, as it must be ({words}"):
-            return verdict, reported.partition("): ")[2]
-    verdict, _, reason = reported.partition(": ")
-    if verdict == "refused, as it must be":
-        return ("refused" if reason else "no goal is named"), reason.removeprefix("note: ")
-    return verdict.lower(), reason
+def function_at(path, text, place):
+    """The end of the name by which `rt check` knows the function at that place of a file of src/."""
+    heads = re.finditer(r"^( *)(?:pub(?:\(\w+\))? )?fn (\w+)", text[:place], re.M)
+    head = max(heads, key=lambda found: found.start())
+    if head[1]:
+        # A method is known by the module of its type, which may be another file.
+        impls = re.finditer(r"^impl(?:<.*?>)? (?:(\w+)(?:<.*>)? for )?(\w+)", text[: head.start()], re.M)
+        trait, name = max(impls, key=lambda found: found.start()).groups()
+        return f"{name}{trait or ''}::{head[2]}"
+    modules = pathlib.PurePath(path).with_suffix("").parts[1:]
+    return "::".join([part for part in modules if part not in ("lib", "main")] + [head[2]])
 
 
-def tried(crate, copy):
-    """For each edit of the crate, in order of the names, what a try in the copy came to and the goal."""
-    shutil.copytree(WRONG / crate, copy / "crates" / crate / "must-fail")
+def apply(edit, folder):
+    """Makes the edit in the crate. Answers the texts that were there, by file, and the functions changed."""
+    before, functions, path = {}, [], None
+    for line in edit.read_text(encoding="utf-8").splitlines():
+        word, _, rest = line.partition(": ")
+        if word == "file":
+            path = folder / rest
+            before.setdefault(path, path.read_text(encoding="utf-8"))
+        elif word == "old":
+            old = rest
+        elif word == "new":
+            text = path.read_text(encoding="utf-8")
+            name = function_at(path.relative_to(folder), text, text.index(old))
+            functions += [] if name in functions else [name]
+            path.write_text(text.replace(old, rest), encoding="utf-8")
+    return before, functions
+
+
+def verdict_of(ended):
+    """What a check of a wrong body came to, and the goal that it names."""
+    lines = ended.stdout.splitlines()
+    if ended.returncode == 0:
+        return "not refused", ""
+    if not any(re.match(r"fn \S+: (not proved|no proof)", line) for line in lines):
+        return "not read", next((line for line in lines if "error" in line), lines[-1] if lines else "")
+    reasons = [line for line in lines if REASON.match(line)]
+    goal = next((line for line in reasons if not NAME_ALONE.match(line)), None)
+    return ("refused", goal.removeprefix("note: ")) if goal else ("by a name alone", reasons[0] if reasons else "")
+
+
+def tried(edit, folder):
+    """What a try of the edit in a copy of its crate came to, and the goal."""
+    before, functions = apply(edit, folder)
+    words = [word for name in functions for word in ("--only", name)]
     # What rt says on standard error goes to the caller's.
     streams = {"stdin": subprocess.DEVNULL, "stdout": subprocess.PIPE}
-    ended = subprocess.run(["rt", "must-fail", crate], cwd=copy, text=True, errors="replace", **streams)
-    reported = {}
-    for said in re.split(r"^rt: ", ended.stdout, flags=re.M):
-        name, parted, verdict = said.removeprefix(f"must-fail {crate}/").partition(".edit: ")
-        if parted:
-            reported[name] = " ".join(verdict.split())
-    if not reported:
-        sys.stderr.write(ended.stdout)
-    names = sorted(edit.stem for edit in (WRONG / crate).glob("*.edit"))
-    return [(name, *verdict_of(reported.get(name, "not tried"))) for name in names]
+    ended = subprocess.run(["rt", "check", *words], cwd=folder, text=True, errors="replace", **streams)
+    for path, text in before.items():
+        path.write_text(text, encoding="utf-8")
+    return verdict_of(ended)
+
+
+def edits_of(words):
+    """The edits that are asked for, by crate; all of them where none is named."""
+    found = sorted(WRONG.glob("*/*.edit"))
+    for word in words:
+        if not any(word in (edit.parent.name, f"{edit.parent.name}/{edit.stem}") for edit in found):
+            sys.exit(f"tests/wrong has no {word}")
+    return [edit for edit in found if not words or {edit.parent.name, f"{edit.parent.name}/{edit.stem}"} & set(words)]
 
 
 def main():
-    known = sorted(folder.name for folder in WRONG.iterdir() if folder.is_dir())
-    crates = sys.argv[1:] or known
-    for crate in crates:
-        if crate not in known:
-            sys.exit(f"tests/wrong has no folder {crate}, but {', '.join(known)}")
-    refused = others = 0
+    edits = edits_of(sys.argv[1:])
+    refused = 0
     with tempfile.TemporaryDirectory() as name:
         copy = pathlib.Path(name)
-        copy_repository(copy)
-        for crate in crates:
-            for edit, verdict, goal in tried(crate, copy):
-                print(f"{crate:12}{edit:50}{verdict:18}{goal}", flush=True)
-                is_refused = verdict == "refused"
-                refused, others = refused + is_refused, others + (not is_refused)
-    print(f"{refused} refused, {others} not")
-    return 1 if others else 0
+        copy_repository(copy, {edit.parent.name for edit in edits})
+        for edit in edits:
+            crate = edit.parent.name
+            verdict, goal = tried(edit, copy / "crates" / crate)
+            print(f"{crate:12}{edit.stem:50}{verdict:18}{goal[:200]}", flush=True)
+            refused += verdict == "refused"
+    print(f"{refused} refused, {len(edits) - refused} not")
+    return 1 if refused < len(edits) else 0
 
 
 if __name__ == "__main__":

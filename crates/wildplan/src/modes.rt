@@ -109,7 +109,21 @@ fn objects_text(
 {
     let files = parse_objects(alloc, &inputs.objects)?;
     let plan = plan_files(alloc, &files, args)?;
-    mode_text(alloc, &files, args, &plan, words, inputs.compared())
+    match args.mode {
+        Mode::Listing => {
+            // The listing is large, and needs nothing of the objects, which are large too.
+            drop(files);
+            Ok(listing(alloc, &plan)?)
+        }
+        Mode::Generate(_) | Mode::Why | Mode::Map | Mode::Check(_) | Mode::Run(_) => mode_text(
+            alloc,
+            &files,
+            args,
+            &plan,
+            words,
+            inputs.compared(),
+        ),
+    }
 }
 
 /// What is written of the plan of objects, once each replacement was done.

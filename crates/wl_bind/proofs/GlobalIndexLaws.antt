@@ -26,8 +26,8 @@ use Rattle.wl_bind.specs.Scan.{got_mem, got_func}
 use Rattle.wl_symbols.specs.Input.{Input, keeps_slot}
 use Rattle.wl_symbols.specs.KeptSlots.{is_kept_slot, kept_slots, slots_from}
 use Rattle.wl_bind.specs.MadeIndices.{StandsAt}
-use Rattle.wl_bind.specs.Numbering.{IsNumbering}
-use Rattle.wl_bind.specs.NumberingSteps.{FitsPlace, resolution_of, own_indices_of, HaveSlotIndices, IsSlotIndex}
+use Rattle.wl_bind.specs.steps.Numbering.{IsNumbering}
+use Rattle.wl_bind.specs.steps.Numbered.{FitsPlace, resolution_of, own_indices_of, HaveSlotIndices, IsSlotIndex}
 use Rattle.wl_bind.specs.Parts.{IsIndexOf, AreIndicesOf}
 use Rattle.wl_bind.specs.Resolutions.{kept_number, resolved_global, as_global, global_resolution}
 use Rattle.wl_bind.specs.Shared.{global_imports, import_place, import_places, place_in, place_at, shared_of, Shared}
@@ -269,7 +269,7 @@ pub all_globals : ImportLaws → (n : Numbering) → IsNumbering n.input.now n
     → IsLiveOf n.input.now.link n.input.now.live → (object : ℕ) (o : Object)
     → slice_get n.input.now.link.objects object ≡ Some o → (indices firsts new : List ℕ)
     → AllZip (IsSlotIndex n Global) (import_slots n.input.now.link.objects object Global) indices
-    → firsts ≡ n.global_firsts.items → new ≡ indices ++ own_indices_of n.input.now Globals firsts object o
+    → firsts ≡ n.global_firsts.items → new ≡ indices ++ own_indices_of n.input.now Globals firsts object (length o.globals)
     → AreIndicesOf (global_space n.input.now) (local_globals n.input.now object o) new
 all_globals laws n is live object o here indices firsts new slots are pushed =
     let input : Input = n.input.now in
@@ -282,8 +282,8 @@ all_globals laws n is live object o here indices firsts new slots are pushed =
     let at_object : AreIndicesOf space (map (global_slot_entry input) (object_slots object Global o)) indices =
     subst (λ (ts : List ImportSlot). AreIndicesOf space (map (global_slot_entry input) ts) indices)
     (slots_here input.link.objects object Global o here) first in
-    let both = pushed ∙ ap (λ (fs : List ℕ). indices ++ own_indices_of input Globals fs object o) are in
+    let both = pushed ∙ ap (λ (fs : List ℕ). indices ++ own_indices_of input Globals fs object (length o.globals)) are in
     subst (λ (is : List ℕ). AreIndicesOf space (local_globals input object o) is) (sym both)
     (zip_joined (IsIndexOf space) (map (global_slot_entry input) (object_slots object Global o))
     (map (own_global_entry input object) (range_with_len 0 (length o.globals))) indices
-    (own_indices_of input Globals n.global_firsts.items object o) at_object (own_globals input n is live object o))
+    (own_indices_of input Globals n.global_firsts.items object (length o.globals)) at_object (own_globals input n is live object o))

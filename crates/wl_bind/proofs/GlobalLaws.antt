@@ -15,7 +15,7 @@ use Rattle.wl_symbols.specs.declared.targets.SlotTarget.TheVariants as slot
 use Rattle.wl_symbols.specs.Input.{Input, keeps_slot}
 use Rattle.wl_bind.specs.Scan.{GotMemEntry, GotFuncEntry, got_mem, got_func, got_mem_entry, got_func_entry, scan_of}
 use Rattle.wl_bind.specs.GlobalBinding.{named_global, is_called, is_from, by_got, by_host, binds_global, host_globals}
-use Rattle.wl_bind.specs.GlobalSlots.{is_host_by_lists}
+use Rattle.wl_bind.specs.steps.GlobalSlots.{is_host_by_lists}
 use Rattle.wl_symbols.specs.KeptSlots.{is_kept_slot}
 use Rattle.wl_symbols.specs.Left.{same_import, first_like, first_imports}
 use Rattle.wl_bind.specs.Resolutions.{resolved, named_resolution, as_global, global_resolution, rows_from, by_names, by_names_and_got, resolutions}

@@ -1,15 +1,14 @@
 -- The globals of the symbols of an object.
-use Rattle.std.proofs.Common.{◌≡◌, ◌∙◌, ◌||◌, ◌&&◌, ◌<◌, ◌≤◌, ◌^◌, ℕ, zero, suc, ◌+◌, Bool, true, false, if◌then◌else◌, List, [], ◌∷◌, ◌++◌, length, map, replicate, get_or, take, position, refl, sym, ap, subst, arith, Option, Some, None, slice_get, ◌==◌, Result, Ok, Err, IfOk}
+use Rattle.std.proofs.Common.{◌≡◌, ◌∙◌, ◌||◌, ◌&&◌, ◌<◌, ℕ, zero, suc, ◌+◌, Bool, true, false, if◌then◌else◌, List, [], ◌∷◌, ◌++◌, length, map, replicate, get_or, take, position, refl, sym, ap, subst, arith, Option, Some, None, slice_get, ◌==◌, Result, Ok, Err, IfOk, inl, inr}
 use Rattle.std.proofs.Math.Bool.{or-false}
 use Rattle.std.specs.List.{list_any, range_with_len}
 use Rattle.std.specs.Option.{IsSome, option_map, option_and_then}
-use Rattle.std.proofs.lemmas.Bool.{eqb-true}
+use Rattle.std.proofs.lemmas.Bool.{cases_Bool, eqb-true}
 use Rattle.std.proofs.lemmas.List.{take_more, nil_from_length}
 use Rattle.std.proofs.lemmas.List.Folds.{list_any-append}
 use Rattle.std.proofs.lemmas.List.FromFn.{length-map-range_with_len, get_or-map-range_with_len}
 use Rattle.std.proofs.lemmas.Option.{get_or_from_slice_get}
 use Rattle.indexmap.proofs.SetLemmas.{AllZip-push}
-use Rattle.wl_bytes.specs.declared.reader.TheConstants.{MAX_LEN}
 use Rattle.wl_linking.specs.Object.{Object}
 use Rattle.wl_custom.specs.RelocationTypes.{is_global_index}
 use Rattle.wl_symbols.specs.Entries.{symbol_in}
@@ -17,13 +16,13 @@ use Rattle.wl_symbols.specs.Names.{def}
 use Rattle.wl_symbols.specs.declared.entry.Definition.{Definition}
 use Rattle.wl_bind.specs.FunctionSymbols.{fun}
 use Rattle.wl_bind.specs.GlobalSpace.{GlobalOf, global_space, global_parts, got_mem_part, got_func_part}
-use Rattle.wl_bind.specs.GlobalSteps.{marked}
+use Rattle.wl_bind.specs.steps.GotGlobals.{marked, asks_globals, AreGlobalMarks}
 use Rattle.wl_bind.specs.IndexMaps.{is_global_of, has_global, is_data_symbol, mem_place, got_mem_global, got_mem_globals, func_place, got_func_global, got_func_globals}
 use Rattle.wl_symbols.specs.Input.{Input}
-use Rattle.wl_bind.specs.Numbering.{IsNumbering}
+use Rattle.wl_bind.specs.steps.Numbering.{IsNumbering}
 use Rattle.wl_bind.specs.Parts.{IsPlaceOf, ArePlacesOf, HasEntry}
 use Rattle.wl_bind.specs.Sameness.{same_definition, same_pair}
-use Rattle.wl_bind.specs.Scan.{got_mem, got_func, got_mem_entry, got_func_entry, GotMemEntry, GotFuncEntry}
+use Rattle.wl_bind.specs.Scan.{got_mem, got_func, got_mem_entry, got_func_entry, GotMemEntry, GotFuncEntry, Scanned}
 use Rattle.wl_bind.specs.declared.binding.FunctionTarget.{FunctionTarget}
 use Rattle.wl_bind.specs.declared.binding.GlobalTarget.TheVariants.{GotMem, GotFunc}
 use Rattle.wl_bind.specs.declared.numbering.Numbering.{Numbering}
@@ -153,14 +152,6 @@ so_of_answer P (Err e) x same p = tt
 
 -- ---- by symbols
 
--- a number of a symbol is small
-pub few_marks : (g : ℕ → Bool) (n i : ℕ) (marks : List Bool) → marks ≡ map g (range_with_len 0 n)
-    → n ≤ MAX_LEN → i < length marks → i < 2 ^ 32
-few_marks g n i marks are few lt =
-    let long : length marks ≡ n =
-    ap (λ (bs : List Bool). length bs) are ∙ length-map-range_with_len g 0 n in
-    omega (arith, long, few, lt)
-
 there_at : {X : Type 0} (xs : List X) (i : ℕ) → i < length xs → IsSome (slice_get xs i)
 there_at xs i lt = let s = splits xs i lt in rw s.here refl
 
@@ -210,3 +201,27 @@ symbol_more {X} space f g n i marks mark old new place are lt stands at pushed s
     ∙ get_or-map-range_with_len h 0 n i i o within same in
     subst (λ (x : Option X). IsPlaceOf space x place)
     (ap (λ (b : Bool). f i b) set ∙ sym is) stands) pushed so_far
+
+-- ---- where globals are asked for
+
+pub asked_by_mem : (a b : Scanned) → a ≡ b → (length a.got_mem == 0) ≡ false → asks_globals b ≡ true
+asked_by_mem a b same some = subst (λ (s : Scanned). asks_globals s ≡ true) same (rw some refl)
+
+pub asked_by_func : (a b : Scanned) → a ≡ b → (length a.got_func == 0) ≡ false → asks_globals b ≡ true
+asked_by_func a b same some =
+    let asks : asks_globals a ≡ true = elim (cases_Bool (length a.got_mem == 0)) [
+      | inl t ↦ rw (t, some) refl
+      | inr f ↦ rw f refl
+    ] in
+    subst (λ (s : Scanned). asks_globals s ≡ true) same asks
+
+-- marks by relocations are marks whether or not a GOT list has an entry
+pub marks_named : {V E : Type 0} (items : V → List Bool) (n : Numbering) (object : ℕ) (o : Object) (r : Result V E)
+    → IfOk r (λ v. items v ≡ map (has_global n.input.now object o) (range_with_len 0 (length o.symbols)))
+    → IfOk r (λ v. AreGlobalMarks n object o (items v))
+marks_named items n object o (Ok v) is = record {
+  count = ap (λ (bs : List Bool). length bs) is
+      ∙ length-map-range_with_len (has_global n.input.now object o) 0 (length o.symbols);
+  named = λ asked. is;
+}
+marks_named items n object o (Err e) is = tt

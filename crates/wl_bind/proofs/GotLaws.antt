@@ -12,7 +12,7 @@ use Rattle.indexmap.specs.IndexMap.{insert_entry}
 use Rattle.std.proofs.lemmas.List.{length-map, map-append}
 use Rattle.std.proofs.lemmas.Map.Text.{hash_map_updates_str}
 use denote.Ref.{Bor}
-use Rattle.wl_bind.specs.GotSteps.{is_name, ArePlaces, insert_named, insert_as, insert_all_as}
+use Rattle.wl_bind.specs.GotSteps.{is_name, ArePlaces, insert_named, insert_some_named, add_entry, insert_all_as}
 use Rattle.indexmap.specs.IndexSet.{insert_key, insert_all}
 
 -- ---- places in lists
@@ -134,8 +134,8 @@ module _ {K E : Type 0} (eq : K → K → Bool) (key : E → K) (entry : K → E
   any_entry k [] = refl
   any_entry k (x ∷ ks) = rw (back x, any_entry k ks) refl
 
-  one_as : (k : K) (ks : List K) → insert_as eq key entry (map entry ks) k ≡ map entry (insert_key eq ks k)
-  one_as k ks = rw (any_entry k ks) (by (list_any (eq k) ks))
+  one_as : (k : K) (ks : List K) → add_entry eq key (map entry ks) (Some (entry k)) ≡ map entry (insert_key eq ks k)
+  one_as k ks = rw (back k, any_entry k ks) (by (list_any (eq k) ks))
     where
       by : (b : Bool) → (if b then map entry ks else map entry ks ++ entry k ∷ []) ≡ map entry (if b then ks else ks ++ k ∷ [])
       by true = refl
@@ -146,18 +146,17 @@ module _ {K E : Type 0} (eq : K → K → Bool) (key : E → K) (entry : K → E
   all_as ks [] = refl
   all_as ks (x ∷ xs) = ap (λ es. insert_all_as eq key entry es xs) (one_as x ks) ∙ all_as (insert_key eq ks x) xs
 
-  -- an entry that a map adds is that of its key
-  pub named_as : (see : K × Bor (List ℕ) → E) → ((e : K × Bor (List ℕ)) → key (see e) ≡ e.0) → (k : K) (name : Bor (List ℕ)) → see (k, name) ≡ entry k → (es : List (K × Bor (List ℕ)))
-      → map see (insert_named eq es k name) ≡ insert_as eq key entry (map see es) k
-  named_as see keyed k name same es = rw any (by (list_any (λ e. eq k e.0) es))
-    where
-      any : list_any (λ e. eq k (key e)) (map see es) ≡ list_any (λ e. eq k e.0) es
-      any = seen es
-        where
-          seen : (es : List (K × Bor (List ℕ))) → list_any (λ e. eq k (key e)) (map see es) ≡ list_any (λ e. eq k e.0) es
-          seen [] = refl
-          seen (e ∷ es) = rw (keyed e, seen es) refl
+module _ {K E : Type 0} (eq : K → K → Bool) (key : E → K) (see : K × Bor (List ℕ) → E) (keyed : (e : K × Bor (List ℕ)) → key (see e) ≡ e.0) where
+  seen : (k : K) (es : List (K × Bor (List ℕ))) → list_any (λ e. eq k (key e)) (map see es) ≡ list_any (λ e. eq k e.0) es
+  seen k [] = refl
+  seen k (e ∷ es) = rw (keyed e, seen k es) refl
 
-      by : (b : Bool) → map see (if b then es else es ++ (k, name) ∷ []) ≡ (if b then map see es else map see es ++ entry k ∷ [])
+  -- a key with a name is added as its entry is
+  pub named_entry : (es : List (K × Bor (List ℕ))) (item : Option (K × Bor (List ℕ)))
+      → map see (insert_some_named eq es item) ≡ add_entry eq key (map see es) (option_map see item)
+  named_entry es None = refl
+  named_entry es (Some e) = rw (keyed e, seen e.0 es) (by (list_any (λ o. eq e.0 o.0) es))
+    where
+      by : (b : Bool) → map see (if b then es else es ++ e ∷ []) ≡ (if b then map see es else map see es ++ see e ∷ [])
       by true = refl
-      by false = map-append see es ((k, name) ∷ []) ∙ ap (λ e. map see es ++ e ∷ []) same
+      by false = map-append see es (e ∷ [])

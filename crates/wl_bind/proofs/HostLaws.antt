@@ -15,7 +15,7 @@ use Rattle.wl_bind.specs.GlobalBinding.{binds_global}
 use Rattle.wl_bind.specs.Resolutions.{as_function, function_resolution, as_global, global_resolution, Resolving, rows_from, by_all_rules, resolutions}
 use Rattle.wl_bind.specs.Later.{is_unresolved}
 use Rattle.wl_bind.specs.Undefined.{is_host_function, is_host_global, is_host_slot}
-use Rattle.wl_bind.specs.SharedSteps.{resolution_at, is_host_at}
+use Rattle.wl_bind.specs.steps.Shared.{resolution_at, is_host_at}
 use Rattle.wl_bind.specs.declared.binding.FunctionTarget.{FunctionTarget}
 use Rattle.wl_bind.specs.declared.binding.FunctionTarget.TheVariants as function
 use Rattle.wl_bind.specs.declared.binding.GlobalTarget.{GlobalTarget}

@@ -10,6 +10,7 @@ use Rattle.std.proofs.lemmas.Slice.Eq.{bytes_eq-Decides}
 use Rattle.indexmap.specs.IndexSet.{insert_all}
 use Rattle.wl_index.specs.declared.index.TheConstants.{MAX_ENTRIES}
 use Rattle.wl_custom.specs.Symbols.{is_data}
+use Rattle.wl_linking.specs.Steps.{Refuses}
 use Rattle.wl_linking.specs.declared.error.LinkError.{LinkError}
 use Rattle.wl_linking.specs.declared.error.LinkError.TheVariants as fault
 use Rattle.wl_custom.specs.declared.symbols.WasmSymbolKind.{WasmSymbolKind}
@@ -25,11 +26,14 @@ use Rattle.wl_bind.specs.GlobalSpace.{AddressOf, address_part, global_parts, obj
 use Rattle.wl_bind.specs.Made.{is_forced, is_made}
 use Rattle.wl_bind.specs.MadeIndices.{AreMadeIndices, StandsAt, IsMadeIndex}
 use Rattle.wl_bind.specs.Parts.{joined, lengths_of, starts_from, total, AreStarts, IsOver}
-use Rattle.wl_bind.specs.PartSteps.{entry_of}
+use Rattle.wl_bind.specs.steps.Parts.{entry_of}
 use Rattle.wl_bind.specs.Sameness.{same_made}
-use Rattle.wl_bind.specs.SpaceFaults.{AreTooMany, IsSpaceOver}
+use Rattle.wl_bind.specs.OutputTypes.{output_types}
+use Rattle.wl_bind.specs.SpaceFaults.{AreTooMany, IsSpaceOver, IsSpaceTooLarge}
 use Rattle.wl_bind.specs.declared.indices.LinkerDefinedIndices.{LinkerDefinedIndices}
 use Rattle.wl_bind.specs.declared.parts.PartStarts.{PartStarts}
+use Rattle.wl_types.specs.Types.{IsFull}
+use Rattle.wl_linking.proofs.StepLaws.{refuses_for, refuses_memory}
 use Rattle.wl_lists.proofs.Found.{any_in}
 use Rattle.wl_lists.proofs.In.{in_back, in_front, IsIn}
 use Rattle.wl_lists.proofs.Places.{mapped_at}
@@ -91,6 +95,22 @@ pub globals_over : (input : Input) (e : LinkError) → IsOver (total (lengths_of
 globals_over input e over =
     over_as input (total (lengths_of (global_parts input))) e
     (λ lt. inr (longer (global_parts input) (object_globals input) lt)) over
+
+-- too many entries are why things can't be numbered
+pub space_refuses : (input : Input) (e : LinkError) → IsSpaceOver input e → Refuses (IsSpaceTooLarge input) e
+space_refuses input fault.OutOfMemory over = refuses_memory (IsSpaceTooLarge input) fault.OutOfMemory refl
+space_refuses input (fault.TooLarge what) over =
+    refuses_for (IsSpaceTooLarge input) (fault.TooLarge what)
+    (record { told = ap fault.TooLarge over.0; over = inr over.1 })
+space_refuses input _ over = absurd over
+
+-- and so are too many types
+pub types_refuse : (input : Input) (e : LinkError) → IsFull (output_types input) e → Refuses (IsSpaceTooLarge input) e
+types_refuse input fault.OutOfMemory full = refuses_memory (IsSpaceTooLarge input) fault.OutOfMemory refl
+types_refuse input (fault.TooLarge what) full =
+    refuses_for (IsSpaceTooLarge input) (fault.TooLarge what)
+    (record { told = ap fault.TooLarge full.0; over = inl full.1 })
+types_refuse input _ full = absurd full
 
 -- ---- first occurrences keep each
 

@@ -16,7 +16,7 @@ use Rattle.wl_symbols.specs.declared.linker_symbol.WasmLinkerSymbol.{WasmLinkerS
 use Rattle.wl_symbols.specs.declared.linker_symbol.WasmLinkerSymbol.TheVariants.{DataEnd, GlobalBase, HeapBase, HeapEnd, WasmFirstPageEnd, DsoHandle, MemoryBase, TableBase, StackPointer, TlsBase, TlsSize, TlsAlign, CallCtors, InitTls}
 use Rattle.wl_symbols.specs.Input.{Input}
 use Rattle.wl_bind.specs.Kinds.{is_wrong_use, is_wrong_init, IsWrongUse, IsWrongInit, IsWrongKind}
-use Rattle.wl_bind.specs.KindSteps.{is_wrong_relocation, is_wrong_at, init_place, wrong_init_from}
+use Rattle.wl_bind.specs.steps.Kinds.{is_wrong_relocation, is_wrong_at, init_place, wrong_init_from}
 use Rattle.wl_symbols.specs.Relocations.{relocations}
 use Rattle.wl_bind.specs.Scan.{symbol_of}
 use Rattle.wl_symbols.specs.declared.relocated.Relocated.{Relocated}

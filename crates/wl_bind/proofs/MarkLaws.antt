@@ -9,7 +9,7 @@ use Rattle.std.proofs.lemmas.List.FromFn.{length-map-range_with_len, get_or-map-
 use Rattle.wl_custom.specs.Infos.{SegmentInfo, is_tls}
 use Rattle.wl_custom.specs.Symbols.{Symbol, is_thread_data}
 use Rattle.wl_bind.specs.ThreadData.{is_thread_symbol_on, is_thread_segment_by}
-use Rattle.wl_bind.specs.ThreadSteps.{marked}
+use Rattle.wl_bind.specs.steps.ThreadSegments.{marked}
 
 -- ---- a mark for each number
 

@@ -18,14 +18,14 @@ use Rattle.wl_bind.specs.FunctionSpace.{FunctionEntry, FunctionOf, InitMemory, k
 use Rattle.wl_bind.specs.FunctionTypes.{type_number, stub_types}
 use Rattle.wl_bind.specs.Made.{is_made, has_init_memory}
 use Rattle.wl_bind.specs.MadeIndices.{IsMadeIndex}
-use Rattle.wl_bind.specs.SharedSteps.{is_host_of}
+use Rattle.wl_bind.specs.steps.Shared.{is_host_of}
 use Rattle.wl_symbols.specs.Relocations.{object_relocations}
 use Rattle.wl_bind.specs.OutputTypes.{is_type_of_function, is_type_of_host, names_type, is_live_type, types_if, local_types, live_types, made_type, init_memory_type, made_types, output_types, AreTypeIndices}
 use Rattle.wl_bind.specs.Parts.{by_object, AreRows, IsIndexOf, AreIndicesOf}
 use Rattle.wl_types.specs.Types.{add_type, IsFull}
 use Rattle.wl_linking.specs.declared.error.LinkError.{LinkError}
 use Rattle.wl_linking.specs.declared.error.LinkError.TheVariants.{OutOfMemory, TooLarge}
-use Rattle.wl_bind.specs.MergeSteps.{mark, mark_all, is_marked, AreMarked, function_types, host_type, host_types, named_type, present, merged, entry_if, type_where, made_functions}
+use Rattle.wl_bind.specs.steps.Merging.{mark, mark_all, is_marked, AreMarked, function_types, host_type, host_types, named_type, present, merged, entry_if, type_where, made_functions}
 use Rattle.wl_symbols.specs.declared.relocated.Relocated.{Relocated}
 use Rattle.wl_bind.specs.declared.binding.FunctionTarget.TheVariants.{Defined, Made, Host, Stub}
 use Rattle.wl_module.specs.declared.types.ValType.TheVariants.{I32}

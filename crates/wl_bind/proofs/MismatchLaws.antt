@@ -1,5 +1,5 @@
 -- Symbols that lead to functions of another type.
-use Rattle.std.proofs.Common.{◌≡◌, ◌∙◌, ◌⊎◌, ℕ, zero, suc, ◌+◌, ◌<◌, ◌≤◌, Bool, true, false, not, ◌&&◌, List, [], ◌∷◌, length, refl, sym, ap, subst, arith, inl, inr, Option, Some, None, find, slice_get, slice_index_or, if◌then◌else◌}
+use Rattle.std.proofs.Common.{◌≡◌, ◌∙◌, ◌⊎◌, ℕ, zero, suc, ◌+◌, ◌<◌, ◌≤◌, Bool, true, false, not, ◌&&◌, List, [], ◌∷◌, Contains, length, refl, sym, ap, subst, arith, inl, inr, Option, Some, None, find, slice_get, slice_index_or, if◌then◌else◌}
 use Rattle.std.specs.Option.{option_or, option_map, option_map_or, option_and_then}
 use Rattle.std.proofs.lemmas.Bool.{cases_Bool, and_parts, not-true}
 use Rattle.std.proofs.lemmas.Option.{slice_get_within}
@@ -205,6 +205,16 @@ init_at input object o k d list e here same lt h =
     let e_is : TellsMismatch input object f.symbol_index e = subst (λ (l : List WasmInitFunc). TellsMismatch input object (slice_index_or l k d).symbol_index e) same h in
     init_told input object o k f e here there_is (stands_there o.init_funcs k d there_is) e_is
 
+-- where none of the functions of an object that run at the start has such a symbol, none is named by them
+pub inits_clear : (input : Input) (object : ℕ) (o : Object) → slice_get input.link.objects object ≡ Some o
+    → ((k : ℕ) (f : WasmInitFunc) → k < length o.init_funcs → slice_index_or o.init_funcs k f ≡ f → is_mismatch input object f.symbol_index ≡ false)
+    → (number : ℕ) → NamedByInit input object number → is_mismatch input object number ≡ false
+inits_clear input object o here none number named =
+    let same : named.o.init_funcs ≡ o.init_funcs =
+    ap (λ (x : Option Object). option_map_or (λ (p : Object). p.init_funcs) x []) (sym named.here ∙ here) in
+    let one : Contains o.init_funcs named.function = subst (λ (fs : List WasmInitFunc). Contains fs named.function) same named.one in
+    ap (is_mismatch input object) (sym named.number_is) ∙ none one.0 named.function one.1 one.2
+
 -- ---- all objects
 
 -- one more object
@@ -229,6 +239,31 @@ pub own_all : (input : Input) (n : ℕ) → length input.link.objects ≤ n → 
 own_all input n all before j number looked =
     let lt = own_within input j number looked in
     before j (omega (arith, lt, all)) number looked
+
+-- a cause is a symbol that leads to another type
+leads_to_other : (input : Input) (e : LinkError) (m : IsMismatch input e) → is_mismatch input m.object m.number ≡ true
+leads_to_other input e m =
+    ap (λ (x : Option Symbol). option_map_or (λ (t : Symbol). is_function t.kind && option_map_or (differs input m.object t) (fun input m.object m.number) false) x false) m.is
+    ∙ (ap (λ (b : Bool). b && option_map_or (differs input m.object m.symbol) (fun input m.object m.number) false) m.function
+    ∙ (ap (λ (f : Option FunctionTarget). option_map_or (differs input m.object m.symbol) f false) m.leads
+    ∙ (ap (λ (t : Option FunctionType). option_map_or (λ (declared : FunctionType). is_other_type input.link.objects declared m.target) t false) m.declared_is
+    ∙ (ap (λ (t : Option FunctionType). option_map_or (λ (actual : FunctionType). not (same_type m.declared actual)) t false) m.actual_is
+    ∙ ap not m.differ))))
+
+never : false ≡ true → ⊥
+never e = absurd cc
+
+-- where no symbol that is looked at does, there is no cause
+pub all_clear : (input : Input) → ((object number : ℕ) → NamedByRelocation input object number → is_mismatch input object number ≡ false)
+    → ((object : ℕ) → AreOwnClear input object) → Clear (IsMismatch input)
+all_clear input relocations own = record {
+  none = λ (e : LinkError) (m : IsMismatch input e).
+      let fits : is_mismatch input m.object m.number ≡ false = elim m.looked_at [
+        | inl named ↦ relocations m.object m.number named
+        | inr looked ↦ own m.object m.number looked
+      ] in
+      never (sym fits ∙ leads_to_other input e m);
+}
 
 -- ---- the law
 

@@ -16,7 +16,7 @@ use Rattle.wl_symbols.specs.KeptSlots.{slots_from, is_kept_slot}
 use Rattle.wl_bind.specs.FunctionBinding.{binds_function}
 use Rattle.wl_bind.specs.GlobalBinding.{binds_global}
 use Rattle.wl_bind.specs.Made.{is_made_function, is_made_global, is_bound}
-use Rattle.wl_bind.specs.NeedSteps.{leads_to, row_leads_to}
+use Rattle.wl_bind.specs.steps.Needs.{leads_to, row_leads_to}
 use Rattle.wl_bind.specs.Resolutions.{as_function, as_global, function_resolution, global_resolution, rows_from, by_all_rules, resolutions}
 use Rattle.wl_bind.specs.declared.binding.FunctionTarget.{FunctionTarget}
 use Rattle.wl_bind.specs.declared.binding.FunctionTarget.TheVariants as function

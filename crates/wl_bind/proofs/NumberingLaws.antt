@@ -22,9 +22,9 @@ use Rattle.wl_bind.specs.FunctionSpace.{FunctionOf, function_parts, function_spa
 use Rattle.wl_bind.specs.GlobalSpace.{GlobalOf, global_parts, global_space, own_global_entry}
 use Rattle.wl_symbols.specs.Input.{Input, keeps, keeps_slot}
 use Rattle.wl_bind.specs.MadeIndices.{AreMadeIndices}
-use Rattle.wl_bind.specs.Numbering.{IsNumbering}
-use Rattle.wl_bind.specs.NumberingSteps.{made_end, firsts_of, HasRoom, FitsOwn, own_indices_of, HasIndex, IsResolvedIndex, resolution_of, HaveSlotIndices, IsSlotIndex}
-use Rattle.wl_bind.specs.OwnIndices.{own_unit, kept_own, firsts_from, own_index, kept_count, own_start, space_length}
+use Rattle.wl_bind.specs.steps.Numbering.{IsNumbering}
+use Rattle.wl_bind.specs.steps.Numbered.{made_end, firsts_of, HasRoom, FitsOwn, own_indices_of, HasIndex, IsResolvedIndex, resolution_of, HaveSlotIndices, IsSlotIndex}
+use Rattle.wl_bind.specs.steps.OwnIndices.{own_unit, kept_own, firsts_from, own_index, kept_count, own_start, space_length}
 use Rattle.wl_bind.specs.Parts.{joined, lengths_of, total, by_object, IsIndexOf, AreIndicesOf, IsOver}
 use Rattle.wl_bind.specs.Resolutions.{Resolving, rows_from, resolutions, by_all_rules}
 use Rattle.wl_bind.specs.Shared.{place_at}
@@ -184,7 +184,7 @@ index_is input firsts space object unit y stands =
 pub own_functions : (input : Input) (n : Numbering) → IsNumbering input n → IsLiveOf input.link input.live
     → (object : ℕ) (o : Object)
     → AreIndicesOf (function_space input) (map (own_function_entry input object) (range_with_len 0 (length o.functions)))
-    (own_indices_of input Functions n.function_firsts.items object o)
+    (own_indices_of input Functions n.function_firsts.items object (length o.functions))
 own_functions input n is live object o =
     zip_maps (IsIndexOf (function_space input)) (own_function_entry input object)
     (λ k. own_index input n.function_firsts.items object (DefinedFunction k))
@@ -195,7 +195,7 @@ own_functions input n is live object o =
 pub own_globals : (input : Input) (n : Numbering) → IsNumbering input n → IsLiveOf input.link input.live
     → (object : ℕ) (o : Object)
     → AreIndicesOf (global_space input) (map (own_global_entry input object) (range_with_len 0 (length o.globals)))
-    (own_indices_of input Globals n.global_firsts.items object o)
+    (own_indices_of input Globals n.global_firsts.items object (length o.globals))
 own_globals input n is live object o =
     zip_maps (IsIndexOf (global_space input)) (own_global_entry input object)
     (λ k. own_index input n.global_firsts.items object (DefinedGlobal k))

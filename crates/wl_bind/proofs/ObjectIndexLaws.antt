@@ -10,9 +10,9 @@ use Rattle.wl_custom.specs.declared.symbols.WasmSymbolKind.TheVariants.{Func, Gl
 use Rattle.wl_symbols.specs.Live.{IsLiveOf}
 use Rattle.wl_symbols.specs.ImportSlots.{object_slots, import_slots}
 use Rattle.wl_symbols.specs.Input.{Input}
-use Rattle.wl_bind.specs.Numbering.{IsNumbering}
-use Rattle.wl_bind.specs.NumberingSteps.{row_part, firsts_of, AreObjectIndices, own_indices_of, resolution_of, HaveSlotIndices, IsSlotIndex}
-use Rattle.wl_bind.specs.OwnIndices.{own_kind}
+use Rattle.wl_bind.specs.steps.Numbering.{IsNumbering}
+use Rattle.wl_bind.specs.steps.Numbered.{row_part, firsts_of, AreObjectIndices, own_indices_of, resolution_of, HaveSlotIndices, IsSlotIndex}
+use Rattle.wl_bind.specs.steps.OwnIndices.{own_kind, own_count}
 use Rattle.wl_bind.specs.Resolutions.{resolutions, by_all_rules}
 use Rattle.wl_bind.specs.declared.numbering.Numbering.{Numbering}
 use Rattle.wl_bind.specs.declared.own_indices.Own.{Own}
@@ -57,7 +57,7 @@ pub own_all : ImportLaws → (n : Numbering) → IsNumbering n.input.now n
     → IsLiveOf n.input.now.link n.input.now.live → (own : Own) (object : ℕ) (o : Object)
     → slice_get n.input.now.link.objects object ≡ Some o → (indices firsts new : List ℕ)
     → AllZip (IsSlotIndex n (own_kind own)) (import_slots n.input.now.link.objects object (own_kind own)) indices
-    → firsts ≡ firsts_of n own → new ≡ indices ++ own_indices_of n.input.now own firsts object o
+    → firsts ≡ firsts_of n own → new ≡ indices ++ own_indices_of n.input.now own firsts object (own_count own o)
     → AreObjectIndices n.input.now own object o new
 own_all laws n is live Functions = all_functions laws n is live
 own_all laws n is live Globals = all_globals laws n is live

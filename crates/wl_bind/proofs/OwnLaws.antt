@@ -1,18 +1,21 @@
 -- What objects define stands in a space at the first index of its object and its ordinal.
-use Rattle.std.proofs.Common.{◌≡◌, ◌∙◌, ℕ, zero, suc, ◌+◌, ◌-◌, ◌<◌, ◌≤◌, Bool, true, false, List, [], ◌∷◌, ◌++◌, map, filter, length, Some, refl, sym, ap, arith, slice_get, slice_index_or, if◌then◌else◌, length-append, append_assoc, nat_lt, inl, inr}
+use Rattle.std.proofs.Common.{◌≡◌, ◌∙◌, ℕ, zero, suc, ◌+◌, ◌-◌, ◌<◌, ◌≤◌, Bool, true, false, List, [], ◌∷◌, ◌++◌, map, filter, length, Some, refl, sym, ap, subst, arith, slice_get, slice_index_or, if◌then◌else◌, length-append, append_assoc, nat_lt, inl, inr}
 use Rattle.std.specs.List.{range_with_len}
 use Rattle.std.proofs.lemmas.Bool.{cases_Bool, ltb-true, and_parts}
 use Rattle.std.proofs.lemmas.List.{length-map}
 use Rattle.std.proofs.lemmas.List.Elements.{filter-append}
 use Rattle.std.proofs.lemmas.Option.{cond_some}
+use Rattle.wl_index.specs.declared.index.TheConstants.{MAX_ENTRIES}
 use Rattle.wl_linking.specs.Object.{Object}
+use Rattle.wl_linking.specs.declared.error.LinkError.{LinkError}
+use Rattle.wl_linking.specs.declared.error.LinkError.TheVariants as fault
 use Rattle.wl_symbols.specs.Live.{Live, is_live, live_below, ordinal_of, IsLiveOf}
 use Rattle.wl_symbols.specs.Units.{counts_of, units_at, has_unit, exists, unit_number, unit_index}
 use Rattle.wl_symbols.specs.declared.units.LinkUnit.{LinkUnit}
 use Rattle.wl_symbols.specs.declared.units.UnitCounts.{UnitCounts}
 use Rattle.wl_symbols.specs.Input.{Input, keeps}
-use Rattle.wl_bind.specs.OwnIndices.{own_unit, own_count, kept_own, firsts_from}
-use Rattle.wl_bind.specs.Parts.{by_object}
+use Rattle.wl_bind.specs.steps.OwnIndices.{own_unit, own_count, kept_own, kept_count, firsts_from}
+use Rattle.wl_bind.specs.Parts.{by_object, IsOver}
 use Rattle.wl_bind.specs.declared.own_indices.Own.{Own}
 use Rattle.wl_bind.specs.declared.own_indices.Own.TheVariants.{Functions, Globals}
 use Rattle.wl_lists.proofs.Places.{get_in_front, mapped_at, get_behind}
@@ -204,3 +207,31 @@ pub firsts_length : (input : Input) (own : Own) (index object : ℕ) (objects : 
 firsts_length input own index object [] = refl
 firsts_length input own index object (o ∷ objects) =
     ap suc (firsts_length input own (index + length (kept_own input own object o)) (object + 1) objects)
+
+-- ---- the first indices, object by object
+
+-- the first index of one more object
+pub firsts_more : (input : Input) (own : Own) (k next after : ℕ) (o : Object) (left tail : List Object)
+    (firsts new all : List ℕ) → left ≡ o ∷ tail → new ≡ firsts ++ next ∷ []
+    → after ≡ next + length (kept_own input own k o) → firsts ++ firsts_from input own next k left ≡ all
+    → new ++ firsts_from input own after (k + 1) tail ≡ all
+firsts_more input own k next after o left tail firsts new all split pushed later so_far =
+    rw (pushed, later)
+    (append_assoc firsts (next ∷ []) (firsts_from input own (next + length (kept_own input own k o)) (k + 1) tail)
+    ∙ (ap (λ (os : List Object). firsts ++ firsts_from input own next k os) (sym split) ∙ so_far))
+
+-- and what it has that is kept
+pub kept_more : (input : Input) (own : Own) (k next after all : ℕ) (o : Object) (left tail : List Object)
+    → left ≡ o ∷ tail → after ≡ next + length (kept_own input own k o)
+    → next + kept_count input own k left ≡ all → after + kept_count input own (k + 1) tail ≡ all
+kept_more input own k next after all o left tail split later so_far =
+    let both : next + (length (kept_own input own k o) + kept_count input own (k + 1) tail) ≡ all =
+    subst (λ (os : List Object). next + kept_count input own k os ≡ all) split so_far in
+    omega (arith, later, both)
+
+-- where what is counted so far is too much, so is all of it
+pub still_over : (count all : ℕ) (e : LinkError) → count ≤ all → IsOver count e → IsOver all e
+still_over count all fault.OutOfMemory le over = tt
+still_over count all (fault.TooLarge what) le over =
+    let lt : MAX_ENTRIES < count = over.1 in (over.0, omega (arith, lt, le))
+still_over count all _ le over = absurd over

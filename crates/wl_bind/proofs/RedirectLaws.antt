@@ -34,7 +34,7 @@ use Rattle.wl_bind.specs.IndexMaps.{is_kept_target, entry_of, symbol_function, s
 use Rattle.wl_symbols.specs.Input.{Input, keeps_slot}
 use Rattle.wl_symbols.specs.KeptSlots.{is_kept_slot}
 use Rattle.wl_bind.specs.Parts.{IsIndexOf, AreIndicesOf, IsPlaceOf, ArePlacesOf, AreRows}
-use Rattle.wl_bind.specs.RedirectSteps.{as_place, row_place, at_index, definition_function, leads_to, redirect_of, redirects_of}
+use Rattle.wl_bind.specs.steps.Redirects.{as_place, row_place, at_index, definition_function, leads_to, redirect_of, redirects_of}
 use Rattle.wl_bind.specs.declared.binding.FunctionTarget.{FunctionTarget}
 use Rattle.wl_bind.specs.declared.binding.FunctionTarget.TheVariants as function
 use Rattle.wl_bind.specs.declared.redirects.LocalFunction.{LocalFunction}
@@ -346,7 +346,7 @@ found_leads input rows given object k o (Some s) here at = elim (cases_Bool (is_
 object_leads : (input : Input) (rows : List (List ℕ)) → IsGiven input rows → (object k : ℕ) (there : Option Object)
     → slice_get input.link.objects object ≡ there
     → LeadsOrNot input rows (option_and_then (λ (o : Object). target_of object o (slice_get o.symbols k)) there)
-    (option_and_then (λ (o : Object). named_of object (slice_get o.symbols k)) there)
+    (named_of object (option_and_then (λ (o : Object). slice_get o.symbols k) there))
 object_leads input rows given object k None here = inl (refl, refl)
 object_leads input rows given object k (Some o) here =
     found_leads input rows given object k o (slice_get o.symbols k) here refl
@@ -409,7 +409,7 @@ object_place : (input : Input) (rows : List (List ℕ)) → IsGiven input rows �
     → slice_get input.link.objects object ≡ there
     → IsPlaceOf (function_space input)
     (option_and_then (entry_of input) (option_and_then (λ (o : Object). function_at input object k o (slice_get o.symbols k)) there))
-    (option_and_then (λ (o : Object). index_at input rows object k (slice_get o.symbols k)) there)
+    (index_at input rows object k (option_and_then (λ (o : Object). slice_get o.symbols k) there))
 object_place input rows given object k None here = refl
 object_place input rows given object k (Some o) here =
     found_place input rows given object k o (slice_get o.symbols k) here refl

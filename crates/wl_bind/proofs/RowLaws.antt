@@ -1,6 +1,7 @@
 -- Slots and rows, object by object.
-use Rattle.std.proofs.Common.{◌≡◌, ◌∙◌, ℕ, zero, suc, ◌+◌, ◌<◌, List, [], ◌∷◌, ◌++◌, length, drop, map, refl, sym, ap, arith, append_assoc, Option, slice_get, slice_index_or, Contains}
+use Rattle.std.proofs.Common.{◌≡◌, ◌∙◌, ℕ, zero, suc, ◌+◌, ◌<◌, ◌≤◌, List, [], ◌∷◌, ◌++◌, length, drop, map, refl, sym, ap, arith, append_assoc, append-nil, Option, slice_get, slice_index_or, Contains}
 use Rattle.std.specs.Option.{option_map_or, option_and_then}
+use Rattle.std.proofs.lemmas.List.{drop_all}
 use Rattle.std.proofs.lemmas.List.Elements.{Contains-append_left, Contains-append_right}
 use Rattle.std.proofs.lemmas.Option.{get_or_from_slice_get}
 use Rattle.wl_linking.specs.Object.{Object}
@@ -48,6 +49,13 @@ row_pushed {X} f kind objects k row rows new all lt is pushed so =
     let rest : List (List X) = slot_rows f kind (k + 1) (drop (k + 1) objects) in
     let step : slot_rows f kind k (drop k objects) ≡ row ∷ rest = rw is (rows_more f kind objects k lt) in
     ap (λ (t : List (List X)). t ++ rest) pushed ∙ append_assoc rows (row ∷ []) rest ∙ (ap (λ (t : List (List X)). rows ++ t) (sym step) ∙ so)
+
+-- after the last entry there are all
+pub entries_all : {X Y : Type 0} (f : X → Y) (xs all : List X) (k : ℕ) (list : List Y) → length xs ≤ k → xs ≡ all
+    → list ++ map f (drop k xs) ≡ map f xs → list ≡ map f all
+entries_all {X} {Y} f xs all k list behind same so =
+    let none : [] ≡ map f (drop k xs) = ap (λ (rest : List X). map f rest) (sym (drop_all k xs behind)) in
+    sym (append-nil list) ∙ (ap (λ (rest : List Y). list ++ rest) none ∙ (so ∙ ap (λ (ts : List X). map f ts) same))
 
 -- one more entry after the others
 pub entry_pushed : {X Y : Type 0} (f : X → Y) (xs : List X) (k : ℕ) (x : X) (y : Y) (list new all : List Y) → k < length xs → x ≡ slice_index_or xs k x → y ≡ f x

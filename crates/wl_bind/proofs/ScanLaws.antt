@@ -1,7 +1,7 @@
 -- What one walk over the kept relocations finds is what each question asks for.
 use Rattle.std.proofs.Common.{◌≡◌, ◌∙◌, ◌∷◌, [], ◌||◌, Bool, true, false, List, Option, Some, None, refl, inl, inr, filter_map, find, fold}
 use Rattle.std.specs.List.{list_any, cons_option}
-use Rattle.std.specs.Option.{option_or}
+use Rattle.std.specs.Option.{option_or, option_map}
 use Rattle.std.proofs.lemmas.Bool.{cases_Bool}
 use Rattle.indexmap.specs.IndexSet.{insert_all}
 use Rattle.wl_custom.specs.RelocationTypes.{is_memory_relative, is_table_relative}
@@ -10,11 +10,11 @@ use Rattle.wl_symbols.specs.Input.{Input}
 use Rattle.wl_symbols.specs.Relocations.{relocations}
 use Rattle.wl_symbols.specs.declared.relocated.Relocated.{Relocated}
 use Rattle.wl_bind.specs.BindingSteps.{names_mismatch}
-use Rattle.wl_bind.specs.GotSteps.{mem_key, func_key, insert_some, insert_some_as, insert_all_as, with_all_mem, with_all_func}
-use Rattle.wl_bind.specs.KindSteps.{is_wrong_relocation}
+use Rattle.wl_bind.specs.GotSteps.{mem_key, func_key, insert_some, add_entry, insert_all_as, with_all_mem, with_all_func}
+use Rattle.wl_bind.specs.steps.Kinds.{is_wrong_relocation}
 use Rattle.wl_bind.specs.Sameness.{same_definition, same_pair, same_target}
 use Rattle.wl_bind.specs.Scan.{Scanned, GotMemEntry, GotFuncEntry, got_mem_of, got_mem_entry, got_func_of, got_func_entry, table_function_of, asks_for_table, scan_of}
-use Rattle.wl_bind.specs.ScanSteps.{Found, scan_part, nothing_found, first_such, found_with, found_in}
+use Rattle.wl_bind.specs.steps.Scanning.{Found, scan_part, nothing_found, first_such, found_at, found_in}
 use Rattle.wl_bind.specs.Undefined.{same_undefined, undefined_data_of, undefined_data}
 use Rattle.wl_bind.specs.UndefinedSteps.{insert_some as insert_undefined}
 use Rattle.wl_bind.specs.declared.binding.FunctionTarget.{FunctionTarget}
@@ -26,7 +26,7 @@ use Rattle.wl_bind.proofs.GotLaws.{all_as}
 -- entries with that of a first key, where there is one, before those of other keys
 module _ {K E : Type 0} (eq : K → K → Bool) (key : E → K) (entry : K → E) where
   first_as : (es : List E) (k : Option K) (ks : List K)
-      → insert_all_as eq key entry (insert_some_as eq key entry es k) ks ≡ insert_all_as eq key entry es (cons_option k ks)
+      → insert_all_as eq key entry (add_entry eq key es (option_map entry k)) ks ≡ insert_all_as eq key entry es (cons_option k ks)
   first_as es None ks = refl
   first_as es (Some k) ks = refl
 
@@ -75,46 +75,46 @@ the_scan m f t n = record { got_mem = m; got_func = f; table_functions = t; need
 -- ---- a field each
 
 module _ (input : Input) where
-  mem_from : (rs : List Relocated) (f : Found) → (fold (found_with input) f rs).got_mem ≡ with_all_mem input f.got_mem (filter_map (got_mem_of input) rs)
+  mem_from : (rs : List Relocated) (f : Found) → (fold (found_at input) f rs).got_mem ≡ with_all_mem input f.got_mem (filter_map (got_mem_of input) rs)
   mem_from [] f = refl
   mem_from (r ∷ rs) f =
-      mem_from rs (found_with input f r) ∙ first_as same_definition mem_key (got_mem_entry input) f.got_mem (got_mem_of input r) (filter_map (got_mem_of input) rs)
+      mem_from rs (found_at input f r) ∙ first_as same_definition mem_key (got_mem_entry input) f.got_mem (got_mem_of input r) (filter_map (got_mem_of input) rs)
 
-  func_from : (rs : List Relocated) (f : Found) → (fold (found_with input) f rs).got_func ≡ with_all_func input f.got_func (filter_map (got_func_of input) rs)
+  func_from : (rs : List Relocated) (f : Found) → (fold (found_at input) f rs).got_func ≡ with_all_func input f.got_func (filter_map (got_func_of input) rs)
   func_from [] f = refl
   func_from (r ∷ rs) f =
-      func_from rs (found_with input f r) ∙ first_as same_pair func_key (got_func_entry input) f.got_func (got_func_of input r) (filter_map (got_func_of input) rs)
+      func_from rs (found_at input f r) ∙ first_as same_pair func_key (got_func_entry input) f.got_func (got_func_of input r) (filter_map (got_func_of input) rs)
 
   table_from : (rs : List Relocated) (f : Found)
-      → (fold (found_with input) f rs).table_functions ≡ insert_all same_target f.table_functions (filter_map (table_function_of input) rs)
+      → (fold (found_at input) f rs).table_functions ≡ insert_all same_target f.table_functions (filter_map (table_function_of input) rs)
   table_from [] f = refl
   table_from (r ∷ rs) f =
-      table_from rs (found_with input f r) ∙ first_key same_target f.table_functions (table_function_of input r) (filter_map (table_function_of input) rs)
+      table_from rs (found_at input f r) ∙ first_key same_target f.table_functions (table_function_of input r) (filter_map (table_function_of input) rs)
 
   undefined_from : (rs : List Relocated) (f : Found)
-      → (fold (found_with input) f rs).undefined ≡ insert_all same_undefined f.undefined (filter_map (undefined_data_of input) rs)
+      → (fold (found_at input) f rs).undefined ≡ insert_all same_undefined f.undefined (filter_map (undefined_data_of input) rs)
   undefined_from [] f = refl
   undefined_from (r ∷ rs) f =
-      undefined_from rs (found_with input f r) ∙ first_name f.undefined (undefined_data_of input r) (filter_map (undefined_data_of input) rs)
+      undefined_from rs (found_at input f r) ∙ first_name f.undefined (undefined_data_of input r) (filter_map (undefined_data_of input) rs)
 
-  wrong_from : (rs : List Relocated) (f : Found) → (fold (found_with input) f rs).wrong ≡ option_or f.wrong (find (is_wrong_relocation input) rs)
+  wrong_from : (rs : List Relocated) (f : Found) → (fold (found_at input) f rs).wrong ≡ option_or f.wrong (find (is_wrong_relocation input) rs)
   wrong_from [] f = or_none f.wrong
-  wrong_from (r ∷ rs) f = wrong_from rs (found_with input f r) ∙ first_found f.wrong (is_wrong_relocation input) r rs
+  wrong_from (r ∷ rs) f = wrong_from rs (found_at input f r) ∙ first_found f.wrong (is_wrong_relocation input) r rs
 
-  mismatch_from : (rs : List Relocated) (f : Found) → (fold (found_with input) f rs).mismatch ≡ option_or f.mismatch (find (names_mismatch input) rs)
+  mismatch_from : (rs : List Relocated) (f : Found) → (fold (found_at input) f rs).mismatch ≡ option_or f.mismatch (find (names_mismatch input) rs)
   mismatch_from [] f = or_none f.mismatch
-  mismatch_from (r ∷ rs) f = mismatch_from rs (found_with input f r) ∙ first_found f.mismatch (names_mismatch input) r rs
+  mismatch_from (r ∷ rs) f = mismatch_from rs (found_at input f r) ∙ first_found f.mismatch (names_mismatch input) r rs
 
   abbrev all_needs : RelocNeeds → List Relocated → RelocNeeds
   all_needs n rs =
       the_needs (n.memory_base || list_any (λ (r : Relocated). is_memory_relative r.relocation.ty) rs)
       (n.table_base || list_any (λ (r : Relocated). is_table_relative r.relocation.ty) rs) (n.table || list_any (asks_for_table input) rs)
 
-  needs_from : (rs : List Relocated) (f : Found) → (fold (found_with input) f rs).needs ≡ all_needs f.needs rs
+  needs_from : (rs : List Relocated) (f : Found) → (fold (found_at input) f rs).needs ≡ all_needs f.needs rs
   needs_from [] f = needs_are f.needs (f.needs.memory_base || false) (f.needs.table_base || false) (f.needs.table || false)
       (or_false f.needs.memory_base) (or_false f.needs.table_base) (or_false f.needs.table)
   needs_from (r ∷ rs) f =
-      needs_from rs (found_with input f r)
+      needs_from rs (found_at input f r)
       ∙ same_needs (or_assoc f.needs.memory_base (is_memory_relative r.relocation.ty) (list_any (λ (q : Relocated). is_memory_relative q.relocation.ty) rs))
       (or_assoc f.needs.table_base (is_table_relative r.relocation.ty) (list_any (λ (q : Relocated). is_table_relative q.relocation.ty) rs))
       (or_assoc f.needs.table (asks_for_table input r) (list_any (asks_for_table input) rs))

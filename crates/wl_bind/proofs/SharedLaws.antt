@@ -16,13 +16,16 @@ use Rattle.wl_symbols.specs.KeptSlots.{is_kept_slot}
 use Rattle.wl_bind.specs.BindingSteps.{left_place}
 use Rattle.wl_bind.specs.FunctionBinding.{left_functions, link_stubs, host_functions, named_function}
 use Rattle.wl_bind.specs.GlobalBinding.{host_globals, named_global, is_called, is_from, by_got}
-use Rattle.wl_bind.specs.GlobalSlots.{left_global_place}
+use Rattle.wl_bind.specs.steps.GlobalSlots.{left_global_place}
 use Rattle.wl_bind.specs.Scan.{got_mem, got_func, scan_of}
 use Rattle.wl_symbols.specs.declared.entry.Definition.{Definition}
 use Rattle.wl_bind.specs.Conflicts.{IsConflict, IsHostConflict}
 use Rattle.wl_bind.specs.Undefined.{is_host_function, is_host_global, is_host_slot}
-use Rattle.wl_bind.specs.Shared.{import_place}
-use Rattle.wl_bind.specs.SharedSteps.{is_host_at, is_host_of}
+use Rattle.wl_bind.specs.Bound.{Bound, bound_of}
+use Rattle.wl_bind.specs.FunctionTypes.{stub_types}
+use Rattle.wl_bind.specs.Resolutions.{resolutions, by_all_rules}
+use Rattle.wl_bind.specs.Shared.{import_place, shared_of}
+use Rattle.wl_bind.specs.steps.Shared.{is_host_at, is_host_of}
 use Rattle.wl_bind.specs.declared.binding.FunctionTarget.{FunctionTarget}
 use Rattle.wl_bind.specs.declared.binding.FunctionTarget.TheVariants as function
 use Rattle.wl_bind.specs.declared.binding.GlobalTarget.TheVariants as global
@@ -118,6 +121,11 @@ left_global_placed input hosts t kept none =
     let host : is_host_slot input Global t ≡ is_none (by_got input t) = is_global input t ∙ rw (kept, none) refl in
     let place = place_of_import t.item.origin t.item.name hosts in
     ap (λ (h : Bool). if h then place else None) (left_by_lists input t ∙ sym host)
+
+-- what has the parts of what references are bound to is that
+pub all_bound : (input : Input) (b : Bound) → b.resolutions ≡ resolutions input (by_all_rules input) → b.scan ≡ scan_of input
+    → b.stubs ≡ stub_types input → b.shared ≡ shared_of input → b ≡ bound_of input
+all_bound input b rows scan stubs shared = λ i. record { resolutions = rows i; scan = scan i; stubs = stubs i; shared = shared i }
 
 -- ---- conflicts
 

@@ -23,8 +23,8 @@ use Rattle.wl_bind.specs.FunctionSpace.{FunctionEntry, FunctionOf, host_function
 use Rattle.wl_symbols.specs.Input.{Input, keeps_slot}
 use Rattle.wl_symbols.specs.KeptSlots.{is_kept_slot, kept_slots, slots_from}
 use Rattle.wl_bind.specs.MadeIndices.{StandsAt}
-use Rattle.wl_bind.specs.Numbering.{IsNumbering}
-use Rattle.wl_bind.specs.NumberingSteps.{FitsPlace, HasIndex, IsResolvedIndex, host_place, resolution_of, own_indices_of, HaveSlotIndices, IsSlotIndex}
+use Rattle.wl_bind.specs.steps.Numbering.{IsNumbering}
+use Rattle.wl_bind.specs.steps.Numbered.{FitsPlace, HasIndex, IsResolvedIndex, host_place, resolution_of, own_indices_of, HaveSlotIndices, IsSlotIndex}
 use Rattle.wl_bind.specs.Parts.{AreStarts, starts_from, total, lengths_of, joined, IsIndexOf, AreIndicesOf}
 use Rattle.wl_bind.specs.Resolutions.{kept_number, resolved_function, stub_place, as_function, function_resolution}
 use Rattle.wl_bind.specs.SlotRows.{slot_rows}
@@ -331,7 +331,7 @@ pub all_functions : ImportLaws → (n : Numbering) → IsNumbering n.input.now n
     → IsLiveOf n.input.now.link n.input.now.live → (object : ℕ) (o : Object)
     → slice_get n.input.now.link.objects object ≡ Some o → (indices firsts new : List ℕ)
     → AllZip (IsSlotIndex n Func) (import_slots n.input.now.link.objects object Func) indices
-    → firsts ≡ n.function_firsts.items → new ≡ indices ++ own_indices_of n.input.now Functions firsts object o
+    → firsts ≡ n.function_firsts.items → new ≡ indices ++ own_indices_of n.input.now Functions firsts object (length o.functions)
     → AreIndicesOf (function_space n.input.now) (local_functions n.input.now object o) new
 all_functions laws n is live object o here indices firsts new slots are pushed =
     let input : Input = n.input.now in
@@ -344,8 +344,8 @@ all_functions laws n is live object o here indices firsts new slots are pushed =
     let at_object : AreIndicesOf space (map (function_slot_entry input) (object_slots object Func o)) indices =
     subst (λ (ts : List ImportSlot). AreIndicesOf space (map (function_slot_entry input) ts) indices)
     (slots_here input.link.objects object Func o here) first in
-    let both = pushed ∙ ap (λ (fs : List ℕ). indices ++ own_indices_of input Functions fs object o) are in
+    let both = pushed ∙ ap (λ (fs : List ℕ). indices ++ own_indices_of input Functions fs object (length o.functions)) are in
     subst (λ (is : List ℕ). AreIndicesOf space (local_functions input object o) is) (sym both)
     (zip_joined (IsIndexOf space) (map (function_slot_entry input) (object_slots object Func o))
     (map (own_function_entry input object) (range_with_len 0 (length o.functions))) indices
-    (own_indices_of input Functions n.function_firsts.items object o) at_object (own_functions input n is live object o))
+    (own_indices_of input Functions n.function_firsts.items object (length o.functions)) at_object (own_functions input n is live object o))

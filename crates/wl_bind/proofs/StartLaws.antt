@@ -5,7 +5,7 @@ use Rattle.std.proofs.lemmas.Bool.{cases_Bool, ltb-true, lt-ltb}
 use Rattle.std.proofs.lemmas.List.FromFn.{length-map-range_with_len}
 use Rattle.std.proofs.lemmas.Option.{slice_get_within}
 use Rattle.wl_bind.specs.Parts.{joined, lengths_of, starts_from, total, AreStarts, start_of, single_of, HasEntry}
-use Rattle.wl_bind.specs.PartSteps.{entry_of}
+use Rattle.wl_bind.specs.steps.Parts.{entry_of}
 use Rattle.wl_bind.specs.declared.parts.PartStarts.{PartStarts}
 use Rattle.wl_lists.proofs.Places.{there_is, range_at}
 use Rattle.wl_bind.proofs.PlaceLaws.{StandsFrom, part_stands}

@@ -33,6 +33,14 @@ slots_are_row input =
     (row_more (IsMismatch input) _
     (row_more (IsUndefinedData input) _ (row_more (IsStubConflict input) _ row_end)))
 
+pub slots_clear : (input : Input) → Clear (IsWrongKind input) → Clear (IsMismatch input)
+    → Clear (IsUndefinedData input) → Clear (IsStubConflict input) → Clear (slot_steps input NoStep)
+slots_clear input kinds signatures undefined stubs =
+    clear_step (IsWrongKind input) _ kinds
+    (clear_step (IsMismatch input) _ signatures
+    (clear_step (IsUndefinedData input) _ undefined
+    (clear_step (IsStubConflict input) _ stubs clear_end)))
+
 -- all of them
 pub binding_is_row : (input : Input) → IsRow (bind_steps input)
 binding_is_row input =

@@ -39,9 +39,11 @@ slot_steps input behind =
     (Step (IsStubConflict input) behind)))
 
 -- then those by which slots can't be left to the host, and what is judged after them
+abbrev pub left_steps : Input → (LinkError → Type 0) → LinkError → Type 0
+left_steps input behind = Step (IsUndefinedImport input) (Step (IsHostConflict input) behind)
+
 abbrev pub bind_steps : Input → (LinkError → Type 0) → LinkError → Type 0
-bind_steps input behind =
-    slot_steps input (Step (IsUndefinedImport input) (Step (IsHostConflict input) behind))
+bind_steps input behind = slot_steps input (left_steps input behind)
 
 abbrev pub bind_fault : Input → LinkError → Type 0
 bind_fault input = bind_steps input NoStep

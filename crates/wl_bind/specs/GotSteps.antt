@@ -43,6 +43,12 @@ module _ {K : Type 0} (eq : K → K → Bool) where
   insert_named entries key name =
       if list_any (λ e. eq key e.0) entries then entries else entries ++ (key, name) ∷ []
 
+  -- the same, where there is a key
+  abbrev pub insert_some_named : List (K × Bor (List ℕ)) → Option (K × Bor (List ℕ))
+      → List (K × Bor (List ℕ))
+  insert_some_named entries None = entries
+  insert_some_named entries (Some e) = insert_named entries e.0 e.1
+
 -- the keys after one more, where there is one
 abbrev pub insert_some : {K : Type 0} → (K → K → Bool) → List K → Option K → List K
 insert_some eq keys None = keys
@@ -50,20 +56,16 @@ insert_some eq keys (Some key) = insert_key eq keys key
 
 -- ---- entries of keys
 
+-- the entries after one more, where there is one, unless the same key has one
+abbrev pub add_entry : {K E : Type 0} → (K → K → Bool) → (E → K) → List E → Option E → List E
+add_entry eq key entries None = entries
+add_entry eq key entries (Some e) =
+    if list_any (λ o. eq (key e) (key o)) entries then entries else entries ++ e ∷ []
+
 module _ {K E : Type 0} (eq : K → K → Bool) (key : E → K) (entry : K → E) where
-  -- the entries after that of a key, unless the same key has one
-  abbrev pub insert_as : List E → K → List E
-  insert_as entries k =
-      if list_any (λ e. eq k (key e)) entries then entries else entries ++ entry k ∷ []
-
-  -- the same, where there is a key
-  abbrev pub insert_some_as : List E → Option K → List E
-  insert_some_as entries None = entries
-  insert_some_as entries (Some k) = insert_as entries k
-
   -- the entries after those of these keys, one by one
   abbrev pub insert_all_as : List E → List K → List E
-  insert_all_as entries keys = fold insert_as entries keys
+  insert_all_as entries keys = fold (λ es k. add_entry eq key es (Some (entry k))) entries keys
 
 -- the definition of an entry
 abbrev pub mem_key : GotMemEntry → Definition
@@ -73,20 +75,11 @@ mem_key e = e.definition
 abbrev pub func_key : GotFuncEntry → Definition × FunctionTarget
 func_key e = (e.definition, e.target)
 
--- the GOT list of data with one more definition, where there is one
-abbrev pub with_mem : Input → List GotMemEntry → Option Definition → List GotMemEntry
-with_mem input = insert_some_as same_definition mem_key (got_mem_entry input)
-
--- the same with these definitions
+-- the GOT list of data with these definitions
 abbrev pub with_all_mem : Input → List GotMemEntry → List Definition → List GotMemEntry
 with_all_mem input = insert_all_as same_definition mem_key (got_mem_entry input)
 
--- the GOT list of functions with one more definition and function, where there is one
-abbrev pub with_func : Input → List GotFuncEntry → Option (Definition × FunctionTarget)
-    → List GotFuncEntry
-with_func input = insert_some_as same_pair func_key (got_func_entry input)
-
--- the same with these definitions and functions
+-- the GOT list of functions with these definitions and functions
 abbrev pub with_all_func : Input → List GotFuncEntry → List (Definition × FunctionTarget)
     → List GotFuncEntry
 with_all_func input = insert_all_as same_pair func_key (got_func_entry input)

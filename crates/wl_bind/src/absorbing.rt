@@ -29,8 +29,7 @@ fn absorb_globals_at(
             scan,
             object,
         };
-        let row = &mut rows[object];
-        walk.resolve_all(file, &mut row.global_resolutions);
+        walk.resolve_all(file, &mut rows[object].global_resolutions);
     }
 }
 
@@ -45,7 +44,8 @@ pub fn absorb_got_imports(
     requires rows { rows.old ≡ resolutions input.now (by_names input.now) }
     ensures { rows.new ≡ resolutions input.now (by_names_and_got input.now) }
 {
-    for (object, file) in input.files().as_slice().iter().enumerate() {
+    let files = input.files().as_slice();
+    for (object, file) in files.iter().enumerate() {
         absorb_globals_at(input, scan, object, file, rows);
     }
 }

@@ -3,7 +3,7 @@
 ghost use Rattle.std.specs.Prelude.{◌≡◌, ◌++◌, OnOk, IfOk};
 ghost use Rattle.wl_bind.specs.ExportedAddresses.{data_named, exported_addresses};
 ghost use Rattle.wl_bind.specs.ExportedData.{is_dynamic_data, dynamic_in, dynamic_data, is_made_name, is_dynamic, data_of, forced_by, forced_data};
-ghost use Rattle.wl_bind.specs.ExportSteps.{dynamic_at, unless_dynamic, forced_alone};
+ghost use Rattle.wl_bind.specs.steps.Exported.{dynamic_at, unless_dynamic, forced_alone};
 ghost use Rattle.wl_bind.specs.GotSteps.{insert_some};
 ghost use Rattle.wl_bind.specs.Made.{linker_needs};
 ghost use Rattle.wl_bind.specs.MadeIndices.{AreExported};
@@ -27,7 +27,6 @@ pub struct DataSymbol {
 }
 
 /// What is exported as globals with addresses.
-#[derive(Drop)]
 pub struct ExportedData {
     /// The data that the linker makes whose names are to be exported, each once.
     pub addresses: ItemList<WasmLinkerSymbol>,
@@ -35,6 +34,16 @@ pub struct ExportedData {
     pub dynamic: ItemList<DataSymbol>,
     /// The data symbols whose names are to be exported, each once, the former aside.
     pub forced: ItemList<DataSymbol>,
+}
+
+impl Drop for ExportedData {
+    fn drop(self) {
+        let Self {
+            addresses: _,
+            dynamic: _,
+            forced: _,
+        } = self;
+    }
 }
 
 // ---- data that the linker makes
@@ -147,9 +156,10 @@ fn dynamic_data(
 ) -> Result<ItemList<DataSymbol>, AllocError>
     ensures { IfOk result (λ list. list ≡ dynamic_data input.now) }
 {
+    let files = input.files().as_slice();
     let mut list = ItemList::empty(alloc);
     if input.args().export_dynamic {
-        for (object, file) in input.files().as_slice().iter().enumerate() {
+        for (object, file) in files.iter().enumerate() {
             push_dynamic(&mut list, input, object, file)?;
         }
     }

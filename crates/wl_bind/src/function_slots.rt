@@ -8,7 +8,7 @@ ghost use Rattle.wl_symbols.specs.Left.{first_slot, stub_slots, place_of_name, p
 ghost use Rattle.wl_symbols.specs.KeptSlots.{slots_from};
 ghost use Rattle.wl_bind.specs.FunctionBinding.{left_functions, named_function, link_stubs, host_functions};
 ghost use Rattle.wl_bind.specs.FunctionSymbols.{kept_binding, function_bindings};
-ghost use Rattle.wl_bind.specs.FunctionSlots.{AreFunctionSlots};
+ghost use Rattle.wl_bind.specs.steps.FunctionSlots.{AreFunctionSlots};
 ghost use Rattle.wl_bind.specs.Resolutions.{resolved, function_resolution};
 ghost use Rattle.wl_bind.specs.Shared.{function_imports, import_place, import_places};
 ghost use Rattle.wl_bind.specs.SlotRows.{slot_rows, function_part};
@@ -18,7 +18,7 @@ ghost use Rattle.wl_bind.specs.declared.resolution.ImportResolution.TheVariants.
 use crate::binding::FunctionTarget;
 use crate::resolution::{ImportResolution, ObjectImportResolutions, ResolutionList};
 use crate::resolving::resolved;
-use crate::shared::SharedImports;
+use crate::shared::{HostSlots, SharedImports};
 use crate::targets::{FunctionBindings, named_function};
 use std::alloc::{AllocError, Global};
 use wl_linking::WasmSymbolKind;
@@ -333,10 +333,8 @@ pub(crate) struct FunctionSlots<'i, 'a> {
     pub(crate) resolutions: Vec<ObjectImportResolutions>,
     /// Those that are stubs.
     pub(crate) weak: StubSlots<'i, 'a>,
-    /// Those that are left to the host, in order.
-    pub(crate) host_slots: Vec<ImportSlot<'i, 'a>>,
-    /// The imports that the latter are, and which of them each slot is.
-    pub(crate) shared: SharedImports<'a>,
+    /// Those that are left to the host.
+    pub(crate) hosts: HostSlots<'i, 'a>,
 }
 
 impl<'i, 'a> FunctionSlots<'i, 'a> {
@@ -356,10 +354,12 @@ impl<'i, 'a> FunctionSlots<'i, 'a> {
                 slots: left.stub_slots,
                 stubs: left.stubs,
             },
-            host_slots: left.host_slots,
-            shared: SharedImports {
-                imports: left.hosts,
-                places: rows.places,
+            hosts: HostSlots {
+                slots: left.host_slots,
+                shared: SharedImports {
+                    imports: left.hosts,
+                    places: rows.places,
+                },
             },
         })
     }

@@ -4,7 +4,8 @@ ghost use Rattle.std.specs.Prelude.{◌≡◌, ◌++◌, ◌∷◌, [], map, IfO
 ghost use Rattle.wl_custom.specs.declared.symbols.WasmSymbolKind.TheVariants.{Func, Global as GlobalKind};
 ghost use Rattle.wl_symbols.specs.ImportSlots.{import_slots};
 ghost use Rattle.wl_bind.specs.GlobalBinding.{host_globals};
-ghost use Rattle.wl_bind.specs.GlobalSlots.{AreGlobalSlots, is_host_by_lists, left_global_place};
+ghost use Rattle.wl_bind.specs.steps.GlobalSlots.{is_host_by_lists, left_global_place};
+ghost use Rattle.wl_bind.specs.steps.HostSlots.{AreHostGlobals};
 ghost use Rattle.wl_bind.specs.Later.{later_by_got, with_globals};
 ghost use Rattle.wl_bind.specs.Resolutions.{function_resolution, global_resolution, resolutions, by_all_rules};
 ghost use Rattle.wl_bind.specs.Scan.{scan_of};
@@ -16,7 +17,7 @@ use crate::later::got_resolution;
 use crate::resolution::{ImportResolution, ObjectImportResolutions, ResolutionList};
 use crate::resolving::resolved;
 use crate::scan::RelocScan;
-use crate::shared::SharedImports;
+use crate::shared::{HostSlots, SharedImports};
 use std::alloc::{AllocError, Global};
 use wl_linking::WasmSymbolKind;
 use wl_lists::ItemList;
@@ -24,15 +25,6 @@ use wl_symbols::{
     HostImports, ImportSlot, LinkInput, host_imports, import_slots, is_kept_slot, left_slots,
     slot_target,
 };
-
-/// The global slots of a link that are left to the host.
-#[derive(Drop)]
-pub(crate) struct GlobalSlots<'i, 'a> {
-    /// The slots that are left to the host, in order.
-    pub(crate) host_slots: Vec<ImportSlot<'i, 'a>>,
-    /// The imports that they are, and which of them each slot is.
-    pub(crate) shared: SharedImports<'a>,
-}
 
 /// What a global slot is resolved to, and, where it is left to the host, the place of its import.
 #[derive(Clone, Copy)]
@@ -229,7 +221,7 @@ fn set_globals(rows: &mut [ObjectImportResolutions], globals: Vec<ResolutionList
 }
 
 /// Binds the global slots of a link, and puts what they are resolved to into the rows, which have
-/// the function slots already.
+/// the function slots already. Answers those that are left to the host.
 ///
 /// # Errors
 /// `AllocError` where memory runs out.
@@ -238,19 +230,19 @@ pub(crate) fn bind_globals<'i, 'a>(
     input: &LinkInput<'i, 'a>,
     scan: &RelocScan<'_>,
     rows: &mut [ObjectImportResolutions],
-) -> Result<GlobalSlots<'i, 'a>, AllocError>
+) -> Result<HostSlots<'i, 'a>, AllocError>
     requires scan { scan.now ≡ scan_of input.now }
     requires functions { map function_part rows.old
         ≡ slot_rows (function_resolution input.now) Func 0 input.now.link.objects }
     ensures rows { OnOk result (rows.new ≡ resolutions input.now (by_all_rules input.now)) }
-    ensures slots { IfOk result (AreGlobalSlots input.now) }
+    ensures hosts { IfOk result (AreHostGlobals input.now) }
 {
-    let host_slots = host_slots(alloc, input, scan)?;
-    let hosts = host_imports(alloc, &host_slots)?;
+    let slots = host_slots(alloc, input, scan)?;
+    let hosts = host_imports(alloc, &slots)?;
     let bound = bind_rows(alloc, input, scan, &hosts)?;
     set_globals(rows, bound.resolutions);
-    Ok(GlobalSlots {
-        host_slots,
+    Ok(HostSlots {
+        slots,
         shared: SharedImports {
             imports: hosts,
             places: bound.places,

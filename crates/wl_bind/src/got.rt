@@ -5,7 +5,7 @@ ghost use Rattle.std.specs.Option.{option_or};
 ghost use Rattle.std.specs.HashMap.{get_by};
 ghost use Rattle.indexmap.specs.IndexSet.{insert_key};
 ghost use Rattle.wl_bind.specs.Sameness.{same_definition, same_target, same_pair};
-ghost use Rattle.wl_bind.specs.GotSteps.{mem_entry, func_entry, is_name, place_named, insert_named, ArePlaces};
+ghost use Rattle.wl_bind.specs.GotSteps.{mem_entry, func_entry, is_name, place_named, insert_named, insert_some_named, insert_some, ArePlaces};
 
 use crate::binding::FunctionTarget;
 use indexmap::{IndexMap, IndexSet};
@@ -77,6 +77,23 @@ impl<'a, K: Copy + Eq + Hash + Drop> NamedKeys<'a, K> {
         let place = self.entries.len();
         self.entries.insert(key, name)?;
         note_name(&mut self.places, name, place)
+    }
+
+    /// Adds a key with its name, where there is one, unless the same key is there.
+    ///
+    /// # Errors
+    /// `AllocError` where memory runs out.
+    pub(crate) fn add_some(&mut self, item: Option<(K, &'a [u8])>) -> Result<(), AllocError>
+        requires { ArePlaces self.old.places self.old.entries.entries }
+        ensures entries { OnOk result
+            (self.new.entries.entries
+            ≡ insert_some_named K.eq self.old.entries.entries item.entry) }
+        ensures places { OnOk result (ArePlaces self.new.places self.new.entries.entries) }
+    {
+        match item {
+            None => Ok(()),
+            Some((key, name)) => self.add(key, name),
+        }
     }
 
     /// How many keys there are.
@@ -279,14 +296,16 @@ impl TableFunctions {
         }
     }
 
-    /// Adds a function, unless it is there.
+    /// Adds a function, where there is one, unless it is there.
     ///
     /// # Errors
     /// `AllocError` where memory runs out.
-    pub(crate) fn add(&mut self, target: FunctionTarget) -> Result<(), AllocError>
-        ensures { OnOk result (self.new ≡ insert_key same_target self.old target) }
+    pub(crate) fn add_some(&mut self, target: Option<FunctionTarget>) -> Result<(), AllocError>
+        ensures { OnOk result (self.new ≡ insert_some same_target self.old target) }
     {
-        self.set.insert(target)?;
+        if let Some(target) = target {
+            self.set.insert(target)?;
+        }
         Ok(())
     }
 

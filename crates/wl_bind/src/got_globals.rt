@@ -1,16 +1,19 @@
 //! The globals that hold the addresses and slots of the symbols of an object.
 
-ghost use Rattle.std.specs.Prelude.{◌≡◌, ◌==◌, false, map, length, replicate, IfOk, IsSome, Some, None, slice_get};
+ghost use Rattle.std.specs.Prelude.{◌≡◌, ◌==◌, ◌<◌, ◌≤◌, false, map, length, replicate, IfOk, IsSome, Some, None, slice_get};
 ghost use Rattle.std.specs.List.{range_with_len};
+ghost use Rattle.wl_bytes.specs.declared.reader.TheConstants.{MAX_LEN};
+ghost use Rattle.wl_linking.specs.Object.{Object as SpecObject};
 ghost use Rattle.wl_symbols.specs.Entries.{symbol_in};
 ghost use Rattle.wl_bind.specs.FunctionSymbols.{function_bindings};
 ghost use Rattle.wl_bind.specs.GlobalSpace.{global_space};
-ghost use Rattle.wl_bind.specs.GlobalSteps.{marked, mem_entry_at, mem_global_if, func_entry_at, func_global_if};
+ghost use Rattle.wl_bind.specs.steps.GotGlobals.{marked, asks_globals, AreGlobalMarks, mem_entry_at, mem_global_if, func_entry_at, func_global_if};
 ghost use Rattle.wl_bind.specs.IndexMaps.{has_global, is_data_symbol, mem_place, got_mem_globals, func_place, got_func_globals};
-ghost use Rattle.wl_bind.specs.Numbering.{IsNumbering};
+ghost use Rattle.wl_bind.specs.steps.Numbering.{IsNumbering};
 ghost use Rattle.wl_bind.specs.Parts.{IsPlaceOf, ArePlacesOf};
 
 use crate::numbering::Numbering;
+use crate::scan::RelocScan;
 use crate::targets::FunctionBindings;
 use std::alloc::{AllocError, Global};
 use wl_linking::File;
@@ -46,6 +49,28 @@ fn global_marks(
         mark_symbol(&mut marks, &relocated);
     }
     Ok(marks)
+}
+
+/// Whether a GOT list has an entry: where none has, no symbol has a global.
+fn asks_globals(scan: &RelocScan<'_>) -> bool
+    ensures { result ≡ asks_globals scan.now }
+{
+    !(scan.got_mem.is_empty() && scan.got_func.is_empty())
+}
+
+/// Those marks, where a GOT list has an entry; else no relocation is looked at.
+fn asked_marks(
+    alloc: Global,
+    numbering: &Numbering<'_, '_, '_>,
+    object: usize,
+    file: &File<'_>,
+) -> Result<Vec<bool>, AllocError>
+    ensures { IfOk result (λ marks. AreGlobalMarks numbering.now object file.now marks.items) }
+{
+    if !asks_globals(numbering.scan) {
+        return vec![in alloc; false; file.symbols().len()];
+    }
+    global_marks(alloc, numbering.input, object, file)
 }
 
 // ---- where nothing asks for a global
@@ -112,28 +137,28 @@ fn got_mem_global(
     }
 }
 
-/// For each symbol of an object, the index of the global with its address, where it is data and a
-/// kept relocation of the object names it by the number of a global.
-///
-/// # Errors
-/// `AllocError` where memory runs out.
-pub(crate) fn got_mem_globals(
+/// For each symbol of an object, the index of the global with its address, where it is data and is
+/// marked.
+fn got_mem_globals(
     alloc: Global,
     numbering: &Numbering<'_, '_, '_>,
     object: usize,
-    file: &File<'_>,
+    marks: &[bool],
 ) -> Result<ItemList<Option<u32>>, AllocError>
     requires numbering { IsNumbering numbering.now.input.now numbering.now }
-    requires here { slice_get numbering.now.input.now.link.objects object ≡ Some file.now }
+    requires within { object < length numbering.now.input.now.link.objects }
+    requires few { length marks.now ≤ MAX_LEN }
+    requires marks { (o : SpecObject)
+        → slice_get numbering.now.input.now.link.objects object ≡ Some o
+        → AreGlobalMarks numbering.now object o marks.now }
     ensures { let input = numbering.now.input.now in IfOk result
-        (ArePlacesOf (global_space input) (got_mem_globals input object file.now)) }
+        (λ globals. (o : SpecObject) → slice_get input.link.objects object ≡ Some o
+        → ArePlacesOf (global_space input) (got_mem_globals input object o) globals) }
 {
     let scan = numbering.scan;
     if scan.got_mem.is_empty() {
-        return no_globals(alloc, file.symbols().len());
+        return no_globals(alloc, marks.len());
     }
-    file.stands_for_an_object();
-    let marks = global_marks(alloc, numbering.input, object, file)?;
     let mut globals = ItemList::empty(alloc);
     for (number, mark) in marks.iter().enumerate() {
         globals.push(got_mem_global(numbering, object, number as u32, *mark))?;
@@ -203,33 +228,75 @@ fn got_func_global(
 }
 
 /// For each symbol of an object, the index of the global with the slot of the function that it
-/// leads to, where a kept relocation of the object names it by the number of a global.
-///
-/// # Errors
-/// `AllocError` where memory runs out.
-pub(crate) fn got_func_globals(
+/// leads to, where it is marked.
+fn got_func_globals(
     alloc: Global,
     numbering: &Numbering<'_, '_, '_>,
     bindings: &FunctionBindings,
     object: usize,
-    file: &File<'_>,
+    marks: &[bool],
 ) -> Result<ItemList<Option<u32>>, AllocError>
     requires numbering { IsNumbering numbering.now.input.now numbering.now }
     requires bindings { (length numbering.now.scan.now.got_func == 0) ≡ false
         → bindings.now ≡ function_bindings numbering.now.input.now }
-    requires here { slice_get numbering.now.input.now.link.objects object ≡ Some file.now }
+    requires within { object < length numbering.now.input.now.link.objects }
+    requires few { length marks.now ≤ MAX_LEN }
+    requires marks { (o : SpecObject)
+        → slice_get numbering.now.input.now.link.objects object ≡ Some o
+        → AreGlobalMarks numbering.now object o marks.now }
     ensures { let input = numbering.now.input.now in IfOk result
-        (ArePlacesOf (global_space input) (got_func_globals input object file.now)) }
+        (λ globals. (o : SpecObject) → slice_get input.link.objects object ≡ Some o
+        → ArePlacesOf (global_space input) (got_func_globals input object o) globals) }
 {
     let scan = numbering.scan;
     if scan.got_func.is_empty() {
-        return no_globals(alloc, file.symbols().len());
+        return no_globals(alloc, marks.len());
     }
-    file.stands_for_an_object();
-    let marks = global_marks(alloc, numbering.input, object, file)?;
     let mut globals = ItemList::empty(alloc);
     for (number, mark) in marks.iter().enumerate() {
         globals.push(got_func_global(numbering, bindings, object, number as u32, *mark))?;
     }
     Ok(globals)
+}
+
+// ---- both
+
+/// The globals that hold the addresses and slots of the symbols of an object.
+#[derive(Drop)]
+pub(crate) struct GotGlobals {
+    /// For each symbol the index of the global with its address.
+    pub(crate) mem: ItemList<Option<u32>>,
+    /// For each symbol the index of the global with the slot of the function that it leads to.
+    pub(crate) func: ItemList<Option<u32>>,
+}
+
+/// The globals that hold the addresses and slots of the symbols of an object which a kept
+/// relocation of the object names by the number of a global.
+///
+/// # Errors
+/// `AllocError` where memory runs out.
+pub(crate) fn got_globals(
+    alloc: Global,
+    numbering: &Numbering<'_, '_, '_>,
+    bindings: &FunctionBindings,
+    object: usize,
+    file: &File<'_>,
+) -> Result<GotGlobals, AllocError>
+    requires numbering { IsNumbering numbering.now.input.now numbering.now }
+    requires bindings { (length numbering.now.scan.now.got_func == 0) ≡ false
+        → bindings.now ≡ function_bindings numbering.now.input.now }
+    requires here { slice_get numbering.now.input.now.link.objects object ≡ Some file.now }
+    ensures mem { let input = numbering.now.input.now in IfOk result
+        (λ globals. ArePlacesOf (global_space input) (got_mem_globals input object file.now)
+        globals.mem) }
+    ensures func { let input = numbering.now.input.now in IfOk result
+        (λ globals. ArePlacesOf (global_space input) (got_func_globals input object file.now)
+        globals.func) }
+{
+    file.stands_for_an_object();
+    let marks = asked_marks(alloc, numbering, object, file)?;
+    Ok(GotGlobals {
+        mem: got_mem_globals(alloc, numbering, object, &marks)?,
+        func: got_func_globals(alloc, numbering, bindings, object, &marks)?,
+    })
 }

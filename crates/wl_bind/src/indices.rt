@@ -198,7 +198,6 @@ impl LinkerDefinedIndices {
     ///
     /// # Errors
     /// `TooLarge` where a space would get more than 4294967294 entries.
-    #[tactic(auto, using(crate::proofs::IndexLaws::functions_over, crate::proofs::IndexLaws::globals_over))]
     pub fn compute(
         alloc: Global,
         input: &LinkInput<'_, '_>,
@@ -215,8 +214,8 @@ impl LinkerDefinedIndices {
         ensures err { IfErr result (IsSpaceOver input.now) }
     {
         let needs = linker_needs(alloc, input, rows, scan)?;
-        let exported = exported_data(alloc, input, needs.absorption)?;
         let functions = function_starts(alloc, input, needs, shared, stubs)?;
+        let exported = exported_data(alloc, input, needs.absorption)?;
         let globals = global_starts(alloc, input, needs.absorption, scan, shared, &exported)?;
         Ok(LinkerDefinedIndices {
             needs: needs.absorption,

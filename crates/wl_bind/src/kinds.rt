@@ -7,7 +7,7 @@ ghost use Rattle.wl_symbols.specs.LinkerNames.{row_of};
 ghost use Rattle.wl_bind.specs.FunctionSymbols.{function_bindings};
 ghost use Rattle.wl_bind.specs.FunctionTypes.{target_type};
 ghost use Rattle.wl_bind.specs.Kinds.{is_no_data, is_wrong_use, takes_parameters, leads_to_parameters, IsWrongUse, IsWrongInit, IsWrongKind};
-ghost use Rattle.wl_bind.specs.KindSteps.{is_wrong_relocation, is_wrong_at, wrong_init_from};
+ghost use Rattle.wl_bind.specs.steps.Kinds.{is_wrong_relocation, is_wrong_at, wrong_init_from};
 ghost use Rattle.wl_bind.specs.Scan.{symbol_of};
 ghost use Rattle.wl_symbols.specs.Relocations.{relocations};
 

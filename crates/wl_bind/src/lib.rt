@@ -6,44 +6,60 @@
 //! definition in its place, or to itself.
 #![tactic(auto)]
 
-mod absorbing;
+// What slots and symbols lead to.
 mod binding;
-mod binding_laws;
-mod bound;
-mod build;
-mod conflicts;
-mod exported;
-mod first_slots;
 mod function_slots;
-mod global_slots;
+mod resolution;
+mod targets;
+mod types;
+
+// One walk over the kept relocations.
 mod got;
+mod kinds;
+mod questions;
+mod scan;
+mod scanning;
+mod signatures;
+mod undefined;
+
+// Globals, and the calls that bind one kind of slot by one rule.
+mod absorbing;
+mod global_slots;
+mod later;
+mod resolving;
+mod stubs;
+
+// What is left to the host, and what refuses it.
+mod conflicts;
+mod first_slots;
+mod report;
+mod shared;
+
+// All references, bound.
+mod bound;
+
+// What the linker makes.
+mod exported;
+mod needs;
+mod thread_segments;
+
+// Where things stand in the spaces of the output.
+mod build;
 mod got_globals;
 mod index_maps;
 mod indices;
-mod kinds;
-mod later;
-mod laws;
 mod merging;
-mod needs;
 mod numbering;
 mod own_indices;
 mod parts;
 mod redirects;
-mod reference_laws;
-mod report;
-mod resolution;
-mod resolving;
-mod scan;
-mod scanning;
-mod shared;
-mod signatures;
-mod space_laws;
-mod stubs;
-mod targets;
-mod thread_segments;
 mod type_marks;
-mod types;
-mod undefined;
+
+// Laws.
+mod binding_laws;
+mod laws;
+mod reference_laws;
+mod space_laws;
 
 pub use absorbing::absorb_got_imports;
 pub use binding::{FunctionTarget, GlobalTarget};

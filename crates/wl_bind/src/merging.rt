@@ -1,13 +1,14 @@
 //! The types of the output, and where the types of each object went.
 
-ghost use Rattle.std.specs.Prelude.{◌≡◌, ◌∷◌, ◌++◌, [], Some, length, slice_get, IfOk, IfErr, OnOk};
+ghost use Rattle.std.specs.Prelude.{◌≡◌, ◌<◌, ◌∷◌, ◌++◌, [], Some, length, slice_get, IfOk, IfErr, OnOk};
 ghost use Rattle.indexmap.specs.IndexSet.{insert_all};
+ghost use Rattle.wl_linking.specs.Object.{Object as SpecObject};
 ghost use Rattle.wl_module.specs.Types.{same_type};
 ghost use Rattle.wl_types.specs.Types.{IsFull};
 ghost use Rattle.wl_bind.specs.FunctionTypes.{stub_types};
 ghost use Rattle.wl_symbols.specs.Input.{Input as Linked};
 ghost use Rattle.wl_bind.specs.MadeIndices.{AreMadeIndices};
-ghost use Rattle.wl_bind.specs.MergeSteps.{is_marked, entry_if, merged, type_where, made_functions};
+ghost use Rattle.wl_bind.specs.steps.Merging.{is_marked, entry_if, merged, type_where, made_functions};
 ghost use Rattle.wl_bind.specs.OutputTypes.{made_types, output_types, types_if, local_types, live_types, IsMerged};
 ghost use Rattle.wl_bind.specs.Parts.{by_object, AreRows, IsIndexOf, AreIndicesOf};
 ghost use Rattle.wl_bind.specs.Resolutions.{resolutions, by_all_rules};
@@ -17,7 +18,7 @@ use crate::resolution::ObjectImportResolutions;
 use crate::type_marks::live_marks;
 use std::alloc::{AllocError, Global};
 use wl_index::WASM_DEAD_INDEX;
-use wl_linking::{File, LinkError};
+use wl_linking::LinkError;
 use wl_lists::ItemList;
 use wl_module::{FuncType, ValType};
 use wl_symbols::{LinkInput, WasmLinkerSymbol};
@@ -78,43 +79,46 @@ fn merge_object(
     input: &LinkInput<'_, '_>,
     rows: &[ObjectImportResolutions],
     object: usize,
-    file: &File<'_>,
 ) -> Result<ItemList<u32>, LinkError>
     requires rows { rows.now ≡ resolutions input.now (by_all_rules input.now) }
-    requires object { slice_get input.now.link.objects object ≡ Some file.now }
-    ensures types { OnOk result
-        (merger.new ≡ merged merger.old (local_types input.now object file.now)) }
-    ensures indices { IfOk result
-        (AreIndicesOf merger.new (local_types input.now object file.now)) }
-    ensures err { IfErr result
-        (IsFull (merged merger.old (local_types input.now object file.now))) }
+    requires within { object < length input.now.link.objects }
+    ensures types { (o : SpecObject) → slice_get input.now.link.objects object ≡ Some o
+        → OnOk result (merger.new ≡ merged merger.old (local_types input.now object o)) }
+    ensures indices { (o : SpecObject) → slice_get input.now.link.objects object ≡ Some o
+        → IfOk result (AreIndicesOf merger.new (local_types input.now object o)) }
+    ensures err { (o : SpecObject) → slice_get input.now.link.objects object ≡ Some o
+        → IfErr result (IsFull (merged merger.old (local_types input.now object o))) }
 {
+    let files = input.files().as_slice();
+    let file = &files[object];
     let marks = live_marks(alloc, input, rows, object, file)?;
     merge_marked(alloc, merger, file.types(), &marks)
 }
 
-/// Adds the live types of all objects, and answers the index of each of their types.
+/// Merges the live types of all objects.
 fn merge_objects(
     alloc: Global,
-    merger: &mut TypeMerger,
     input: &LinkInput<'_, '_>,
     rows: &[ObjectImportResolutions],
-) -> Result<ItemList<ItemList<u32>>, LinkError>
+) -> Result<MergedTypes, LinkError>
     requires rows { rows.now ≡ resolutions input.now (by_all_rules input.now) }
-    ensures types { OnOk result (merger.new ≡ insert_all same_type merger.old
+    ensures types { IfOk result (λ merged. merged.types ≡ insert_all same_type []
         (by_object (live_types input.now) 0 input.now.link.objects)) }
-    ensures indices { IfOk result (AreRows
-        (λ object o. AreIndicesOf merger.new (local_types input.now object o))
-        0 input.now.link.objects) }
-    ensures err { IfErr result (IsFull (insert_all same_type merger.old
+    ensures indices { IfOk result (λ merged. AreRows
+        (λ object o. AreIndicesOf merged.types (local_types input.now object o))
+        0 input.now.link.objects merged.indices) }
+    ensures err { IfErr result (IsFull (insert_all same_type []
         (by_object (live_types input.now) 0 input.now.link.objects))) }
 {
-    let mut indices = ItemList::empty(alloc);
-    for (object, file) in input.files().as_slice().iter().enumerate() {
-        let row = merge_object(alloc, merger, input, rows, object, file)?;
-        indices.push(row)?;
+    let mut merged = MergedTypes {
+        types: TypeMerger::new(alloc),
+        indices: ItemList::empty(alloc),
+    };
+    for object in 0..input.files().len() {
+        let row = merge_object(alloc, &mut merged.types, input, rows, object)?;
+        merged.indices.push(row)?;
     }
-    Ok(indices)
+    Ok(merged)
 }
 
 // ---- the types of what the linker makes
@@ -203,11 +207,7 @@ pub fn merge_live_output_types(
     ensures ok { IfOk result (IsMerged input.now) }
     ensures err { IfErr result (IsFull (output_types input.now)) }
 {
-    let mut types = TypeMerger::new(alloc);
-    let rows = merge_objects(alloc, &mut types, input, rows)?;
-    merge_made(alloc, &mut types, indices, stubs)?;
-    Ok(MergedTypes {
-        types,
-        indices: rows,
-    })
+    let mut merged = merge_objects(alloc, input, rows)?;
+    merge_made(alloc, &mut merged.types, indices, stubs)?;
+    Ok(merged)
 }

@@ -6,7 +6,7 @@ ghost use Rattle.wl_symbols.specs.declared.units.WasmGcUnit.TheVariants.{DataSeg
 ghost use Rattle.wl_words.specs.Texts.{texts};
 ghost use Rattle.wl_symbols.specs.Input.{Input as Linked, keeps};
 ghost use Rattle.wl_bind.specs.Made.{is_bound, is_forced, has_init_functions, is_filled, keeps_thread_data, keeps_common_data, has_shared_tls, has_init_memory, linker_needs, is_made};
-ghost use Rattle.wl_bind.specs.NeedSteps.{is_asked_for, leads_to, row_leads_to};
+ghost use Rattle.wl_bind.specs.steps.Needs.{is_asked_for, leads_to, row_leads_to};
 ghost use Rattle.wl_bind.specs.Parts.{any_object};
 ghost use Rattle.wl_bind.specs.Resolutions.{resolutions, by_all_rules};
 ghost use Rattle.wl_bind.specs.Scan.{needs_of, scan_of};

@@ -2,13 +2,15 @@
 
 ghost use Rattle.std.specs.Prelude.{◌≡◌, ◌<◌, ◌≤◌, ◌^◌, ◌++◌, ℕ, true, false, length, map, IfOk, IfErr, OnOk, Some, unwrap_or, slice_get};
 ghost use Rattle.std.specs.List.{AllZip};
+ghost use Rattle.wl_bytes.specs.declared.reader.TheConstants.{MAX_LEN};
+ghost use Rattle.wl_linking.specs.Object.{Object as SpecObject};
 ghost use Rattle.wl_symbols.specs.ImportSlots.{import_slots};
 ghost use Rattle.wl_index.specs.declared.index.TheConstants.{WASM_DEAD_INDEX, MAX_ENTRIES};
 ghost use Rattle.wl_symbols.specs.Input.{keeps_slot};
 ghost use Rattle.wl_bind.specs.MadeIndices.{AreMadeIndices};
-ghost use Rattle.wl_bind.specs.Numbering.{IsNumbering};
-ghost use Rattle.wl_bind.specs.NumberingSteps.{HasRoom, behind_first, FitsOwn, own_indices_of, FitsPlace, HasIndex, IsIndexOfMade, IsResolvedIndex, resolution_of, HaveSlotIndices, IsSlotIndex, made_end, row_part, firsts_of, AreObjectIndices};
-ghost use Rattle.wl_bind.specs.OwnIndices.{own_unit, own_index, own_firsts, space_length};
+ghost use Rattle.wl_bind.specs.steps.Numbering.{IsNumbering};
+ghost use Rattle.wl_bind.specs.steps.Numbered.{HasRoom, behind_first, FitsOwn, own_indices_of, FitsPlace, HasIndex, IsIndexOfMade, IsResolvedIndex, resolution_of, HaveSlotIndices, IsSlotIndex, made_end, row_part, firsts_of, AreObjectIndices, SlotLaws};
+ghost use Rattle.wl_bind.specs.steps.OwnIndices.{own_unit, own_index, own_firsts, space_length};
 ghost use Rattle.wl_bind.specs.Parts.{AreRows};
 ghost use Rattle.wl_bind.specs.Resolutions.{resolutions, by_all_rules};
 ghost use Rattle.wl_bind.specs.Scan.{scan_of};
@@ -23,7 +25,7 @@ use crate::scan::RelocScan;
 use crate::shared::SharedUnresolvedImports;
 use std::alloc::{AllocError, Global};
 use wl_index::WASM_DEAD_INDEX;
-use wl_linking::{File, LinkError, WasmSymbolKind, whole_objects};
+use wl_linking::{LinkError, WasmSymbolKind, whole_objects};
 use wl_lists::ItemList;
 use wl_symbols::{
     LinkInput, WasmGcUnit, WasmLinkerSymbol, host_imports_are_found, live_units_are_closed,
@@ -91,6 +93,39 @@ fn own_firsts(
     ensures err { IfErr result (IsSpaceOver input.now) }
 {
     first_indices(alloc, input, own, made_end(indices, own))
+}
+
+/// Adds the indices of so many things that an object defines.
+fn push_own(
+    indices: &mut ItemList<u32>,
+    input: &LinkInput<'_, '_>,
+    own: Own,
+    firsts: &[u32],
+    object: usize,
+    count: usize,
+) -> Result<(), AllocError>
+    requires few { count ≤ MAX_LEN }
+    requires fits { (k : ℕ) → FitsOwn input.now firsts.now object (own_unit own k) }
+    ensures { OnOk result (indices.new
+        ≡ indices.old ++ own_indices_of input.now own firsts.now object count) }
+{
+    for number in 0..count {
+        let unit = own.unit(number as u32);
+        indices.push(own_index(input, firsts, object, unit))?;
+    }
+    Ok(())
+}
+
+/// What the indices of the slots of an object follow from.
+fn slots_have_indices()
+    ensures { SlotLaws }
+{
+    whole_objects();
+    slots_are_numbered();
+    name_by_cases();
+    targets_by_cases();
+    host_imports_are_found();
+    live_units_are_closed();
 }
 
 impl<'n, 'i, 'a> Numbering<'n, 'i, 'a> {
@@ -250,27 +285,6 @@ impl<'n, 'i, 'a> Numbering<'n, 'i, 'a> {
         Ok(indices)
     }
 
-    /// Adds the indices of what an object defines.
-    fn push_own(
-        &self,
-        indices: &mut ItemList<u32>,
-        own: Own,
-        firsts: &[u32],
-        object: usize,
-        file: &File<'_>,
-    ) -> Result<(), AllocError>
-        requires { (k : ℕ) → FitsOwn self.now.input.now firsts.now object (own_unit own k) }
-        ensures { OnOk result (indices.new
-            ≡ indices.old ++ own_indices_of self.now.input.now own firsts.now object file.now) }
-    {
-        file.stands_for_an_object();
-        for number in 0..own.count(file) {
-            let unit = own.unit(number as u32);
-            indices.push(own_index(self.input, firsts, object, unit))?;
-        }
-        Ok(())
-    }
-
     /// The index of each function, or of each global, of an object: of what its import slots are
     /// bound to, and then of what it defines.
     fn indices_of(
@@ -278,23 +292,28 @@ impl<'n, 'i, 'a> Numbering<'n, 'i, 'a> {
         alloc: Global,
         own: Own,
         object: usize,
-        file: &File<'_>,
     ) -> Result<ItemList<u32>, AllocError>
         requires numbering { IsNumbering self.now.input.now self.now }
-        requires here { slice_get self.now.input.now.link.objects object ≡ Some file.now }
-        ensures { IfOk result (AreObjectIndices self.now.input.now own object file.now) }
+        requires within { object < length self.now.input.now.link.objects }
+        ensures { let input = self.now.input.now in IfOk result
+            (λ row. (o : SpecObject) → slice_get input.link.objects object ≡ Some o
+            → AreObjectIndices input own object o row) }
     {
+        slots_have_indices();
+        let files = self.input.files().as_slice();
+        let file = &files[object];
         file.stands_for_an_object();
-        whole_objects();
-        slots_are_numbered();
-        name_by_cases();
-        targets_by_cases();
-        host_imports_are_found();
-        live_units_are_closed();
-        let _ = self.input.live();
         let row = self.row(own, object);
         let mut indices = self.slot_indices(alloc, own.kind(), object, row)?;
-        self.push_own(&mut indices, own, self.firsts(own), object, file)?;
+        let firsts = self.firsts(own);
+        push_own(
+            &mut indices,
+            self.input,
+            own,
+            firsts,
+            object,
+            own.count(file),
+        )?;
         Ok(indices)
     }
 
@@ -308,8 +327,8 @@ impl<'n, 'i, 'a> Numbering<'n, 'i, 'a> {
             (λ rows. AreRows (AreObjectIndices input own) 0 input.link.objects rows.items) }
     {
         let mut rows = Vec::new(alloc);
-        for (object, file) in self.input.files().as_slice().iter().enumerate() {
-            rows.push(self.indices_of(alloc, own, object, file)?)?;
+        for object in 0..self.input.files().len() {
+            rows.push(self.indices_of(alloc, own, object)?)?;
         }
         Ok(rows)
     }

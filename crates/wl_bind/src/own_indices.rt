@@ -1,8 +1,10 @@
 //! The indices of what objects define.
 
-ghost use Rattle.std.specs.Prelude.{◌≡◌, ◌≤◌, ◌+◌, length, IfOk, IfErr, OnOk};
+ghost use Rattle.std.specs.Prelude.{◌≡◌, ◌<◌, ◌≤◌, ◌+◌, Some, length, slice_get, IfOk, IfErr, OnOk};
+ghost use Rattle.wl_bytes.specs.declared.reader.TheConstants.{MAX_LEN};
+ghost use Rattle.wl_linking.specs.Object.{Object as SpecObject};
 ghost use Rattle.wl_index.specs.declared.index.TheConstants.{MAX_ENTRIES};
-ghost use Rattle.wl_bind.specs.OwnIndices.{own_kind, own_unit, own_count, kept_own, firsts_from, kept_count};
+ghost use Rattle.wl_bind.specs.steps.OwnIndices.{own_kind, own_unit, own_count, kept_own, firsts_from, kept_count};
 ghost use Rattle.wl_bind.specs.Parts.{IsOver};
 
 use crate::parts::behind;
@@ -40,8 +42,10 @@ impl Own {
 
     /// How many an object defines.
     pub(crate) fn count(self, file: &File<'_>) -> usize
-        ensures { result ≡ own_count self file.now }
+        ensures count { result ≡ own_count self file.now }
+        ensures few { result ≤ MAX_LEN }
     {
+        file.stands_for_an_object();
         match self {
             Own::Functions => file.functions().len(),
             Own::Globals => file.globals().len(),
@@ -50,12 +54,14 @@ impl Own {
 }
 
 /// How many an object defines that are kept.
-fn count_kept(input: &LinkInput<'_, '_>, own: Own, object: usize, file: &File<'_>) -> usize
-    ensures { result ≡ length (kept_own input.now own object file.now) }
+fn count_kept(input: &LinkInput<'_, '_>, own: Own, object: usize) -> usize
+    requires { object < length input.now.link.objects }
+    ensures { (o : SpecObject) → slice_get input.now.link.objects object ≡ Some o
+        → result ≡ length (kept_own input.now own object o) }
 {
-    file.stands_for_an_object();
+    let files = input.files().as_slice();
     let mut kept = 0;
-    for number in 0..own.count(file) {
+    for number in 0..own.count(&files[object]) {
         if input.live().is_live(object, own.unit(number as u32)) {
             kept += 1;
         }
@@ -83,9 +89,9 @@ pub(crate) fn first_indices(
 {
     let mut firsts = Vec::new(alloc);
     let mut next = start;
-    for (object, file) in input.files().as_slice().iter().enumerate() {
+    for object in 0..input.files().len() {
         firsts.push(next)?;
-        next = behind(next, count_kept(input, own, object, file))?;
+        next = behind(next, count_kept(input, own, object))?;
     }
     Ok(firsts)
 }

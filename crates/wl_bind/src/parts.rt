@@ -2,7 +2,7 @@
 
 ghost use Rattle.std.specs.Prelude.{◌≡◌, ◌<◌, ◌≤◌, ◌+◌, ◌^◌, IfOk, IfErr};
 ghost use Rattle.wl_index.specs.declared.index.TheConstants.{MAX_ENTRIES};
-ghost use Rattle.wl_bind.specs.PartSteps.{entry_of};
+ghost use Rattle.wl_bind.specs.steps.Parts.{entry_of};
 ghost use Rattle.wl_bind.specs.Parts.{starts_from, total, start_of, single_of, HasEntry, IsOver};
 
 use std::alloc::Global;

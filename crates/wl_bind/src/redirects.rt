@@ -6,7 +6,7 @@ ghost use Rattle.wl_index.specs.declared.index.TheConstants.{MAX_ENTRIES};
 ghost use Rattle.wl_bind.specs.FunctionSpace.{function_space, local_functions};
 ghost use Rattle.wl_bind.specs.IndexMaps.{symbol_functions};
 ghost use Rattle.wl_bind.specs.Parts.{AreIndicesOf, ArePlacesOf, AreRows};
-ghost use Rattle.wl_bind.specs.RedirectSteps.{as_place, row_place, defined_by, definition_function, leads_to, redirect_of, redirects_of};
+ghost use Rattle.wl_bind.specs.steps.Redirects.{as_place, row_place, defined_by, definition_function, leads_to, redirect_of, redirects_of};
 
 use std::alloc::{AllocError, Global};
 use wl_index::WASM_DEAD_INDEX;
@@ -48,8 +48,7 @@ fn row_place(rows: &[ItemList<u32>], function: LocalFunction) -> Option<u32>
 fn defined_by(input: &LinkInput<'_, '_>, object: usize, number: u32) -> Option<LocalFunction>
     ensures { result ≡ defined_by input.now.link.objects object number }
 {
-    let file = input.files().get(object)?;
-    let symbol = file.symbols().get(number as usize)?;
+    let symbol = input.symbols().symbol(object, number)?;
     if symbol.is_defined_function() {
         Some(LocalFunction {
             object,
@@ -105,8 +104,7 @@ fn redirect(
 ) -> Option<u32>
     ensures { result ≡ redirect_of input.now.link rows.now object number }
 {
-    let file = input.files().get(object)?;
-    let symbol = file.symbols().get(number as usize)?;
+    let symbol = input.symbols().symbol(object, number)?;
     if symbol.kind.is_function() {
         row_place(rows, leads_to(input, object, number, symbol))
     } else {

@@ -6,7 +6,7 @@ ghost use Rattle.wl_linking.specs.Steps.{Clear, Refuses};
 ghost use Rattle.wl_bind.specs.Resolutions.{resolutions, by_all_rules};
 ghost use Rattle.wl_bind.specs.Undefined.{same_undefined, undefined_import_of, undefined_imports, IsUndefinedImport};
 ghost use Rattle.wl_bind.specs.UndefinedSteps.{as_undefined};
-ghost use Rattle.wl_bind.specs.SharedSteps.{resolution_at, is_host_at};
+ghost use Rattle.wl_bind.specs.steps.Shared.{resolution_at, is_host_at};
 
 use crate::resolution::{ImportResolution, ObjectImportResolutions};
 use crate::undefined::{UndefinedNames, wants_definition};
@@ -99,8 +99,9 @@ fn collect_undefined_imports<'a>(
     requires rows { rows.now ≡ resolutions input.now (by_all_rules input.now) }
     ensures { IfOk result (λ names. names ≡ undefined_imports input.now) }
 {
+    let files = input.files().as_slice();
     let mut names = UndefinedNames::new(alloc);
-    for (object, file) in input.files().as_slice().iter().enumerate() {
+    for (object, file) in files.iter().enumerate() {
         add_undefined_imports(&mut names, input, rows, object, file.symbols())?;
     }
     Ok(names)

@@ -1,16 +1,12 @@
 //! What kept relocations ask for.
 
-ghost use Rattle.std.specs.Prelude.{◌≡◌, map, OnOk};
+ghost use Rattle.std.specs.Prelude.{◌≡◌};
 ghost use Rattle.wl_bind.specs.FunctionSymbols.{function_bindings};
-ghost use Rattle.wl_bind.specs.GotSteps.{mem_entry, func_entry, insert_some, with_mem, with_func, ArePlaces};
-ghost use Rattle.wl_bind.specs.Sameness.{same_target};
-ghost use Rattle.wl_bind.specs.ScanSteps.{needs_with};
 ghost use Rattle.wl_bind.specs.Scan.{names_data, names_function, got_mem_of, got_func_of, unless_stub, table_function_of, asks_for_table, definition_name};
 
 use crate::binding::FunctionTarget;
-use crate::got::{GotFunc, GotMem, NamedKeys, TableFunctions};
+use crate::got::{GotFunc, GotMem, TableFunctions};
 use crate::targets::FunctionBindings;
-use std::alloc::AllocError;
 use std::marker::Model;
 use wl_symbols::{Definition, LinkInput, Relocated};
 
@@ -62,7 +58,7 @@ impl<'a> Drop for RelocScan<'a> {
 }
 
 /// Whether a relocation names a data symbol.
-pub(crate) fn names_data(input: &LinkInput<'_, '_>, relocated: &Relocated) -> bool
+fn names_data(input: &LinkInput<'_, '_>, relocated: &Relocated) -> bool
     ensures { result ≡ names_data input.now relocated.now }
 {
     match input
@@ -75,7 +71,7 @@ pub(crate) fn names_data(input: &LinkInput<'_, '_>, relocated: &Relocated) -> bo
 }
 
 /// Whether a relocation names a function symbol.
-pub(crate) fn names_function(input: &LinkInput<'_, '_>, relocated: &Relocated) -> bool
+fn names_function(input: &LinkInput<'_, '_>, relocated: &Relocated) -> bool
     ensures { result ≡ names_function input.now relocated.now }
 {
     match input
@@ -117,7 +113,7 @@ pub fn got_mem_of(input: &LinkInput<'_, '_>, relocated: &Relocated) -> Option<De
 
 /// The entry that a relocation asks for in the GOT list of functions: the definition of a function
 /// symbol under the number of a global, and the function that it leads to.
-fn got_func_of(
+pub(crate) fn got_func_of(
     input: &LinkInput<'_, '_>,
     bindings: &FunctionBindings,
     relocated: &Relocated,
@@ -148,7 +144,7 @@ fn unless_stub(target: FunctionTarget) -> Option<FunctionTarget>
 
 /// The function that a function symbol under the slot of a function or the number of a global leads
 /// to, unless it is a stub.
-fn table_function_of(
+pub(crate) fn table_function_of(
     input: &LinkInput<'_, '_>,
     bindings: &FunctionBindings,
     relocated: &Relocated,
@@ -165,80 +161,13 @@ fn table_function_of(
     }
 }
 
-/// Adds what a relocation asks for to the GOT list of data.
-pub(crate) fn add_mem<'a>(
-    list: &mut NamedKeys<'a, Definition>,
-    input: &LinkInput<'_, 'a>,
-    relocated: &Relocated,
-) -> Result<(), AllocError>
-    requires { ArePlaces list.old.places list.old.entries.entries }
-    ensures entries { OnOk result (map mem_entry list.new.entries.entries
-        ≡ with_mem input.now (map mem_entry list.old.entries.entries)
-        (got_mem_of input.now relocated.now)) }
-    ensures places { OnOk result (ArePlaces list.new.places list.new.entries.entries) }
-{
-    match got_mem_of(input, relocated) {
-        None => Ok(()),
-        Some(definition) => list.add(definition, definition_name(input, definition)),
-    }
-}
-
-/// Adds what a relocation asks for to the GOT list of functions.
-pub(crate) fn add_func<'a>(
-    list: &mut NamedKeys<'a, (Definition, FunctionTarget)>,
-    input: &LinkInput<'_, 'a>,
-    bindings: &FunctionBindings,
-    relocated: &Relocated,
-) -> Result<(), AllocError>
-    requires bindings { bindings.now ≡ function_bindings input.now }
-    requires places { ArePlaces list.old.places list.old.entries.entries }
-    ensures entries { OnOk result (map func_entry list.new.entries.entries
-        ≡ with_func input.now (map func_entry list.old.entries.entries)
-        (got_func_of input.now relocated.now)) }
-    ensures places { OnOk result (ArePlaces list.new.places list.new.entries.entries) }
-{
-    match got_func_of(input, bindings, relocated) {
-        None => Ok(()),
-        Some((definition, target)) => list.add(
-            (definition, target),
-            definition_name(input, definition),
-        ),
-    }
-}
-
-/// Adds what a relocation asks for to the functions of the table.
-pub(crate) fn add_table_function(
-    list: &mut TableFunctions,
-    input: &LinkInput<'_, '_>,
-    bindings: &FunctionBindings,
-    relocated: &Relocated,
-) -> Result<(), AllocError>
-    requires { bindings.now ≡ function_bindings input.now }
-    ensures { OnOk result (list.new
-        ≡ insert_some same_target list.old (table_function_of input.now relocated.now)) }
-{
-    match table_function_of(input, bindings, relocated) {
-        None => Ok(()),
-        Some(target) => list.add(target),
-    }
-}
-
 /// Whether a relocation asks for the table: by the slot of a function, by the table's number, or by
 /// the number of a global, if it names a function.
-fn asks_for_table(input: &LinkInput<'_, '_>, relocated: &Relocated) -> bool
+pub(crate) fn asks_for_table(input: &LinkInput<'_, '_>, relocated: &Relocated) -> bool
     ensures { result ≡ asks_for_table input.now relocated.now }
 {
     let ty = relocated.relocation.ty;
     ty.is_table_index()
         || ty.is_table_number()
         || (ty.is_global_index() && names_function(input, relocated))
-}
-
-/// What is asked for with one more relocation.
-pub(crate) fn add_needs(needs: &mut RelocNeeds, input: &LinkInput<'_, '_>, relocated: &Relocated)
-    ensures { needs.new ≡ needs_with input.now needs.old relocated.now }
-{
-    needs.memory_base |= relocated.relocation.ty.is_memory_relative();
-    needs.table_base |= relocated.relocation.ty.is_table_relative();
-    needs.table |= asks_for_table(input, relocated);
 }

@@ -2,31 +2,31 @@
 
 ghost use Rattle.std.specs.Prelude.{◌≡◌, OnOk, IfOk, IfErr};
 ghost use Rattle.wl_linking.specs.Steps.{Clear, Refuses};
-ghost use Rattle.wl_bind.specs.BindingSteps.{names_mismatch};
 ghost use Rattle.wl_bind.specs.FunctionSymbols.{function_bindings};
-ghost use Rattle.wl_bind.specs.KindSteps.{is_wrong_relocation};
 ghost use Rattle.wl_bind.specs.Kinds.{IsWrongKind};
 ghost use Rattle.wl_bind.specs.Scan.{scan_of};
 ghost use Rattle.wl_bind.specs.ScanFaults.{scan_fault};
-ghost use Rattle.wl_bind.specs.ScanSteps.{first_such, found_with, found_in, nothing_found, scan_part};
-ghost use Rattle.wl_bind.specs.Walks.{AreLists, found_by};
+ghost use Rattle.wl_bind.specs.steps.Scanning.{first_such, with_faults, with_needs, with_entries, found_in, nothing_found, scan_part};
+ghost use Rattle.wl_bind.specs.steps.Walks.{AreLists, entries_by, faults_by, found_by};
 ghost use Rattle.wl_bind.specs.Signatures.{IsMismatch};
-ghost use Rattle.wl_bind.specs.Undefined.{undefined_data_of, IsUndefinedData};
-ghost use Rattle.wl_bind.specs.UndefinedSteps.{insert_some};
+ghost use Rattle.wl_bind.specs.Undefined.{IsUndefinedData};
 
 use crate::binding::FunctionTarget;
 use crate::function_slots::FunctionSlots;
 use crate::got::{GotFunc, GotMem, NamedKeys, TableFunctions};
-use crate::kinds::{check_kinds, is_wrong_use};
-use crate::scan::{RelocNeeds, RelocScan, add_func, add_mem, add_needs, add_table_function};
+use crate::kinds::check_kinds;
+use crate::questions::{
+    ListEntries, RelocFaults, asks_for_entries, entries_of, faults_of, needs_by,
+};
+use crate::scan::{RelocNeeds, RelocScan};
 use crate::signatures::TypeCheck;
 use crate::targets::FunctionBindings;
-use crate::undefined::{UndefinedNames, check_undefined_data, undefined_data_of};
+use crate::undefined::{UndefinedNames, check_undefined_data};
 use std::alloc::{AllocError, Global};
-use wl_linking::{LinkError, WasmSymbol};
+use wl_linking::LinkError;
 use wl_symbols::{Definition, LinkInput, Relocated, kept_relocations};
 
-// ---- what is refused
+// ---- one relocation
 
 /// Keeps the first relocation that is such a one.
 fn note_first(first: &mut Option<Relocated>, is_such: bool, relocated: &Relocated)
@@ -35,38 +35,6 @@ fn note_first(first: &mut Option<Relocated>, is_such: bool, relocated: &Relocate
     if first.is_none() && is_such {
         *first = Some(*relocated);
     }
-}
-
-/// Notes a relocation for which a link is refused: the first that doesn't take the symbol that it
-/// names, the first that names a function of another type, and names of undefined data.
-///
-/// # Errors
-/// `AllocError` where memory runs out.
-fn note_refused<'a>(
-    wrong: &mut Option<Relocated>,
-    mismatch: &mut Option<Relocated>,
-    undefined: &mut UndefinedNames<'a>,
-    check: &TypeCheck<'_, '_, 'a>,
-    relocated: &Relocated,
-) -> Result<(), AllocError>
-    ensures wrong { wrong.new ≡ first_such wrong.old
-        (is_wrong_relocation check.now.input.now relocated.now) relocated.now }
-    ensures mismatch { mismatch.new ≡ first_such mismatch.old
-        (names_mismatch check.now.input.now relocated.now) relocated.now }
-    ensures undefined { OnOk result (undefined.new
-        ≡ insert_some undefined.old (undefined_data_of check.now.input.now relocated.now)) }
-{
-    let (input, number) = (check.input, relocated.relocation.index);
-    if relocated.relocation.ty.names_a_type() {
-        return Ok(());
-    }
-    let Some(symbol) = input.symbols().symbol(relocated.object, number) else {
-        return Ok(());
-    };
-    note_first(wrong, is_wrong_use(input, relocated, symbol), relocated);
-    let is_other = check.leads_to_other(relocated.object, number, symbol);
-    note_first(mismatch, is_other, relocated);
-    undefined.add_some(undefined_data_of(input, relocated, symbol))
 }
 
 // ---- one walk
@@ -108,33 +76,50 @@ impl<'a> Walk<'a> {
         }
     }
 
-    /// Takes one more relocation in.
+    /// Takes in for what one more relocation may be refused.
     ///
     /// # Errors
     /// `AllocError` where memory runs out.
-    fn take(
+    fn note_faults(
         &mut self,
-        check: &TypeCheck<'_, '_, 'a>,
         relocated: &Relocated,
+        faults: RelocFaults<'a>,
     ) -> Result<(), AllocError>
         requires lists { AreLists self.old }
         ensures found { OnOk result (found_by self.new
-            ≡ found_with check.now.input.now (found_by self.old) relocated.now) }
+            ≡ with_faults (found_by self.old) (faults_by faults.entry) relocated.now) }
         ensures lists { OnOk result (AreLists self.new) }
     {
-        let input = check.input;
-        add_mem(&mut self.got_mem, input, relocated)?;
-        add_func(&mut self.got_func, input, check.bindings, relocated)?;
-        add_table_function(&mut self.table_functions, input, check.bindings, relocated)?;
-        add_needs(&mut self.needs, input, relocated);
-        note_refused(
-            &mut self.wrong,
-            &mut self.mismatch,
-            &mut self.undefined,
-            check,
-            relocated,
-        )?;
+        note_first(&mut self.wrong, faults.is_wrong, relocated);
+        note_first(&mut self.mismatch, faults.is_mismatch, relocated);
+        self.undefined.add_some(faults.undefined)
+    }
+
+    /// Takes in what one more relocation asks for of the lists.
+    ///
+    /// # Errors
+    /// `AllocError` where memory runs out.
+    fn add_entries(&mut self, entries: ListEntries<'a>) -> Result<(), AllocError>
+        requires lists { AreLists self.old }
+        ensures found { OnOk result (found_by self.new
+            ≡ with_entries (found_by self.old) (entries_by entries.entry)) }
+        ensures lists { OnOk result (AreLists self.new) }
+    {
+        self.got_mem.add_some(entries.got_mem)?;
+        self.got_func.add_some(entries.got_func)?;
+        self.table_functions.add_some(entries.table_function)?;
         Ok(())
+    }
+
+    /// Takes in what else one more relocation asks for.
+    fn note_needs(&mut self, more: RelocNeeds)
+        requires lists { AreLists self.old }
+        ensures found { found_by self.new ≡ with_needs (found_by self.old) more }
+        ensures lists { AreLists self.new }
+    {
+        self.needs.memory_base |= more.memory_base;
+        self.needs.table_base |= more.table_base;
+        self.needs.table |= more.table;
     }
 
     /// What the relocations ask for.
@@ -164,7 +149,11 @@ fn walk_relocations<'a>(
 {
     let mut walk = Walk::new(alloc);
     for relocated in kept_relocations(check.input) {
-        walk.take(check, &relocated)?;
+        walk.note_faults(&relocated, faults_of(check, &relocated))?;
+        walk.note_needs(needs_by(check.input, &relocated));
+        if asks_for_entries(&relocated) {
+            walk.add_entries(entries_of(check, &relocated))?;
+        }
     }
     Ok(walk)
 }

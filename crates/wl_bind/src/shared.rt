@@ -3,8 +3,8 @@
 ghost use Rattle.std.specs.Prelude.{◌≡◌, IfOk, OnOk, IfErr};
 ghost use Rattle.wl_linking.specs.Steps.{Clear, Refuses};
 ghost use Rattle.wl_bind.specs.Conflicts.{IsHostConflict};
-ghost use Rattle.wl_bind.specs.FunctionBinding.{host_functions};
-ghost use Rattle.wl_bind.specs.GlobalBinding.{host_globals};
+ghost use Rattle.wl_bind.specs.steps.FunctionSlots.{AreFunctionSlots};
+ghost use Rattle.wl_bind.specs.steps.HostSlots.{AreHostFunctions, AreHostGlobals};
 ghost use Rattle.wl_bind.specs.Resolutions.{resolutions, by_all_rules};
 ghost use Rattle.wl_bind.specs.Shared.{shared_of, place_in, place_at};
 
@@ -34,6 +34,15 @@ impl<'a> Drop for SharedImports<'a> {
             places: _,
         } = self;
     }
+}
+
+/// The slots of a kind that are left to the host.
+#[derive(Drop)]
+pub(crate) struct HostSlots<'i, 'a> {
+    /// The slots, in order.
+    pub(crate) slots: Vec<ImportSlot<'i, 'a>>,
+    /// The imports that they are, and which of them each slot of the kind is.
+    pub(crate) shared: SharedImports<'a>,
 }
 
 /// The functions and globals that the host is asked for, one per module and field name, and which
@@ -116,35 +125,57 @@ fn place_in(rows: &[ItemList<Option<usize>>], object: usize, slot: u32) -> Optio
 pub(crate) fn check_hosts(
     alloc: Global,
     input: &LinkInput<'_, '_>,
-    shared: &SharedUnresolvedImports<'_>,
-    functions: &[ImportSlot<'_, '_>],
-    globals: &[ImportSlot<'_, '_>],
+    functions: &HostSlots<'_, '_>,
+    globals: &HostSlots<'_, '_>,
 ) -> Result<(), LinkError>
-    requires shared { shared.now ≡ shared_of input.now }
-    requires functions { functions.now ≡ host_functions input.now }
-    requires globals { globals.now ≡ host_globals input.now }
+    requires functions { AreHostFunctions input.now functions.now }
+    requires globals { AreHostGlobals input.now globals.now }
     ensures clear { OnOk result (Clear (IsHostConflict input.now)) }
     ensures err { IfErr result (Refuses (IsHostConflict input.now)) }
 {
-    let imports = SlotImports::Hosts(&shared.functions.imports);
-    check_types(alloc, input, imports, functions)?;
-    let imports = SlotImports::Hosts(&shared.globals.imports);
-    check_types(alloc, input, imports, globals)?;
+    let imports = SlotImports::Hosts(&functions.shared.imports);
+    check_types(alloc, input, imports, &functions.slots)?;
+    let imports = SlotImports::Hosts(&globals.shared.imports);
+    check_types(alloc, input, imports, &globals.slots)?;
     Ok(())
 }
 
 impl<'a> SharedUnresolvedImports<'a> {
-    /// What the host is asked for: these functions and these globals.
-    pub(crate) fn of(functions: SharedImports<'a>, globals: SharedImports<'a>) -> Self
+    /// What the host is asked for: the imports that these functions and these globals are.
+    pub(crate) fn of(functions: HostSlots<'_, 'a>, globals: HostSlots<'_, 'a>) -> Self
         ensures { result ≡ record {
-          functions = functions.entry.imports;
-          globals = globals.entry.imports;
-          function_places = functions.entry.places.items;
-          global_places = globals.entry.places.items;
+          functions = functions.entry.shared.imports;
+          globals = globals.entry.shared.imports;
+          function_places = functions.entry.shared.places.items;
+          global_places = globals.entry.shared.places.items;
         } }
     {
-        SharedUnresolvedImports { functions, globals }
+        SharedUnresolvedImports {
+            functions: functions.shared,
+            globals: globals.shared,
+        }
     }
+}
+
+/// The global slots that are left to the host, where the slots of each host import have one type.
+///
+/// # Errors
+/// As [`check_hosts`].
+fn host_globals<'i, 'a>(
+    alloc: Global,
+    input: &LinkInput<'i, 'a>,
+    functions: &mut FunctionSlots<'i, 'a>,
+) -> Result<HostSlots<'i, 'a>, LinkError>
+    requires { AreFunctionSlots input.now functions.old }
+    ensures hosts { functions.new.hosts ≡ functions.old.hosts }
+    ensures globals { IfOk result (AreHostGlobals input.now) }
+    ensures clear { OnOk result (Clear (IsHostConflict input.now)) }
+    ensures err { IfErr result (Refuses (IsHostConflict input.now)) }
+{
+    let scan = gather(alloc, input, &functions.bindings)?;
+    let globals = bind_globals(alloc, input, &scan, functions.resolutions.as_mut_slice())?;
+    check_hosts(alloc, input, &functions.hosts, &globals)?;
+    Ok(globals)
 }
 
 /// Collects the functions and globals that the host is asked for, one per module and field name.
@@ -163,15 +194,6 @@ pub fn collect_shared_unresolved_imports<'a>(
     ensures err { IfErr result (Refuses (IsHostConflict input.now)) }
 {
     let mut functions = FunctionSlots::new(alloc, input)?;
-    let scan = gather(alloc, input, &functions.bindings)?;
-    let globals = bind_globals(alloc, input, &scan, functions.resolutions.as_mut_slice())?;
-    let shared = SharedUnresolvedImports::of(functions.shared, globals.shared);
-    check_hosts(
-        alloc,
-        input,
-        &shared,
-        &functions.host_slots,
-        &globals.host_slots,
-    )?;
-    Ok(shared)
+    let globals = host_globals(alloc, input, &mut functions)?;
+    Ok(SharedUnresolvedImports::of(functions.hosts, globals))
 }

@@ -5,7 +5,7 @@ ghost use Rattle.std.specs.Option.{option_to_list};
 ghost use Rattle.wl_linking.specs.Steps.{Clear, Refuses};
 ghost use Rattle.wl_bind.specs.Stepped.{stepped, step_at};
 ghost use Rattle.wl_bind.specs.FunctionTypes.{slot_type, stub_types};
-ghost use Rattle.wl_bind.specs.FunctionSlots.{AreFunctionSlots};
+ghost use Rattle.wl_bind.specs.steps.FunctionSlots.{AreFunctionSlots};
 ghost use Rattle.wl_bind.specs.SlotRows.{function_part};
 ghost use Rattle.wl_bind.specs.Conflicts.{IsStubConflict};
 ghost use Rattle.wl_bind.specs.Later.{with_functions};

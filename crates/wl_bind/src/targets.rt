@@ -3,7 +3,7 @@
 ghost use Rattle.std.specs.Prelude.{◌≡◌, IsSome};
 ghost use Rattle.wl_symbols.specs.Entries.{symbol_in};
 ghost use Rattle.wl_bind.specs.FunctionBinding.{named_function};
-ghost use Rattle.wl_bind.specs.FunctionSymbols.{binding_at, defined_function, own_function, fun, function_bindings};
+ghost use Rattle.wl_bind.specs.FunctionSymbols.{binding_at, defined_function, own_function, function_of, fun, function_bindings};
 ghost use Rattle.wl_bind.specs.BindingSteps.{row_at, defined_target};
 
 use crate::binding::FunctionTarget;
@@ -108,24 +108,42 @@ impl FunctionBindings {
         self.entry(object, slot)
     }
 
+    /// The function that a function symbol leads to.
+    fn function_of(
+        &self,
+        input: &LinkInput<'_, '_>,
+        object: usize,
+        number: u32,
+        file: &File<'_>,
+        symbol: &WasmSymbol<'_>,
+    ) -> Option<FunctionTarget>
+        requires bindings { self.now ≡ function_bindings input.now }
+        requires here { IsSome (symbol_in input.now.link.objects object number) }
+        ensures { result ≡ function_of input.now object number file.now symbol.now }
+    {
+        if symbol.is_undefined() {
+            self.binding(input, object, symbol.index)
+        } else {
+            defined_target(input, object, number, file, symbol)
+        }
+    }
+
     /// The function that a symbol leads to, if it is a function's.
     pub(crate) fn function(
         &self,
         input: &LinkInput<'_, '_>,
         object: usize,
-        symbol: u32,
+        number: u32,
     ) -> Option<FunctionTarget>
         requires { self.now ≡ function_bindings input.now }
-        ensures { result ≡ fun input.now object symbol }
+        ensures { result ≡ fun input.now object number }
     {
         let file = input.files().get(object)?;
-        let entry = file.symbols().get(symbol as usize)?;
-        if !entry.kind.is_function() {
-            None
-        } else if entry.is_undefined() {
-            self.binding(input, object, entry.index)
+        let symbol = file.symbols().get(number as usize)?;
+        if symbol.kind.is_function() {
+            self.function_of(input, object, number, file, symbol)
         } else {
-            defined_target(input, object, symbol, file, entry)
+            None
         }
     }
 }

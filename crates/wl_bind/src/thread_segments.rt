@@ -4,7 +4,7 @@ ghost use Rattle.std.specs.Prelude.{◌≡◌, map, slice_set, IfOk};
 ghost use Rattle.std.specs.List.{list_any, range_with_len};
 ghost use Rattle.wl_bind.specs.ThreadData.{is_thread_symbol_on, thread_data};
 ghost use Rattle.wl_custom.specs.Symbols.{is_thread_data};
-ghost use Rattle.wl_bind.specs.ThreadSteps.{marked};
+ghost use Rattle.wl_bind.specs.steps.ThreadSegments.{marked};
 
 use std::alloc::{AllocError, Global};
 use wl_linking::{File, WasmSymbol};

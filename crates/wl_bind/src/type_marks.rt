@@ -5,7 +5,7 @@ ghost use Rattle.wl_bytes.specs.declared.reader.TheConstants.{MAX_LEN};
 ghost use Rattle.wl_symbols.specs.Relocations.{object_relocations};
 ghost use Rattle.wl_bind.specs.Resolutions.{resolutions, by_all_rules};
 ghost use Rattle.wl_bind.specs.OutputTypes.{is_live_type};
-ghost use Rattle.wl_bind.specs.MergeSteps.{mark, mark_all, AreMarked, function_type, function_types, host_type, host_types, named_type};
+ghost use Rattle.wl_bind.specs.steps.Merging.{mark, mark_all, AreMarked, function_type, function_types, host_type, host_types, named_type};
 
 use crate::report::is_host_at;
 use crate::resolution::ObjectImportResolutions;

@@ -13,7 +13,7 @@ use Rattle.wl_symbols.specs.Input.{Input}
 use Rattle.wl_bind.specs.Parts.{AreStarts, joined, lengths_of, total}
 use Rattle.wl_bind.specs.declared.exported.DataSymbol.{DataSymbol}
 use Rattle.wl_bind.specs.declared.parts.PartStarts.{PartStarts}
-use Rattle.wl_exports.specs.DataSteps.{IsNoted, IsLeft, NotesPlaces, AreDataPlaces, exported_data}
+use Rattle.wl_exports.specs.steps.DataPlaces.{IsNoted, IsLeft, NotesPlaces, AreDataPlaces, exported_data}
 use Rattle.wl_lists.proofs.In.{IsIn, in_list, in_split, list_in}
 use Rattle.wl_lists.proofs.Places.{mapped_at}
 use Rattle.wl_exports.proofs.ListLaws.{behind_at, front_at}

@@ -22,7 +22,7 @@ use Rattle.wl_symbols.specs.Input.{Input}
 use Rattle.wl_bind.specs.declared.binding.FunctionTarget.TheVariants as function
 use Rattle.wl_symbols.specs.SlotTargets.{own_number}
 use Rattle.wl_exports.specs.Exports.{ExportEntry, Entity, OfFunction, export_of, by_names, object_entity, defined_entity, defined_of_kind, named_entity, only_function, named_function, unless_made, candidate, by_symbol, candidates, is_code, stack_pointer_export, dynamic_exports}
-use Rattle.wl_exports.specs.ExportSteps.{IsPlainIf, AddsExports, takes}
+use Rattle.wl_exports.specs.steps.Exports.{IsPlainIf, AddsExports, takes}
 use Rattle.wl_exports.specs.declared.dynamic.Wanted.{Wanted}
 use Rattle.wl_lists.proofs.In.{in_at, in_list}
 use Rattle.wl_lists.proofs.Places.{item_at, mapped_at}

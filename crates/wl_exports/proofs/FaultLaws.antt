@@ -25,10 +25,10 @@ use Rattle.wl_symbols.specs.SlotTargets.{is_definition_of}
 use Rattle.wl_bind.specs.ExportedData.{is_made_name}
 use Rattle.wl_symbols.specs.Input.{Input}
 use Rattle.wl_exports.specs.Exports.{ExportEntry, Entity, defined_of_kind, object_entity, named_entity, first_exports}
-use Rattle.wl_exports.specs.ExportSteps.{AddsExports}
-use Rattle.wl_exports.specs.FaultSteps.{IsSoundSymbol, IsSymbolFault, no_room, a_table, nothing, IsSoundName, is_made, is_defined, IsNameFault, no_memory, is_a_table, is_missing, AreSoundNames, AreDistinct, IsRepeat, lack, twice, AreSoundFirst}
+use Rattle.wl_exports.specs.steps.Exports.{AddsExports}
+use Rattle.wl_exports.specs.steps.Checking.{IsSoundSymbol, IsSymbolFault, no_room, a_table, nothing, IsSoundName, is_made, is_defined, IsNameFault, no_memory, is_a_table, is_missing, AreSoundNames, AreDistinct, IsRepeat, lack, twice, AreSoundFirst}
 use Rattle.wl_exports.specs.Faults.{IsExportFault, is_table_symbol}
-use Rattle.wl_exports.specs.NameSteps.{has_export}
+use Rattle.wl_exports.specs.steps.Names.{has_export}
 use Rattle.wl_exports.specs.Sources.{IsPlainExport}
 use Rattle.wl_lists.proofs.Beside.{zip_left, zip_right}
 use Rattle.wl_lists.proofs.In.{IsIn, in_list, in_split, list_in}

@@ -6,7 +6,7 @@ use Rattle.wl_linking.specs.Object.{Object}
 use Rattle.wl_symbols.specs.Input.{Input}
 use Rattle.wl_bind.specs.Parts.{by_object}
 use Rattle.wl_exports.specs.Exports.{ExportEntry, export_of, own_entity}
-use Rattle.wl_exports.specs.ExportSteps.{AddsExports}
+use Rattle.wl_exports.specs.steps.Exports.{AddsExports}
 use Rattle.wl_exports.specs.Sources.{IsPlainExport}
 use Rattle.wl_lists.proofs.Beside.{zip_joined}
 use Rattle.wl_exports.proofs.ListLaws.{filter_map_more}

@@ -28,7 +28,7 @@ use Rattle.wl_bind.specs.Scan.{got_mem, got_func}
 use Rattle.wl_bind.specs.declared.binding.FunctionTarget.TheVariants as function
 use Rattle.wl_bind.specs.declared.binding.GlobalTarget.TheVariants as global
 use Rattle.wl_exports.specs.Exports.{ExportEntry, Entity, export_of, made_of_kind, made_entity, made_under}
-use Rattle.wl_exports.specs.ExportSteps.{IsPlainIf, kind_of_symbol, kind_of_made}
+use Rattle.wl_exports.specs.steps.Exports.{IsPlainIf, kind_of_symbol, kind_of_made}
 use Rattle.wl_exports.specs.Sources.{IsPlainExport}
 use Rattle.wl_lists.proofs.Firsts.{in_firsts_onto}
 use Rattle.wl_lists.proofs.Found.{any_in}

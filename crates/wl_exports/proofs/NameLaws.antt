@@ -10,8 +10,8 @@ use Rattle.std.proofs.lemmas.List.{take_more}
 use Rattle.wl_module.specs.Exports.{Exported}
 use Rattle.wl_symbols.specs.Input.{Input}
 use Rattle.wl_exports.specs.Exports.{ExportEntry, same_name, unless_taken, first_exports, later_exports, exports}
-use Rattle.wl_exports.specs.ExportSteps.{AddsExports}
-use Rattle.wl_exports.specs.NameSteps.{holds_name, has_export, HoldsNames, untaken}
+use Rattle.wl_exports.specs.steps.Exports.{AddsExports}
+use Rattle.wl_exports.specs.steps.Names.{holds_name, has_export, HoldsNames, untaken}
 use Rattle.wl_exports.specs.Sources.{IsPlainExport, ArePlainExports}
 use Rattle.wl_lists.proofs.Beside.{zip_joined}
 

@@ -24,7 +24,7 @@ use Rattle.wl_bind.specs.References.{there}
 use Rattle.wl_bind.specs.declared.binding.FunctionTarget.TheVariants as function
 use Rattle.wl_bind.specs.declared.binding.GlobalTarget.TheVariants as global
 use Rattle.wl_exports.specs.Exports.{OfFunction, OfGlobal, export_of}
-use Rattle.wl_exports.specs.ExportSteps.{IsPlainIf, index_at, unless_dead}
+use Rattle.wl_exports.specs.steps.Exports.{IsPlainIf, index_at, unless_dead}
 use Rattle.wl_exports.specs.Sources.{HasIndices, HaveIndices}
 use Rattle.wl_lists.proofs.Places.{range_at}
 use Rattle.wl_exports.proofs.ListLaws.{behind_at}

@@ -33,9 +33,9 @@ use Rattle.wl_bind.specs.References.{there}
 use Rattle.wl_bind.specs.declared.binding.FunctionTarget.TheVariants as function
 use Rattle.wl_bind.specs.declared.binding.GlobalTarget.TheVariants as global
 use Rattle.wl_bind.specs.declared.exported.DataSymbol.{DataSymbol}
-use Rattle.wl_exports.specs.DataSteps.{exported_data}
+use Rattle.wl_exports.specs.steps.DataPlaces.{exported_data}
 use Rattle.wl_exports.specs.Exports.{Entity, OfFunction, OfGlobal, export_of, defined_of_kind, defined_entity, object_entity}
-use Rattle.wl_exports.specs.ExportSteps.{IsPlainIf, IsShown}
+use Rattle.wl_exports.specs.steps.Exports.{IsPlainIf, IsShown}
 use Rattle.wl_lists.proofs.In.{IsIn, filter_in, in_back, in_front, in_list, list_in}
 use Rattle.wl_lists.proofs.Rows.{object_in}
 use Rattle.wl_exports.proofs.DataLaws.{in_once}

@@ -12,7 +12,7 @@ use Rattle.wl_features.specs.Taken.{AreTaken, taken_names}
 use Rattle.wl_symbols.specs.Input.{Input}
 use Rattle.wl_bind.specs.Made.{has_shared_tls}
 use Rattle.wl_exports.specs.Exports.{ExportEntry, export_of, made_entity, thread_exports, stack_pointer_export}
-use Rattle.wl_exports.specs.ExportSteps.{AddsExports, uses_mutable_globals}
+use Rattle.wl_exports.specs.steps.Exports.{AddsExports, uses_mutable_globals}
 use Rattle.wl_lists.proofs.Found.{any_in}
 use Rattle.wl_lists.proofs.In.{IsIn, list_in}
 use Rattle.wl_exports.proofs.GrowLaws.{adds_more, adds_same}

@@ -22,7 +22,7 @@ use Rattle.wl_bind.specs.Parts.{by_object}
 use Rattle.wl_bind.specs.declared.binding.FunctionTarget.TheVariants.{Defined, Made, Host, Stub}
 use Rattle.wl_exports.specs.Exports.{ExportEntry, Entity, OfFunction, OfGlobal, OfTable, OfMemory, exports}
 use Rattle.wl_exports.specs.Sources.{IsOf, IsPlainExport}
-use Rattle.wl_exports.specs.WrapSteps.{with_export, with_wrapper}
+use Rattle.wl_exports.specs.steps.Wrappers.{with_export, with_wrapper}
 use Rattle.wl_exports.specs.Wrapped.{WrapperEntry, is_wrapped, IsExportIf, IsExportAt, IsWrapper, AreOutputExports, AreWrappers}
 use Rattle.wl_exports.specs.Wrappers.{is_ctors_name, calls_ctors, wraps, can_wrap, is_own, is_own_function, wrapped}
 use Rattle.wl_lists.proofs.Beside.{zip_left, zip_length, zip_joined}

@@ -4,8 +4,4 @@ pub mod Sources
 pub mod Wrapped
 pub mod Interface
 pub mod Faults
-pub mod DataSteps
-pub mod ExportSteps
-pub mod FaultSteps
-pub mod NameSteps
-pub mod WrapSteps
+pub mod steps

@@ -4,7 +4,7 @@ ghost use Rattle.std.specs.Prelude.{Option, OnOk};
 ghost use Rattle.std.specs.Option.{option_to_list};
 ghost use Rattle.wl_symbols.specs.Input.{Input as Linked};
 ghost use Rattle.wl_exports.specs.Exports.{ExportEntry};
-ghost use Rattle.wl_exports.specs.ExportSteps.{IsPlainIf, AddsExports};
+ghost use Rattle.wl_exports.specs.steps.Exports.{IsPlainIf, AddsExports};
 
 use std::alloc::AllocError;
 use wl_module::OutputExport;

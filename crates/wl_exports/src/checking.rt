@@ -3,7 +3,7 @@
 ghost use Rattle.std.specs.Prelude.{◌≡◌, OnOk, IfOk, IfErr, MatchResult, Contains};
 ghost use Rattle.wl_linking.specs.Steps.{Clear, Refuses};
 ghost use Rattle.wl_bind.specs.References.{IsSettled};
-ghost use Rattle.wl_exports.specs.FaultSteps.{IsSymbolFault, IsNameFault, IsSoundSymbol, IsSoundName, AreSoundNames, AreDistinct, AreSoundFirst, IsRepeat};
+ghost use Rattle.wl_exports.specs.steps.Checking.{IsSymbolFault, IsNameFault, IsSoundSymbol, IsSoundName, AreSoundNames, AreDistinct, AreSoundFirst, IsRepeat};
 ghost use Rattle.wl_exports.specs.Faults.{IsExportFault};
 ghost use Rattle.wl_exports.specs.Sources.{AreSources};
 

@@ -1,7 +1,7 @@
 //! Where exported data stands among the globals.
 
 ghost use Rattle.std.specs.Prelude.{◌+◌, ◌^◌, ◌<◌, length, IfOk, OnOk};
-ghost use Rattle.wl_exports.specs.DataSteps.{AreDataPlaces, NotesPlaces};
+ghost use Rattle.wl_exports.specs.steps.DataPlaces.{AreDataPlaces, NotesPlaces};
 ghost use Rattle.wl_exports.specs.Sources.{AreSources};
 
 use crate::sources::ExportSources;

@@ -2,9 +2,9 @@
 
 ghost use Rattle.std.specs.Prelude.{◌≡◌, true, Some, None, slice_get, OnOk, if◌then◌else◌};
 ghost use Rattle.wl_linking.specs.Object.{Object};
-ghost use Rattle.wl_exports.specs.DataSteps.{AreDataPlaces};
+ghost use Rattle.wl_exports.specs.steps.DataPlaces.{AreDataPlaces};
 ghost use Rattle.wl_exports.specs.Exports.{candidate, candidates_in, candidates, dynamic_exports};
-ghost use Rattle.wl_exports.specs.ExportSteps.{IsPlainIf, AddsExports, takes};
+ghost use Rattle.wl_exports.specs.steps.Exports.{IsPlainIf, AddsExports, takes};
 ghost use Rattle.wl_exports.specs.Sources.{AreSources};
 
 use crate::adding::push_some;

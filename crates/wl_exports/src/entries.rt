@@ -1,10 +1,10 @@
 //! All exports, before any is wrapped.
 
 ghost use Rattle.std.specs.Prelude.{◌≡◌, ◌++◌, [], ◌∷◌, if◌then◌else◌, IfOk, OnOk};
-ghost use Rattle.wl_exports.specs.DataSteps.{AreDataPlaces};
+ghost use Rattle.wl_exports.specs.steps.DataPlaces.{AreDataPlaces};
 ghost use Rattle.wl_exports.specs.Exports.{later_exports};
-ghost use Rattle.wl_exports.specs.ExportSteps.{AddsExports};
-ghost use Rattle.wl_exports.specs.NameSteps.{untaken, HoldsNames};
+ghost use Rattle.wl_exports.specs.steps.Exports.{AddsExports};
+ghost use Rattle.wl_exports.specs.steps.Names.{untaken, HoldsNames};
 ghost use Rattle.wl_exports.specs.Sources.{AreSources, ArePlainExports};
 
 use crate::data_places::{DataPlaces, data_places};

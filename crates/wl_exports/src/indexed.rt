@@ -7,9 +7,9 @@ ghost use Rattle.wl_bind.specs.FunctionSpace.{local_functions};
 ghost use Rattle.wl_bind.specs.GlobalSpace.{DataOf, local_globals};
 ghost use Rattle.wl_symbols.specs.Input.{Input as Linked};
 ghost use Rattle.wl_bind.specs.References.{there};
-ghost use Rattle.wl_exports.specs.DataSteps.{AreDataPlaces, exported_data};
+ghost use Rattle.wl_exports.specs.steps.DataPlaces.{AreDataPlaces, exported_data};
 ghost use Rattle.wl_exports.specs.Exports.{OfFunction, OfGlobal, export_of};
-ghost use Rattle.wl_exports.specs.ExportSteps.{IsPlainIf, index_at};
+ghost use Rattle.wl_exports.specs.steps.Exports.{IsPlainIf, index_at};
 ghost use Rattle.wl_exports.specs.Sources.{AreSources};
 
 use crate::data_places::DataPlaces;

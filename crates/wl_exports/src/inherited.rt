@@ -4,7 +4,7 @@ ghost use Rattle.std.specs.Prelude.{◌≡◌, Some, slice_get, OnOk};
 ghost use Rattle.std.specs.Option.{option_map};
 ghost use Rattle.wl_linking.specs.Object.{Object};
 ghost use Rattle.wl_exports.specs.Exports.{export_of, own_entity, object_exports, inherited_exports, first_exports};
-ghost use Rattle.wl_exports.specs.ExportSteps.{IsPlainIf, AddsExports, memory_entry};
+ghost use Rattle.wl_exports.specs.steps.Exports.{IsPlainIf, AddsExports, memory_entry};
 ghost use Rattle.wl_exports.specs.Sources.{AreSources};
 
 use crate::adding::push_some;

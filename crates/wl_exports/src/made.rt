@@ -6,7 +6,7 @@ ghost use Rattle.std.specs.Option.{option_map};
 ghost use Rattle.wl_bind.specs.ExportedData.{is_made_name};
 ghost use Rattle.wl_bind.specs.Made.{is_made};
 ghost use Rattle.wl_exports.specs.Exports.{export_of, made_entity, made_under, thread_exports, made_exports, stack_pointer_export};
-ghost use Rattle.wl_exports.specs.ExportSteps.{IsPlainIf, AddsExports, kind_of_made, uses_mutable_globals};
+ghost use Rattle.wl_exports.specs.steps.Exports.{IsPlainIf, AddsExports, kind_of_made, uses_mutable_globals};
 ghost use Rattle.wl_exports.specs.Sources.{AreSources};
 
 use crate::adding::push_some;

@@ -3,9 +3,9 @@
 ghost use Rattle.std.specs.Prelude.{◌≡◌, Some, OnOk, Contains};
 ghost use Rattle.std.specs.Option.{option_map};
 ghost use Rattle.wl_linking.specs.Object.{Object};
-ghost use Rattle.wl_exports.specs.DataSteps.{AreDataPlaces};
+ghost use Rattle.wl_exports.specs.steps.DataPlaces.{AreDataPlaces};
 ghost use Rattle.wl_exports.specs.Exports.{export_of, defined_entity, named_function, unless_made, entry_export, forced_exports};
-ghost use Rattle.wl_exports.specs.ExportSteps.{IsPlainIf, IsShown, AddsExports};
+ghost use Rattle.wl_exports.specs.steps.Exports.{IsPlainIf, IsShown, AddsExports};
 ghost use Rattle.wl_exports.specs.Sources.{AreSources};
 
 use crate::adding::push_some;

@@ -1,7 +1,7 @@
 //! Names that are taken.
 
 ghost use Rattle.std.specs.Prelude.{◌≡◌, ◌||◌, not, ℕ, List, bytes_eq, IfOk, OnOk};
-ghost use Rattle.wl_exports.specs.NameSteps.{holds_name};
+ghost use Rattle.wl_exports.specs.steps.Names.{holds_name};
 
 use std::alloc::AllocError;
 use std::collections::HashSet;

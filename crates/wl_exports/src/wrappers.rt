@@ -9,7 +9,7 @@ ghost use Rattle.wl_bind.specs.FunctionSpace.{host_function_part, function_space
 ghost use Rattle.wl_symbols.specs.Input.{Input as Linked};
 ghost use Rattle.wl_exports.specs.Exports.{ExportEntry};
 ghost use Rattle.wl_exports.specs.Sources.{IsPlainExport, ArePlainExports};
-ghost use Rattle.wl_exports.specs.WrapSteps.{with_export, with_wrapper};
+ghost use Rattle.wl_exports.specs.steps.Wrappers.{with_export, with_wrapper};
 ghost use Rattle.wl_exports.specs.Wrapped.{AreOutputExports, AreWrappers};
 ghost use Rattle.wl_exports.specs.Wrappers.{is_ctors_name, calls_ctors, wraps, can_wrap, is_own_function, wrapped};
 

@@ -2,6 +2,8 @@ pub mod KeptDataLaws
 pub mod ThreadDataLaws
 pub mod PlacingLaws
 pub mod SmallLaws
+pub mod SegmentLaws
+pub mod NumberLaws
 pub mod AddressLaws
 pub mod IndexLaws
 pub mod CopyLaws

@@ -26,7 +26,7 @@ use Rattle.wl_bind.specs.Made.{greatest}
 use Rattle.wl_places.specs.Addresses.{numbers_from, segment_space}
 use Rattle.wl_places.specs.KeptData.{all_segments}
 use Rattle.wl_places.specs.Placing.{AreTooManySegments, IsHeapTooHigh, IsMemoryFault, data_input, data_options, first_pages, least_pages, memory_needs, memory_pages, memory_steps, place_fault, placing_of, stack_pointer}
-use Rattle.wl_places.specs.PlacingSteps.{imported_memories, is_memory_import, most_pages}
+use Rattle.wl_places.specs.steps.Placing.{imported_memories, is_memory_import, most_pages}
 use Rattle.wl_places.specs.declared.placing.Placing.{Placing}
 use Rattle.wl_linking.proofs.StepLaws.{clear_end, clear_step, refuses_here, refuses_behind}
 use Rattle.wl_lists.proofs.Beside.{zip_length}

@@ -9,6 +9,7 @@ mod index_maps;
 mod kept_data;
 mod laws;
 mod placing;
+mod segment_numbers;
 
 pub use addresses::{AddressBook, all_starts, check_exported, linker_address};
 pub use copies::{Copied, all_copies};
@@ -17,3 +18,4 @@ pub use laws::{
     flag_is_where_memory_is_filled, kept_thread_data_is_laid, placings_are_one, segments_are_small,
 };
 pub use placing::{Placing, place_data};
+pub use segment_numbers::all_segment_numbers;

@@ -12,7 +12,7 @@ ghost use Rattle.wl_index.specs.declared.index.TheConstants.{MAX_ENTRIES};
 ghost use Rattle.wl_places.specs.Addresses.{segment_space};
 ghost use Rattle.wl_places.specs.KeptData.{all_segments};
 ghost use Rattle.wl_places.specs.Placing.{has_memory, defines_memory, least_pages, first_pages, memory_base, data_options, data_input, placing_of, IsPlacing, AreTooManySegments, memory_steps, place_fault};
-ghost use Rattle.wl_places.specs.PlacingSteps.{is_memory_import, import_pages, imported_memories, most_pages};
+ghost use Rattle.wl_places.specs.steps.Placing.{is_memory_import, import_pages, imported_memories, most_pages};
 
 use crate::kept_data::all_segments;
 use std::alloc::Global;

@@ -23,12 +23,14 @@ use Rattle.wl_ops.specs.Numbers.{HasNumbers, AreTold}
 use Rattle.wl_ops.specs.Rewriting.{new_index, Rewrites, LacksIndex, RemapFault, IsRemapped}
 use Rattle.wl_ops.specs.declared.op.DataIndexImm.{DataIndexImm}
 use Rattle.wl_symbols.specs.Input.{Input, keeps}
-use Rattle.wl_plan.specs.Bodies.{body_in, new_number, IsBodyIn}
-use Rattle.wl_plan.specs.BodySteps.{AreNewNumbers, AreSoundBodies, AreMovedIn, AreRewritten, IsTakenFrom}
+use Rattle.wl_plan.specs.Bodies.{body_in, IsBodyIn}
+use Rattle.wl_places.specs.SegmentNumbers.{new_number}
+use Rattle.wl_plan.specs.BodySteps.{AreSoundBodies, AreMovedIn, AreRewritten, IsTakenFrom}
+use Rattle.wl_places.specs.SegmentNumbers.{AreNewNumbers}
 use Rattle.wl_plan.specs.declared.rewriting.RewrittenBody.{RewrittenBody}
-use Rattle.wl_plan.specs.Parsing.{link_error_of}
+use Rattle.wl_plan.specs.steps.Parsing.{link_error_of}
 use Rattle.wl_places.specs.declared.placing.Placing.{Placing}
-use Rattle.wl_plan.proofs.NumberLaws.{counts_at}
+use Rattle.wl_places.proofs.NumberLaws.{counts_at}
 
 -- ---- what lower crates say
 

@@ -33,7 +33,7 @@ use Rattle.wl_plan.specs.Plan.{IsPlan}
 use Rattle.wl_places.specs.Placing.{IsPlacing, data_input}
 use Rattle.wl_plan.specs.Resolved.{IsNumbered}
 use Rattle.wl_plan.specs.Running.{IsPointerOf, pointer_to, pointer_by}
-use Rattle.wl_plan.specs.ThreadSteps.{IsFixupOf}
+use Rattle.wl_plan.specs.steps.Threads.{IsFixupOf}
 use Rattle.wl_plan.specs.Threads.{address_named, place_in_block, pointer_at, pointer_named, pointer_of, template_start, tls_pointers}
 use Rattle.wl_output.specs.declared.fixups.Fixup.{Fixup}
 use Rattle.wl_output.specs.declared.fixups.FixupTo.{FixupTo}
@@ -44,7 +44,7 @@ use Rattle.wl_lists.proofs.In.{at_is_in}
 use Rattle.wl_lists.proofs.Beside.{zip_left}
 use Rattle.wl_plan.proofs.PointerLaws.{in_segment, in_template, template_of}
 use Rattle.wl_plan.proofs.PositionLaws.{WholeFit, stands as contained}
-use Rattle.wl_plan.proofs.SegmentLaws.{SegmentsHaveLayouts}
+use Rattle.wl_places.proofs.SmallLaws.{SegmentsHaveLayouts}
 use Rattle.wl_plan.proofs.ThreadLaws.{given_more}
 
 -- ---- what a pointer that is named says of the field

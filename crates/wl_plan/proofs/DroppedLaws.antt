@@ -25,7 +25,7 @@ use Rattle.wl_plan.specs.Dropped.{is_dropped, dropped_in, unkept_slots, unkept_f
 use Rattle.wl_plan.specs.Faults.{input_of}
 use Rattle.wl_places.specs.IndexedMaps.{IsWholeMap}
 use Rattle.wl_plan.specs.LinkPlan.{IsPlanOf}
-use Rattle.wl_plan.specs.Outline.{AreFew}
+use Rattle.wl_plan.specs.steps.Outline.{AreFew}
 use Rattle.wl_plan.specs.declared.layout.LinkPlan.{LinkPlan}
 use Rattle.wl_places.specs.declared.placing.Placing.{Placing}
 use Rattle.wl_plan.proofs.ListingLaws.{few_of_plan}

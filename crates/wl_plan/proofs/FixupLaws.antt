@@ -46,7 +46,7 @@ use Rattle.wl_bind.specs.declared.binding.FunctionTarget.{FunctionTarget}
 use Rattle.wl_bind.specs.declared.binding.FunctionTarget.TheVariants as function
 use Rattle.wl_symbols.specs.declared.relocated.Relocated.{Relocated}
 use Rattle.wl_places.specs.Addresses.{symbol_address}
-use Rattle.wl_plan.specs.FixupSteps.{AreFixupSources, AnswersValue, AnswersFrom, HasRoom, counted_base, number_by, left_of, IsRefusedAt}
+use Rattle.wl_plan.specs.steps.Fixups.{AreFixupSources, AnswersValue, AnswersFrom, HasRoom, counted_base, number_by, left_of, IsRefusedAt}
 use Rattle.wl_plan.specs.Fixups.{type_named, global_named, slot_named, address_taken, addend_left, value_or_pointer, field_taken, number_taken, IsTaken, IsAddressReason}
 use Rattle.wl_places.specs.IndexedMaps.{IsWholeMap, AreWholeMaps}
 use Rattle.wl_plan.specs.Table.{slot_of, slot_of_entry, space_slots}

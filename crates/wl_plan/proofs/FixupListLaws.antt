@@ -6,7 +6,7 @@ use Rattle.wl_linking.specs.Steps.{Clear, Refuses}
 use Rattle.wl_linking.specs.declared.error.LinkError.{LinkError}
 use Rattle.wl_symbols.specs.Relocations.{relocations}
 use Rattle.wl_symbols.specs.declared.relocated.Relocated.{Relocated}
-use Rattle.wl_plan.specs.FixupSteps.{IsRefusedAt, NoneRefused}
+use Rattle.wl_plan.specs.steps.Fixups.{IsRefusedAt, NoneRefused}
 use Rattle.wl_plan.specs.Fixups.{IsFixupFault}
 use Rattle.wl_plan.specs.declared.fixups.FixupSources.{FixupSources}
 use Rattle.wl_lists.proofs.Beside.{zip_joined}
@@ -31,46 +31,6 @@ next_is_kept all seen left more r is steps =
 pub zip_more : {X Y : Type 0} (R : X → Y → Type 0) (xs : List X) (x : X) (old new : List Y) (y : Y)
     → AllZip R xs old → R x y → new ≡ old ++ y ∷ [] → AllZip R (xs ++ x ∷ []) new
 zip_more R xs x old new y h r pushed = rw pushed (zip_joined R xs (x ∷ []) old (y ∷ []) h (r, tt))
-
--- the place after as many as there are on another side
-zip_within : {X Y Z : Type 0} (R : X → Y → Type 0) (S : X → Z → Type 0) (xs : List X) (x : X)
-    (more : List X) (ys : List Y) (zs : List Z) → AllZip R (xs ++ x ∷ more) ys → AllZip S xs zs
-    → length zs < length ys
-zip_within R S [] x more [] [] h s = absurd h
-zip_within R S [] x more (y ∷ ys) [] h s = omega arith
-zip_within R S [] x more ys (z ∷ zs) h s = absurd s
-zip_within R S (w ∷ xs) x more [] zs h s = absurd h
-zip_within R S (w ∷ xs) x more (y ∷ ys) [] h s = absurd s
-zip_within R S (w ∷ xs) x more (y ∷ ys) (z ∷ zs) h s =
-    let rest = zip_within R S xs x more ys zs h.1 s.1 in omega (arith, rest)
-
-zip_there : {X Y Z : Type 0} (R : X → Y → Type 0) (S : X → Z → Type 0) (xs : List X) (x : X)
-    (more : List X) (ys : List Y) (zs : List Z) (d : Y) → AllZip R (xs ++ x ∷ more) ys
-    → AllZip S xs zs → R x (get_or ys (length zs) d)
-zip_there R S [] x more [] [] d h s = absurd h
-zip_there R S [] x more (y ∷ ys) [] d h s = h.0
-zip_there R S [] x more ys (z ∷ zs) d h s = absurd s
-zip_there R S (w ∷ xs) x more [] zs d h s = absurd h
-zip_there R S (w ∷ xs) x more (y ∷ ys) [] d h s = absurd s
-zip_there R S (w ∷ xs) x more (y ∷ ys) (z ∷ zs) d h s = zip_there R S xs x more ys zs d h.1 s.1
-
--- the same of the one at hand, as many being there as were seen
-pub place_within : {X Y Z : Type 0} (R : X → Y → Type 0) (S : X → Z → Type 0)
-    (all seen left more : List X) (x : X) (ys : List Y) (zs : List Z) (n : ℕ) → seen ++ left ≡ all
-    → left ≡ x ∷ more → AllZip R all ys → AllZip S seen zs → n ≡ length zs → n < length ys
-place_within {X} R S all seen left more x ys zs n is steps r s len =
-    subst (λ (k : ℕ). k < length ys) (sym len)
-    (zip_within R S seen x more ys zs
-    (subst (λ (xs : List X). AllZip R xs ys) (sym (next_is all seen left more x is steps)) r) s)
-
-pub place_there : {X Y Z : Type 0} (R : X → Y → Type 0) (S : X → Z → Type 0)
-    (all seen left more : List X) (x : X) (ys : List Y) (zs : List Z) (n : ℕ) (d : Y)
-    → seen ++ left ≡ all → left ≡ x ∷ more → AllZip R all ys → AllZip S seen zs → n ≡ length zs
-    → R x (get_or ys n d)
-place_there {X} R S all seen left more x ys zs n d is steps r s len =
-    subst (λ (k : ℕ). R x (get_or ys k d)) (sym len)
-    (zip_there R S seen x more ys zs d
-    (subst (λ (xs : List X). AllZip R xs ys) (sym (next_is all seen left more x is steps)) r) s)
 
 pub all_more : {X : Type 0} (P : X → Type 0) (xs : List X) (x : X) → AllByRecursion P xs → P x
     → AllByRecursion P (xs ++ x ∷ [])

@@ -2,7 +2,7 @@
 use Rattle.std.specs.Prelude.{MatchOption}
 use Rattle.std.proofs.Common.{◌≡◌, ◌∙◌, ℕ, zero, suc, ◌+◌, ◌<◌, ◌≤◌, Bool, true, false, List, [], ◌∷◌, ◌++◌, length, refl, sym, ap, subst, arith, inl, inr, Option, Some, None, slice_get, filter, filter_map, map, take, get_or, is_some, if◌then◌else◌, Contains, Result, Ok, Err, OnOk}
 use Rattle.std.specs.List.{AllZip, range_with_len}
-use Rattle.std.specs.Option.{option_map, option_map_or, option_and_then, is_none}
+use Rattle.std.specs.Option.{option_map, option_map_or, option_and_then, option_to_list, is_none}
 use Rattle.std.proofs.lemmas.Bool.{cases_Bool, cases_eq}
 use Rattle.std.proofs.lemmas.List.{append-nil, append_assoc, take_all, length-map}
 use Rattle.std.proofs.lemmas.Option.{same_Some, get_or_from_slice_get, slice_get-get_or, slice_get_within}
@@ -33,9 +33,9 @@ use Rattle.wl_bind.specs.OutputTypes.{output_types, AreTypeIndices}
 use Rattle.wl_bind.specs.References.{IsSettled}
 use Rattle.wl_bind.specs.Parts.{joined, by_object}
 use Rattle.wl_bind.specs.declared.binding.FunctionTarget.TheVariants.{Defined, Made, Host, Stub}
-use Rattle.wl_plan.specs.FunctionSteps.{AddsFunction, AddsFunctions, linker_functions, own_function_part, plain_type}
+use Rattle.wl_plan.specs.steps.Functions.{AddsFunctions, IsAllOf, linker_functions, own_function_part, plain_type}
 use Rattle.wl_plan.specs.Functions.{own_functions, origin_of, IsOutputFunction}
-use Rattle.wl_plan.specs.Origins.{Origin, OfObject, OfStub, PlannedFunction}
+use Rattle.wl_plan.specs.Origins.{OfObject, OfStub, PlannedFunction}
 use Rattle.wl_lists.proofs.Beside.{zip_joined}
 use Rattle.wl_lists.proofs.Firsts.{in_firsts}
 use Rattle.wl_lists.proofs.In.{filter_in, IsIn, in_at, in_list, in_split, in_front, in_back, in_filter, in_map, map_in, in_if, all_mapped}
@@ -321,23 +321,33 @@ init_here input (Some i) ty types plain is some =
 pub adds_none : (input : Input) (old : List PlannedFunction) → AddsFunctions input [] old old
 adds_none input old = record { more = []; are = tt; grown = sym (append-nil old) }
 
-pub adds_one : (input : Input) (entry : FunctionEntry) (ty : FunctionType) (origin : Origin)
-    (old new : List PlannedFunction) → AddsFunction (output_types input) ty origin old new
-    → type_of_entry input entry ≡ Some ty → origin_of input entry ≡ Some origin
-    → AddsFunctions input (entry ∷ []) old new
-adds_one input entry ty origin old new adds typed from = record {
-  more = record { type_index = adds.number; origin = origin } ∷ [];
-  are = (record { origin = from; typed = (ty, typed, adds.typed) }, tt);
-  grown = adds.grown;
-}
+-- by a function that is all of its entries
+pub adds_if_some : (input : Input) (entries : List FunctionEntry) (f : Option PlannedFunction)
+    (old new : List PlannedFunction) → IsAllOf input entries f → new ≡ old ++ option_to_list f
+    → AddsFunctions input entries old new
+adds_if_some input entries f old new all grown =
+    record { more = option_to_list f; are = all.are; grown = grown }
 
-pub pushed : (input : Input) (types : List FunctionType) (entry : FunctionEntry) (ty : FunctionType)
-    (origin : Origin) (old new : List PlannedFunction) → types ≡ output_types input
-    → type_of_entry input entry ≡ Some ty → origin_of input entry ≡ Some origin
-    → AddsFunction types ty origin old new → AddsFunctions input (entry ∷ []) old new
-pushed input types entry ty origin old new same typed from adds =
-    adds_one input entry ty origin old new
-    (subst (λ (ts : List FunctionType). AddsFunction ts ty origin old new) same adds) typed from
+pub none_is : (input : Input) (entries : List FunctionEntry) → entries ≡ [] → IsAllOf input entries None
+none_is input entries none =
+    subst (λ (es : List FunctionEntry). IsAllOf input es None) (sym none) (record { are = tt })
+
+pub one_is : (input : Input) (types : List FunctionType) (entries : List FunctionEntry)
+    (entry : FunctionEntry) (ty : FunctionType) (f : PlannedFunction) → types ≡ output_types input
+    → entries ≡ entry ∷ [] → type_of_entry input entry ≡ Some ty
+    → origin_of input entry ≡ Some f.origin → slice_get types f.type_index ≡ Some ty
+    → IsAllOf input entries (Some f)
+one_is input types entries entry ty f same is typed from at =
+    subst (λ (es : List FunctionEntry). IsAllOf input es (Some f)) (sym is)
+    (record {
+      are = (
+        record {
+          origin = from;
+          typed = (ty, typed, ap (λ (ts : List FunctionType). slice_get ts f.type_index) (sym same) ∙ at);
+        },
+        tt,
+      );
+    })
 
 pub adds_more : (input : Input) (first second : List FunctionEntry) (old middle new : List PlannedFunction)
     → AddsFunctions input first old middle → AddsFunctions input second middle new
@@ -572,18 +582,21 @@ stub_is input k h ty typed lt host-at type-at =
 
 -- one more stub
 pub stub_more : (input : Input) (k : ℕ) (ty : FunctionType) (types : List FunctionType) (name seen : List ℕ)
-    (first old new : List PlannedFunction) → types ≡ output_types input → seen ≡ name
-    → StubIs input k ty name → AddsFunction types ty (OfStub seen) old new
+    (number : ℕ) (first old new : List PlannedFunction) → types ≡ output_types input → seen ≡ name
+    → StubIs input k ty name → slice_get types number ≡ Some ty
+    → new ≡ old ++ record { type_index = number; origin = OfStub seen } ∷ []
     → AddsFunctions input (take k (stub_part input)) first old
     → AddsFunctions input (take (k + 1) (stub_part input)) first new
-stub_more input k ty types name seen first old new types-are same is adds so_far =
+stub_more input k ty types name seen number first old new types-are same is at grown so_far =
     let z : FunctionEntry = FunctionOf (Stub is.slot.object is.slot.number) in
+    let f : PlannedFunction = record { type_index = number; origin = OfStub seen } in
     let next : k + 1 ≡ suc k = omega arith in
     rw next (adds_same input (take k (stub_part input) ++ z ∷ []) (take (suc k) (stub_part input)) first new
     (sym (take_next (stub_part input) k z is.here))
     (adds_more input (take k (stub_part input)) (z ∷ []) first old new so_far
-    (pushed input types z ty (OfStub seen) old new types-are is.typed
-    (is.origin ∙ ap (λ (n : List ℕ). Some (OfStub n)) (sym same)) adds)))
+    (adds_if_some input (z ∷ []) (Some f) old new
+    (one_is input types (z ∷ []) z ty f types-are refl is.typed
+    (is.origin ∙ ap (λ (n : List ℕ). Some (OfStub n)) (sym same)) at) grown)))
 
 pub stubs_done : (input : Input) (k : ℕ) (first new : List PlannedFunction)
     → length (map first_slot (link_stubs input)) ≤ k
@@ -631,14 +644,16 @@ own_within input object o indices numbers function d same led =
     omega (arith, number, within)
 
 -- and there stands the place of its type
-pub own_pushed : (input : Input) (object : ℕ) (o : Object) (indices numbers : List ℕ) (function d e index : ℕ) (old new : List PlannedFunction) → numbers ≡ o.functions
+pub own_found : (input : Input) (object : ℕ) (o : Object) (indices numbers : List ℕ) (function d e index : ℕ) → numbers ≡ o.functions
     → index ≡ get_or indices (get_or numbers function d) e → LeadsToType input object o indices function
-    → new ≡ old ++ record { type_index = index; origin = OfObject object function } ∷ [] → AddsFunctions input (FunctionOf (Defined object function) ∷ []) old new
-own_pushed input object o indices numbers function d e index old new same is led grown =
+    → keeps input object (DefinedFunction function) ≡ true
+    → IsAllOf input (own_function_part input object function) (Some (record { type_index = index; origin = OfObject object function }))
+own_found input object o indices numbers function d e index same is led keep =
     let number : get_or numbers function d ≡ led.0 = ap (λ (ns : List ℕ). get_or ns function d) same ∙ get_or_from_slice_get o.functions function led.0 d led.1 in
     let there : index ≡ led.2.index = is ∙ (ap (λ (n : ℕ). get_or indices n e) number ∙ get_or_from_slice_get indices led.0 led.2.index e led.2.at) in
     let typed : slice_get (output_types input) index ≡ Some led.2.ty = ap (slice_get (output_types input)) there ∙ led.2.typed in
-    adds_one input (FunctionOf (Defined object function)) led.2.ty (OfObject object function) old new (record { number = index; typed = typed; grown = grown }) led.2.has refl
+    one_is input (output_types input) (own_function_part input object function) (FunctionOf (Defined object function)) led.2.ty
+    (record { type_index = index; origin = OfObject object function }) refl (one_own input object function keep) led.2.has refl typed
 
 -- the indices of the types of an object, by its map
 pub types_in_row : (input : Input) (maps : List WasmObjectIndexMap) (k : ℕ) (o : Object) (m : WasmObjectIndexMap) (indices : List ℕ) → AreIndexMaps input maps
@@ -674,15 +689,19 @@ adds_all input entries new adds =
     subst (λ (fs : List PlannedFunction). AllZip (IsOutputFunction input (output_types input)) entries fs)
     (sym adds.grown) adds.are
 
-pub objects_done : (input : Input) (k : ℕ) (new : List PlannedFunction)
+pub objects_all : (input : Input) (k : ℕ) (old new : List PlannedFunction)
     → length input.link.objects ≤ k
-    → AddsFunctions input ((linker_functions input ++ stub_part input)
-    ++ by_object (functions_of input) 0 (take k input.link.objects)) [] new
+    → AddsFunctions input (by_object (functions_of input) 0 (take k input.link.objects)) old new
+    → AddsFunctions input (object_functions input) old new
+objects_all input k old new le so_far =
+    subst (λ (os : List Object). AddsFunctions input (by_object (functions_of input) 0 os) old new)
+    (take_all k input.link.objects le) so_far
+
+pub all_are : (input : Input) (old new : List PlannedFunction) → old ≡ []
+    → AddsFunctions input ((linker_functions input ++ stub_part input) ++ object_functions input) old new
     → AllZip (IsOutputFunction input (output_types input)) (own_functions input) new
-objects_done input k new le so_far =
-    let front : List FunctionEntry = linker_functions input ++ stub_part input in
-    let all : front ++ by_object (functions_of input) 0 (take k input.link.objects) ≡ own_functions input =
-    ap (λ (os : List Object). front ++ by_object (functions_of input) 0 os) (take_all k input.link.objects le)
-    ∙ own_is input in
+all_are input old new none adds =
+    let all = (linker_functions input ++ stub_part input) ++ object_functions input in
     adds_all input (own_functions input) new
-    (adds_same input (front ++ by_object (functions_of input) 0 (take k input.link.objects)) (own_functions input) [] new all so_far)
+    (adds_same input all (own_functions input) [] new (own_is input)
+    (subst (λ (fs : List PlannedFunction). AddsFunctions input all fs new) none adds))

@@ -1,10 +1,11 @@
 -- How the list of globals grows, part by part.
-use Rattle.std.proofs.Common.{◌≡◌, ◌∙◌, ℕ, zero, suc, ◌+◌, ◌<◌, ◌≤◌, ◌++◌, Bool, true, false, List, [], ◌∷◌, length, map, take, get_or, refl, sym, ap, subst, inl, inr, arith, Some, Ok, Err, Contains, append_assoc, append-nil, slice_get, if◌then◌else◌}
-use Rattle.std.specs.List.{AllZip, AllByRecursion, range_with_len, filter}
+use Rattle.std.proofs.Common.{◌≡◌, ◌∙◌, ℕ, zero, suc, ◌+◌, ◌<◌, ◌≤◌, ◌++◌, Bool, true, false, List, [], ◌∷◌, length, map, take, get_or, refl, sym, ap, subst, inl, inr, arith, Option, Some, None, is_some, Ok, Err, Contains, flat_map, append_assoc, append-nil, slice_get, if◌then◌else◌}
+use Rattle.std.specs.List.{AllZip, AllByRecursion, range_with_len, filter, list_all}
 use Rattle.std.proofs.lemmas.Bool.{cases_Bool}
-use Rattle.std.proofs.lemmas.List.{map_more, take_all, map-append}
+use Rattle.std.proofs.lemmas.List.{map_more, take_more, take_all, map-append}
+use Rattle.std.proofs.lemmas.List.Concat.{flat_map-append}
 use Rattle.std.proofs.lemmas.List.Elements.{Contains-append_left, Contains-append_right, filter-append}
-use Rattle.std.proofs.lemmas.Option.{same_Some}
+use Rattle.std.proofs.lemmas.Option.{same_Some, slice_get-get_or}
 use Rattle.std.proofs.lemmas.List.FromFn.{map-range_with_len_more, length-map-range_with_len, get_or-map-range_with_len}
 use Rattle.wl_module.specs.Globals.{DefinedGlobal}
 use Rattle.wl_linking.specs.Object.{Object}
@@ -20,15 +21,15 @@ use Rattle.wl_bind.specs.ExportedAddresses.{exported_addresses}
 use Rattle.wl_bind.specs.ExportedData.{dynamic_data, forced_data}
 use Rattle.wl_bind.specs.GlobalBinding.{host_globals}
 use Rattle.wl_bind.specs.Made.{is_made}
-use Rattle.wl_bind.specs.MadeIndices.{StandsAt}
+use Rattle.wl_bind.specs.MadeIndices.{IsMadeIndex, StandsAt}
 use Rattle.wl_bind.specs.Parts.{by_object}
 use Rattle.wl_bind.specs.Scan.{got_mem, got_func}
 use Rattle.wl_bind.specs.declared.exported.DataSymbol.{DataSymbol}
 use Rattle.wl_bind.specs.GlobalSpace.{GlobalEntry, GlobalOf, AddressOf, DataOf, globals_of, kept_globals, made_global_part, address_part, got_mem_part, got_func_part, dynamic_part, forced_part, host_global_part, object_globals, global_space}
 use Rattle.wl_symbols.specs.Input.{Input, keeps}
 use Rattle.wl_bind.specs.declared.binding.GlobalTarget.TheVariants.{Defined, Made, GotMem, GotFunc, Host}
-use Rattle.wl_plan.specs.GlobalSteps.{AnswersStart, AddsMade, AddsPart, IsPartFault, is_linker_global, made_parts, own_global_part}
-use Rattle.wl_plan.specs.Globals.{start_of_global, i32_global, origin_of_global, IsMadeGlobal, IsGlobalOf, IsPlannedGlobal, own_globals, ArePlannedGlobals, IsGlobalFault}
+use Rattle.wl_plan.specs.steps.Globals.{AnswersStart, AddsMade, AddsPart, IsPartFault, is_linker_global, linker_parts, made_parts, own_global_part}
+use Rattle.wl_plan.specs.Globals.{start_of_global, i32_global, word_of_made, origin_of_global, IsMadeGlobal, IsGlobalOf, IsPlannedGlobal, own_globals, ArePlannedGlobals, IsGlobalFault}
 use Rattle.wl_plan.specs.declared.global_starts.GlobalSources.{GlobalSources}
 use Rattle.wl_plan.specs.declared.global_starts.Start.{Start}
 use Rattle.wl_output.specs.declared.entities.GlobalOrigin.TheVariants as origin
@@ -37,6 +38,7 @@ use Rattle.wl_plan.specs.declared.layout.PlannedGlobal.{PlannedGlobal}
 use Rattle.wl_places.specs.declared.placing.Placing.{Placing}
 use Rattle.wl_lists.proofs.Beside.{zip_joined}
 use Rattle.wl_lists.proofs.In.{Contains-map}
+use Rattle.wl_lists.proofs.Places.{test_at}
 use Rattle.wl_lists.proofs.Rows.{by_object_more}
 use Rattle.wl_plan.proofs.ListLaws.{drop_front}
 
@@ -68,6 +70,22 @@ in_range f n k lt = (
   omega (arith, lt, length-map-range_with_len f 0 n),
   get_or-map-range_with_len f 0 n k k (f k) lt (omega arith),
 )
+
+-- what stands in one part
+in_flat : {X Y : Type 0} (f : X → List Y) (xs : List X) (i : ℕ) (d : X) → i < length xs → (y : Y)
+    → Contains (f (get_or xs i d)) y → Contains (flat_map f xs) y
+in_flat f [] i d lt y h = absurd (omega (arith, lt))
+in_flat f (x ∷ xs) zero d lt y h = Contains-append_left (f x) (flat_map f xs) y h
+in_flat f (x ∷ xs) (suc i) d lt y h =
+    Contains-append_right (f x) (flat_map f xs) y (in_flat f xs i d (omega (arith, lt)) y h)
+
+-- one more part
+flat_more : {X Y : Type 0} (f : X → List Y) (xs : List X) (i : ℕ) (d : X) → i < length xs
+    → flat_map f (take (i + 1) xs) ≡ flat_map f (take i xs) ++ f (get_or xs i d)
+flat_more {X} {Y} f xs i d lt =
+    ap (flat_map f) (take_more xs i d lt)
+    ∙ (flat_map-append f (take i xs) (get_or xs i d ∷ [])
+    ∙ ap (λ (ys : List Y). flat_map f (take i xs) ++ ys) (append-nil (f (get_or xs i d))))
 
 -- ---- objects
 
@@ -211,6 +229,26 @@ module _ (s : GlobalSources) where
       subst (λ (part : List GlobalEntry). AddsPart s part a c)
       (sym (map-range_with_len_more f 0 k k (omega arith))) (adds_join h one)
 
+  -- one more part of such
+  pub adds_flat : {X : Type 0} {a b c : List PlannedGlobal} (f : X → List GlobalEntry) (xs : List X)
+      (i : ℕ) (d : X) → i < length xs → AddsPart s (flat_map f (take i xs)) a b
+      → AddsPart s (f (get_or xs i d)) b c → AddsPart s (flat_map f (take (i + 1) xs)) a c
+  adds_flat {X} {a} {b} {c} f xs i d lt h k =
+      subst (λ (part : List GlobalEntry). AddsPart s part a c) (sym (flat_more f xs i d lt))
+      (adds_join h k)
+
+  pub adds_all_flat : {X : Type 0} {a b : List PlannedGlobal} (f : X → List GlobalEntry)
+      (xs : List X) (i : ℕ) → length xs ≤ i → AddsPart s (flat_map f (take i xs)) a b
+      → AddsPart s (flat_map f xs) a b
+  adds_all_flat {X} {a} {b} f xs i le h =
+      subst (λ (l : List X). AddsPart s (flat_map f l) a b) (take_all i xs le) h
+
+  pub refuses_flat : {X : Type 0} {e : LinkError} (f : X → List GlobalEntry) (xs : List X) (i : ℕ)
+      (d : X) → i < length xs → Refuses (IsPartFault s (f (get_or xs i d))) e
+      → Refuses (IsPartFault s (flat_map f xs)) e
+  refuses_flat f xs i d lt h =
+      refuses_of (f (get_or xs i d)) (flat_map f xs) (in_flat f xs i d lt) h
+
   -- the same of lists that are the same
   pub mapped_added : {X : Type 0} {a b : List PlannedGlobal} (f : X → GlobalEntry) (xs ys : List X)
       → xs ≡ ys → AddsPart s (map f xs) a b → AddsPart s (map f ys) a b
@@ -319,6 +357,15 @@ module _ (s : GlobalSources) where
       → AddsPart s (map f (range_with_len 0 n)) a b → AddsPart s (map f (range_with_len 0 m)) a b
   adds_same {a} {b} f n m is h =
       subst (λ (k : ℕ). AddsPart s (map f (range_with_len 0 k)) a b) is h
+
+-- the globals that the linker makes under names, in order
+abbrev pub six_names : List WasmLinkerSymbol
+six_names =
+    linker.MemoryBase ∷ linker.TableBase ∷ linker.StackPointer ∷ linker.TlsBase ∷ linker.TlsSize
+    ∷ linker.TlsAlign ∷ []
+
+pub six_are : (input : Input) → flat_map (made_global_part input) six_names ≡ linker_parts input
+six_are input = simp (append-nil)
 
 -- ---- all of them
 
@@ -543,3 +590,46 @@ made_part input m is = part_if (is_made input m) (GlobalOf (Made m)) is
 pub no_part : (input : Input) (m : WasmLinkerSymbol) → is_made input m ≡ false
     → made_global_part input m ≡ []
 no_part input m is = part_unless (is_made input m) (GlobalOf (Made m)) is
+
+-- each of these is one
+pub kind_at : (names : List WasmLinkerSymbol) (i : ℕ) (d : WasmLinkerSymbol) → i < length names
+    → list_all is_linker_global names ≡ true → is_linker_global (get_or names i d) ≡ true
+kind_at names i d lt all =
+    test_at is_linker_global names i (get_or names i d) all (slice_get-get_or names i d lt)
+
+-- by its index the output has it, or not
+pub made_by_index : (input : Input) (m : WasmLinkerSymbol) (index : Option ℕ)
+    → is_linker_global m ≡ true → IsMadeIndex input m index → is_some index ≡ true
+    → is_made input m ≡ true
+made_by_index input m None so is some = absurd cc
+made_by_index input m (Some i) so is some = made_there input m i so is
+
+pub unmade_by_index : (input : Input) (m : WasmLinkerSymbol) (index : Option ℕ)
+    → IsMadeIndex input m index → is_some index ≡ false → is_made input m ≡ false
+unmade_by_index input m None is none = is
+unmade_by_index input m (Some i) is none = absurd cc
+
+-- so the list grows by that global, or by nothing
+pub adds_if_made : (s : GlobalSources) (m : WasmLinkerSymbol) (word : MadeGlobal) (start : Start)
+    (old new : List PlannedGlobal) → is_made s.book.now.input.now m ≡ true
+    → word ≡ word_of_made m → AnswersStart s (GlobalOf (Made m)) (Ok start)
+    → AddsMade word start old new → AddsPart s (made_global_part s.book.now.input.now m) old new
+adds_if_made s m word start old new is same answers one =
+    subst (λ (part : List GlobalEntry). AddsPart s part old new)
+    (sym (made_part s.book.now.input.now m is))
+    (adds_made s (GlobalOf (Made m)) word start old new (ap origin.Made (sym same)) (λ g x. x)
+    answers one)
+
+pub adds_unmade : (s : GlobalSources) (m : WasmLinkerSymbol) (old : List PlannedGlobal)
+    → is_made s.book.now.input.now m ≡ false
+    → AddsPart s (made_global_part s.book.now.input.now m) old old
+adds_unmade s m old is =
+    subst (λ (part : List GlobalEntry). AddsPart s part old old)
+    (sym (no_part s.book.now.input.now m is)) (adds_none s old)
+
+pub refuses_made : (s : GlobalSources) (m : WasmLinkerSymbol) (e : LinkError)
+    → is_made s.book.now.input.now m ≡ true → AnswersStart s (GlobalOf (Made m)) (Err e)
+    → Refuses (IsPartFault s (made_global_part s.book.now.input.now m)) e
+refuses_made s m e is answers =
+    subst (λ (part : List GlobalEntry). Refuses (IsPartFault s part) e)
+    (sym (made_part s.book.now.input.now m is)) (refuses_start s (GlobalOf (Made m)) e answers)

@@ -23,7 +23,7 @@ use Rattle.wl_bind.specs.declared.indices.LinkerDefinedIndices.{LinkerDefinedInd
 use Rattle.wl_places.specs.Addresses.{address_of_definition}
 use Rattle.wl_plan.specs.Globals.{IsGlobalFault, first_asking, got_address, got_mem_start, max_constant, start_of_global}
 use Rattle.wl_plan.specs.Threads.{IsGotFixup, got_places, got_places_from, place_in_block}
-use Rattle.wl_plan.specs.ThreadSteps.{AddsGot}
+use Rattle.wl_plan.specs.steps.Threads.{AddsGot}
 use Rattle.wl_places.specs.declared.placing.Placing.{Placing}
 use Rattle.wl_lists.proofs.In.{at_is_in}
 use Rattle.wl_lists.proofs.Places.{there_is}

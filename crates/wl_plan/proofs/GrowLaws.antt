@@ -1,5 +1,7 @@
 -- Lists of bodies that grow, and the function space after the imports.
-use Rattle.std.proofs.Common.{◌≡◌, ◌∙◌, ◌<◌, ℕ, zero, suc, ◌+◌, Bool, true, List, [], ◌∷◌, ◌++◌, length, map, take, sym, ap, subst, arith, Some, slice_get, append-nil, append_assoc}
+use Rattle.std.proofs.Common.{◌≡◌, ◌∙◌, ◌<◌, ◌≤◌, ℕ, zero, suc, ◌+◌, Bool, true, List, [], ◌∷◌, ◌++◌, length, map, take, sym, ap, subst, arith, Some, slice_get, append-nil, append_assoc}
+use Rattle.std.specs.List.{AllZip}
+use Rattle.std.proofs.lemmas.List.{take_all}
 use Rattle.wl_linking.specs.Object.{Object}
 use Rattle.wl_symbols.specs.Live.{Live, is_live}
 use Rattle.wl_symbols.specs.declared.units.LinkUnit.{LinkUnit}
@@ -11,18 +13,18 @@ use Rattle.wl_ops.specs.declared.op.Op.{Op}
 use Rattle.wl_synth.specs.Bodies.{call_sequence_ops}
 use Rattle.wl_synth.specs.Encoding.{IsEncoded}
 use Rattle.wl_synth.specs.declared.calls.TheConstants.{UNREACHABLE_FUNCTION_BODY}
-use Rattle.wl_bind.specs.FunctionSpace.{FunctionEntry, FunctionOf, stub_part, functions_of}
+use Rattle.wl_bind.specs.FunctionSpace.{FunctionEntry, FunctionOf, stub_part, functions_of, object_functions}
 use Rattle.wl_symbols.specs.Input.{Input, keeps}
 use Rattle.wl_bind.specs.Parts.{by_object}
 use Rattle.wl_bind.specs.declared.binding.FunctionTarget.TheVariants.{Defined, Stub}
-use Rattle.wl_plan.specs.Bodies.{AreMadeOps, IsBodyOf, IsBodyIn, IsEncodedBody, called}
+use Rattle.wl_plan.specs.Bodies.{AreMadeOps, AreOwnBodies, IsBodyOf, IsBodyIn, IsEncodedBody, called}
 use Rattle.wl_plan.specs.BodySteps.{AddsMadeBody, AddsBodies}
-use Rattle.wl_plan.specs.FunctionSteps.{linker_functions, own_function_part}
+use Rattle.wl_plan.specs.steps.Functions.{linker_functions, own_function_part}
 use Rattle.wl_places.specs.declared.placing.Placing.{Placing}
 use Rattle.wl_lists.proofs.Beside.{zip_joined}
 use Rattle.wl_lists.proofs.Places.{there_is}
 use Rattle.wl_lists.proofs.Rows.{by_object_more}
-use Rattle.wl_plan.proofs.FunctionLaws.{one_own}
+use Rattle.wl_plan.proofs.FunctionLaws.{one_own, own_is}
 
 -- ---- lists that grow
 
@@ -117,20 +119,34 @@ stubs_more input g stubs i old middle new lt so_far a =
 -- the functions of one more object
 pub objects_more : (input : Input) (g : Placing) (objects : List Object) (i : ℕ) (o : Object)
     (old middle new : List Body) → slice_get objects i ≡ Some o
-    → AddsBodies input g (linker_part input ++ by_object (functions_of input) 0 (take i objects)) old middle
+    → AddsBodies input g (by_object (functions_of input) 0 (take i objects)) old middle
     → AddsBodies input g (functions_of input i o) middle new
-    → AddsBodies input g
-    (linker_part input ++ by_object (functions_of input) 0 (take (i + 1) objects)) old new
+    → AddsBodies input g (by_object (functions_of input) 0 (take (i + 1) objects)) old new
 objects_more input g objects i o old middle new here so_far a =
-    let front : List FunctionEntry = linker_part input in
     let done : List FunctionEntry = by_object (functions_of input) 0 (take i objects) in
     let own : List FunctionEntry = functions_of input i o in
-    let more : done ++ own ≡ by_object (functions_of input) 0 (take (i + 1) objects) =
-    sym (by_object_more (functions_of input) 0 objects i i o (omega arith) here) in
-    adds_same input g ((front ++ done) ++ own)
-    (front ++ by_object (functions_of input) 0 (take (i + 1) objects)) old new
-    (append_assoc front done own ∙ ap (λ (es : List FunctionEntry). front ++ es) more)
-    (adds_more input g (front ++ done) own old middle new so_far a)
+    adds_same input g (done ++ own) (by_object (functions_of input) 0 (take (i + 1) objects)) old new
+    (sym (by_object_more (functions_of input) 0 objects i i o (omega arith) here))
+    (adds_more input g done own old middle new so_far a)
+
+-- those of all of them
+pub objects_all : (input : Input) (g : Placing) (i : ℕ) (old new : List Body)
+    → length input.link.objects ≤ i
+    → AddsBodies input g (by_object (functions_of input) 0 (take i input.link.objects)) old new
+    → AddsBodies input g (object_functions input) old new
+objects_all input g i old new le so_far =
+    subst (λ (os : List Object). AddsBodies input g (by_object (functions_of input) 0 os) old new)
+    (take_all i input.link.objects le) so_far
+
+-- all that were added to nothing are the bodies of the space
+pub all_are : (input : Input) (g : Placing) (old new : List Body) → old ≡ []
+    → AddsBodies input g (linker_part input ++ object_functions input) old new
+    → AreOwnBodies input g new
+all_are input g old new none a =
+    subst (λ (es : List FunctionEntry). AllZip (IsBodyOf input g) es new) (own_is input)
+    (subst (λ (bs : List Body).
+    AllZip (IsBodyOf input g) (linker_part input ++ object_functions input) bs)
+    (sym (a.grown ∙ ap (λ (bs : List Body). bs ++ a.more) none)) a.are)
 
 -- a unit that was looked up is kept
 pub kept_is : (live other : Live) (u : LinkUnit) (b : Bool) → b ≡ is_live live u → b ≡ true

@@ -27,7 +27,7 @@ use Rattle.wl_bind.specs.Parts.{AreRows}
 use Rattle.wl_bind.specs.References.{IsSettled}
 use Rattle.wl_bind.specs.Shared.{function_imports, global_imports}
 use Rattle.wl_bind.specs.declared.binding.FunctionTarget.TheVariants.{Host}
-use Rattle.wl_plan.specs.ImportSteps.{AddsImports, HasTypeIndexIn, HasRowType, global_types_in, type_in_row, index_of_type}
+use Rattle.wl_plan.specs.steps.Imports.{AddsImports, HasTypeIndexIn, HasRowType, global_types_in, type_in_row, index_of_type}
 use Rattle.wl_plan.specs.Imports.{IsFunctionImport, IsGlobalImport, global_type_in, global_type_of_slot, memory_imports, AreImports}
 use Rattle.wl_places.specs.IndexedMaps.{IsWholeMap, HaveTypeIndices}
 use Rattle.wl_plan.specs.PlannedImports.{PlannedImport}

@@ -13,12 +13,10 @@ pub mod FunctionLaws
 pub mod ImportLaws
 pub mod TableSlotLaws
 pub mod TableLaws
-pub mod SegmentLaws
 pub mod PointerLaws
 pub mod CopyLaws
 pub mod GotLaws
 pub mod GrowLaws
-pub mod NumberLaws
 pub mod BodyLaws
 pub mod ThreadLaws
 pub mod MadeBodyLaws

@@ -38,7 +38,7 @@ use Rattle.wl_plan.specs.LinkPlan.{IsLinkPlan, IsPlanOf}
 use Rattle.wl_plan.specs.ObjectSegments.{ObjectSegment, of_object, segments_of_objects}
 use Rattle.wl_plan.specs.Objects.{AreObjects}
 use Rattle.wl_plan.specs.Origins.{PlannedFunction}
-use Rattle.wl_plan.specs.Outline.{AreFew, HasWrapperRoom}
+use Rattle.wl_plan.specs.steps.Outline.{AreFew, HasWrapperRoom}
 use Rattle.wl_places.specs.Placing.{AreTooManySegments, IsPlacing, data_input, data_options}
 use Rattle.wl_places.specs.declared.placing.Placing.{Placing}
 use Rattle.wl_plan.specs.Plan.{IsPlan}

@@ -14,9 +14,9 @@ use Rattle.wl_bind.specs.declared.binding.FunctionTarget.TheVariants as function
 use Rattle.wl_plan.specs.Bodies.{AreInitMemoryOps, AreInitTlsOps, AreMadeOps}
 use Rattle.wl_plan.specs.BodySteps.{AddsBodies, AddsMadeBody}
 use Rattle.wl_plan.specs.Functions.{own_functions}
-use Rattle.wl_plan.specs.FunctionSteps.{linker_functions}
+use Rattle.wl_plan.specs.steps.Functions.{linker_functions}
 use Rattle.wl_places.specs.Placing.{IsPlacing, data_input}
-use Rattle.wl_plan.specs.ThreadSteps.{IsBodyRefusal, IsSpelledFor, IsUnspelled}
+use Rattle.wl_plan.specs.steps.Threads.{IsBodyRefusal, IsSpelledFor, IsUnspelled}
 use Rattle.wl_places.specs.declared.placing.Placing.{Placing}
 use Rattle.wl_plan.proofs.CallLaws.{split_hosts, host_entry}
 use Rattle.wl_plan.proofs.FunctionLaws.{init_is, one_made}

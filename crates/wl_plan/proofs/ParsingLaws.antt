@@ -8,7 +8,7 @@ use Rattle.wl_bytes.specs.Outcome.{HasCause}
 use Rattle.wl_bytes.specs.declared.read_error.ReadError.{ReadError}
 use Rattle.wl_bytes.specs.declared.read_error.ReadError.TheVariants as read
 use Rattle.wl_plan.specs.Objects.{AreObjects, IsBadObject}
-use Rattle.wl_plan.specs.Parsing.{link_error_of}
+use Rattle.wl_plan.specs.steps.Parsing.{link_error_of}
 use Rattle.wl_linking.proofs.StepLaws.{refuses_for, refuses_memory}
 
 -- ---- objects in turn

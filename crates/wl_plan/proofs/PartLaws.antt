@@ -39,7 +39,8 @@ use Rattle.wl_bind.specs.declared.binding.FunctionTarget.TheVariants as function
 use Rattle.wl_exports.specs.Exports.{ExportEntry}
 use Rattle.wl_exports.specs.Wrappers.{wrapped}
 use Rattle.wl_places.specs.Addresses.{segment_space}
-use Rattle.wl_plan.specs.Bodies.{IsBodyIn, IsBodyOf, IsRenumbered, IsWrapperBody, body_in, new_number, same_segment}
+use Rattle.wl_plan.specs.Bodies.{IsBodyIn, IsBodyOf, IsRenumbered, IsWrapperBody, body_in}
+use Rattle.wl_places.specs.SegmentNumbers.{new_number, same_segment}
 use Rattle.wl_plan.specs.Functions.{IsOutputFunction, IsTypeNumber, IsWrapperFunction, origin_of, own_functions}
 use Rattle.wl_plan.specs.Origins.{Origin, OfObject, OfStub, OfWrapper, PlannedFunction}
 use Rattle.wl_plan.specs.Plan.{IsPlan}
@@ -48,7 +49,7 @@ use Rattle.wl_plan.specs.Table.{IsElement, slot_behind_first, slot_of_entry, spa
 use Rattle.wl_plan.specs.declared.layout.LinkPlan.{LinkPlan}
 use Rattle.wl_places.specs.declared.placing.Placing.{Placing}
 use Rattle.wl_plan.proofs.RunningLaws.{own_or_wrapper}
-use Rattle.wl_plan.proofs.SegmentLaws.{same_pair}
+use Rattle.wl_places.proofs.SegmentLaws.{same_pair}
 
 -- ---- types and bodies
 

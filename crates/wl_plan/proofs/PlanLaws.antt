@@ -39,13 +39,13 @@ use Rattle.wl_plan.specs.BodySteps.{AreSoundBodies}
 use Rattle.wl_plan.specs.Faults.{HasLargeBodies, IsNumberFault, IsPlacedFault, IsSizeFault, IsValueFault, placed_fault}
 use Rattle.wl_plan.specs.Functions.{IsOutputFunction, AreOwnFunctions, IsWrapperFunction, AreOutputFunctions, own_functions}
 use Rattle.wl_plan.specs.Origins.{PlannedFunction}
-use Rattle.wl_plan.specs.Outline.{AreFew, HasWrapperRoom}
+use Rattle.wl_plan.specs.steps.Outline.{AreFew, HasWrapperRoom}
 use Rattle.wl_places.specs.Placing.{IsPlacing, AreTooManySegments, IsMemoryFault, data_input, place_steps}
-use Rattle.wl_plan.specs.SizeSteps.{IsTooBig}
+use Rattle.wl_plan.specs.steps.Sizes.{IsTooBig}
 use Rattle.wl_places.specs.declared.placing.Placing.{Placing}
 use Rattle.wl_linking.proofs.StepLaws.{IsRow, clear_both, refuses_for, refuses_memory, refuses_more, row_end, row_more, first_clear, rest_clear}
 use Rattle.wl_lists.proofs.Beside.{zip_length}
-use Rattle.wl_plan.specs.ThreadSteps.{IsBodyRefusal}
+use Rattle.wl_plan.specs.steps.Threads.{IsBodyRefusal}
 use Rattle.wl_plan.proofs.UniqueBodies.{FormsAreOne, NoneGreat, body_clear, bodies_one}
 
 -- ---- rows of steps

@@ -16,7 +16,7 @@ use Rattle.wl_exports.specs.Wrappers.{wrapped}
 use Rattle.wl_places.specs.Addresses.{HasHighExport, HasHighSymbol, IsAddressTooHigh}
 use Rattle.wl_plan.specs.Faults.{IsPlacedFault, kept_fault, laid_fault, placed_fault, value_steps}
 use Rattle.wl_places.specs.IndexedMaps.{IsWholeMap, AreWholeMaps}
-use Rattle.wl_plan.specs.Outline.{HasWrapperRoom}
+use Rattle.wl_plan.specs.steps.Outline.{HasWrapperRoom}
 use Rattle.wl_places.specs.Placing.{IsPlacing, place_fault}
 use Rattle.wl_places.specs.declared.placing.Placing.{Placing}
 use Rattle.wl_linking.proofs.StepLaws.{clear_end, clear_step, refuses_behind, refuses_here, refuses_more, row_behind, row_clear, row_refuses}

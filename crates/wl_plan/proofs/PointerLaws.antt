@@ -43,7 +43,8 @@ use Rattle.wl_symbols.proofs.KeptFieldLaws.{all_fitting, all_later}
 use Rattle.wl_lists.proofs.Places.{all_at, append_split, came_at, get_in_front, get_behind, mapped_at}
 use Rattle.wl_lists.proofs.Beside.{zip_right, zip_left}
 use Rattle.wl_plan.proofs.PositionLaws.{WholeFit, site_at}
-use Rattle.wl_plan.proofs.SegmentLaws.{SegmentsHaveLayouts, from_filter}
+use Rattle.wl_places.proofs.SegmentLaws.{from_filter}
+use Rattle.wl_places.proofs.SmallLaws.{SegmentsHaveLayouts}
 
 -- ---- a field lies in its segment
 

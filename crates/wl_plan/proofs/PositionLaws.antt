@@ -4,7 +4,7 @@ use Rattle.std.specs.List.{AllByRecursion, AllZip}
 use Rattle.std.proofs.lemmas.Bool.{cases_lt, and_parts}
 use Rattle.std.proofs.lemmas.List.{drop_all}
 use Rattle.std.proofs.lemmas.Option.{slice_get_within}
-use Rattle.std.proofs.lemmas.List.Elements.{Contains-append_left, Contains-append_right}
+use Rattle.std.proofs.lemmas.List.Elements.{Contains-append_left, Contains-append_right, filter-append}
 use Rattle.wl_module.specs.Bodies.{Body}
 use Rattle.wl_linking.specs.Fitting.{IsWhole, IsFitting, code_pieces}
 use Rattle.wl_linking.specs.Object.{Object}
@@ -25,12 +25,15 @@ use Rattle.wl_symbols.specs.Relocations.{relocations}
 use Rattle.wl_symbols.specs.declared.relocated.FixupPlace.{FixupPlace}
 use Rattle.wl_symbols.specs.declared.relocated.FixupPlace.TheVariants.{Code, Segment}
 use Rattle.wl_symbols.specs.declared.relocated.Relocated.{Relocated}
-use Rattle.wl_plan.specs.Bodies.{body_in, new_number, IsMovedBy, IsMovedAt, IsMovedIn}
-use Rattle.wl_plan.specs.BodySteps.{AreNewNumbers, AreAllNumbers, AreSoundBodies, AreMovedIn}
-use Rattle.wl_plan.specs.PositionSteps.{is_code, share_body, goes_on, AreOfOneBody, AreKept, IsThere, stays, IsMoving, AddsMoved}
+use Rattle.wl_plan.specs.Bodies.{body_in, IsMovedBy, IsMovedAt, IsMovedIn}
+use Rattle.wl_places.specs.SegmentNumbers.{new_number}
+use Rattle.wl_plan.specs.BodySteps.{AreSoundBodies, AreMovedIn}
+use Rattle.wl_places.specs.SegmentNumbers.{AreNewNumbers, AreAllNumbers}
+use Rattle.wl_plan.specs.steps.Positions.{is_code, share_body, goes_on, AreOfOneBody, AreKept, IsThere, stays, IsMoving, moving, AreMoved, NoneIsMarked, AddsMoved}
 use Rattle.wl_places.specs.declared.placing.Placing.{Placing}
 use Rattle.wl_lists.proofs.In.{at_is_in}
-use Rattle.wl_lists.proofs.Places.{came_at, all_at, append_split}
+use Rattle.wl_lists.proofs.Beside.{zip_joined}
+use Rattle.wl_lists.proofs.Places.{came_at, all_at, append_split, there_is}
 use Rattle.wl_plan.proofs.BodyLaws.{UnmarkedNumberNone, body_at, none_told, only_one}
 use Rattle.wl_plan.proofs.FixupListLaws.{all_more}
 
@@ -400,16 +403,6 @@ part_is_kept input done run behind whole r c =
     subst (λ (rs : List Relocated). Contains rs r) whole
     (Contains-append_right done (run ++ behind) r (Contains-append_left run behind r c))
 
--- more have moved
-pub moved_more : (input : Input) (g : Placing) (done run : List Relocated) (old new : List ℕ)
-    → AllZip (IsMovedIn input g) done old → AllZip (IsMovedIn input g) run new
-    → AllZip (IsMovedIn input g) (done ++ run) (old ++ new)
-moved_more input g [] run [] new zip more = more
-moved_more input g [] run (p ∷ old) new zip more = absurd zip
-moved_more input g (r ∷ done) run [] new zip more = absurd zip
-moved_more input g (r ∷ done) run (p ∷ old) new zip more =
-    (zip.0, moved_more input g done run old new zip.1 more)
-
 pub has_first : (run : List Relocated) → (length run == 0) ≡ false → 0 < length run
 has_first [] none = absurd cc
 has_first (r ∷ run) some = omega arith
@@ -480,11 +473,6 @@ unmoved fit law input g first run numbers sound new kept at code one off =
 
 -- ---- fields that stay
 
-row_at : {X : Type 0} (xs : List X) (k : ℕ) → k < length xs → (x : X) × (slice_get xs k ≡ Some x)
-row_at [] k lt = absurd (omega (arith, lt))
-row_at (x ∷ xs) zero lt = (x, refl)
-row_at (x ∷ xs) (suc k) lt = row_at xs k (omega (arith, lt))
-
 not_marked : (b : Bool) → not (true && b) ≡ true → b ≡ false
 not_marked true e = absurd cc
 not_marked false e = refl
@@ -503,7 +491,7 @@ stays_at fit law input g r rows Code sound new kept is e =
     let all : AreKept input (r ∷ []) = λ q c. only_kept input r q kept c in
     let within = object_within fit input r (r ∷ []) sound all refl is in
     let len = new.len in
-    let row = row_at rows r.object (omega (arith, within, len)) in
+    let row = there_is rows r.object (omega (arith, within, len)) in
     unmoved fit law input g r (r ∷ []) row.0 sound (new.each r.object row.0 row.1) all refl is tt off
 
 -- what doesn't stay lies in code
@@ -526,70 +514,165 @@ none_moved input g [] old e = record { moved = []; are = tt; grown = sym (append
 none_moved input g (r ∷ run) old e =
     let none = eqb-true (length (r ∷ run)) 0 e in absurd (omega (arith, none))
 
+-- ---- fields that don't stay
+
+abbrev moves : Input → Relocated → Bool
+moves input r = not (stays input r)
+
+marked_if : (p : FixupPlace) (b : Bool) → not (is_code p && b) ≡ false → b ≡ true
+marked_if Code true e = refl
+marked_if Code false e = absurd cc
+marked_if Segment b e = absurd cc
+
+-- a field beside one that doesn't stay doesn't stay
+shared_moves : (input : Input) (first r : Relocated) → stays input first ≡ false
+    → share_body first r ≡ true → stays input r ≡ false
+shared_moves input first r moved on =
+    let s : AreShared first r = shared first r on in
+    let marked = marked_if first.place (numbers_segments input.live
+    (record { object = first.object; unit = DefinedFunction first.site.unit })) moved in
+    rw (s.place, s.object, s.unit, marked) refl
+
+others_moving : (input : Input) (first : Relocated) (others : List Relocated)
+    → stays input first ≡ false
+    → AllByRecursion (λ (other : Relocated). share_body first other ≡ true) others
+    → moving input others ≡ others
+others_moving input first [] moved all = refl
+others_moving input first (r ∷ others) moved all =
+    rw (shared_moves input first r moved all.0)
+    (ap (λ (rs : List Relocated). r ∷ rs) (others_moving input first others moved all.1))
+
+-- of those of a body whose first doesn't stay none does
+all_moving : (input : Input) (run : List Relocated) → AreOfOneBody run → IsMoving input run
+    → moving input run ≡ run
+all_moving input [] one moved = refl
+all_moving input (first ∷ others) one moved =
+    rw moved (ap (λ (rs : List Relocated). first ∷ rs) (others_moving input first others moved one))
+
+-- with one more that stays there are as many
+moving_stays : (input : Input) (done : List Relocated) (r : Relocated) → stays input r ≡ true
+    → moving input (done ++ r ∷ []) ≡ moving input done
+moving_stays input done r stay =
+    filter-append (moves input) done (r ∷ [])
+    ∙ rw stay (append-nil (moving input done))
+
+-- where all stay there is none
+pub none_moving : (input : Input) (rs : List Relocated)
+    → ((r : Relocated) → Contains rs r → stays input r ≡ true) → moving input rs ≡ []
+none_moving input [] all = refl
+none_moving input (r ∷ rs) all =
+    rw (all r (zero, omega arith, refl))
+    (none_moving input rs (λ q c. all q (suc c.0, omega (arith, c.1), c.2)))
+
+-- ---- bodies that aren't marked
+
+-- where no body is, a kept field stays
+pub unmarked_stays : WholeFit → (input : Input) (r : Relocated) → AreSoundBodies input
+    → ((object : ℕ) (o : Object) → slice_get input.link.objects object ≡ Some o
+    → NoneIsMarked input.live object (length o.bodies))
+    → Contains (relocations input) r → stays input r ≡ true
+unmarked_stays law input r sound none kept = by r.place refl
+  where
+    by : (p : FixupPlace) → r.place ≡ p → stays input r ≡ true
+    by Segment is = rw is refl
+    by Code is =
+        let b : IsInBody input r = in_body law input r sound kept is in
+        let off = none r.object b.o b.here r.site.unit
+        (slice_get_within (b.o).bodies r.site.unit b.body b.there) in
+        rw (is, off) refl
+
+-- none of the objects so far has one, and with one more
+abbrev pub NoneSoFar : Input → ℕ → Type 0
+NoneSoFar input count = (object : ℕ) (o : Object) → object < count
+    → slice_get input.link.objects object ≡ Some o
+    → NoneIsMarked input.live object (length o.bodies)
+
+pub none_more : (input : Input) (count : ℕ) (at : Object)
+    → slice_get input.link.objects count ≡ Some at
+    → NoneIsMarked input.live count (length at.bodies) → NoneSoFar input count
+    → NoneSoFar input (count + 1)
+none_more input count at here last before object o lt there =
+    elim (cases_lt object count) [
+      | inl less ↦ before object o less there
+      | inr not_less ↦
+          (let same : object ≡ count = omega (arith, lt, not_less) in
+          let is : Some o ≡ Some at =
+          sym there ∙ (ap (λ k. slice_get input.link.objects k) same ∙ here) in
+          let one : o ≡ at = cc (is) in
+          rw (same, one) last)
+    ]
+
+-- what holds of each kept field, where a renumbering is known
+pub others_stand : WholeFit → UnmarkedNumberNone → (input : Input) (g : Placing)
+    (rows : List (List (Option ℕ))) → AreSoundBodies input → AreAllNumbers input g rows
+    → (r : Relocated) → Contains (relocations input) r → stays input r ≡ true
+    → IsMovedIn input g r r.site.position
+others_stand fit law input g rows sound numbers r kept stay =
+    (stays_at fit law input g r rows r.place sound numbers kept refl stay).0
+
 -- ---- the walk
 
 -- what is done, the fields of a body that moves, and what is left
-pub record AreMovedTo (input : Input) (g : Placing) (run left : List Relocated)
+pub record HasCome (input : Input) (g : Placing) (run left : List Relocated)
     (positions : List ℕ) : Type 0 where
   pub done : List Relocated
   pub whole : done ++ (run ++ left) ≡ relocations input
   pub one : AreOfOneBody run
-  pub moving : IsMoving input run
-  pub are : AllZip (IsMovedIn input g) done positions
+  pub moved : IsMoving input run
+  pub are : AreMoved input g done positions
 
 -- before the first
-pub moved_to_first : (input : Input) (g : Placing) → AreMovedTo input g [] (relocations input) []
-moved_to_first input g = record { done = []; whole = refl; one = tt; moving = tt; are = tt }
+pub come_to_first : (input : Input) (g : Placing) → HasCome input g [] (relocations input) []
+come_to_first input g = record { done = []; whole = refl; one = tt; moved = tt; are = tt }
 
 -- the fields of a body that moves are kept
 pub run_is_kept : (input : Input) (g : Placing) (run left : List Relocated) (positions : List ℕ)
-    → AreMovedTo input g run left positions → AreKept input run
+    → HasCome input g run left positions → AreKept input run
 run_is_kept input g run left positions m = part_is_kept input m.done run left m.whole
 
 -- where the next field begins anew, the others are done
 pub run_done : (input : Input) (g : Placing) (run left : List Relocated) (old new : List ℕ)
-    → AreMovedTo input g run left old → AddsMoved input g run old new
-    → AreMovedTo input g [] left new
-run_done input g run left old new m adds = record {
-  done = m.done ++ run;
-  whole = append_assoc m.done run left ∙ m.whole;
-  one = tt;
-  moving = tt;
-  are = rw adds.grown (moved_more input g m.done run old adds.moved m.are adds.are);
-}
+    → HasCome input g run left old → AddsMoved input g run old new
+    → HasCome input g [] left new
+run_done input g run left old new m adds =
+    let listed : moving input (m.done ++ run) ≡ moving input m.done ++ run =
+    filter-append (moves input) m.done run
+    ∙ ap (λ (rs : List Relocated). moving input m.done ++ rs) (all_moving input run m.one m.moved) in
+    record {
+      done = m.done ++ run;
+      whole = append_assoc m.done run left ∙ m.whole;
+      one = tt;
+      moved = tt;
+      are = rw adds.grown (subst (λ (rs : List Relocated). AllZip (IsMovedIn input g) rs (old ++ adds.moved))
+          (sym listed) (zip_joined (IsMovedIn input g) (moving input m.done) run old adds.moved m.are adds.are));
+    }
 
 -- a field that stays is done
-pub stays_done : WholeFit → UnmarkedNumberNone → (input : Input) (g : Placing)
-    (rows : List (List (Option ℕ))) (run left more : List Relocated) (r : Relocated)
-    (old new : List ℕ) → AreSoundBodies input → AreAllNumbers input g rows
-    → AreMovedTo input g run left old → left ≡ r ∷ more → (length run == 0) ≡ true
-    → stays input r ≡ true → new ≡ old ++ position_of r ∷ [] → AreMovedTo input g run more new
-stays_done fit law input g rows [] left more r old new sound numbers m is none stay grown =
-    let whole : m.done ++ r ∷ more ≡ relocations input = rw is at m.whole in
-    let kept : Contains (relocations input) r =
-    part_is_kept input m.done (r ∷ []) more whole r (zero, omega arith, refl) in
-    record {
-      done = m.done ++ r ∷ [];
-      whole = append_assoc m.done (r ∷ []) more ∙ whole;
-      one = tt;
-      moving = tt;
-      are = rw grown (moved_more input g m.done (r ∷ []) old (position_of r ∷ []) m.are
-          (stays_at fit law input g r rows r.place sound numbers kept refl stay));
-    }
-stays_done fit law input g rows (q ∷ run) left more r old new sound numbers m is none stay grown =
+pub stays_done : (input : Input) (g : Placing) (run left more : List Relocated) (r : Relocated)
+    (positions : List ℕ) → HasCome input g run left positions → left ≡ r ∷ more
+    → (length run == 0) ≡ true → stays input r ≡ true → HasCome input g run more positions
+stays_done input g [] left more r positions m is none stay = record {
+  done = m.done ++ r ∷ [];
+  whole = append_assoc m.done (r ∷ []) more ∙ rw is at m.whole;
+  one = tt;
+  moved = tt;
+  are = subst (λ (rs : List Relocated). AllZip (IsMovedIn input g) rs positions)
+      (sym (moving_stays input m.done r stay)) m.are;
+}
+stays_done input g (q ∷ run) left more r positions m is none stay =
     let e = eqb-true (length (q ∷ run)) 0 none in absurd (omega (arith, e))
 
 -- a field that moves goes on, or begins a body
 pub one_goes_on : (input : Input) (g : Placing) (run left more next : List Relocated)
-    (r : Relocated) (positions : List ℕ) → AreMovedTo input g run left positions
+    (r : Relocated) (positions : List ℕ) → HasCome input g run left positions
     → left ≡ r ∷ more → goes_on run r ≡ true
     → ((length run == 0) ≡ true → stays input r ≡ false) → next ≡ run ++ r ∷ []
-    → AreMovedTo input g next more positions
+    → HasCome input g next more positions
 one_goes_on input g [] left more next r positions m is on moves are = record {
   done = m.done;
   whole = rw are (rw is at m.whole);
   one = rw are tt;
-  moving = rw are (moves refl);
+  moved = rw are (moves refl);
   are = m.are;
 }
 one_goes_on input g (q ∷ run) left more next r positions m is on moves are =
@@ -598,19 +681,42 @@ one_goes_on input g (q ∷ run) left more next r positions m is on moves are =
       whole = rw are (ap (λ (rs : List Relocated). m.done ++ rs) (append_assoc (q ∷ run) (r ∷ []) more)
           ∙ rw is at m.whole);
       one = rw are (one_more (q ∷ run) r on m.one);
-      moving = rw are m.moving;
+      moved = rw are m.moved;
       are = m.are;
     }
 
 -- where none is left, all are done but for the last run
 pub all_done : (input : Input) (g : Placing) (run left : List Relocated) (old new : List ℕ)
-    → AreMovedTo input g run left old → left ≡ [] → AddsMoved input g run old new
-    → AllZip (IsMovedIn input g) (relocations input) new
+    → HasCome input g run left old → left ≡ [] → AddsMoved input g run old new
+    → AreMoved input g (relocations input) new
 all_done input g run left old new m none adds =
     let d = run_done input g run left old new m adds in
     let is : d.done ≡ relocations input = sym (append-nil d.done)
     ∙ subst (λ (rs : List Relocated). d.done ++ rs ≡ relocations input) none d.whole in
-    subst (λ (rs : List Relocated). AllZip (IsMovedIn input g) rs new) is d.are
+    subst (λ (rs : List Relocated). AreMoved input g rs new) is d.are
+
+-- ---- the next field
+
+-- where it stands, and what is left behind it
+pub next_moved : (input : Input) (g : Placing) (r : Relocated) (more : List Relocated)
+    (position : ℕ) (left : List ℕ) → stays input r ≡ false
+    → AreMoved input g (r ∷ more) (position ∷ left)
+    → IsMovedIn input g r position × AreMoved input g more left
+next_moved input g r more position left moved are = rw moved at are
+
+pub next_stays : (input : Input) (g : Placing) (r : Relocated) (more : List Relocated)
+    (positions : List ℕ) → stays input r ≡ true → AreMoved input g (r ∷ more) positions
+    → AreMoved input g more positions
+next_stays input g r more positions stay are = rw stay at are
+
+-- behind the last that moves all stay
+pub last_stays : (input : Input) (g : Placing) (r : Relocated) (more : List Relocated)
+    → AreMoved input g (r ∷ more) [] → stays input r ≡ true
+last_stays input g r more are = by (stays input r) refl are
+  where
+    by : (b : Bool) → stays input r ≡ b → AreMoved input g (r ∷ more) [] → stays input r ≡ true
+    by true is are = is
+    by false is are = absurd (rw is at are)
 
 -- ---- vectors
 

@@ -9,7 +9,7 @@ use Rattle.wl_symbols.specs.Input.{Input}
 use Rattle.wl_bind.specs.Kinds.{IsWrongKind}
 use Rattle.wl_bind.specs.References.{IsSettled}
 use Rattle.wl_symbols.specs.declared.relocated.Relocated.{Relocated}
-use Rattle.wl_plan.specs.FixupSteps.{AnswersValue, HasRoom}
+use Rattle.wl_plan.specs.steps.Fixups.{AnswersValue, HasRoom}
 use Rattle.wl_places.specs.IndexedMaps.{AreWholeMaps}
 use Rattle.wl_plan.specs.Resolved.{IsNumbered, IsOf, answer_for, HasNoAddress}
 use Rattle.wl_places.specs.declared.placing.Placing.{Placing}

@@ -65,7 +65,7 @@ use Rattle.wl_lists.proofs.In.{in_at}
 use Rattle.wl_lists.proofs.Beside.{zip_right, zip_length, zip_left}
 use Rattle.wl_plan.proofs.PointerLaws.{all_inside, pointers_apart, pointers_within}
 use Rattle.wl_plan.proofs.PositionLaws.{WholeFit}
-use Rattle.wl_plan.proofs.SegmentLaws.{SegmentsHaveLayouts}
+use Rattle.wl_places.proofs.SmallLaws.{SegmentsHaveLayouts}
 use Rattle.wl_lists.proofs.Places.{append_split}
 
 -- ---- what laws of lower crates say

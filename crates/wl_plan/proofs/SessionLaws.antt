@@ -18,7 +18,7 @@ use Rattle.wl_plan.specs.Faults.{link_fault}
 use Rattle.wl_plan.specs.LinkPlan.{HasLinkFault, IsLinkPlan, IsPlanOf}
 use Rattle.wl_plan.specs.declared.layout.LinkPlan.{LinkPlan}
 use Rattle.wl_plan.specs.Objects.{AreObjects}
-use Rattle.wl_plan.specs.Parsing.{link_error_of}
+use Rattle.wl_plan.specs.steps.Parsing.{link_error_of}
 use Rattle.wl_plan.specs.Session.{Held, held_of, bytes_of, holding, IsBadBytes, IsReplaced, AreReplaced}
 use Rattle.wl_plan.proofs.LinkLaws.{link_err, link_ok}
 use Rattle.wl_plan.proofs.UniqueFiles.{OneObject, ObjectOrFault, files_one}

@@ -37,7 +37,7 @@ use Rattle.wl_bind.specs.declared.binding.FunctionTarget.{FunctionTarget}
 use Rattle.wl_bind.specs.declared.binding.FunctionTarget.TheVariants.{Defined, Made, Host, Stub}
 use Rattle.wl_places.specs.IndexedMaps.{IsWholeMap, AreWholeMaps}
 use Rattle.wl_plan.specs.Table.{IsElement}
-use Rattle.wl_plan.specs.TableSteps.{index_at, table_minimums}
+use Rattle.wl_plan.specs.steps.Table.{index_at, table_minimums}
 use Rattle.wl_places.specs.declared.placing.Placing.{Placing}
 use Rattle.wl_lists.proofs.Beside.{zip_joined, zip_right}
 use Rattle.wl_lists.proofs.Firsts.{any_kept}

@@ -25,7 +25,7 @@ use Rattle.wl_bind.specs.Parts.{StandOnce, joined, AreStarts, HasEntry, lengths_
 use Rattle.wl_bind.specs.declared.indices.LinkerDefinedIndices.{LinkerDefinedIndices}
 use Rattle.wl_bind.specs.declared.parts.PartStarts.{PartStarts}
 use Rattle.wl_plan.specs.Table.{space_slots, slot_of_entry, IsElement}
-use Rattle.wl_plan.specs.TableSteps.{is_stub_of, place_slot, slot_among, stub_slot}
+use Rattle.wl_plan.specs.steps.Table.{is_stub_of, place_slot, slot_among, stub_slot}
 use Rattle.wl_lists.proofs.Beside.{zip_length}
 use Rattle.wl_lists.proofs.In.{IsIn, in_at, in_split, in_map, in_if}
 use Rattle.wl_lists.proofs.Places.{there_is, mapped_at}

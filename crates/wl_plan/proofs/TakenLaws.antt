@@ -18,7 +18,7 @@ use Rattle.wl_custom.specs.declared.takings.Taking.{Taking}
 use Rattle.wl_custom.specs.declared.takings.Taking.TheVariants.{FunctionIndex, Slot, SlotBehindBase, TypeIndex, GlobalIndex, TableNumber, Address}
 use Rattle.wl_symbols.specs.Input.{Input}
 use Rattle.wl_symbols.specs.declared.relocated.Relocated.{Relocated}
-use Rattle.wl_plan.specs.FixupSteps.{Answers, AnswersValue, IsValueOf, left_of}
+use Rattle.wl_plan.specs.steps.Fixups.{Answers, AnswersValue, IsValueOf, left_of}
 use Rattle.wl_plan.specs.Fixups.{address_taken, addend_left, field_taken, value_or_pointer, IsTaken}
 use Rattle.wl_places.specs.IndexedMaps.{IsWholeMap}
 use Rattle.wl_plan.specs.Threads.{address_named, pointer_named, template_start}

@@ -16,7 +16,7 @@ use Rattle.wl_ops.specs.declared.op.Op.{Op}
 use Rattle.wl_synth.specs.Encoding.{EncodeFault}
 use Rattle.wl_synth.specs.declared.error.SynthError.{SynthError}
 use Rattle.wl_synth.specs.declared.error.SynthError.TheVariants as synth
-use Rattle.wl_plan.specs.ThreadSteps.{AddsGot, IsUnspelled, body_error}
+use Rattle.wl_plan.specs.steps.Threads.{AddsGot, IsUnspelled, body_error}
 use Rattle.wl_places.specs.declared.placing.Placing.{Placing}
 use Rattle.wl_lists.proofs.Beside.{zip_joined}
 

@@ -40,7 +40,8 @@ use Rattle.wl_symbols.specs.declared.relocated.FixupPlace.TheVariants.{Code, Seg
 use Rattle.wl_symbols.specs.declared.relocated.Relocated.{Relocated}
 use Rattle.wl_exports.specs.Exports.{Entity, OfFunction}
 use Rattle.wl_exports.specs.Wrappers.{wrapped}
-use Rattle.wl_plan.specs.Bodies.{new_number, IsMovedBy, IsRenumbered, body_in, IsBodyIn, IsMadeBody, AreMadeOps, IsEncodedBody, IsBodyFault, called, IsBodyOf, AreOwnBodies, IsWrapperBody, AreBodies, IsMovedAt}
+use Rattle.wl_plan.specs.Bodies.{IsMovedBy, IsRenumbered, body_in, IsBodyIn, IsMadeBody, AreMadeOps, IsEncodedBody, IsBodyFault, called, IsBodyOf, AreOwnBodies, IsWrapperBody, AreBodies, IsMovedAt}
+use Rattle.wl_places.specs.SegmentNumbers.{new_number}
 use Rattle.wl_plan.specs.Fixups.{StandsAt, type_named, global_named, field_taken, IsTaken, IsFieldOf, IsFixup, AreFixups}
 use Rattle.wl_plan.specs.Functions.{own_functions}
 use Rattle.wl_plan.specs.Threads.{got_places, IsGotFixup, IsThreadBlock}

@@ -22,7 +22,7 @@ use Rattle.wl_output.specs.declared.fixups.Fixup.{Fixup}
 use Rattle.wl_plan.specs.declared.layout.LinkPlan.{LinkPlan}
 use Rattle.wl_plan.specs.declared.layout.WasmLayout.{WasmLayout}
 use Rattle.wl_places.specs.declared.placing.Placing.{Placing}
-use Rattle.wl_plan.proofs.SegmentLaws.{SegmentsHaveLayouts}
+use Rattle.wl_places.proofs.SmallLaws.{SegmentsHaveLayouts}
 use Rattle.wl_plan.proofs.UniqueBodies.{FormsAreOne, bodies_one, section_one, text_one, fixups_one}
 use Rattle.wl_plan.proofs.UniqueEntities.{functions_one, imports_one, elements_one, start_one, globals_one}
 use Rattle.wl_plan.proofs.UniqueParts.{AreOnce, maps_one}

@@ -18,7 +18,7 @@ use Rattle.wl_places.specs.declared.placing.Placing.{Placing}
 use Rattle.wl_lists.proofs.In.{in_map_filter, IsIn, in_split}
 use Rattle.wl_lists.proofs.Once.{once_from, distinct-append, distinct-map_filter, Distinct}
 use Rattle.wl_places.specs.AddressSteps.{index_of, original_of}
-use Rattle.wl_plan.proofs.SegmentLaws.{SegmentsHaveLayouts}
+use Rattle.wl_places.proofs.SmallLaws.{SegmentsHaveLayouts}
 
 -- ---- lists in which nothing stands twice
 

@@ -17,35 +17,24 @@ use Rattle.wl_synth.specs.Bodies.{call_sequence_ops, wrapper_ops, ThreadBlock, i
 use Rattle.wl_synth.specs.Encoding.{IsEncoded, EncodeFault}
 use Rattle.wl_synth.specs.declared.error.SynthError.TheVariants.{Range}
 use Rattle.wl_synth.specs.declared.calls.TheConstants.{UNREACHABLE_FUNCTION_BODY}
-use Rattle.wl_symbols.specs.declared.units.WasmGcUnit.TheVariants.{DataSegment}
 use Rattle.wl_ctors.specs.InitCalls.{AreInitCalls}
 use Rattle.wl_ctors.specs.declared.calls.InitCall.{InitCall}
 use Rattle.wl_bind.specs.EntryTypes.{type_of_entry}
 use Rattle.wl_bind.specs.FunctionSpace.{FunctionEntry, FunctionOf, InitMemory, function_space}
-use Rattle.wl_symbols.specs.Input.{Input, keeps}
+use Rattle.wl_symbols.specs.Input.{Input}
 use Rattle.wl_bind.specs.declared.binding.FunctionTarget.TheVariants.{Defined, Made, Host, Stub}
 use Rattle.wl_symbols.specs.declared.relocated.FixupPlace.{FixupPlace}
 use Rattle.wl_symbols.specs.declared.relocated.FixupPlace.TheVariants.{Code, Segment}
 use Rattle.wl_symbols.specs.declared.relocated.Relocated.{Relocated}
 use Rattle.wl_exports.specs.Exports.{ExportEntry, OfFunction}
 use Rattle.wl_exports.specs.Wrappers.{wrapped}
-use Rattle.wl_places.specs.Addresses.{segment_space}
 use Rattle.wl_plan.specs.Functions.{own_functions}
 use Rattle.wl_plan.specs.Threads.{IsThreadBlock}
 use Rattle.wl_places.specs.Copies.{shared_copies}
+use Rattle.wl_places.specs.SegmentNumbers.{new_number}
 use Rattle.wl_places.specs.declared.placing.Placing.{Placing}
 
 -- ---- numbers of segments in bodies
-
--- the two are the same segment of the same object
-abbrev pub same_segment : ℕ × ℕ → ℕ × ℕ → Bool
-same_segment a b = (a.0 == b.0) && (a.1 == b.1)
-
--- the number in the output of a segment of an object, where it is kept
-abbrev pub new_number : Input → Placing → ℕ → ℕ → Option ℕ
-new_number input g object number =
-    if keeps input object (DataSegment number)
-    then position (same_segment (object, number)) (segment_space g) else None
 
 -- the bytes of a body, with those numbers in the place of its own
 pub record IsRenumbered (input : Input) (g : Placing) (object : ℕ) (body bytes : List ℕ)

@@ -8,37 +8,15 @@ use Rattle.wl_linking.specs.Steps.{Clear}
 use Rattle.wl_ops.specs.Numbers.{AreTold}
 use Rattle.wl_ops.specs.Rewriting.{new_index, AllMove}
 use Rattle.wl_ops.specs.declared.op.DataIndexImm.{DataIndexImm}
-use Rattle.wl_index.specs.declared.index.TheConstants.{WASM_DEAD_INDEX}
 use Rattle.wl_live.specs.Faults.{IsKeptFault}
 use Rattle.wl_symbols.specs.Live.{IsLiveOf}
-use Rattle.wl_symbols.specs.declared.units.WasmGcUnit.TheVariants.{DataSegment}
 use Rattle.wl_bind.specs.FunctionSpace.{FunctionEntry}
-use Rattle.wl_symbols.specs.Input.{Input, keeps}
-use Rattle.wl_plan.specs.Bodies.{IsBodyIn, IsMadeBody, IsBodyOf, new_number}
+use Rattle.wl_symbols.specs.Input.{Input}
+use Rattle.wl_plan.specs.Bodies.{IsBodyIn, IsMadeBody, IsBodyOf}
 use Rattle.wl_plan.specs.declared.rewriting.Renumbering.{Renumbering}
 use Rattle.wl_plan.specs.declared.rewriting.RewrittenBody.{RewrittenBody}
+use Rattle.wl_places.specs.SegmentNumbers.{AreNewNumbers, AreAllNumbers}
 use Rattle.wl_places.specs.declared.placing.Placing.{Placing}
-
--- ---- numbers of segments
-
--- the number, unless it says that there is none
-abbrev pub kept_number : ℕ → Option ℕ
-kept_number index = if index == WASM_DEAD_INDEX then None else Some index
-
--- the list has the number in the output of each segment of the object, which each kept one has, and
--- nothing for others
-pub record AreNewNumbers (input : Input) (g : Placing) (object : ℕ) (numbers : List (Option ℕ))
-    : Type 0 where
-  pub each : (number : ℕ) → new_index numbers number ≡ new_number input g object number
-  pub kept : (number : ℕ) → keeps input object (DataSegment number) ≡ true
-      → new_index numbers number ≡ None → ⊥
-
--- the rows have those of each object
-pub record AreAllNumbers (input : Input) (g : Placing) (rows : List (List (Option ℕ)))
-    : Type 0 where
-  pub len : length rows ≡ length input.link.objects
-  pub each : (object : ℕ) (row : List (Option ℕ)) → slice_get rows object ≡ Some row
-      → AreNewNumbers input g object row
 
 -- ---- bodies
 

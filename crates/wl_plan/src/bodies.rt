@@ -6,10 +6,10 @@ ghost use Rattle.wl_linking.specs.Fitting.{IsWhole};
 ghost use Rattle.wl_linking.specs.Steps.{Clear};
 ghost use Rattle.wl_linking.specs.declared.error.LinkError.TheVariants.{OutOfMemory};
 ghost use Rattle.wl_index.specs.declared.index.TheConstants.{MAX_ENTRIES};
-ghost use Rattle.wl_symbols.specs.Input.{keeps};
+ghost use Rattle.wl_symbols.specs.Input.{Input, keeps};
 ghost use Rattle.wl_symbols.specs.declared.linker_symbol.WasmLinkerSymbol.TheVariants.{CallCtors, InitTls, TlsBase};
 ghost use Rattle.wl_symbols.specs.declared.units.WasmGcUnit.TheVariants.{DefinedFunction};
-ghost use Rattle.wl_bind.specs.FunctionSpace.{made_function_part, init_memory_part, stub_part, functions_of};
+ghost use Rattle.wl_bind.specs.FunctionSpace.{made_function_part, init_memory_part, stub_part, functions_of, object_functions};
 ghost use Rattle.wl_bind.specs.GlobalSpace.{GlobalOf, global_space};
 ghost use Rattle.wl_bind.specs.declared.binding.GlobalTarget.TheVariants as global;
 ghost use Rattle.wl_synth.specs.Bodies.{call_sequence_ops};
@@ -17,13 +17,14 @@ ghost use Rattle.wl_synth.specs.Encoding.{IsEncoded};
 ghost use Rattle.wl_places.specs.Addresses.{segment_space};
 ghost use Rattle.wl_plan.specs.Bodies.{body_in, called, AreInitMemoryOps, AreInitTlsOps, AreOwnBodies, IsBodyIn, object_debug_sections};
 ghost use Rattle.wl_plan.specs.BodySteps.{IsRenumbering, AreRewritten, AddsMadeBody, AddsBodies, debug_in};
-ghost use Rattle.wl_plan.specs.Bound.{AreBindings};
+ghost use Rattle.wl_plan.specs.steps.Bindings.{AreBindings};
 ghost use Rattle.wl_plan.specs.Fixups.{AreFixups};
-ghost use Rattle.wl_plan.specs.FunctionSteps.{linker_functions, own_function_part};
-ghost use Rattle.wl_plan.specs.GlobalSteps.{AreSources};
+ghost use Rattle.wl_plan.specs.steps.Functions.{linker_functions, own_function_part};
+ghost use Rattle.wl_plan.specs.steps.Globals.{AreSources};
 ghost use Rattle.wl_plan.specs.Globals.{IsGlobalFault};
 ghost use Rattle.wl_places.specs.Placing.{IsPlacing};
-ghost use Rattle.wl_plan.specs.ThreadSteps.{body_error, IsBodyRefusal, IsSpelledFor, IsUnspelled};
+ghost use Rattle.wl_places.specs.declared.placing.Placing.{Placing as Places};
+ghost use Rattle.wl_plan.specs.steps.Threads.{body_error, IsBodyRefusal, IsSpelledFor, IsUnspelled};
 
 use crate::bindings::Bindings;
 use crate::functions::function_room;
@@ -143,13 +144,11 @@ fn call_ctors_body(alloc: Global, calls: &[InitCall]) -> Result<Vec<u8>, AllocEr
 fn push_call_ctors<'a>(
     alloc: Global,
     bodies: &mut Vec<WasmFunctionBody<'a>>,
-    input: &LinkInput<'_, 'a>,
-    placing: &Placing<'a>,
     bindings: &Bindings<'a>,
 ) -> Result<(), AllocError>
-    requires { AreBindings input.now bindings.now }
-    ensures { OnOk result (AddsBodies input.now placing.now
-        (made_function_part input.now CallCtors) bodies.old.items bodies.new.items) }
+    ensures { (input : Input) (g : Places) → AreBindings input bindings.now
+        → OnOk result (AddsBodies input g (made_function_part input CallCtors)
+        bodies.old.items bodies.new.items) }
 {
     match bindings.indices.index(WasmLinkerSymbol::CallCtors) {
         Some(_) => {
@@ -294,12 +293,10 @@ fn push_init_memory<'a>(
 fn push_stubs<'a>(
     alloc: Global,
     bodies: &mut Vec<WasmFunctionBody<'a>>,
-    input: &LinkInput<'_, 'a>,
-    placing: &Placing<'a>,
     bindings: &Bindings<'a>,
 ) -> Result<(), AllocError>
-    requires { AreBindings input.now bindings.now }
-    ensures { OnOk result (AddsBodies input.now placing.now (stub_part input.now)
+    ensures { (input : Input) (g : Places) → AreBindings input bindings.now
+        → OnOk result (AddsBodies input g (stub_part input)
         bodies.old.items bodies.new.items) }
 {
     entries_have_types();
@@ -401,9 +398,31 @@ fn push_linker_made<'a>(
     let input = sources.book.input;
     let placing = sources.book.placing;
     let bindings = sources.bindings;
-    push_call_ctors(alloc, bodies, input, placing, bindings)?;
+    push_call_ctors(alloc, bodies, bindings)?;
     push_init_tls(alloc, bodies, sources, fixups)?;
     push_init_memory(alloc, bodies, input, placing, bindings)
+}
+
+/// Adds the bodies of the kept functions of all objects.
+fn push_objects<'a>(
+    alloc: Global,
+    bodies: &mut Vec<WasmFunctionBody<'a>>,
+    renumbering: &Renumbering<'_, '_, 'a>,
+    rewritten: &mut Vec<RewrittenBody<'a>>,
+    files: &[File<'a>],
+) -> Result<(), LinkError>
+    requires renumbering { IsRenumbering renumbering.now }
+    requires rewritten { AreRewritten renumbering.now.input.now renumbering.now.placing.now
+        rewritten.old.items }
+    requires files { files.now ≡ renumbering.now.input.now.link.objects }
+    ensures ok { OnOk result (AddsBodies renumbering.now.input.now renumbering.now.placing.now
+        (object_functions renumbering.now.input.now) bodies.old.items bodies.new.items) }
+    ensures err { IfErr result (λ e. e ≡ OutOfMemory) }
+{
+    for (object, file) in files.iter().enumerate() {
+        push_bodies(alloc, bodies, renumbering, rewritten, object, file)?;
+    }
+    Ok(())
 }
 
 /// The bodies of the functions of the space that aren't imported, in order, of which some were
@@ -438,16 +457,9 @@ pub(crate) fn own_bodies<'a>(
     let room = function_room(input, sources.bindings.stubs.as_slice().len());
     let mut bodies = Vec::with_capacity(alloc, room)?;
     push_linker_made(alloc, &mut bodies, sources, fixups)?;
-    push_stubs(
-        alloc,
-        &mut bodies,
-        input,
-        sources.book.placing,
-        sources.bindings,
-    )?;
-    for (object, file) in input.files().as_slice().iter().enumerate() {
-        push_bodies(alloc, &mut bodies, renumbering, rewritten, object, file)?;
-    }
+    push_stubs(alloc, &mut bodies, sources.bindings)?;
+    let files = input.files().as_slice();
+    push_objects(alloc, &mut bodies, renumbering, rewritten, files)?;
     Ok(bodies)
 }
 

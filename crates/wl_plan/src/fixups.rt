@@ -1,17 +1,18 @@
 //! What the kept relocations become.
 
 ghost use Rattle.std.specs.Prelude.{◌≡◌, ◌<◌, pos, ◌+ℤ◌, ◌-ℤ◌, length, None, Some, Ok, Contains, IfOk, OnOk, IfErr, slice_get};
-ghost use Rattle.std.specs.List.{AllZip};
 ghost use Rattle.wl_linking.specs.Steps.{Clear, Refuses};
 ghost use Rattle.wl_custom.specs.RelocationTypes.{taking_of, is_absolute};
 ghost use Rattle.wl_custom.specs.declared.takings.AddressBase.{AddressBase as Base};
 ghost use Rattle.wl_custom.specs.declared.takings.Taking.TheVariants.{Address};
 ghost use Rattle.wl_symbols.specs.Relocations.{relocations};
 ghost use Rattle.wl_plan.specs.Bodies.{IsMovedIn};
-ghost use Rattle.wl_plan.specs.FixupSteps.{AreFixupSources, Answers, AnswersFrom, left_at, left_of, counted_base, number_by, IsRefusedAt};
+ghost use Rattle.wl_plan.specs.steps.Positions.{AreMovedFields};
+ghost use Rattle.wl_plan.specs.steps.Fixups.{AreFixupSources, Answers, AnswersFrom, left_at, left_of, counted_base, number_by, IsRefusedAt};
 ghost use Rattle.wl_plan.specs.Fixups.{no_address, address_refusal, IsFixup, AreFixups, IsFixupFault};
 ghost use Rattle.wl_plan.specs.Threads.{address_named, bases_of, template_start, pointer_named};
 
+use crate::positions::next_position;
 use crate::threads::place_in_block;
 use std::alloc::Global;
 use wl_bind::{references_are_kept, same_targets_are_one, table_functions_stand_once};
@@ -301,7 +302,18 @@ impl<'s, 'i, 'a> FixupSources<'s, 'i, 'a> {
     }
 }
 
-/// What the kept relocations become, whose fields stand there in what the output has.
+/// How many fixups there may be, as a hint for room: one for each relocation.
+fn fixup_room(files: &[File<'_>]) -> usize {
+    let mut room: usize = 0;
+    for file in files {
+        let listed = file.code_relocations().len() + file.data_relocations().len();
+        room = room.saturating_add(listed);
+    }
+    room
+}
+
+/// What the kept relocations become, whose fields stand there in what the output has: of those that
+/// don't stay where they stood these are the places.
 ///
 /// # Errors
 /// `Unsupported` where the address of the data that one names has no value in its field, and
@@ -312,9 +324,8 @@ pub(crate) fn all_fixups(
     positions: &[u32],
 ) -> Result<ItemList<Fixup>, LinkError>
     requires sources { AreFixupSources sources.now }
-    requires positions { AllZip
-        (IsMovedIn sources.now.book.now.input.now sources.now.book.now.placing.now)
-        (relocations sources.now.book.now.input.now) positions.now }
+    requires positions { AreMovedFields sources.now.book.now.input.now
+        sources.now.book.now.placing.now positions.now }
     ensures ok { IfOk result
         (AreFixups sources.now.book.now.input.now sources.now.book.now.placing.now) }
     ensures clear { OnOk result
@@ -322,9 +333,12 @@ pub(crate) fn all_fixups(
     ensures err { IfErr result
         (Refuses (IsFixupFault sources.now.book.now.input.now sources.now.book.now.placing.now)) }
 {
-    let mut fixups = Vec::with_capacity(alloc, positions.len())?;
-    for relocated in kept_relocations(sources.book.input) {
-        let position = positions[fixups.len()];
+    let input = sources.book.input;
+    let mut fixups = Vec::with_capacity(alloc, fixup_room(input.files().as_slice()))?;
+    let mut moved = positions;
+    for relocated in kept_relocations(input) {
+        let (position, left) = next_position(input, &relocated, moved);
+        moved = left;
         fixups.push(sources.fixup(&relocated, position)?)?;
     }
     Ok(ItemList::new(fixups))

@@ -1,17 +1,18 @@
 //! The functions of the output that aren't imported, each with its type.
 
-ghost use Rattle.std.specs.Prelude.{◌≡◌, ◌<◌, ◌∷◌, ◌++◌, [], length, Some, Contains, IfOk, OnOk, slice_get};
+ghost use Rattle.std.specs.Prelude.{◌≡◌, ◌<◌, ◌++◌, length, Some, Contains, IfOk, OnOk, slice_get};
+ghost use Rattle.std.specs.Option.{option_to_list};
 ghost use Rattle.wl_custom.specs.declared.symbols.WasmSymbolKind.TheVariants.{Func};
+ghost use Rattle.wl_symbols.specs.Input.{Input};
 ghost use Rattle.wl_symbols.specs.LinkerNames.{row_of};
-ghost use Rattle.wl_bind.specs.FunctionSpace.{made_function_part, init_memory_part, stub_part, functions_of};
+ghost use Rattle.wl_bind.specs.FunctionSpace.{made_function_part, init_memory_part, stub_part, functions_of, object_functions};
 ghost use Rattle.wl_bind.specs.FunctionTypes.{type_of_made};
 ghost use Rattle.wl_bind.specs.IndexMaps.{AreIndexMaps};
 ghost use Rattle.wl_bind.specs.OutputTypes.{output_types, AreTypeIndices};
 ghost use Rattle.wl_bind.specs.References.{IsSettled};
 ghost use Rattle.wl_plan.specs.Functions.{AreOwnFunctions};
-ghost use Rattle.wl_plan.specs.Bound.{AreBindings};
-ghost use Rattle.wl_plan.specs.FunctionSteps.{AddsFunction, AddsFunctions, linker_functions, own_function_part, plain_type};
-ghost use Rattle.wl_plan.specs.OriginsSeen.{origin_seen};
+ghost use Rattle.wl_plan.specs.steps.Bindings.{AreBindings};
+ghost use Rattle.wl_plan.specs.steps.Functions.{AddsFunctions, IsAllOf, linker_functions, own_function_part, plain_type};
 
 use crate::bindings::Bindings;
 use crate::layout::{FunctionOrigin, OutputFunction};
@@ -25,8 +26,7 @@ use wl_types::same_types_are_one;
 
 /// The number of a type among these, of which it is one.
 pub(crate) fn type_number(types: &TypeMerger, ty: &FuncType) -> u32
-    requires { Contains types.now ty.now }
-    ensures { slice_get types.now result ≡ Some ty.now }
+    ensures { Contains types.now ty.now → slice_get types.now result ≡ Some ty.now }
 {
     same_types_are_one();
     types.types();
@@ -36,71 +36,55 @@ pub(crate) fn type_number(types: &TypeMerger, ty: &FuncType) -> u32
     }
 }
 
-/// Adds a function of the type of that number.
-fn push_function<'a>(
+/// Adds a function, where there is one.
+fn push_if_some<'a>(
     functions: &mut Vec<OutputFunction<'a>>,
-    type_index: u32,
-    origin: FunctionOrigin<'a>,
+    function: Option<OutputFunction<'a>>,
 ) -> Result<(), AllocError>
-    ensures { OnOk result (functions.new.items ≡ functions.old.items
-        ++ record { type_index = type_index; origin = origin_seen origin.entry } ∷ []) }
+    ensures { OnOk result
+        (functions.new.items ≡ functions.old.items ++ option_to_list function.entry) }
 {
-    functions.push(OutputFunction { type_index, origin })?;
+    if let Some(function) = function {
+        functions.push(function)?;
+    }
     Ok(())
 }
 
-/// Adds a function of that type, which is one of these.
-fn push_typed<'a>(
-    functions: &mut Vec<OutputFunction<'a>>,
-    types: &TypeMerger,
-    ty: &FuncType,
-    origin: FunctionOrigin<'a>,
-) -> Result<(), AllocError>
-    requires { Contains types.now ty.now }
-    ensures { OnOk result (AddsFunction types.now ty.now (origin_seen origin.entry)
-        functions.old.items functions.new.items) }
-{
-    push_function(functions, type_number(types, ty), origin)
-}
-
-/// Adds a function of that type that the linker makes under a name, where the output has it.
-fn push_made<'a>(
-    functions: &mut Vec<OutputFunction<'a>>,
-    input: &LinkInput<'_, 'a>,
+/// The function of that type that the linker makes under a name, where the output has it.
+fn made_function<'a>(
     bindings: &Bindings<'a>,
     made: WasmLinkerSymbol,
     ty: &FuncType,
-) -> Result<(), AllocError>
-    requires bindings { AreBindings input.now bindings.now }
+) -> Option<OutputFunction<'a>>
     requires function { (row_of made).kind ≡ Func }
     requires typed { type_of_made made ≡ Some ty.now }
-    ensures { OnOk result (AddsFunctions input.now (made_function_part input.now made)
-        functions.old.items functions.new.items) }
+    ensures { (input : Input) → AreBindings input bindings.now
+        → IsAllOf input (made_function_part input made) result }
 {
     entries_have_types();
     if bindings.indices.index(made).is_none() {
-        return Ok(());
+        return None;
     }
-    push_typed(functions, &bindings.types, ty, FunctionOrigin::Made(made))
+    Some(OutputFunction {
+        type_index: type_number(&bindings.types, ty),
+        origin: FunctionOrigin::Made(made),
+    })
 }
 
-/// Adds what copies data for all threads, where the output has it: a function of type `()->()`.
-fn push_init_memory<'a>(
-    functions: &mut Vec<OutputFunction<'a>>,
-    input: &LinkInput<'_, 'a>,
-    bindings: &Bindings<'a>,
-    ty: &FuncType,
-) -> Result<(), AllocError>
-    requires bindings { AreBindings input.now bindings.now }
+/// What copies data for all threads, where the output has it: a function of type `()->()`.
+fn init_memory_function<'a>(bindings: &Bindings<'a>, ty: &FuncType) -> Option<OutputFunction<'a>>
     requires typed { ty.now ≡ plain_type }
-    ensures { OnOk result (AddsFunctions input.now (init_memory_part input.now)
-        functions.old.items functions.new.items) }
+    ensures { (input : Input) → AreBindings input bindings.now
+        → IsAllOf input (init_memory_part input) result }
 {
     entries_have_types();
     if bindings.indices.init_memory().is_none() {
-        return Ok(());
+        return None;
     }
-    push_typed(functions, &bindings.types, ty, FunctionOrigin::InitMemory)
+    Some(OutputFunction {
+        type_index: type_number(&bindings.types, ty),
+        origin: FunctionOrigin::InitMemory,
+    })
 }
 
 /// Adds what the linker makes by itself, where the output has it: what calls the constructors, what
@@ -108,30 +92,19 @@ fn push_init_memory<'a>(
 fn push_linker_made<'a>(
     alloc: Global,
     functions: &mut Vec<OutputFunction<'a>>,
-    input: &LinkInput<'_, 'a>,
     bindings: &Bindings<'a>,
 ) -> Result<(), AllocError>
-    requires bindings { AreBindings input.now bindings.now }
-    ensures { OnOk result (AddsFunctions input.now (linker_functions input.now)
+    ensures { (input : Input) → AreBindings input bindings.now
+        → OnOk result (AddsFunctions input (linker_functions input)
         functions.old.items functions.new.items) }
 {
     let plain = FuncType::new(Vec::new(alloc), Vec::new(alloc));
     let based = FuncType::new(Vec::from_slice(alloc, &[ValType::I32])?, Vec::new(alloc));
-    push_made(
-        functions,
-        input,
-        bindings,
-        WasmLinkerSymbol::CallCtors,
-        &plain,
-    )?;
-    push_made(
-        functions,
-        input,
-        bindings,
-        WasmLinkerSymbol::InitTls,
-        &based,
-    )?;
-    push_init_memory(functions, input, bindings, &plain)
+    let constructors = made_function(bindings, WasmLinkerSymbol::CallCtors, &plain);
+    push_if_some(functions, constructors)?;
+    let thread_start = made_function(bindings, WasmLinkerSymbol::InitTls, &based);
+    push_if_some(functions, thread_start)?;
+    push_if_some(functions, init_memory_function(bindings, &plain))
 }
 
 /// Adds the stubs.
@@ -153,27 +126,27 @@ fn push_stubs<'a>(
     }
     let stubs = stub_imports(alloc, input)?;
     for (place, stub) in stubs.as_slice().iter().enumerate() {
-        let origin = FunctionOrigin::Stub { name: stub.name };
-        push_typed(functions, &bindings.types, &types[place], origin)?;
+        functions.push(OutputFunction {
+            type_index: type_number(&bindings.types, &types[place]),
+            origin: FunctionOrigin::Stub { name: stub.name },
+        })?;
     }
     Ok(())
 }
 
-/// Adds a function of an object, where it is kept. Its type is where that of the object went.
-fn push_kept<'a>(
-    functions: &mut Vec<OutputFunction<'a>>,
+/// A function of an object, where it is kept. Its type is where that of the object went.
+fn kept_function<'a>(
     input: &LinkInput<'_, 'a>,
     types: &[u32],
     object: usize,
     file: &File<'a>,
     function: usize,
-) -> Result<(), AllocError>
+) -> Option<OutputFunction<'a>>
     requires settled { IsSettled input.now }
     requires types { AreTypeIndices input.now object file.now types.now }
     requires here { slice_get input.now.link.objects object ≡ Some file.now }
     requires within { function < length file.now.functions }
-    ensures { OnOk result (AddsFunctions input.now (own_function_part input.now object function)
-        functions.old.items functions.new.items) }
+    ensures { IsAllOf input.now (own_function_part input.now object function) result }
 {
     types_have_indices();
     whole_objects();
@@ -182,14 +155,12 @@ fn push_kept<'a>(
         .live()
         .is_live(object, WasmGcUnit::DefinedFunction(unit))
     {
-        return Ok(());
+        return None;
     }
-    let type_index = types[file.functions()[function] as usize];
-    push_function(
-        functions,
-        type_index,
-        FunctionOrigin::Object { object, unit },
-    )
+    Some(OutputFunction {
+        type_index: types[file.functions()[function] as usize],
+        origin: FunctionOrigin::Object { object, unit },
+    })
 }
 
 /// Adds the kept functions of an object.
@@ -207,7 +178,30 @@ fn push_functions<'a>(
         functions.old.items functions.new.items) }
 {
     for function in 0..file.num_defined_functions() {
-        push_kept(functions, input, types, object, file, function)?;
+        push_if_some(
+            functions,
+            kept_function(input, types, object, file, function),
+        )?;
+    }
+    Ok(())
+}
+
+/// Adds the kept functions of all objects, whose maps are these.
+fn push_objects<'a>(
+    functions: &mut Vec<OutputFunction<'a>>,
+    input: &LinkInput<'_, 'a>,
+    maps: &[WasmObjectIndexMap],
+    files: &[File<'a>],
+) -> Result<(), AllocError>
+    requires settled { IsSettled input.now }
+    requires maps { AreIndexMaps input.now maps.now }
+    requires files { files.now ≡ input.now.link.objects }
+    ensures { OnOk result (AddsFunctions input.now (object_functions input.now)
+        functions.old.items functions.new.items) }
+{
+    for (object, file) in files.iter().enumerate() {
+        let types = maps[object].type_indices.as_slice();
+        push_functions(functions, input, types, object, file)?;
     }
     Ok(())
 }
@@ -243,11 +237,8 @@ pub(crate) fn own_functions<'a>(
 {
     let room = function_room(input, bindings.stubs.as_slice().len());
     let mut functions = Vec::with_capacity(alloc, room)?;
-    push_linker_made(alloc, &mut functions, input, bindings)?;
+    push_linker_made(alloc, &mut functions, bindings)?;
     push_stubs(alloc, &mut functions, input, bindings)?;
-    for (object, file) in input.files().as_slice().iter().enumerate() {
-        let types = maps[object].type_indices.as_slice();
-        push_functions(&mut functions, input, types, object, file)?;
-    }
+    push_objects(&mut functions, input, maps, input.files().as_slice())?;
     Ok(functions)
 }

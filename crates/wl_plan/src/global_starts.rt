@@ -8,7 +8,7 @@ ghost use Rattle.wl_bind.specs.GlobalSpace.{GlobalOf, AddressOf, DataOf};
 ghost use Rattle.wl_bind.specs.Scan.{got_mem, got_func};
 ghost use Rattle.wl_bind.specs.declared.binding.GlobalTarget.TheVariants as global;
 ghost use Rattle.wl_places.specs.Addresses.{address_of_definition, symbol_address};
-ghost use Rattle.wl_plan.specs.GlobalSteps.{AreSources, AnswersStart, asks_for_entry, func_slot};
+ghost use Rattle.wl_plan.specs.steps.Globals.{AreSources, AnswersStart, asks_for_entry, func_slot};
 ghost use Rattle.wl_plan.specs.Globals.{constant_or_range, got_address, own_place, common_address, own_address, is_own, first_asking, is_in_block, made_start, may_change};
 ghost use Rattle.wl_places.specs.declared.placing.Placing.{Placing as SpecPlacing};
 

@@ -1,13 +1,13 @@
 //! The globals of the output that aren't imported, each with what it starts with.
 
-ghost use Rattle.std.specs.Prelude.{◌≡◌, ◌++◌, [], ◌∷◌, map, true, Some, Contains, IfOk, OnOk, IfErr, slice_get};
+ghost use Rattle.std.specs.Prelude.{◌≡◌, ◌++◌, map, true, Some, IfOk, OnOk, IfErr, slice_get};
+ghost use Rattle.std.specs.List.{flat_map, list_all};
 ghost use Rattle.std.specs.Cow.{cow_slice_items};
 ghost use Rattle.wl_module.specs.Slices.{is_owned};
 ghost use Rattle.wl_linking.specs.Steps.{Clear, Refuses};
 ghost use Rattle.wl_bind.specs.ExportedAddresses.{exported_addresses};
-ghost use Rattle.wl_bind.specs.GlobalSpace.{GlobalOf, AddressOf, DataOf, made_global_part, address_part, got_mem_part, got_func_part, globals_of, object_globals};
-ghost use Rattle.wl_bind.specs.declared.binding.GlobalTarget.TheVariants as global;
-ghost use Rattle.wl_plan.specs.GlobalSteps.{AreSources, IsStarted, AddsMade, AddsPart, IsPartFault, is_linker_global, linker_parts, made_parts, own_global_part};
+ghost use Rattle.wl_bind.specs.GlobalSpace.{DataOf, made_global_part, address_part, got_mem_part, got_func_part, globals_of, object_globals};
+ghost use Rattle.wl_plan.specs.steps.Globals.{AreSources, IsStarted, AddsMade, AddsPart, IsPartFault, is_linker_global, made_parts, own_global_part};
 ghost use Rattle.wl_plan.specs.Globals.{IsConstant, word_of_made, global_in, ArePlannedGlobals, IsGlobalFault};
 
 use crate::global_starts::{GlobalSources, Start};
@@ -93,84 +93,39 @@ fn push_made<'a>(
     Ok(())
 }
 
-/// Adds the global that the linker makes under a name.
+/// Adds the globals that the linker makes under these names, where the output has them.
 fn push_named<'a>(
     alloc: Global,
     globals: &mut Vec<PlannedGlobal<'a>>,
     sources: &GlobalSources<'_, '_, '_, 'a>,
-    made: WasmLinkerSymbol,
-) -> Result<(), LinkError>
-    requires { AreSources sources.now }
-    ensures ok { OnOk result (AddsPart sources.now (GlobalOf (global.Made made) ∷ [])
-        globals.old.items globals.new.items) }
-    ensures err { IfErr result (Refuses (IsPartFault sources.now
-        (GlobalOf (global.Made made) ∷ []))) }
-{
-    let start = sources.made_start(made)?;
-    push_made(alloc, globals, word_of(made), start)?;
-    Ok(())
-}
-
-/// Adds the global that the linker makes under a name, where the output has it.
-fn push_if_made<'a>(
-    alloc: Global,
-    globals: &mut Vec<PlannedGlobal<'a>>,
-    sources: &GlobalSources<'_, '_, '_, 'a>,
-    made: WasmLinkerSymbol,
+    names: &[WasmLinkerSymbol],
 ) -> Result<(), LinkError>
     requires sources { AreSources sources.now }
-    requires kind { is_linker_global made ≡ true }
+    requires kinds { list_all is_linker_global names.now ≡ true }
     ensures ok { OnOk result (AddsPart sources.now
-        (made_global_part sources.now.book.now.input.now made)
+        (flat_map (made_global_part sources.now.book.now.input.now) names.now)
         globals.old.items globals.new.items) }
     ensures err { IfErr result (Refuses (IsPartFault sources.now
-        (made_global_part sources.now.book.now.input.now made))) }
+        (flat_map (made_global_part sources.now.book.now.input.now) names.now))) }
 {
-    match sources.bindings.indices.index(made) {
-        Some(_) => push_named(alloc, globals, sources, made),
-        None => Ok(()),
+    for made in names {
+        if sources.bindings.indices.index(*made).is_some() {
+            let start = sources.made_start(*made)?;
+            push_made(alloc, globals, word_of(*made), start)?;
+        }
     }
-}
-
-/// Adds the globals that the linker makes under names of their own.
-fn push_linker_globals<'a>(
-    alloc: Global,
-    globals: &mut Vec<PlannedGlobal<'a>>,
-    sources: &GlobalSources<'_, '_, '_, 'a>,
-) -> Result<(), LinkError>
-    requires { AreSources sources.now }
-    ensures ok { OnOk result (AddsPart sources.now
-        (linker_parts sources.now.book.now.input.now) globals.old.items globals.new.items) }
-    ensures err { IfErr result (Refuses (IsPartFault sources.now
-        (linker_parts sources.now.book.now.input.now))) }
-{
-    push_if_made(alloc, globals, sources, WasmLinkerSymbol::MemoryBase)?;
-    push_if_made(alloc, globals, sources, WasmLinkerSymbol::TableBase)?;
-    push_if_made(alloc, globals, sources, WasmLinkerSymbol::StackPointer)?;
-    push_if_made(alloc, globals, sources, WasmLinkerSymbol::TlsBase)?;
-    push_if_made(alloc, globals, sources, WasmLinkerSymbol::TlsSize)?;
-    push_if_made(alloc, globals, sources, WasmLinkerSymbol::TlsAlign)?;
     Ok(())
 }
 
-/// Adds an exported address of the linker's.
-fn push_address<'a>(
-    alloc: Global,
-    globals: &mut Vec<PlannedGlobal<'a>>,
-    sources: &GlobalSources<'_, '_, '_, 'a>,
-    made: WasmLinkerSymbol,
-) -> Result<(), LinkError>
-    requires sources { AreSources sources.now }
-    requires exported { Contains
-        (exported_addresses sources.now.book.now.input.now.link.args) made }
-    ensures ok { OnOk result (AddsPart sources.now (AddressOf made ∷ [])
-        globals.old.items globals.new.items) }
-    ensures err { IfErr result (Refuses (IsPartFault sources.now (AddressOf made ∷ []))) }
-{
-    let start = sources.address_start(made)?;
-    push_made(alloc, globals, MadeGlobal::Address, start)?;
-    Ok(())
-}
+/// The globals that the linker makes under names of their own, in order.
+const LINKER_GLOBALS: [WasmLinkerSymbol; 6] = [
+    WasmLinkerSymbol::MemoryBase,
+    WasmLinkerSymbol::TableBase,
+    WasmLinkerSymbol::StackPointer,
+    WasmLinkerSymbol::TlsBase,
+    WasmLinkerSymbol::TlsSize,
+    WasmLinkerSymbol::TlsAlign,
+];
 
 /// Adds the exported addresses of the linker's.
 fn push_addresses<'a>(
@@ -187,26 +142,9 @@ fn push_addresses<'a>(
         (address_part sources.now.book.now.input.now))) }
 {
     for made in addresses {
-        push_address(alloc, globals, sources, *made)?;
+        let start = sources.address_start(*made)?;
+        push_made(alloc, globals, MadeGlobal::Address, start)?;
     }
-    Ok(())
-}
-
-/// Adds an entry of the GOT list of data.
-fn push_mem<'a>(
-    alloc: Global,
-    globals: &mut Vec<PlannedGlobal<'a>>,
-    sources: &GlobalSources<'_, '_, '_, 'a>,
-    place: usize,
-) -> Result<(), LinkError>
-    requires { AreSources sources.now }
-    ensures ok { OnOk result (AddsPart sources.now (GlobalOf (global.GotMem place) ∷ [])
-        globals.old.items globals.new.items) }
-    ensures err { IfErr result (Refuses (IsPartFault sources.now
-        (GlobalOf (global.GotMem place) ∷ []))) }
-{
-    let start = sources.got_mem_start(place)?;
-    push_made(alloc, globals, MadeGlobal::GotMem, start)?;
     Ok(())
 }
 
@@ -223,26 +161,9 @@ fn push_got_mem<'a>(
         (got_mem_part sources.now.book.now.input.now))) }
 {
     for place in 0..sources.mem_count() {
-        push_mem(alloc, globals, sources, place)?;
+        let start = sources.got_mem_start(place)?;
+        push_made(alloc, globals, MadeGlobal::GotMem, start)?;
     }
-    Ok(())
-}
-
-/// Adds an entry of the GOT list of functions.
-fn push_func<'a>(
-    alloc: Global,
-    globals: &mut Vec<PlannedGlobal<'a>>,
-    sources: &GlobalSources<'_, '_, '_, 'a>,
-    place: usize,
-) -> Result<(), LinkError>
-    requires { AreSources sources.now }
-    ensures ok { OnOk result (AddsPart sources.now (GlobalOf (global.GotFunc place) ∷ [])
-        globals.old.items globals.new.items) }
-    ensures err { IfErr result (Refuses (IsPartFault sources.now
-        (GlobalOf (global.GotFunc place) ∷ []))) }
-{
-    let start = sources.got_func_start(place)?;
-    push_made(alloc, globals, MadeGlobal::GotFunc, start)?;
     Ok(())
 }
 
@@ -259,25 +180,9 @@ fn push_got_func<'a>(
         (got_func_part sources.now.book.now.input.now))) }
 {
     for place in 0..sources.func_count() {
-        push_func(alloc, globals, sources, place)?;
+        let start = sources.got_func_start(place)?;
+        push_made(alloc, globals, MadeGlobal::GotFunc, start)?;
     }
-    Ok(())
-}
-
-/// Adds the address of exported data of an object.
-fn push_datum<'a>(
-    alloc: Global,
-    globals: &mut Vec<PlannedGlobal<'a>>,
-    sources: &GlobalSources<'_, '_, '_, 'a>,
-    datum: DataSymbol,
-) -> Result<(), LinkError>
-    requires { AreSources sources.now }
-    ensures ok { OnOk result (AddsPart sources.now (DataOf datum ∷ [])
-        globals.old.items globals.new.items) }
-    ensures err { IfErr result (Refuses (IsPartFault sources.now (DataOf datum ∷ []))) }
-{
-    let start = sources.data_start(datum)?;
-    push_made(alloc, globals, MadeGlobal::Data, start)?;
     Ok(())
 }
 
@@ -294,7 +199,8 @@ fn push_data<'a>(
     ensures err { IfErr result (Refuses (IsPartFault sources.now (map DataOf exported.now))) }
 {
     for datum in exported {
-        push_datum(alloc, globals, sources, *datum)?;
+        let start = sources.data_start(*datum)?;
+        push_made(alloc, globals, MadeGlobal::Data, start)?;
     }
     Ok(())
 }
@@ -380,7 +286,7 @@ fn push_all<'a>(
     ensures err { IfErr result (Refuses (IsPartFault sources.now
         (made_parts sources.now.book.now.input.now))) }
 {
-    push_linker_globals(alloc, globals, sources)?;
+    push_named(alloc, globals, sources, &LINKER_GLOBALS)?;
     push_addresses(alloc, globals, sources, sources.addresses())?;
     push_got_mem(alloc, globals, sources)?;
     push_got_func(alloc, globals, sources)?;

@@ -5,8 +5,8 @@ ghost use Rattle.std.specs.Option.{option_to_list};
 ghost use Rattle.wl_symbols.specs.Input.{Input as Linked};
 ghost use Rattle.wl_bind.specs.OutputTypes.{output_types};
 ghost use Rattle.wl_bind.specs.Shared.{function_imports, global_imports};
-ghost use Rattle.wl_plan.specs.Bound.{AreBindings};
-ghost use Rattle.wl_plan.specs.ImportSteps.{AddsImports, HasTypeIndexIn, HasRowType, global_types_in, type_in_row, index_of_type};
+ghost use Rattle.wl_plan.specs.steps.Bindings.{AreBindings};
+ghost use Rattle.wl_plan.specs.steps.Imports.{AddsImports, HasTypeIndexIn, HasRowType, global_types_in, type_in_row, index_of_type};
 ghost use Rattle.wl_places.specs.IndexedMaps.{AreWholeMaps, HaveTypeIndices};
 ghost use Rattle.wl_plan.specs.Imports.{IsFunctionImport, IsGlobalImport, global_type_in, memory_imports, AreImports};
 

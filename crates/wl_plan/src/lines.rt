@@ -1,12 +1,12 @@
 //! The listing of a plan, line by line.
 
-ghost use Rattle.std.specs.Prelude.{◌≡◌, ◌≤◌, ◌<◌, ◌+◌, ◌-◌, ◌^◌, ◌++◌, map, length, IfOk, OnOk};
+ghost use Rattle.std.specs.Prelude.{◌≡◌, ◌≤◌, ◌<◌, ◌+◌, ◌-◌, ◌^◌, ◌++◌, [], map, length, IfOk, OnOk};
 ghost use Rattle.std.specs.List.{flat_map, AllByRecursion};
 ghost use Rattle.wl_check.specs.Ranges.{InRange, IsSmall};
 ghost use Rattle.wl_check.specs.Spelled.{IsListing};
 ghost use Rattle.wl_check.specs.Texts.{line_text};
 ghost use Rattle.wl_check.specs.declared.line.Line.TheVariants.{Fix, Feature};
-ghost use Rattle.wl_plan.specs.PlanLines.{numbered_lines, type_line, import_line, made_function, function_line, body_line, global_line, memory_lines, table_lines, slot_line, state_of, segment_line, export_line, start_lines, debug_line, lines_of, listing_text, HaveNumbers, ArePayloadsSmall, AreDebugSectionsSmall, HasListing};
+ghost use Rattle.wl_plan.specs.PlanLines.{numbered_lines, type_line, import_line, made_function, function_line, body_line, global_line, memory_lines, table_lines, slot_line, state_of, segment_line, export_line, start_lines, debug_line, output_segments, lines_of, listing_text, HaveNumbers, ArePayloadsSmall, AreDebugSectionsSmall, HasListing};
 
 use crate::layout::{
     FunctionOrigin, LinkPlan, OutputFunction, OutputImport, PlannedGlobal, count_output_imports,
@@ -378,6 +378,38 @@ fn expected_room(plan: &LinkPlan) -> usize {
     room
 }
 
+/// Writes the lines of a plan, whose segments are these, on an empty page.
+fn push_lines(
+    page: &mut Page,
+    plan: &LinkPlan<'_>,
+    segments: &[ObjectSegment<'_, '_>],
+) -> Result<(), AllocError>
+    requires empty { page.old ≡ [] }
+    requires segments { segments.now ≡ output_segments plan.now }
+    ensures text { OnOk result (page.new ≡ listing_text plan.now) }
+    ensures fits { OnOk result (HasListing plan.now
+        → AllByRecursion InRange (lines_of plan.now)) }
+{
+    let layout = &plan.layout;
+    let (functions, globals) = count_output_imports(layout);
+    push_version_line(page)?;
+    push_types(page, layout.output_types.as_slice())?;
+    push_imports(page, layout.imports.as_slice())?;
+    push_functions(page, functions, layout.function_type_indices.as_slice())?;
+    push_bodies(page, functions, layout.function_bodies.as_slice())?;
+    push_globals(page, globals, layout.globals.as_slice())?;
+    push_memory(page, layout.memory)?;
+    push_table(page, layout.table)?;
+    push_slots(page, layout.element_functions.as_slice())?;
+    push_segments(page, segments)?;
+    push_exports(page, layout.exports.as_slice())?;
+    push_start(page, layout.start_function)?;
+    push_fixups(page, plan.fixups.as_slice())?;
+    push_features(page, layout.features.as_slice())?;
+    push_debug_sections(page, layout.debug_sections.as_slice())?;
+    push_end_line(page)
+}
+
 /// The listing of a plan: the texts of its lines, one after the other.
 ///
 /// # Errors
@@ -387,30 +419,9 @@ pub fn listing(alloc: Global, plan: &LinkPlan<'_>) -> Result<Vec<u8>, AllocError
     ensures fits { OnOk result (HasListing plan.now
         → AllByRecursion InRange (lines_of plan.now)) }
 {
-    let layout = &plan.layout;
-    let (functions, globals) = count_output_imports(layout);
+    let segments = output_segments(alloc, plan.layout.object_data_layouts.as_slice())?;
     let mut page = Page::with_room(alloc, expected_room(plan))?;
-    push_version_line(&mut page)?;
-    push_types(&mut page, layout.output_types.as_slice())?;
-    push_imports(&mut page, layout.imports.as_slice())?;
-    push_functions(
-        &mut page,
-        functions,
-        layout.function_type_indices.as_slice(),
-    )?;
-    push_bodies(&mut page, functions, layout.function_bodies.as_slice())?;
-    push_globals(&mut page, globals, layout.globals.as_slice())?;
-    push_memory(&mut page, layout.memory)?;
-    push_table(&mut page, layout.table)?;
-    push_slots(&mut page, layout.element_functions.as_slice())?;
-    let segments = output_segments(alloc, layout.object_data_layouts.as_slice())?;
-    push_segments(&mut page, &segments)?;
-    push_exports(&mut page, layout.exports.as_slice())?;
-    push_start(&mut page, layout.start_function)?;
-    push_fixups(&mut page, plan.fixups.as_slice())?;
-    push_features(&mut page, layout.features.as_slice())?;
-    push_debug_sections(&mut page, layout.debug_sections.as_slice())?;
-    push_end_line(&mut page)?;
+    push_lines(&mut page, plan, &segments)?;
     page.into_text()
 }
 

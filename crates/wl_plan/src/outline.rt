@@ -13,9 +13,9 @@ ghost use Rattle.wl_exports.specs.Interface.{IsInterface};
 ghost use Rattle.wl_exports.specs.Sources.{AreSources, HaveIndices};
 ghost use Rattle.wl_exports.specs.Wrapped.{AreTooManyWrappers};
 ghost use Rattle.wl_features.specs.Taken.{AreTaken};
-ghost use Rattle.wl_plan.specs.Bound.{AreBindings};
+ghost use Rattle.wl_plan.specs.steps.Bindings.{AreBindings};
 ghost use Rattle.wl_plan.specs.Functions.{AreOutputFunctions};
-ghost use Rattle.wl_plan.specs.Outline.{AreFew, HasOutline};
+ghost use Rattle.wl_plan.specs.steps.Outline.{AreFew, HasOutline};
 
 use crate::bindings::Bindings;
 use crate::functions::own_functions;
@@ -59,6 +59,7 @@ fn bindings_of<'a>(
     ensures bindings { IfOk result (λ r. AreBindings input.now r.0) }
     ensures maps { IfOk result (λ r. AreIndexMaps input.now r.1) }
 {
+    let calls = init_calls(alloc, input, bound.maps.as_slice())?;
     let types = bound.types;
     let bindings = Bindings {
         scan: bound.scan,
@@ -66,7 +67,7 @@ fn bindings_of<'a>(
         shared: bound.shared,
         indices: bound.indices,
         types: types.types,
-        calls: init_calls(alloc, input, bound.maps.as_slice())?,
+        calls,
     };
     Ok((bindings, bound.maps))
 }

@@ -3,7 +3,7 @@
 ghost use Rattle.std.specs.Prelude.{◌≡◌, IfOk, IfErr};
 ghost use Rattle.wl_linking.specs.Steps.{Refuses};
 ghost use Rattle.wl_plan.specs.Objects.{AreObjects, IsBadObject};
-ghost use Rattle.wl_plan.specs.Parsing.{link_error_of};
+ghost use Rattle.wl_plan.specs.steps.Parsing.{link_error_of};
 
 use crate::objects::ObjectList;
 use std::alloc::Global;

@@ -1,7 +1,6 @@
 //! The plan of a link, part by part, where it is known what is kept.
 
 ghost use Rattle.std.specs.Prelude.{◌≡◌, ◌≤◌, length, OnOk, IfOk, IfErr};
-ghost use Rattle.std.specs.List.{AllZip};
 ghost use Rattle.wl_linking.specs.Steps.{Clear, Refuses};
 ghost use Rattle.wl_linking.specs.declared.error.LinkError.TheVariants.{OutOfMemory};
 ghost use Rattle.wl_index.specs.declared.index.TheConstants.{MAX_ENTRIES};
@@ -10,19 +9,19 @@ ghost use Rattle.wl_features.specs.Taken.{AreTaken};
 ghost use Rattle.wl_bind.specs.FunctionSpace.{function_space};
 ghost use Rattle.wl_bind.specs.IndexMaps.{AreIndexMaps};
 ghost use Rattle.wl_places.specs.Addresses.{segment_space, IsAddressTooHigh};
-ghost use Rattle.wl_symbols.specs.Relocations.{relocations};
-ghost use Rattle.wl_plan.specs.Bodies.{AreBodies, IsMovedIn};
+ghost use Rattle.wl_plan.specs.Bodies.{AreBodies};
 ghost use Rattle.wl_plan.specs.BodySteps.{AreRewritten, AreSoundBodies};
-ghost use Rattle.wl_plan.specs.Bound.{AreBindings};
-ghost use Rattle.wl_plan.specs.Faults.{IsNumberFault, value_steps, placed_fault, kept_fault};
+ghost use Rattle.wl_plan.specs.steps.Bindings.{AreBindings};
+ghost use Rattle.wl_plan.specs.Faults.{IsNumberFault, IsValueFault, value_steps, placed_fault, laid_fault, kept_fault};
 ghost use Rattle.wl_plan.specs.Fixups.{AreFixups};
 ghost use Rattle.wl_plan.specs.Globals.{IsGlobalFault};
 ghost use Rattle.wl_places.specs.IndexedMaps.{AreWholeMaps};
-ghost use Rattle.wl_plan.specs.Outline.{AreFew, HasOutline, HasWrapperRoom};
+ghost use Rattle.wl_plan.specs.steps.Outline.{AreFew, HasOutline, HasWrapperRoom};
 ghost use Rattle.wl_places.specs.Placing.{IsPlacing};
 ghost use Rattle.wl_plan.specs.Plan.{IsPlan};
-ghost use Rattle.wl_plan.specs.PlanSteps.{ArePlacedThings, IsBookOf, IsRenumberingOf, HasValues, HasNames, HasPartsOf, IsOutputModule};
-ghost use Rattle.wl_plan.specs.ThreadSteps.{IsBodyRefusal};
+ghost use Rattle.wl_plan.specs.steps.Positions.{AreMovedFields};
+ghost use Rattle.wl_plan.specs.steps.Plan.{ArePlacedThings, IsBookOf, IsRenumberingOf, HasValues, HasNames, HasPartsOf, IsOutputModule};
+ghost use Rattle.wl_plan.specs.steps.Threads.{IsBodyRefusal};
 
 use crate::bindings::Bindings;
 use crate::bodies::own_bodies;
@@ -34,7 +33,7 @@ use crate::imports::output_imports;
 use crate::layout::{LinkPlan, OutputFunction, OutputImport, PlannedGlobal, WasmLayout};
 use crate::outline::{Outline, outline_of, sources_of};
 use crate::positions::moved_fields;
-use crate::rewriting::{Renumbering, RewrittenBody, all_numbers};
+use crate::rewriting::{Renumbering, RewrittenBody};
 use crate::sizes::{SectionSizes, section_sizes};
 use crate::table::{element_functions, output_table, space_slots};
 use crate::wrappers::{push_wrapper_bodies, push_wrapper_slots};
@@ -49,11 +48,12 @@ use wl_features::FeatureList;
 use wl_index::WasmObjectIndexMap;
 use wl_linking::{DebugSectionInput, LinkError};
 use wl_lists::ItemList;
-use wl_module::{MemoryType, TableType, WasmFunctionBody};
+use wl_module::{FuncType, MemoryType, TableType, WasmFunctionBody};
 use wl_ops::numbers_are_one;
 use wl_output::Fixup;
 use wl_places::{
-    AddressBook, Placing, all_starts, check_exported, place_data, placings_are_one, whole_maps,
+    AddressBook, Placing, all_segment_numbers, all_starts, check_exported, place_data,
+    placings_are_one, whole_maps,
 };
 use wl_symbols::LinkInput;
 use wl_synth::body_or_fault;
@@ -145,8 +145,8 @@ fn output_values<'a>(
 ) -> Result<OutputValues<'a>, LinkError>
     requires things { ArePlacedThings things.now }
     requires book { IsBookOf things.now book.now }
-    requires positions { AllZip (IsMovedIn things.now.input.now things.now.placing.now)
-        (relocations things.now.input.now) positions.now }
+    requires positions { AreMovedFields things.now.input.now things.now.placing.now
+        positions.now }
     requires low { Clear (IsAddressTooHigh things.now.input.now things.now.placing.now) }
     ensures ok { IfOk result (HasValues things.now.input.now things.now.placing.now) }
     ensures clear { OnOk result
@@ -223,6 +223,39 @@ struct OutputParts<'a> {
     sizes: SectionSizes,
 }
 
+/// What takes its numbers from where things lie, and the bodies of the functions that aren't
+/// imported.
+fn values_and_bodies<'a>(
+    alloc: Global,
+    things: &PlacedThings<'_, '_, 'a>,
+    book: &AddressBook<'_, '_, 'a>,
+) -> Result<(OutputValues<'a>, ItemList<WasmFunctionBody<'a>>), LinkError>
+    requires things { ArePlacedThings things.now }
+    requires sound { AreSoundBodies things.now.input.now }
+    requires book { IsBookOf things.now book.now }
+    requires low { Clear (IsAddressTooHigh things.now.input.now things.now.placing.now) }
+    ensures values { IfOk result
+        (λ r. HasValues things.now.input.now things.now.placing.now r.0) }
+    ensures bodies { IfOk result
+        (λ r. AreBodies things.now.input.now things.now.placing.now r.1) }
+    ensures clear { OnOk result
+        (Clear (IsNumberFault things.now.input.now things.now.placing.now)) }
+    ensures err { IfErr result
+        (Refuses (IsValueFault things.now.input.now things.now.placing.now)) }
+{
+    let rows = all_segment_numbers(alloc, things.input, things.placing, things.maps)?;
+    let renumbering = Renumbering {
+        input: things.input,
+        placing: things.placing,
+        rows: rows.as_slice(),
+    };
+    let mut moved = moved_fields(alloc, &renumbering)?;
+    let values = output_values(alloc, things, book, &moved.positions)?;
+    let fixups = values.fixups.as_slice();
+    let bodies = output_bodies(alloc, things, book, fixups, &renumbering, &mut moved.bodies)?;
+    Ok((values, bodies))
+}
+
 /// All parts that are made from where things lie, where there can be these exports.
 fn output_parts<'a>(
     alloc: Global,
@@ -246,16 +279,7 @@ fn output_parts<'a>(
     init_calls_are_one();
     body_or_fault();
     entries_stand_once();
-    let rows = all_numbers(alloc, things.input, things.placing, things.maps)?;
-    let renumbering = Renumbering {
-        input: things.input,
-        placing: things.placing,
-        rows: rows.as_slice(),
-    };
-    let mut moved = moved_fields(alloc, &renumbering)?;
-    let values = output_values(alloc, things, book, &moved.positions)?;
-    let fixups = values.fixups.as_slice();
-    let bodies = output_bodies(alloc, things, book, fixups, &renumbering, &mut moved.bodies)?;
+    let (values, bodies) = values_and_bodies(alloc, things, book)?;
     // Reported where each value was found, and before sizes.
     check_exports(alloc, exports)?;
     let layouts = things.placing.places.layouts.as_slice();
@@ -342,6 +366,16 @@ fn placed_parts<'a>(
     Ok((maps, parts))
 }
 
+/// The types of the output, and no more of what the references are bound to.
+///
+/// # Errors
+/// `AllocError` where memory runs out.
+fn types_of(bindings: Bindings<'_>) -> Result<ItemList<FuncType>, AllocError>
+    ensures { IfOk result (λ types. types ≡ bindings.entry.types) }
+{
+    bindings.types.into_types()
+}
+
 /// The plan of a link with that outline, where things lie there, of these parts.
 ///
 /// # Errors
@@ -361,30 +395,15 @@ fn plan_of<'a>(
     ensures { IfOk result (IsPlan input.now) }
 {
     let whole = output_module(input, &placing, &outline.bindings);
-    let Outline {
-        bindings,
-        functions,
-        interface,
-        features,
-    } = outline;
-    let output_types = bindings.types.into_types()?;
-    let OutputParts {
-        bodies,
-        values,
-        names,
-        sizes,
-    } = parts;
-    let Placing {
-        places,
-        memory_base,
-        ..
-    } = placing;
+    let output_types = types_of(outline.bindings)?;
+    let (interface, places) = (outline.interface, placing.places);
+    let (values, names, sizes) = (parts.values, parts.names, parts.sizes);
     Ok(LinkPlan {
         layout: WasmLayout {
             output_types,
             imports: names.imports,
-            function_type_indices: functions,
-            function_bodies: bodies,
+            function_type_indices: outline.functions,
+            function_bodies: parts.bodies,
             globals: values.globals,
             memory: whole.memory,
             table: whole.table,
@@ -393,7 +412,7 @@ fn plan_of<'a>(
             object_data_layouts: places.layouts,
             exports: interface.exports,
             start_function: whole.start_function,
-            memory_base,
+            memory_base: placing.memory_base,
             tls_base: places.tls_base,
             shared_memory_tls: whole.shared_memory_tls,
             tls_size: places.tls_size,
@@ -401,12 +420,40 @@ fn plan_of<'a>(
             data_end: places.data_end,
             code_section_size: sizes.code,
             data_section_size: sizes.segments,
-            features: output_features(alloc, input.args(), features),
+            features: output_features(alloc, input.args(), outline.features),
             debug_sections: names.debug_sections,
             object_index_maps: maps,
         },
         fixups: values.fixups,
     })
+}
+
+/// Where things lie in a link with that outline, and the maps of the objects with their data, and
+/// all parts that are made from that.
+fn laid_parts<'a>(
+    alloc: Global,
+    input: &LinkInput<'_, 'a>,
+    args: &'a WasmArgs,
+    outline: &Outline<'a>,
+    maps: ItemList<WasmObjectIndexMap>,
+) -> Result<(Placing<'a>, ItemList<WasmObjectIndexMap>, OutputParts<'a>), LinkError>
+    requires sound { AreSoundBodies input.now }
+    requires args { args.now ≡ input.now.link.args }
+    requires outline { HasOutline input.now outline.now }
+    requires maps { AreIndexMaps input.now maps }
+    requires few { AreFew input.now }
+    requires wrapper_room { HasWrapperRoom input.now }
+    ensures placing { IfOk result (λ r. IsPlacing input.now r.0) }
+    ensures maps { IfOk result (λ r. AreWholeMaps input.now r.0 r.1) }
+    ensures parts { IfOk result (λ r. HasPartsOf input.now r.0 r.2) }
+    ensures clear { OnOk result (Clear (laid_fault input.now)) }
+    ensures err { IfErr result (Refuses (laid_fault input.now)) }
+{
+    placings_are_one();
+    // Segments, stack, memory and heap, and then what takes its value from where these lie.
+    let placing = place_data(alloc, input, outline.bindings.indices.needs())?;
+    let (maps, parts) = placed_parts(alloc, input, args, outline, &placing, maps)?;
+    Ok((placing, maps, parts))
 }
 
 /// The plan of a link, of which it is known what is kept.
@@ -430,12 +477,9 @@ pub(crate) fn plan_kept<'a>(
     ensures clear { OnOk result (Clear (kept_fault input.now)) }
     ensures err { IfErr result (Refuses (kept_fault input.now)) }
 {
-    placings_are_one();
     // What references lead to, and the number of each thing; the wrappers come on top.
     let bound = build_index_maps(alloc, input)?;
     let (outline, maps) = outline_of(alloc, input, args, bound, features)?;
-    // Segments, stack, memory and heap, and then what takes its value from where these lie.
-    let placing = place_data(alloc, input, outline.bindings.indices.needs())?;
-    let (maps, parts) = placed_parts(alloc, input, args, &outline, &placing, maps)?;
+    let (placing, maps, parts) = laid_parts(alloc, input, args, &outline, maps)?;
     Ok(plan_of(alloc, input, outline, placing, maps, parts)?)
 }

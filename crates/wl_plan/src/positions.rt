@@ -1,6 +1,6 @@
 //! Where the fields of kept relocations stand in what the output has.
 
-ghost use Rattle.std.specs.Prelude.{◌≡◌, ◌<◌, ◌++◌, map, length, true, Some, IfOk, IfErr, OnOk, slice_get};
+ghost use Rattle.std.specs.Prelude.{◌≡◌, ◌<◌, ◌∷◌, List, map, length, true, false, Some, Contains, IfOk, IfErr, OnOk, slice_get};
 ghost use Rattle.std.specs.List.{AllByRecursion, AllZip};
 ghost use Rattle.wl_linking.specs.declared.error.LinkError.TheVariants.{OutOfMemory};
 ghost use Rattle.wl_symbols.specs.Input.{keeps};
@@ -9,14 +9,17 @@ ghost use Rattle.wl_symbols.specs.declared.relocated.FixupPlace.TheVariants.{Cod
 ghost use Rattle.wl_symbols.specs.declared.relocated.Relocated.{Relocated as KeptRelocation};
 ghost use Rattle.wl_symbols.specs.declared.units.WasmGcUnit.TheVariants.{DefinedFunction};
 ghost use Rattle.wl_plan.specs.Bodies.{body_in, IsBodyIn, IsMovedIn};
-ghost use Rattle.wl_plan.specs.BodySteps.{IsRenumbering, AreRewritten};
-ghost use Rattle.wl_plan.specs.PositionSteps.{share_body, goes_on, AreOfOneBody, AreKept, IsThere, stays, IsMoving, AddsMoved};
+ghost use Rattle.wl_plan.specs.BodySteps.{AreSoundBodies, IsRenumbering, AreRewritten};
+ghost use Rattle.wl_plan.specs.steps.Positions.{share_body, goes_on, AreOfOneBody, AreKept, IsThere, stays, IsMoving, AreMoved, AreMovedFields, NoneIsMarked, AddsMoved};
+ghost use Rattle.wl_places.specs.declared.placing.Placing.{Placing as PlacingSeen};
 
 use crate::rewriting::{Renumbering, RewrittenBody, rewrite};
 use std::alloc::{AllocError, Global};
 use wl_linking::{File, LinkError, whole_objects};
 use wl_module::WasmFunctionBody;
-use wl_symbols::{FixupPlace, LinkInput, Relocated, kept_relocations, unmarked_bodies_number_none};
+use wl_symbols::{
+    FixupPlace, LinkInput, LiveSet, Relocated, kept_relocations, unmarked_bodies_number_none,
+};
 
 /// The two fields lie in one body.
 fn share_body(first: &Relocated, other: &Relocated) -> bool
@@ -145,13 +148,13 @@ fn stays(input: &LinkInput<'_, '_>, relocated: &Relocated) -> bool
     }
 }
 
-/// Where the fields of kept relocations stand in what the output has, and the bodies that were
-/// rewritten to know that.
+/// Where the fields of kept relocations stand in what the output has that don't stay where they
+/// stood, and the bodies that were rewritten to know that.
 #[derive(Drop)]
 pub(crate) struct MovedFields<'a> {
-    /// A place for each kept relocation, in order.
+    /// A place for each kept relocation whose field doesn't stay where it stood, in order.
     pub(crate) positions: Vec<u32>,
-    /// The bodies with such fields that number segments.
+    /// The bodies with such fields.
     pub(crate) bodies: Vec<RewrittenBody<'a>>,
 }
 
@@ -195,25 +198,21 @@ impl<'a> MovedFields<'a> {
     }
 }
 
-/// Where the fields of kept relocations stand in what the output has, in order. The bodies that were
-/// rewritten to know that come in the same order, the last one first.
+/// Walks over the kept relocations for those whose fields don't stay.
 ///
 /// # Errors
 /// Want of memory alone: kept bodies are decoded, and what they number is kept.
-pub(crate) fn moved_fields<'a>(
+fn walk_fields<'a>(
     alloc: Global,
     renumbering: &Renumbering<'_, '_, 'a>,
 ) -> Result<MovedFields<'a>, LinkError>
     requires renumbering { IsRenumbering renumbering.now }
-    ensures positions { IfOk result (λ moved.
-        AllZip (IsMovedIn renumbering.now.input.now renumbering.now.placing.now)
-        (relocations renumbering.now.input.now) moved.positions.items) }
+    ensures positions { IfOk result (λ moved. AreMoved renumbering.now.input.now
+        renumbering.now.placing.now (relocations renumbering.now.input.now) moved.positions.items) }
     ensures bodies { IfOk result (λ moved. AreRewritten renumbering.now.input.now
         renumbering.now.placing.now moved.bodies.items) }
     ensures err { IfErr result (λ e. e ≡ OutOfMemory) }
 {
-    whole_objects();
-    unmarked_bodies_number_none();
     let input = renumbering.input;
     let mut moved = MovedFields {
         positions: Vec::new(alloc),
@@ -226,13 +225,105 @@ pub(crate) fn moved_fields<'a>(
             moved.push_run(alloc, renumbering, run.as_slice())?;
             run.clear();
         }
-        if run.is_empty() && stays(input, &relocated) {
-            moved.positions.push(relocated.site.position)?;
-        } else {
+        if !run.is_empty() || !stays(input, &relocated) {
             run.push(relocated)?;
         }
     }
     moved.push_run(alloc, renumbering, run.as_slice())?;
     moved.bodies.reverse();
     Ok(moved)
+}
+
+/// Whether one of the first functions of an object, so many of them, has a body that numbers
+/// segments.
+fn any_is_marked(live: &LiveSet, object: usize, count: u32) -> bool
+    ensures { result ≡ false → NoneIsMarked live.now object count }
+{
+    for function in 0..count {
+        if live.numbers_segments(object, function) {
+            return true;
+        }
+    }
+    false
+}
+
+/// Whether a body of an object numbers segments.
+fn any_in_object(live: &LiveSet, object: usize, file: &File<'_>) -> bool
+    ensures { result ≡ false → NoneIsMarked live.now object (length file.now.bodies) }
+{
+    file.stands_for_an_object();
+    any_is_marked(live, object, file.bodies().len() as u32)
+}
+
+/// Whether all fields stay where they stood, for no body numbers segments.
+fn all_stay(input: &LinkInput<'_, '_>) -> bool
+    requires { AreSoundBodies input.now }
+    ensures { result ≡ true → (r : KeptRelocation) → Contains (relocations input.now) r
+        → stays input.now r ≡ true }
+{
+    whole_objects();
+    let live = input.live();
+    for (object, file) in input.files().as_slice().iter().enumerate() {
+        if any_in_object(live, object, file) {
+            return false;
+        }
+    }
+    true
+}
+
+/// Where the fields of kept relocations stand in what the output has that don't stay where they
+/// stood, in order. The bodies that were rewritten to know that come in the same order, the last
+/// one first.
+///
+/// # Errors
+/// Want of memory alone: kept bodies are decoded, and what they number is kept.
+pub(crate) fn moved_fields<'a>(
+    alloc: Global,
+    renumbering: &Renumbering<'_, '_, 'a>,
+) -> Result<MovedFields<'a>, LinkError>
+    requires renumbering { IsRenumbering renumbering.now }
+    ensures positions { IfOk result (λ moved. AreMovedFields renumbering.now.input.now
+        renumbering.now.placing.now moved.positions.items) }
+    ensures bodies { IfOk result (λ moved. AreRewritten renumbering.now.input.now
+        renumbering.now.placing.now moved.bodies.items) }
+    ensures err { IfErr result (λ e. e ≡ OutOfMemory) }
+{
+    whole_objects();
+    unmarked_bodies_number_none();
+    if all_stay(renumbering.input) {
+        return Ok(MovedFields {
+            positions: Vec::new(alloc),
+            bodies: Vec::new(alloc),
+        });
+    }
+    walk_fields(alloc, renumbering)
+}
+
+/// Where the field of a kept relocation stands, and what is left behind it of the places of those
+/// that don't stay.
+pub(crate) fn next_position<'p>(
+    input: &LinkInput<'_, '_>,
+    relocated: &Relocated,
+    moved: &'p [u32],
+) -> (u32, &'p [u32])
+    ensures at { (g : PlacingSeen) (more : List KeptRelocation)
+        → AreMoved input.now g (relocated.now ∷ more) moved.now
+        → (stays input.now relocated.now ≡ true
+        → IsMovedIn input.now g relocated.now relocated.now.site.position)
+        → IsMovedIn input.now g relocated.now result.0 }
+    ensures left { (g : PlacingSeen) (more : List KeptRelocation)
+        → AreMoved input.now g (relocated.now ∷ more) moved.now
+        → AreMoved input.now g more result.1.now }
+{
+    let own = relocated.site.position;
+    match moved.split_first() {
+        None => (own, moved),
+        Some((position, left)) => {
+            if stays(input, relocated) {
+                (own, moved)
+            } else {
+                (*position, left)
+            }
+        }
+    }
 }

@@ -1,25 +1,20 @@
 //! The bodies of objects that number segments, as the output has them: with its numbers, and with
 //! the fields in them where they stand then.
 
-ghost use Rattle.std.specs.Prelude.{◌≡◌, ◌≤◌, ◌<◌, ◌||◌, ◌++◌, ◌∷◌, [], List, length, map, true, if◌then◌else◌, Some, All, Contains, IfOk, IfErr, IfSome, OnOk, IsTrue};
+ghost use Rattle.std.specs.Prelude.{◌≡◌, ◌≤◌, ◌<◌, ◌||◌, ◌++◌, ◌∷◌, [], List, length, true, if◌then◌else◌, Some, All, Contains, IfOk, IfErr, IfSome, OnOk, IsTrue};
 ghost use Rattle.std.specs.Cow.{cow_slice_items};
 ghost use Rattle.wl_module.specs.Slices.{is_owned};
 ghost use Rattle.wl_linking.specs.declared.error.LinkError.TheVariants.{OutOfMemory};
-ghost use Rattle.wl_index.specs.declared.index.TheConstants.{MAX_ENTRIES};
 ghost use Rattle.wl_symbols.specs.Input.{keeps};
 ghost use Rattle.wl_symbols.specs.declared.units.WasmGcUnit.TheVariants.{DefinedFunction};
-ghost use Rattle.wl_places.specs.Addresses.{segment_space};
-ghost use Rattle.wl_places.specs.IndexedMaps.{AreWholeMaps};
-ghost use Rattle.wl_places.specs.Placing.{IsPlacing};
+ghost use Rattle.wl_places.specs.SegmentNumbers.{AreNewNumbers, AreAllNumbers};
 ghost use Rattle.wl_plan.specs.Bodies.{body_in, IsBodyIn};
-ghost use Rattle.wl_plan.specs.BodySteps.{kept_number, AreNewNumbers, AreAllNumbers, AreMovedIn, IsRenumbering, IsTakenFrom};
+ghost use Rattle.wl_plan.specs.BodySteps.{AreMovedIn, IsRenumbering, IsTakenFrom};
 ghost use Rattle.wl_plan.specs.declared.rewriting.RewrittenBody.{RewrittenBody as Rewritten};
 
 use crate::parsing::link_error;
 use std::alloc::{AllocError, Global};
 use std::borrow::CowSlice;
-use wl_data::segments_have_layouts;
-use wl_index::{WASM_DEAD_INDEX, WasmObjectIndexMap};
 use wl_linking::{LinkError, parts_of_objects_stand};
 use wl_lists::ItemList;
 use wl_module::{WasmFunctionBody, copy_bytes};
@@ -28,52 +23,6 @@ use wl_places::Placing;
 use wl_symbols::{LinkInput, live_units_are_closed};
 
 // ---- numbers of segments
-
-/// The number, unless it says that there is none.
-fn kept_number(index: u32) -> Option<u32>
-    ensures { result ≡ kept_number index }
-{
-    if index == WASM_DEAD_INDEX {
-        None
-    } else {
-        Some(index)
-    }
-}
-
-/// The numbers of an object's segments in the output; none for what isn't kept.
-fn object_numbers(alloc: Global, indices: &[u32]) -> Result<ItemList<Option<u32>>, AllocError>
-    ensures { IfOk result (λ numbers. numbers ≡ map kept_number indices.now) }
-{
-    let mut numbers = Vec::with_capacity(alloc, indices.len())?;
-    for index in indices {
-        numbers.push(kept_number(*index))?;
-    }
-    Ok(ItemList::new(numbers))
-}
-
-/// Those of all objects, object by object.
-///
-/// # Errors
-/// `AllocError` where memory runs out.
-pub(crate) fn all_numbers(
-    alloc: Global,
-    input: &LinkInput<'_, '_>,
-    placing: &Placing<'_>,
-    maps: &[WasmObjectIndexMap],
-) -> Result<ItemList<ItemList<Option<u32>>>, AllocError>
-    requires maps { AreWholeMaps input.now placing.now maps.now }
-    requires placed { IsPlacing input.now placing.now }
-    requires room { length (segment_space placing.now) ≤ MAX_ENTRIES }
-    ensures { IfOk result (AreAllNumbers input.now placing.now) }
-{
-    segments_have_layouts();
-    let _live = input.live();
-    let mut numbers = Vec::new(alloc);
-    for map in maps {
-        numbers.push(object_numbers(alloc, map.segment_indices.as_slice())?)?;
-    }
-    Ok(ItemList::new(numbers))
-}
 
 /// What bodies are rewritten by.
 #[derive(Clone, Copy)]

@@ -4,7 +4,7 @@ ghost use Rattle.std.specs.Prelude.{◌≤◌, length, OnOk, IfErr, IfOk};
 ghost use Rattle.wl_linking.specs.Steps.{Clear};
 ghost use Rattle.wl_index.specs.declared.index.TheConstants.{MAX_ENTRIES};
 ghost use Rattle.wl_data.specs.Sizes.{segment_count};
-ghost use Rattle.wl_plan.specs.SizeSteps.{IsTooBig, HasSizes};
+ghost use Rattle.wl_plan.specs.steps.Sizes.{IsTooBig, HasSizes};
 
 use wl_data::{
     SegmentLayouts, code_can_be_measured, compute_code_section_size, compute_data_section_size,

@@ -10,10 +10,10 @@ ghost use Rattle.wl_bind.specs.Sameness.{same_target};
 ghost use Rattle.wl_bind.specs.Scan.{scan_of};
 ghost use Rattle.wl_bind.specs.declared.binding.FunctionTarget.{FunctionTarget as Target};
 ghost use Rattle.wl_bind.specs.declared.binding.FunctionTarget.TheVariants.{Defined};
-ghost use Rattle.wl_plan.specs.Bound.{AreBindings};
+ghost use Rattle.wl_plan.specs.steps.Bindings.{AreBindings};
 ghost use Rattle.wl_places.specs.IndexedMaps.{AreWholeMaps};
 ghost use Rattle.wl_plan.specs.Table.{slot_of, slot_behind_first, space_slots, output_table, AreElements};
-ghost use Rattle.wl_plan.specs.TableSteps.{index_at, slot_among, table_minimums};
+ghost use Rattle.wl_plan.specs.steps.Table.{index_at, slot_among, table_minimums};
 
 use crate::bindings::Bindings;
 use std::alloc::{AllocError, Global};

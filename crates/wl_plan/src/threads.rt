@@ -10,10 +10,10 @@ ghost use Rattle.wl_bind.specs.Scan.{got_mem};
 ghost use Rattle.wl_places.specs.AddressSteps.{IsBook};
 ghost use Rattle.wl_places.specs.Addresses.{layouts_of, segment_start};
 ghost use Rattle.wl_plan.specs.Fixups.{AreFixups};
-ghost use Rattle.wl_plan.specs.GlobalSteps.{AreSources};
+ghost use Rattle.wl_plan.specs.steps.Globals.{AreSources};
 ghost use Rattle.wl_plan.specs.Globals.{IsGlobalFault};
 ghost use Rattle.wl_plan.specs.Running.{pointer_to};
-ghost use Rattle.wl_plan.specs.ThreadSteps.{AddsGot, IsFixupOf};
+ghost use Rattle.wl_plan.specs.steps.Threads.{AddsGot, IsFixupOf};
 ghost use Rattle.wl_plan.specs.Threads.{place_in_block, tls_pointers, got_places, IsGotFixup};
 
 use crate::global_starts::GlobalSources;

@@ -9,7 +9,7 @@ ghost use Rattle.wl_bind.specs.FunctionSpace.{host_function_part};
 ghost use Rattle.wl_bind.specs.OutputTypes.{output_types};
 ghost use Rattle.wl_exports.specs.Wrapped.{WrapperEntry, AreWrappers};
 ghost use Rattle.wl_plan.specs.Bodies.{AreOwnBodies, AreBodies};
-ghost use Rattle.wl_plan.specs.Bound.{AreBindings};
+ghost use Rattle.wl_plan.specs.steps.Bindings.{AreBindings};
 ghost use Rattle.wl_plan.specs.Functions.{AreOwnFunctions, AreOutputFunctions};
 ghost use Rattle.wl_plan.specs.Origins.{PlannedFunction};
 ghost use Rattle.wl_places.specs.declared.placing.Placing.{Placing as Places};

@@ -3,7 +3,7 @@ use Rattle.std.proofs.lemmas.List.{drop_all}
 use Rattle.std.specs.List.{filter_map}
 use Rattle.indexmap.specs.IndexSet.{insert_all}
 use Rattle.wl_bind.specs.ExportedData.{same_data, is_dynamic, forced_by, forced_data}
-use Rattle.wl_bind.specs.ExportSteps.{forced_alone}
+use Rattle.wl_bind.specs.steps.Exported.{forced_alone}
 use Rattle.wl_bind.proofs.ExportLaws.{all_apart}
 use Rattle.wl_bind.proofs.exported.forced_data.Goals as goal
 

@@ -3,7 +3,7 @@ use Rattle.std.specs.List.{filter_map}
 use Rattle.indexmap.specs.IndexSet.{insert_all}
 use Rattle.wl_words.specs.Texts.{texts}
 use Rattle.wl_bind.specs.ExportedData.{same_data}
-use Rattle.wl_bind.specs.ExportSteps.{forced_alone}
+use Rattle.wl_bind.specs.steps.Exported.{forced_alone}
 use Rattle.wl_bind.proofs.exported.forced_data.Given as goal
 
 abbrev pub invariant-loop-name : goal.invariant-loop-name

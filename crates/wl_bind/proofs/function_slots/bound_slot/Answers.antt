@@ -1,4 +1,4 @@
-use Rattle.std.proofs.Common.{◌≡◌, ◌∙◌, ap, rules, true, None, map, List}
+use Rattle.std.proofs.Common.{◌≡◌, ◌∙◌, refl, ap, rules, true, None, map, List}
 use Rattle.wl_symbols.specs.SlotTargets.{slot_target}
 use Rattle.wl_symbols.specs.KeptSlots.{is_kept_slot}
 use Rattle.wl_symbols.specs.Left.{HostImport, first_slot}
@@ -38,3 +38,12 @@ returns-in-None-clause-place c =
     ∙ ap (λ (stubs : List HostImport). left_place stubs c.args.left.now.hosts t) c.requires.stubs
     ∙ ap (λ (hosts : List HostImport). left_place (map first_slot (link_stubs input)) hosts t) c.requires.hosts
     ∙ left_placed input (function_imports input) t told (is_left input t c.requires.here kept none) kept none
+
+pub returns-then-not-is_kept_slot-clause-target : goal.returns-then-not-is_kept_slot-clause-target
+returns-then-not-is_kept_slot-clause-target c = rw (← c.if-not-is_kept_slot.ensures) refl
+
+pub returns-then-not-is_kept_slot-clause-resolution : goal.returns-then-not-is_kept_slot-clause-resolution
+returns-then-not-is_kept_slot-clause-resolution c = rw (← c.if-not-is_kept_slot.ensures) refl
+
+pub returns-then-not-is_kept_slot-clause-place : goal.returns-then-not-is_kept_slot-clause-place
+returns-then-not-is_kept_slot-clause-place c = rw (← c.if-not-is_kept_slot.ensures) refl

@@ -5,7 +5,7 @@ use Rattle.wl_symbols.specs.ImportSlots.{ImportSlot, import_slots}
 use Rattle.wl_bind.specs.Resolutions.{global_resolution}
 use Rattle.wl_bind.specs.Shared.{import_place}
 use Rattle.wl_bind.proofs.HostLaws.{placed}
-use Rattle.wl_bind.proofs.RowLaws.{entry_pushed}
+use Rattle.wl_bind.proofs.RowLaws.{entry_pushed, entries_all}
 use Rattle.wl_bind.proofs.global_slots.bind_row.Goals as goal
 
 pub bound_slot-requires-clause-kind : goal.bound_slot-requires-clause-kind
@@ -33,3 +33,19 @@ loop-slot-preserved c =
       places = entry_pushed (import_place input Global c.args.hosts.now) slots k slot c.bound_slot.result.place old.places.items new.places.items
           (map (import_place input Global c.args.hosts.now) slots) lt c.slot-item.is c.bound_slot.ensures.place c.in_ok-push.ensures.places told.places;
     }
+
+pub returns-clause-resolutions : goal.returns-clause-resolutions
+returns-clause-resolutions c =
+    let slots = c.deref-slot-items.result.now in
+    let own = import_slots c.args.input.now.link.objects c.args.object Global in
+    let list : slots ≡ own = search rules in
+    entries_all (global_resolution c.args.input.now) slots own c.loop-slot.slot-index c.loop-slot.row.resolutions.items
+    c.loop-slot-test.false list c.loop-slot.invariant.resolutions
+
+pub returns-clause-places : goal.returns-clause-places
+returns-clause-places c =
+    let slots = c.deref-slot-items.result.now in
+    let own = import_slots c.args.input.now.link.objects c.args.object Global in
+    let list : slots ≡ own = search rules in
+    entries_all (import_place c.args.input.now Global c.args.hosts.now) slots own c.loop-slot.slot-index c.loop-slot.row.places.items
+    c.loop-slot-test.false list c.loop-slot.invariant.places

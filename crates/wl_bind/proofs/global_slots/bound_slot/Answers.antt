@@ -1,7 +1,7 @@
 use Rattle.std.proofs.Common.{◌≡◌, ◌∙◌, ap, rules, true, None}
 use Rattle.wl_symbols.specs.SlotTargets.{slot_target}
 use Rattle.wl_symbols.specs.KeptSlots.{is_kept_slot}
-use Rattle.wl_bind.specs.GlobalSlots.{left_global_place}
+use Rattle.wl_bind.specs.steps.GlobalSlots.{left_global_place}
 use Rattle.wl_bind.specs.Later.{later_by_got}
 use Rattle.wl_bind.specs.Scan.{Scanned}
 use Rattle.wl_bind.proofs.GlobalLaws.{left_resolved}

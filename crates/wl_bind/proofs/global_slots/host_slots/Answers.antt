@@ -4,7 +4,7 @@ use Rattle.std.proofs.lemmas.Fn.{filter_same}
 use Rattle.std.proofs.lemmas.List.Elements.{filter_agree}
 use Rattle.wl_symbols.specs.ImportSlots.{ImportSlot}
 use Rattle.wl_bind.specs.GlobalBinding.{by_got, left_globals}
-use Rattle.wl_bind.specs.GlobalSlots.{is_host_by_lists}
+use Rattle.wl_bind.specs.steps.GlobalSlots.{is_host_by_lists}
 use Rattle.wl_bind.specs.Scan.{Scanned, scan_of}
 use Rattle.wl_bind.proofs.GlobalLaws.{left_by_lists}
 use Rattle.wl_bind.proofs.global_slots.host_slots.Goals as goal

@@ -1,46 +1,48 @@
-use Rattle.std.proofs.Common.{◌∙◌, ap, sym, subst, rules, arith, List, None, length, replicate}
+use Rattle.std.proofs.Common.{◌≡◌, ◌∙◌, None, Some, ap, arith, false, length, replicate, rules, slice_get, subst, sym}
+use Rattle.wl_linking.specs.Object.{Object}
 use Rattle.wl_bind.specs.GlobalSpace.{global_space}
-use Rattle.wl_bind.specs.GlobalSteps.{mem_global_if}
-use Rattle.wl_custom.specs.Symbols.{Symbol}
+use Rattle.wl_bind.specs.steps.GotGlobals.{mem_global_if}
 use Rattle.wl_bind.specs.IndexMaps.{has_global, got_mem_globals}
 use Rattle.wl_bind.specs.Parts.{ArePlacesOf}
 use Rattle.wl_bind.specs.Scan.{Scanned}
-use Rattle.wl_bind.proofs.GotGlobalLaws.{few_marks, symbol_there, symbol_more, mem_none, so_of_answer}
+use Rattle.wl_lists.proofs.Splits.{splits}
+use Rattle.wl_bind.proofs.GotGlobalLaws.{asked_by_mem, symbol_there, symbol_more, mem_none, so_of_answer}
 use Rattle.wl_bind.proofs.got_globals.got_mem_globals.Goals as goal
 
 pub overflow_cast-number : goal.overflow_cast-number
-overflow_cast-number c =
-    let input = c.args.numbering.now.input.now in
-    let small = few_marks (has_global input c.args.object c.args.file.now)
-    (length c.args.file.now.symbols) c.loop-number.number c.deref-mark-items.result.now
-    (search rules) c.stands_for_an_object.ensures.few.symbols c.loop-number-test.true in
-    omega (arith, small)
+overflow_cast-number c = omega (arith, c.loop-number-test.true, c.requires.few)
 
 pub got_mem_global-requires-clause-there : goal.got_mem_global-requires-clause-there
 got_mem_global-requires-clause-there c =
-    symbol_there c.args.numbering.now.input.now.link.objects c.args.object c.args.file.now
-    (has_global c.args.numbering.now.input.now c.args.object c.args.file.now)
-    c.loop-number.number c.deref-mark-items.result.now c.requires.here (search rules)
+    let n = c.args.numbering.now in
+    let objects = n.input.now.link.objects in
+    let s = splits objects c.args.object c.requires.within in
+    let asked = asked_by_mem _ n.scan.now c.scan.view_is (sym c.is_empty.ensures ∙ c.if-is_empty.false) in
+    symbol_there objects c.args.object s.x (has_global n.input.now c.args.object s.x)
+    c.loop-number.number c.args.marks.now s.here ((c.requires.marks s.x s.here).named asked)
     c.loop-number-test.true
 
 pub loop-number-preserved : goal.loop-number-preserved
-loop-number-preserved c =
-    let input = c.args.numbering.now.input.now in
+loop-number-preserved c = λ o here.
+    let n = c.args.numbering.now in
+    let input = n.input.now in
+    let asked = asked_by_mem _ n.scan.now c.scan.view_is (sym c.is_empty.ensures ∙ c.if-is_empty.false) in
     symbol_more (global_space input) (mem_global_if input c.args.object)
-    (has_global input c.args.object c.args.file.now) (length c.args.file.now.symbols)
-    c.loop-number.number c.deref-mark-items.result.now _ c.loop-number.globals c.push.new.self
-    c.got_mem_global.result (search rules) c.loop-number-test.true c.got_mem_global.ensures
-    (search rules) c.in_ok-push.ensures.ok c.loop-number.invariant
+    (has_global input c.args.object o) (length o.symbols)
+    c.loop-number.number c.args.marks.now _ c.loop-number.globals c.push.new.self
+    c.got_mem_global.result ((c.requires.marks o here).named asked) c.loop-number-test.true c.got_mem_global.ensures
+    (search rules) c.in_ok-push.ensures.ok (c.loop-number.invariant o here)
 
 pub returns-then-is_empty : goal.returns-then-is_empty
 returns-then-is_empty c =
     let input = c.args.numbering.now.input.now in
-    let o = c.args.file.now in
-    let all = mem_none input c.args.object o c.scan.inside.got_mem
+    let object = c.args.object in
+    so_of_answer (λ globals. (o : Object) → slice_get input.link.objects object ≡ Some o
+    → ArePlacesOf (global_space input) (got_mem_globals input object o) globals)
+    c.no_globals.result (replicate (length c.args.marks.now) None) c.no_globals.ensures
+    (λ o here.
+    let all = mem_none input object o c.scan.inside.got_mem
     (ap (λ (s : Scanned). s.got_mem) (c.scan.view_is ∙ c.requires.numbering.scan))
     (sym c.is_empty.ensures ∙ c.if-is_empty.true) in
-    so_of_answer (ArePlacesOf (global_space input) (got_mem_globals input c.args.object o))
-    c.no_globals.result (replicate (length c.symbols.result.now) None) c.no_globals.ensures
-    (subst (λ (ss : List Symbol). ArePlacesOf (global_space input)
-    (got_mem_globals input c.args.object o) (replicate (length ss) None)) (sym c.symbols.ensures)
-    all)
+    subst (λ k. ArePlacesOf (global_space input) (got_mem_globals input object o) (replicate k None))
+    (sym (c.requires.marks o here).count) all)

@@ -1,5 +1,5 @@
 use Rattle.std.proofs.Common.{sym, ◌∙◌}
-use Rattle.wl_bind.specs.KindSteps.{is_wrong_at}
+use Rattle.wl_bind.specs.steps.Kinds.{is_wrong_at}
 use Rattle.wl_bind.proofs.FindLaws.{find_next}
 use Rattle.wl_bind.proofs.kinds.find_in_object.Goals as goal
 

@@ -1,5 +1,5 @@
 use Rattle.std.proofs.Common.{◌≡◌, drop, find}
-use Rattle.wl_bind.specs.KindSteps.{is_wrong_at}
+use Rattle.wl_bind.specs.steps.Kinds.{is_wrong_at}
 use Rattle.wl_bind.proofs.kinds.find_in_object.Given as goal
 
 abbrev pub invariant-loop-function : goal.invariant-loop-function

@@ -1,5 +1,5 @@
 use Rattle.std.proofs.Common.{◌≡◌, drop}
-use Rattle.wl_bind.specs.KindSteps.{wrong_init_from}
+use Rattle.wl_bind.specs.steps.Kinds.{wrong_init_from}
 use Rattle.wl_bind.proofs.kinds.find_wrong_init.Given as goal
 
 abbrev pub invariant-loop-object : goal.invariant-loop-object

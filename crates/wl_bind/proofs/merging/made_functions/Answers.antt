@@ -1,7 +1,7 @@
 use Rattle.std.proofs.Common.{◌∙◌, ◌∷◌, ◌++◌, [], ap, Bool, List}
 use Rattle.wl_module.specs.Types.{FunctionType}
 use Rattle.wl_module.specs.declared.types.ValType.TheVariants.{I32}
-use Rattle.wl_bind.specs.MergeSteps.{type_where}
+use Rattle.wl_bind.specs.steps.Merging.{type_where}
 use Rattle.wl_bind.proofs.MergeLaws.{made_types_are}
 use Rattle.wl_bind.proofs.merging.made_functions.Goals as goal
 

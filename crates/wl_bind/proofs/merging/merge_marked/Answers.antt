@@ -1,5 +1,5 @@
 use Rattle.std.proofs.lemmas.Result.{err_from_is_err_and}
-use Rattle.wl_bind.specs.MergeSteps.{is_marked}
+use Rattle.wl_bind.specs.steps.Merging.{is_marked}
 use Rattle.wl_bind.proofs.MergeLaws.{marked_more, marked_full, marked_done}
 use Rattle.wl_bind.proofs.merging.merge_marked.Goals as goal
 

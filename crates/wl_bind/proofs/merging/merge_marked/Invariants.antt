@@ -1,6 +1,6 @@
 use Rattle.std.proofs.Common.{drop}
 use Rattle.wl_bind.specs.OutputTypes.{types_if}
-use Rattle.wl_bind.specs.MergeSteps.{is_marked}
+use Rattle.wl_bind.specs.steps.Merging.{is_marked}
 use Rattle.wl_bind.proofs.MergeLaws.{Merging}
 use Rattle.wl_bind.proofs.merging.merge_marked.Given as goal
 

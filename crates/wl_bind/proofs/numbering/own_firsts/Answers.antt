@@ -1,7 +1,7 @@
 use Rattle.std.proofs.Common.{◌≡◌, ◌∙◌, ◌≤◌, ◌+◌, ℕ, sym, subst, IfOk}
 use Rattle.std.proofs.lemmas.Result.{on_ok_weaker}
 use Rattle.wl_index.specs.declared.index.TheConstants.{MAX_ENTRIES}
-use Rattle.wl_bind.specs.OwnIndices.{firsts_from, kept_count, own_start}
+use Rattle.wl_bind.specs.steps.OwnIndices.{firsts_from, kept_count, own_start}
 use Rattle.wl_bind.specs.Parts.{IsOver}
 use Rattle.wl_bind.specs.SpaceFaults.{IsSpaceOver}
 use Rattle.wl_bind.proofs.NumberingLaws.{if_err, made_end_is, made_end_fits, own_over, own_room}

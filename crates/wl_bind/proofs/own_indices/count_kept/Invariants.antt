@@ -1,6 +1,6 @@
 use Rattle.std.proofs.Common.{◌≡◌, ◌≤◌}
 use Rattle.wl_symbols.specs.Input.{keeps}
-use Rattle.wl_bind.specs.OwnIndices.{own_unit}
+use Rattle.wl_bind.specs.steps.OwnIndices.{own_unit}
 use Rattle.wl_bind.proofs.OwnLaws.{passing}
 use Rattle.wl_bind.proofs.own_indices.count_kept.Given as goal
 

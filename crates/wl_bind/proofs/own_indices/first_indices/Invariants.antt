@@ -1,6 +1,6 @@
 use Rattle.std.proofs.Common.{◌≡◌, ◌≤◌, ◌+◌, ◌++◌, drop}
 use Rattle.wl_index.specs.declared.index.TheConstants.{MAX_ENTRIES}
-use Rattle.wl_bind.specs.OwnIndices.{firsts_from, kept_count}
+use Rattle.wl_bind.specs.steps.OwnIndices.{firsts_from, kept_count}
 use Rattle.wl_bind.proofs.own_indices.first_indices.Given as goal
 
 abbrev pub invariant-loop-object : goal.invariant-loop-object

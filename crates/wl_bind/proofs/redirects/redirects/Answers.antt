@@ -1,6 +1,6 @@
 use Rattle.std.proofs.Common.{◌∙◌, ℕ, List, Option, ◌∷◌, [], ◌++◌, ap, sym, arith}
 use Rattle.std.proofs.lemmas.List.FromFn.{map-range_with_len_more}
-use Rattle.wl_bind.specs.RedirectSteps.{redirect_of}
+use Rattle.wl_bind.specs.steps.Redirects.{redirect_of}
 use Rattle.wl_bind.proofs.redirects.redirects.Goals as goal
 
 pub loop-number-preserved : goal.loop-number-preserved

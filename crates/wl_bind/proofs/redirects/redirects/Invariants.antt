@@ -1,6 +1,6 @@
 use Rattle.std.proofs.Common.{◌≡◌, map}
 use Rattle.std.specs.List.{range_with_len}
-use Rattle.wl_bind.specs.RedirectSteps.{redirect_of}
+use Rattle.wl_bind.specs.steps.Redirects.{redirect_of}
 use Rattle.wl_bind.proofs.redirects.redirects.Given as goal
 
 abbrev pub invariant-loop-number : goal.invariant-loop-number

@@ -2,7 +2,7 @@ use Rattle.std.proofs.Common.{◌∙◌, ap}
 use Rattle.std.proofs.lemmas.Result.{err_from_is_err_and}
 use Rattle.wl_linking.specs.Steps.{here, behind, Refuses}
 use Rattle.wl_bind.specs.ScanFaults.{scan_fault}
-use Rattle.wl_bind.specs.ScanSteps.{Found}
+use Rattle.wl_bind.specs.steps.Scanning.{Found}
 use Rattle.wl_bind.proofs.ScanLaws.{wrong_found, mismatch_found, undefined_found}
 use Rattle.wl_bind.proofs.scanning.check_found.Goals as goal
 

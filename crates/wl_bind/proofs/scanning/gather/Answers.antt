@@ -1,6 +1,6 @@
 use Rattle.std.proofs.Common.{◌∙◌, ap}
 use Rattle.wl_bind.specs.Scan.{scan_of}
-use Rattle.wl_bind.specs.ScanSteps.{scan_part}
+use Rattle.wl_bind.specs.steps.Scanning.{scan_part}
 use Rattle.wl_bind.proofs.ScanLaws.{scan_found}
 use Rattle.wl_bind.proofs.scanning.gather.Goals as goal
 

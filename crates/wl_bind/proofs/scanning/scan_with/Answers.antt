@@ -5,7 +5,7 @@ use Rattle.wl_symbols.specs.Input.{Input}
 use Rattle.wl_bind.specs.Kinds.{IsWrongKind}
 use Rattle.wl_bind.specs.Scan.{scan_of}
 use Rattle.wl_bind.specs.ScanFaults.{scan_fault}
-use Rattle.wl_bind.specs.ScanSteps.{scan_part}
+use Rattle.wl_bind.specs.steps.Scanning.{scan_part}
 use Rattle.wl_bind.specs.Signatures.{IsMismatch}
 use Rattle.wl_bind.specs.Undefined.{IsUndefinedData}
 use Rattle.wl_bind.proofs.ScanLaws.{scan_found}

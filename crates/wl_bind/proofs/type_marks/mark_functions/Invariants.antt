@@ -1,5 +1,5 @@
 use Rattle.std.proofs.Common.{◌≡◌, drop}
-use Rattle.wl_bind.specs.MergeSteps.{mark_all, function_types}
+use Rattle.wl_bind.specs.steps.Merging.{mark_all, function_types}
 use Rattle.wl_bind.proofs.type_marks.mark_functions.Given as goal
 
 abbrev pub invariant-loop-number : goal.invariant-loop-number

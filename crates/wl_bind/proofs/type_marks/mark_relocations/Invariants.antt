@@ -1,6 +1,6 @@
 use Rattle.std.proofs.Common.{◌≡◌, map}
 use Rattle.wl_symbols.specs.KeptRelocations.{relocations_left}
-use Rattle.wl_bind.specs.MergeSteps.{mark_all, named_type}
+use Rattle.wl_bind.specs.steps.Merging.{mark_all, named_type}
 use Rattle.wl_symbols.specs.Relocations.{object_relocations}
 use Rattle.wl_bind.proofs.type_marks.mark_relocations.Given as goal
 

@@ -1,5 +1,5 @@
 use Rattle.std.proofs.Common.{◌≡◌, drop, map}
-use Rattle.wl_bind.specs.MergeSteps.{mark_all, host_type}
+use Rattle.wl_bind.specs.steps.Merging.{mark_all, host_type}
 use Rattle.wl_bind.proofs.type_marks.mark_slots.Given as goal
 
 abbrev pub invariant-loop-slot : goal.invariant-loop-slot

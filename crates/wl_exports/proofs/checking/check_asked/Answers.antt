@@ -1,5 +1,5 @@
 use Rattle.wl_linking.specs.Steps.{Refuses}
-use Rattle.wl_exports.specs.FaultSteps.{IsSoundName, IsNameFault}
+use Rattle.wl_exports.specs.steps.Checking.{IsSoundName, IsNameFault}
 use Rattle.wl_exports.specs.Faults.{IsExportFault}
 use Rattle.wl_exports.proofs.FaultLaws.{ok_of, err_of, required_fault}
 use Rattle.wl_exports.proofs.checking.check_asked.Goals as goal

@@ -3,8 +3,8 @@ use Rattle.std.proofs.lemmas.Bool.{not-false, not-true}
 use Rattle.wl_linking.specs.declared.error.LinkError.{LinkError}
 use Rattle.wl_linking.specs.declared.error.LinkError.TheVariants.{DuplicateExport}
 use Rattle.wl_module.specs.Exports.{Exported}
-use Rattle.wl_exports.specs.FaultSteps.{IsRepeat}
-use Rattle.wl_exports.specs.NameSteps.{has_export}
+use Rattle.wl_exports.specs.steps.Checking.{IsRepeat}
+use Rattle.wl_exports.specs.steps.Names.{has_export}
 use Rattle.wl_exports.proofs.NameLaws.{holds_next}
 use Rattle.wl_exports.proofs.FaultLaws.{distinct_next, distinct_all, repeat_at}
 use Rattle.wl_exports.proofs.checking.check_distinct.Goals as goal

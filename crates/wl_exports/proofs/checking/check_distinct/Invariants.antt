@@ -1,6 +1,6 @@
 use Rattle.std.proofs.Common.{take}
-use Rattle.wl_exports.specs.FaultSteps.{AreDistinct}
-use Rattle.wl_exports.specs.NameSteps.{HoldsNames}
+use Rattle.wl_exports.specs.steps.Checking.{AreDistinct}
+use Rattle.wl_exports.specs.steps.Names.{HoldsNames}
 use Rattle.wl_exports.proofs.checking.check_distinct.Given as goal
 
 abbrev pub invariant-loop-export : goal.invariant-loop-export

@@ -1,5 +1,5 @@
 use Rattle.wl_linking.specs.Steps.{Clear}
-use Rattle.wl_exports.specs.FaultSteps.{AreSoundFirst}
+use Rattle.wl_exports.specs.steps.Checking.{AreSoundFirst}
 use Rattle.wl_exports.specs.Faults.{IsExportFault}
 use Rattle.wl_exports.proofs.FaultLaws.{clear_of}
 use Rattle.wl_exports.proofs.GrowLaws.{ok_then}

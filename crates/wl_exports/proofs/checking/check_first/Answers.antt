@@ -1,7 +1,7 @@
 use Rattle.std.specs.List.{AllZip}
 use Rattle.wl_linking.specs.Steps.{Refuses}
 use Rattle.wl_exports.specs.Exports.{first_exports}
-use Rattle.wl_exports.specs.FaultSteps.{AreDistinct, AreSoundFirst, IsRepeat}
+use Rattle.wl_exports.specs.steps.Checking.{AreDistinct, AreSoundFirst, IsRepeat}
 use Rattle.wl_exports.specs.Faults.{IsExportFault}
 use Rattle.wl_exports.specs.Sources.{IsPlainExport}
 use Rattle.wl_exports.proofs.FaultLaws.{ok_of, err_of, zip_of, sound_first, repeat_fault}

@@ -3,7 +3,7 @@ use Rattle.wl_symbols.specs.Link.{Link}
 use Rattle.wl_symbols.specs.Names.{named}
 use Rattle.wl_symbols.specs.declared.entry.Definition.TheVariants.{Symbol}
 use Rattle.wl_bind.specs.ExportedData.{is_made_name}
-use Rattle.wl_exports.specs.FaultSteps.{IsSoundSymbol, IsSymbolFault, IsSoundName, IsNameFault}
+use Rattle.wl_exports.specs.steps.Checking.{IsSoundSymbol, IsSymbolFault, IsSoundName, IsNameFault}
 use Rattle.wl_exports.proofs.FaultLaws.{match_then, sound_name, name_fault}
 use Rattle.wl_exports.proofs.checking.check_name.Goals as goal
 

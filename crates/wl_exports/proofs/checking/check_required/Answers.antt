@@ -1,7 +1,7 @@
 use Rattle.std.proofs.Common.{◌≡◌, ◌∙◌, ap}
 use Rattle.wl_words.specs.Texts.{texts}
 use Rattle.wl_words.specs.declared.args.WasmArgs.{WasmArgs}
-use Rattle.wl_exports.specs.FaultSteps.{IsSoundName}
+use Rattle.wl_exports.specs.steps.Checking.{IsSoundName}
 use Rattle.wl_exports.proofs.EntryLaws.{name_in}
 use Rattle.wl_exports.proofs.FaultLaws.{each_next, each_all}
 use Rattle.wl_exports.proofs.checking.check_required.Goals as goal

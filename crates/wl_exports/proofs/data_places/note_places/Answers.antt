@@ -1,7 +1,7 @@
 use Rattle.std.proofs.Common.{arith, sym, get_or}
 use Rattle.std.proofs.lemmas.Option.{slice_get-get_or, get_or_from_slice_get}
 use Rattle.wl_bind.specs.declared.exported.DataSymbol.{DataSymbol}
-use Rattle.wl_exports.specs.DataSteps.{place_of}
+use Rattle.wl_exports.specs.steps.DataPlaces.{place_of}
 use Rattle.wl_exports.proofs.DataLaws.{told_none, told_more, told_all}
 use Rattle.wl_exports.proofs.data_places.note_places.Goals as goal
 

@@ -1,5 +1,5 @@
 use Rattle.std.proofs.Common.{◌≡◌, ◌+◌, take}
-use Rattle.wl_exports.specs.DataSteps.{NotesPlaces}
+use Rattle.wl_exports.specs.steps.DataPlaces.{NotesPlaces}
 use Rattle.wl_exports.proofs.data_places.note_places.Given as goal
 
 abbrev pub invariant-loop-symbol : goal.invariant-loop-symbol

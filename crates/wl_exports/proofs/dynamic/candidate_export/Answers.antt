@@ -6,7 +6,7 @@ use Rattle.wl_custom.specs.declared.symbols.WasmSymbolKind.{WasmSymbolKind}
 use Rattle.wl_symbols.specs.Link.{Link}
 use Rattle.wl_symbols.specs.Roots.{is_candidate}
 use Rattle.wl_exports.specs.Exports.{ExportEntry, defined_entity, export_of}
-use Rattle.wl_exports.specs.ExportSteps.{IsPlainIf, takes}
+use Rattle.wl_exports.specs.steps.Exports.{IsPlainIf, takes}
 use Rattle.wl_exports.proofs.EntryLaws.{candidate_is}
 use Rattle.wl_exports.proofs.ShownLaws.{shown_candidate}
 use Rattle.wl_exports.proofs.dynamic.candidate_export.Goals as goal

@@ -1,7 +1,7 @@
 use Rattle.std.proofs.Common.{◌≡◌, ◌∙◌, ◌<◌, List, length, get_or, ap, subst}
 use Rattle.wl_linking.specs.Object.{Object}
 use Rattle.wl_exports.specs.Exports.{candidates_in}
-use Rattle.wl_exports.specs.ExportSteps.{takes}
+use Rattle.wl_exports.specs.steps.Exports.{takes}
 use Rattle.wl_lists.proofs.Places.{item_at}
 use Rattle.wl_exports.proofs.GrowLaws.{adds_object}
 use Rattle.wl_exports.proofs.dynamic.push_candidates.Goals as goal

@@ -1,6 +1,6 @@
 use Rattle.std.proofs.Common.{take}
 use Rattle.wl_bind.specs.Parts.{by_object}
-use Rattle.wl_exports.specs.ExportSteps.{AddsExports, takes}
+use Rattle.wl_exports.specs.steps.Exports.{AddsExports, takes}
 use Rattle.wl_exports.specs.Exports.{candidates_in}
 use Rattle.wl_exports.proofs.dynamic.push_candidates.Given as goal
 

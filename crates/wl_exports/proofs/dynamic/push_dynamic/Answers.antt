@@ -2,7 +2,7 @@ use Rattle.std.proofs.Common.{◌≡◌, ◌∙◌, ◌++◌, true, List, sym, a
 use Rattle.wl_words.specs.declared.args.WasmArgs.{WasmArgs}
 use Rattle.wl_exports.specs.Exports.{ExportEntry, stack_pointer_export, candidates, is_code, dynamic_exports}
 use Rattle.wl_custom.specs.Symbols.{is_data}
-use Rattle.wl_exports.specs.ExportSteps.{AddsExports}
+use Rattle.wl_exports.specs.steps.Exports.{AddsExports}
 use Rattle.wl_exports.proofs.GrowLaws.{adds_more, adds_same, ok_then}
 use Rattle.wl_exports.proofs.EntryLaws.{dynamic_is}
 use Rattle.wl_exports.proofs.dynamic.push_dynamic.Goals as goal

@@ -1,6 +1,6 @@
 use Rattle.std.proofs.Common.{take}
 use Rattle.wl_exports.specs.Exports.{by_symbol}
-use Rattle.wl_exports.specs.ExportSteps.{AddsExports}
+use Rattle.wl_exports.specs.steps.Exports.{AddsExports}
 use Rattle.wl_exports.proofs.EntryLaws.{wanted_candidate}
 use Rattle.wl_exports.proofs.dynamic.push_symbols.Given as goal
 

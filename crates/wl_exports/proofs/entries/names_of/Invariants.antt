@@ -1,5 +1,5 @@
 use Rattle.std.proofs.Common.{take}
-use Rattle.wl_exports.specs.NameSteps.{HoldsNames}
+use Rattle.wl_exports.specs.steps.Names.{HoldsNames}
 use Rattle.wl_exports.proofs.entries.names_of.Given as goal
 
 abbrev pub invariant-loop-export : goal.invariant-loop-export

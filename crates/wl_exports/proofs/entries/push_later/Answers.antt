@@ -1,6 +1,6 @@
 use Rattle.std.proofs.Common.{◌++◌, List}
 use Rattle.wl_exports.specs.Exports.{ExportEntry, entry_export, thread_exports, made_exports, forced_exports, dynamic_exports, later_exports}
-use Rattle.wl_exports.specs.ExportSteps.{AddsExports}
+use Rattle.wl_exports.specs.steps.Exports.{AddsExports}
 use Rattle.wl_exports.proofs.GrowLaws.{adds_more, ok_then}
 use Rattle.wl_exports.proofs.entries.push_later.Goals as goal
 

@@ -1,6 +1,6 @@
 use Rattle.std.proofs.Common.{◌≡◌, ◌∙◌, ◌++◌, not, List, ℕ, take, ap, sym}
 use Rattle.wl_module.specs.Exports.{Exported}
-use Rattle.wl_exports.specs.NameSteps.{has_export}
+use Rattle.wl_exports.specs.steps.Names.{has_export}
 use Rattle.wl_exports.proofs.NameLaws.{holds_next, untaken_next}
 use Rattle.wl_exports.proofs.entries.push_untaken.Goals as goal
 

@@ -6,7 +6,7 @@ use Rattle.wl_index.specs.declared.index_map.WasmObjectIndexMap.{WasmObjectIndex
 use Rattle.wl_bind.specs.FunctionSpace.{local_functions}
 use Rattle.wl_bind.specs.References.{there}
 use Rattle.wl_exports.specs.Exports.{OfFunction, export_of}
-use Rattle.wl_exports.specs.ExportSteps.{IsPlainIf, index_at}
+use Rattle.wl_exports.specs.steps.Exports.{IsPlainIf, index_at}
 use Rattle.wl_lists.proofs.Places.{item_at}
 use Rattle.wl_exports.proofs.PlaceLaws.{function_at, has_map, the_map}
 use Rattle.wl_exports.proofs.indexed.function_export.Goals as goal

@@ -1,5 +1,5 @@
 use Rattle.wl_exports.specs.Exports.{inherited_exports, memory_export, first_exports}
-use Rattle.wl_exports.specs.ExportSteps.{AddsExports, memory_entry}
+use Rattle.wl_exports.specs.steps.Exports.{AddsExports, memory_entry}
 use Rattle.wl_exports.proofs.GrowLaws.{adds_more, ok_then}
 use Rattle.wl_exports.proofs.inherited.push_first.Goals as goal
 

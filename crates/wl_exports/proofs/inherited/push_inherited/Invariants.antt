@@ -1,7 +1,7 @@
 use Rattle.std.proofs.Common.{take}
 use Rattle.wl_bind.specs.Parts.{by_object}
 use Rattle.wl_exports.specs.Exports.{object_exports}
-use Rattle.wl_exports.specs.ExportSteps.{AddsExports}
+use Rattle.wl_exports.specs.steps.Exports.{AddsExports}
 use Rattle.wl_exports.proofs.inherited.push_inherited.Given as goal
 
 abbrev pub invariant-loop-object : goal.invariant-loop-object

@@ -1,5 +1,5 @@
 use Rattle.std.proofs.Common.{filter_map, take}
-use Rattle.wl_exports.specs.ExportSteps.{AddsExports}
+use Rattle.wl_exports.specs.steps.Exports.{AddsExports}
 use Rattle.wl_exports.proofs.GrowLaws.{own_export}
 use Rattle.wl_exports.proofs.inherited.push_object.Given as goal
 

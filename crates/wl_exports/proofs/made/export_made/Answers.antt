@@ -1,7 +1,7 @@
 use Rattle.std.proofs.Common.{sym, subst, Some}
 use Rattle.wl_module.specs.declared.imports.ExternalKind.{ExternalKind}
 use Rattle.wl_bind.specs.MadeIndices.{IsMadeIndex}
-use Rattle.wl_exports.specs.ExportSteps.{IsPlainIf}
+use Rattle.wl_exports.specs.steps.Exports.{IsPlainIf}
 use Rattle.wl_exports.proofs.MadeLaws.{made_entry, made_plain}
 use Rattle.wl_exports.proofs.made.export_made.Goals as goal
 

@@ -1,7 +1,7 @@
 use Rattle.std.proofs.Common.{◌≡◌, sym, subst, Option, Some}
 use Rattle.wl_symbols.specs.LinkerNames.{symbol_named}
 use Rattle.wl_exports.specs.Exports.{ExportEntry}
-use Rattle.wl_exports.specs.ExportSteps.{IsPlainIf}
+use Rattle.wl_exports.specs.steps.Exports.{IsPlainIf}
 use Rattle.wl_exports.proofs.MadeLaws.{under_is}
 use Rattle.wl_exports.proofs.made.export_made_under.Goals as goal
 

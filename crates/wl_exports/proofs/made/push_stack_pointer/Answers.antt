@@ -3,7 +3,7 @@ use Rattle.std.proofs.Common.{◌≡◌, ◌∙◌, true, sym}
 use Rattle.wl_symbols.specs.LinkerNames.{name_of}
 use Rattle.wl_symbols.specs.declared.linker_symbol.WasmLinkerSymbol.TheVariants as linker
 use Rattle.wl_exports.specs.Exports.{stack_pointer_export}
-use Rattle.wl_exports.specs.ExportSteps.{AddsExports, uses_mutable_globals}
+use Rattle.wl_exports.specs.steps.Exports.{AddsExports, uses_mutable_globals}
 use Rattle.wl_exports.proofs.GrowLaws.{ok_then}
 use Rattle.wl_exports.proofs.MadeLaws.{made_entry}
 use Rattle.wl_exports.proofs.ThreadLaws.{stack_one}

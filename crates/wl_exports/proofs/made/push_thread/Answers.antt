@@ -2,7 +2,7 @@ use Rattle.std.specs.Option.{option_to_list}
 use Rattle.wl_symbols.specs.LinkerNames.{name_of}
 use Rattle.wl_symbols.specs.declared.linker_symbol.WasmLinkerSymbol.TheVariants as linker
 use Rattle.wl_exports.specs.Exports.{thread_exports}
-use Rattle.wl_exports.specs.ExportSteps.{AddsExports}
+use Rattle.wl_exports.specs.steps.Exports.{AddsExports}
 use Rattle.wl_exports.proofs.GrowLaws.{ok_then}
 use Rattle.wl_exports.proofs.MadeLaws.{made_entry}
 use Rattle.wl_exports.proofs.ThreadLaws.{thread_three}

@@ -10,7 +10,7 @@ use Rattle.wl_custom.specs.Symbols.{is_defined_function}
 use Rattle.wl_bind.specs.FunctionSpace.{local_functions}
 use Rattle.wl_bind.specs.References.{there}
 use Rattle.wl_exports.specs.Exports.{OfFunction, export_of, defined_entity, named_function}
-use Rattle.wl_exports.specs.ExportSteps.{IsPlainIf}
+use Rattle.wl_exports.specs.steps.Exports.{IsPlainIf}
 use Rattle.wl_exports.proofs.EntryLaws.{plain_same, entry_is, function_parts_of}
 use Rattle.wl_exports.proofs.ShownLaws.{found, function_shown, holds_at, kept_entry}
 use Rattle.wl_exports.proofs.named.entry_export.Goals as goal

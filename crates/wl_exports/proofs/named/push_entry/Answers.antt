@@ -2,7 +2,7 @@ use Rattle.std.proofs.Common.{◌≡◌, ◌∙◌, ℕ, List, Some, sym, ap}
 use Rattle.std.specs.Option.{option_to_list}
 use Rattle.wl_words.specs.declared.args.WasmArgs.{WasmArgs}
 use Rattle.wl_exports.specs.Exports.{entry_export, named_function}
-use Rattle.wl_exports.specs.ExportSteps.{AddsExports}
+use Rattle.wl_exports.specs.steps.Exports.{AddsExports}
 use Rattle.wl_exports.proofs.EntryLaws.{name_entry, names_one}
 use Rattle.wl_exports.proofs.GrowLaws.{adds_same, ok_then}
 use Rattle.wl_exports.proofs.named.push_entry.Goals as goal

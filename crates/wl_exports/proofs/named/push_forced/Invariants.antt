@@ -1,7 +1,7 @@
 use Rattle.std.proofs.Common.{take}
 use Rattle.wl_words.specs.Texts.{texts}
 use Rattle.wl_exports.specs.Exports.{by_names, unless_made}
-use Rattle.wl_exports.specs.ExportSteps.{AddsExports}
+use Rattle.wl_exports.specs.steps.Exports.{AddsExports}
 use Rattle.wl_exports.proofs.named.push_forced.Given as goal
 
 abbrev pub invariant-loop-name : goal.invariant-loop-name

@@ -6,7 +6,7 @@ use Rattle.wl_bind.specs.FunctionSpace.{local_functions}
 use Rattle.wl_bind.specs.GlobalSpace.{local_globals}
 use Rattle.wl_bind.specs.References.{there}
 use Rattle.wl_exports.specs.Exports.{OfFunction, OfGlobal, export_of}
-use Rattle.wl_exports.specs.ExportSteps.{IsPlainIf}
+use Rattle.wl_exports.specs.steps.Exports.{IsPlainIf}
 use Rattle.wl_exports.proofs.ShownLaws.{function_shown, global_shown, holds_at}
 use Rattle.wl_exports.proofs.named.symbol_export.Goals as goal
 

@@ -1,7 +1,7 @@
 use Rattle.std.proofs.Common.{◌∙◌, ℕ, List}
 use Rattle.std.specs.Borrow.{Bor}
 use Rattle.std.specs.Str.{bytes_eq}
-use Rattle.wl_exports.specs.NameSteps.{holds_name}
+use Rattle.wl_exports.specs.steps.Names.{holds_name}
 use Rattle.wl_exports.proofs.NameLaws.{cond_or}
 use Rattle.wl_exports.proofs.names.take_name.Goals as goal
 

@@ -1,5 +1,5 @@
 use Rattle.std.proofs.Common.{◌≡◌, drop, max}
-use Rattle.wl_places.specs.PlacingSteps.{most_pages}
+use Rattle.wl_places.specs.steps.Placing.{most_pages}
 use Rattle.wl_places.proofs.placing.defined_pages.Given as goal
 
 abbrev pub invariant-loop-memory : goal.invariant-loop-memory

@@ -1,7 +1,7 @@
 use Rattle.std.proofs.Common.{◌∙◌, ◌||◌, ◌==◌, Bool, length, not, ap, sym}
 use Rattle.std.specs.List.{list_any}
 use Rattle.std.proofs.lemmas.Bool.{or_left}
-use Rattle.wl_places.specs.PlacingSteps.{is_memory_import}
+use Rattle.wl_places.specs.steps.Placing.{is_memory_import}
 use Rattle.wl_places.proofs.PlacingLaws.{has_either}
 use Rattle.wl_places.proofs.placing.has_memory.Goals as goal
 

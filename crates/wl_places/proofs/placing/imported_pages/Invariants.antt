@@ -1,5 +1,5 @@
 use Rattle.std.proofs.Common.{◌≡◌, drop, max}
-use Rattle.wl_places.specs.PlacingSteps.{imported_memories, most_pages}
+use Rattle.wl_places.specs.steps.Placing.{imported_memories, most_pages}
 use Rattle.wl_places.proofs.placing.imported_pages.Given as goal
 
 abbrev pub invariant-loop-import : goal.invariant-loop-import

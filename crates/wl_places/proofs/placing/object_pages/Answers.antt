@@ -1,7 +1,7 @@
 use Rattle.std.proofs.Common.{List, ap, arith}
 use Rattle.wl_module.specs.Imports.{Imported}
 use Rattle.wl_module.specs.declared.limits.MemoryType.{MemoryType}
-use Rattle.wl_places.specs.PlacingSteps.{imported_memories, most_pages}
+use Rattle.wl_places.specs.steps.Placing.{imported_memories, most_pages}
 use Rattle.wl_places.proofs.PlacingLaws.{both_pages}
 use Rattle.wl_places.proofs.placing.object_pages.Goals as goal
 

@@ -9,7 +9,7 @@ use Rattle.wl_plan.specs.Bodies.{AreInitMemoryOps}
 use Rattle.wl_synth.specs.declared.parts.PassiveSegmentCopy.{PassiveSegmentCopy}
 use Rattle.wl_index.specs.declared.index.TheConstants.{MAX_ENTRIES}
 use Rattle.wl_places.specs.Copies.{copies_from, shared_copies, AreSmallLayouts}
-use Rattle.wl_plan.specs.ThreadSteps.{IsUnspelled}
+use Rattle.wl_plan.specs.steps.Threads.{IsUnspelled}
 use Rattle.wl_plan.proofs.ThreadLaws.{row_length, unspelled_by}
 use Rattle.wl_plan.proofs.bodies.init_memory_body.Goals as goal
 

@@ -9,7 +9,7 @@ use Rattle.wl_index.specs.declared.index.TheConstants.{MAX_ENTRIES}
 use Rattle.wl_plan.specs.Bodies.{AreInitTlsOps}
 use Rattle.wl_plan.specs.Threads.{IsGotFixup, got_places, tls_pointers}
 use Rattle.wl_places.specs.Copies.{copies_from, is_filled_template, template_copies, AreSmallLayouts}
-use Rattle.wl_plan.specs.ThreadSteps.{IsUnspelled}
+use Rattle.wl_plan.specs.steps.Threads.{IsUnspelled}
 use Rattle.wl_plan.proofs.ThreadLaws.{row_length, unspelled_by}
 use Rattle.wl_plan.proofs.bodies.init_tls_body.Goals as goal
 

@@ -1,4 +1,4 @@
-use Rattle.wl_plan.specs.FunctionSteps.{own_function_part}
+use Rattle.wl_plan.specs.steps.Functions.{own_function_part}
 use Rattle.wl_plan.proofs.FunctionLaws.{functions_below, below_more}
 use Rattle.wl_plan.proofs.GrowLaws.{adds_more, adds_same}
 use Rattle.std.proofs.Common.{◌+◌, ◌++◌}

@@ -1,6 +1,6 @@
 use Rattle.wl_bind.specs.FunctionSpace.{init_memory_part}
 use Rattle.wl_plan.specs.BodySteps.{AddsBodies}
-use Rattle.wl_plan.specs.FunctionSteps.{linker_functions}
+use Rattle.wl_plan.specs.steps.Functions.{linker_functions}
 use Rattle.wl_plan.proofs.FunctionLaws.{ok_then}
 use Rattle.wl_plan.proofs.MadeBodyLaws.{adds_three}
 use Rattle.wl_plan.proofs.bodies.push_linker_made.Goals as goal
@@ -16,5 +16,5 @@ returns-clause-ok c =
     let new = c.push_init_memory.new.bodies.items in
     ok_then c.push_init_memory.result (AddsBodies input g (init_memory_part input) two new)
     (AddsBodies input g (linker_functions input) old new)
-    (λ last. adds_three input g old one two new c.in_ok-push_call_ctors.ensures c.in_ok-push_init_tls.ensures.ok last)
+    (λ last. adds_three input g old one two new (c.in_ok-push_call_ctors.ensures input g c.requires.sources.bindings) c.in_ok-push_init_tls.ensures.ok last)
     c.push_init_memory.ensures.ok

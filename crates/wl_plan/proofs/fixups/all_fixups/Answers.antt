@@ -1,35 +1,15 @@
-use Rattle.std.proofs.Common.{◌≡◌, ◌<◌, ◌∙◌, ◌∷◌, [], List, length, sym, subst, append-nil, append_assoc, rules}
+use Rattle.std.proofs.Common.{◌≡◌, ◌∙◌, ◌∷◌, [], List, sym, subst, append-nil, append_assoc}
 use Rattle.std.specs.List.{AllZip}
 use Rattle.std.proofs.lemmas.Result.{err_from_is_err_and}
 use Rattle.wl_linking.specs.Steps.{Clear}
 use Rattle.wl_symbols.specs.KeptRelocations.{relocations_left}
 use Rattle.wl_symbols.specs.Relocations.{relocations}
 use Rattle.wl_symbols.specs.declared.relocated.Relocated.{Relocated}
-use Rattle.wl_plan.specs.Bodies.{IsMovedIn}
-use Rattle.wl_plan.specs.FixupSteps.{IsRefusedAt}
+use Rattle.wl_plan.specs.steps.Fixups.{IsRefusedAt}
 use Rattle.wl_plan.specs.Fixups.{IsFixup}
-use Rattle.wl_plan.proofs.FixupListLaws.{all_more, next_is_kept, none_refused, one_refused, place_there, place_within, zip_more}
+use Rattle.wl_plan.specs.steps.Positions.{AreMoved}
+use Rattle.wl_plan.proofs.FixupListLaws.{all_more, next_is_kept, none_refused, one_refused, zip_more}
 use Rattle.wl_plan.proofs.fixups.all_fixups.Goals as goal
-
-pub bounds-positions-len : goal.bounds-positions-len
-bounds-positions-len c =
-    let s = c.args.sources.now in
-    let at = c.loop-relocated in
-    place_within (IsMovedIn s.book.now.input.now s.book.now.placing.now) (IsFixup s.book.now.input.now s.book.now.placing.now)
-    (relocations s.book.now.input.now) at.yielded _ (relocations_left c.next.new.self) c.in-Some.relocated
-    c.args.positions.now at.fixups.items c.len.result at.invariant.all c.in-Some.ensures.steps
-    c.requires.positions at.invariant.so_far (c.len.ensures ∙ at.fixups.ok.0)
-
-pub offset_bounds-positions-len : goal.offset_bounds-positions-len
-offset_bounds-positions-len c =
-    let s = c.args.sources.now in
-    let at = c.loop-relocated in
-    let within : c.len.result < length c.args.positions.now =
-    place_within (IsMovedIn s.book.now.input.now s.book.now.placing.now) (IsFixup s.book.now.input.now s.book.now.placing.now)
-    (relocations s.book.now.input.now) at.yielded _ (relocations_left c.next.new.self) c.in-Some.relocated
-    c.args.positions.now at.fixups.items c.len.result at.invariant.all c.in-Some.ensures.steps
-    c.requires.positions at.invariant.so_far (c.len.ensures ∙ at.fixups.ok.0) in
-    search rules
 
 pub fixup-requires-clause-kept : goal.fixup-requires-clause-kept
 fixup-requires-clause-kept c =
@@ -40,11 +20,15 @@ fixup-requires-clause-kept c =
 pub fixup-requires-clause-moved : goal.fixup-requires-clause-moved
 fixup-requires-clause-moved c =
     let s = c.args.sources.now in
+    let input = s.book.now.input.now in
+    let g = s.book.now.placing.now in
     let at = c.loop-relocated in
-    place_there (IsMovedIn s.book.now.input.now s.book.now.placing.now) (IsFixup s.book.now.input.now s.book.now.placing.now)
-    (relocations s.book.now.input.now) at.yielded _ (relocations_left c.next.new.self) c.in-Some.relocated
-    c.args.positions.now at.fixups.items c.len.result 0 at.invariant.all c.in-Some.ensures.steps
-    c.requires.positions at.invariant.so_far (c.len.ensures ∙ at.fixups.ok.0)
+    let r = c.in-Some.relocated in
+    let more = relocations_left c.next.new.self in
+    let kept = next_is_kept (relocations input) at.yielded _ more r at.invariant.all c.in-Some.ensures.steps in
+    c.next_position-position.ensures.at g more
+    (subst (λ (rs : List Relocated). AreMoved input g rs at.moved.now) c.in-Some.ensures.steps at.invariant.moved)
+    (c.requires.positions.others r kept)
 
 pub returns-in_err-fixup-clause-err : goal.returns-in_err-fixup-clause-err
 returns-in_err-fixup-clause-err c =
@@ -68,6 +52,9 @@ loop-relocated-preserved c =
           c.in_ok-push.ensures.items;
       clear = all_more (λ (x : Relocated). Clear (IsRefusedAt s x)) at.yielded r at.invariant.clear
           c.in_ok-fixup.ensures.clear;
+      moved = c.next_position-position.ensures.left s.book.now.placing.now (relocations_left c.next.new.self)
+          (subst (λ (rs : List Relocated). AreMoved s.book.now.input.now s.book.now.placing.now rs at.moved.now)
+          c.in-Some.ensures.steps at.invariant.moved);
     }
 
 pub returns-clause-ok : goal.returns-clause-ok

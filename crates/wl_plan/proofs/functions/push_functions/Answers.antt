@@ -1,7 +1,7 @@
 use Rattle.std.proofs.Common.{◌≡◌, ◌+◌, length, arith}
 use Rattle.wl_bind.specs.FunctionSpace.{functions_of}
-use Rattle.wl_plan.specs.FunctionSteps.{own_function_part}
-use Rattle.wl_plan.proofs.FunctionLaws.{adds_more, adds_none, adds_same, below_is, below_more, functions_below}
+use Rattle.wl_plan.specs.steps.Functions.{own_function_part}
+use Rattle.wl_plan.proofs.FunctionLaws.{adds_if_some, adds_more, adds_none, adds_same, below_is, below_more, functions_below}
 use Rattle.wl_plan.proofs.functions.push_functions.Goals as goal
 
 pub loop-function-init : goal.loop-function-init
@@ -14,10 +14,12 @@ loop-function-preserved c =
     let k = c.loop-function.function in
     let first = c.args.functions.now.items in
     let old = c.loop-function.functions.items in
-    let new = c.push_kept.new.functions.items in
+    let new = c.push_if_some.new.functions.items in
     adds_same input _ (functions_below input i (k + 1)) first new (below_more input i k)
     (adds_more input (functions_below input i k) (own_function_part input i k) first old new
-    c.loop-function.invariant c.in_ok-push_kept.ensures)
+    c.loop-function.invariant
+    (adds_if_some input (own_function_part input i k) c.kept_function.result old new c.kept_function.ensures
+    c.in_ok-push_if_some.ensures))
 
 pub returns : goal.returns
 returns c =

@@ -1,4 +1,4 @@
-use Rattle.wl_plan.specs.FunctionSteps.{AddsFunctions}
+use Rattle.wl_plan.specs.steps.Functions.{AddsFunctions}
 use Rattle.wl_plan.proofs.FunctionLaws.{functions_below}
 use Rattle.wl_plan.proofs.functions.push_functions.Given as goal
 

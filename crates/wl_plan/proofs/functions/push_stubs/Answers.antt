@@ -33,23 +33,6 @@ bounds-types-place c =
 pub loop-place-init : goal.loop-place-init
 loop-place-init c = adds_none c.args.input.now c.args.functions.now.items
 
-pub push_typed-requires : goal.push_typed-requires
-push_typed-requires c =
-    let input = c.args.input.now in
-    let k = c.loop-place.place in
-    let b = c.requires.bindings in
-    let h = c.stub-item.result in
-    let ty = c.index-types-place.result in
-    let hosts : c.as_slice-stub-items.result.now ≡ map first_slot (link_stubs input) =
-    c.as_slice-stub-items.ensures ∙ c.in_ok-stubs.ensures in
-    let types : c.as_slice-types.result.now ≡ stub_types input = c.as_slice-types.ensures ∙ b.stubs in
-    let is : StubIs input k c.index-types-place.result h.name =
-    stub_is input k h ty (λ entry has. c.entries_have_types.ensures input entry b.settled has)
-    (subst (λ (hs : List HostImport). k < length hs) hosts c.loop-place-test.true)
-    (c.stub-item.is ∙ ap (λ (hs : List HostImport). get_or hs k h) hosts)
-    (c.index-types-place.is ∙ ap (λ (ts : List FunctionType). get_or ts k ty) types) in
-    contains_in c.args.bindings.now.types (output_types input) ty b.types is.one
-
 pub loop-place-preserved : goal.loop-place-preserved
 loop-place-preserved c =
     let input = c.args.input.now in
@@ -65,11 +48,11 @@ loop-place-preserved c =
     (subst (λ (hs : List HostImport). k < length hs) hosts c.loop-place-test.true)
     (c.stub-item.is ∙ ap (λ (hs : List HostImport). get_or hs k h) hosts)
     (c.index-types-place.is ∙ ap (λ (ts : List FunctionType). get_or ts k ty) types) in
-    stub_more input k ty c.args.bindings.now.types h.name c.stub.inside.name.now c.args.functions.now.items
-    c.loop-place.functions.items c.push_typed.new.functions.items b.types
+    stub_more input k ty c.args.bindings.now.types h.name c.stub.inside.name.now c.type_number.result
+    c.args.functions.now.items c.loop-place.functions.items c.push.new.self.items b.types
     (ap (λ (g : HostImport). g.name) c.stub.view_is) is
-    c.in_ok-push_typed.ensures
-    c.loop-place.invariant
+    (c.type_number.ensures (contains_in c.args.bindings.now.types (output_types input) ty b.types is.one))
+    c.in_ok-push.ensures.items c.loop-place.invariant
 
 pub returns : goal.returns
 returns c =

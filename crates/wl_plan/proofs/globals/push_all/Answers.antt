@@ -1,12 +1,14 @@
+use Rattle.std.proofs.Common.{List, subst}
 use Rattle.std.proofs.lemmas.Result.{err_from_is_err_and}
+use Rattle.wl_linking.specs.Steps.{Refuses}
 use Rattle.wl_bind.specs.ExportedData.{dynamic_data, forced_data}
-use Rattle.wl_bind.specs.GlobalSpace.{DataOf, address_part, got_mem_part, got_func_part, dynamic_part, forced_part}
-use Rattle.wl_plan.specs.GlobalSteps.{linker_parts}
-use Rattle.wl_plan.proofs.GlobalParts.{adds_join, six_added, first_refused, second_refused, third_refused, fourth_refused, fifth_refused, sixth_refused, mapped_added, mapped_refused}
+use Rattle.wl_bind.specs.GlobalSpace.{GlobalEntry, DataOf, address_part, got_mem_part, got_func_part, dynamic_part, forced_part}
+use Rattle.wl_plan.specs.steps.Globals.{AddsPart, IsPartFault, linker_parts}
+use Rattle.wl_plan.proofs.GlobalParts.{adds_join, six_added, six_are, first_refused, second_refused, third_refused, fourth_refused, fifth_refused, sixth_refused, mapped_added, mapped_refused}
 use Rattle.wl_plan.proofs.globals.push_all.Goals as goal
 
-pub returns-in_err-push_linker_globals-clause-err : goal.returns-in_err-push_linker_globals-clause-err
-returns-in_err-push_linker_globals-clause-err c =
+pub returns-in_err-push_named-clause-err : goal.returns-in_err-push_named-clause-err
+returns-in_err-push_named-clause-err c =
     let residual = c.from_residual in
     let p = err_from_is_err_and residual.result residual.ensures.1 in
     let s = c.args.sources.now in
@@ -14,7 +16,8 @@ returns-in_err-push_linker_globals-clause-err c =
     rw (p.1, p.2)
     (first_refused s (linker_parts input) (address_part input) (got_mem_part input)
     (got_func_part input) (dynamic_part input) (forced_part input)
-    c.in_err-push_linker_globals.ensures.err)
+    (subst (λ (part : List GlobalEntry). Refuses (IsPartFault s part) c.in_err-push_named.field-0.0)
+    (six_are input) c.in_err-push_named.ensures.err))
 
 pub returns-in_err-push_addresses-clause-err : goal.returns-in_err-push_addresses-clause-err
 returns-in_err-push_addresses-clause-err c =
@@ -78,7 +81,10 @@ returns-clause-ok c =
     let s = c.args.sources.now in
     let input = s.book.now.input.now in
     adds_join s
-    (six_added s c.in_ok-push_linker_globals.ensures.ok c.in_ok-push_addresses.ensures.ok
+    (six_added s
+    (subst (λ (part : List GlobalEntry).
+    AddsPart s part c.args.globals.now.items c.push_named.new.globals.items)
+    (six_are input) c.in_ok-push_named.ensures.ok) c.in_ok-push_addresses.ensures.ok
     c.in_ok-push_got_mem.ensures.ok c.in_ok-push_got_func.ensures.ok
     (mapped_added s DataOf c.dynamic.result.now (dynamic_data input) c.dynamic.ensures
     c.in_ok-push_data.ensures.ok)

@@ -1,7 +1,7 @@
 use Rattle.std.proofs.Common.{take}
 use Rattle.wl_bind.specs.GlobalSpace.{globals_of}
 use Rattle.wl_bind.specs.Parts.{by_object}
-use Rattle.wl_plan.specs.GlobalSteps.{AddsPart}
+use Rattle.wl_plan.specs.steps.Globals.{AddsPart}
 use Rattle.wl_plan.proofs.globals.push_objects.Given as goal
 
 abbrev pub invariant-loop-object : goal.invariant-loop-object

@@ -1,5 +1,5 @@
 use Rattle.std.proofs.Common.{◌≡◌, ◌++◌, drop, map}
-use Rattle.wl_plan.specs.ImportSteps.{global_types_in}
+use Rattle.wl_plan.specs.steps.Imports.{global_types_in}
 use Rattle.wl_plan.proofs.imports.global_types.Given as goal
 
 abbrev pub invariant-loop-file : goal.invariant-loop-file

@@ -1,7 +1,7 @@
 use Rattle.std.proofs.Common.{◌≡◌, ◌++◌, drop, filter_map}
 use Rattle.wl_module.specs.Imports.{Imported}
 use Rattle.wl_plan.specs.Imports.{global_type_in}
-use Rattle.wl_plan.specs.ImportSteps.{global_types_in}
+use Rattle.wl_plan.specs.steps.Imports.{global_types_in}
 use Rattle.wl_plan.proofs.imports.object_types.Given as goal
 
 abbrev pub invariant-loop-import : goal.invariant-loop-import

@@ -4,7 +4,7 @@ use Rattle.wl_symbols.specs.Left.{HostImport}
 use Rattle.wl_bind.specs.BindingSteps.{slot_numbers}
 use Rattle.wl_bind.specs.OutputTypes.{output_types}
 use Rattle.wl_bind.specs.Shared.{Shared, function_imports}
-use Rattle.wl_plan.specs.ImportSteps.{HasTypeIndexIn}
+use Rattle.wl_plan.specs.steps.Imports.{HasTypeIndexIn}
 use Rattle.wl_plan.specs.Imports.{IsFunctionImport}
 use Rattle.wl_plan.proofs.ImportLaws.{adds_nothing, host_typed, import_more, imports_done}
 use Rattle.wl_plan.proofs.imports.push_functions.Goals as goal

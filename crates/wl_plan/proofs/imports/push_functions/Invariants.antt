@@ -1,7 +1,7 @@
 use Rattle.std.proofs.Common.{take}
 use Rattle.wl_bind.specs.OutputTypes.{output_types}
 use Rattle.wl_bind.specs.Shared.{function_imports}
-use Rattle.wl_plan.specs.ImportSteps.{AddsImports}
+use Rattle.wl_plan.specs.steps.Imports.{AddsImports}
 use Rattle.wl_plan.specs.Imports.{IsFunctionImport}
 use Rattle.wl_plan.proofs.imports.push_functions.Given as goal
 

@@ -3,7 +3,7 @@ use Rattle.std.proofs.lemmas.Option.{slice_get-get_or}
 use Rattle.wl_linking.specs.Object.{Object}
 use Rattle.wl_symbols.specs.Left.{HostImport}
 use Rattle.wl_bind.specs.Shared.{Shared, global_imports}
-use Rattle.wl_plan.specs.ImportSteps.{global_types_in}
+use Rattle.wl_plan.specs.steps.Imports.{global_types_in}
 use Rattle.wl_plan.specs.Imports.{IsGlobalImport}
 use Rattle.wl_plan.proofs.ImportLaws.{adds_nothing, global_imported, global_is, has_row, import_more, imports_done}
 use Rattle.wl_plan.proofs.imports.push_globals.Goals as goal

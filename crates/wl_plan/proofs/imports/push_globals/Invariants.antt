@@ -1,6 +1,6 @@
 use Rattle.std.proofs.Common.{take}
 use Rattle.wl_bind.specs.Shared.{global_imports}
-use Rattle.wl_plan.specs.ImportSteps.{AddsImports}
+use Rattle.wl_plan.specs.steps.Imports.{AddsImports}
 use Rattle.wl_plan.specs.Imports.{IsGlobalImport}
 use Rattle.wl_plan.proofs.imports.push_globals.Given as goal
 

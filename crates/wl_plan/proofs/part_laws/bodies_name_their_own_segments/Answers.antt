@@ -1,5 +1,5 @@
 use Rattle.wl_plan.proofs.PartLaws.{operators_kept, numbers_named}
-use Rattle.wl_plan.proofs.SegmentLaws.{segments_once}
+use Rattle.wl_places.proofs.SegmentLaws.{segments_once}
 use Rattle.wl_plan.proofs.part_laws.bodies_name_their_own_segments.Goals as goal
 
 pub returns-clause-operators : goal.returns-clause-operators

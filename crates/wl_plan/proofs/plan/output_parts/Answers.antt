@@ -7,20 +7,18 @@ use Rattle.wl_data.specs.Segments.{SegmentLayout}
 use Rattle.wl_data.specs.Sizes.{segment_count}
 use Rattle.wl_exports.specs.Faults.{IsExportFault}
 use Rattle.wl_plan.specs.Faults.{IsSizeFault, IsValueFault}
-use Rattle.wl_plan.specs.Fixups.{IsFixupFault}
-use Rattle.wl_plan.specs.Globals.{IsGlobalFault}
-use Rattle.wl_plan.specs.SizeSteps.{IsTooBig}
+use Rattle.wl_plan.specs.steps.Sizes.{IsTooBig}
 use Rattle.wl_linking.proofs.StepLaws.{clear_end, clear_step, refuses_behind, refuses_for, refuses_here}
-use Rattle.wl_plan.proofs.PlanLaws.{bodies_few, body_refuses, first_of_both, number_refuses, segments_few, size_clear, size_refuses, values_clear}
+use Rattle.wl_plan.proofs.PlanLaws.{bodies_few, segments_few, size_clear, size_refuses, values_clear}
 use Rattle.wl_plan.proofs.UniqueBodies.{FormsAreOne}
 use Rattle.wl_plan.proofs.plan.output_parts.Goals as goal
 
 pub section_sizes-requires-clause-bodies : goal.section_sizes-requires-clause-bodies
 section_sizes-requires-clause-bodies c =
     let input = c.args.things.now.input.now in
-    let few = bodies_few input c.args.things.now.placing.now c.in_ok-bodies.bodies
-    c.requires.things.wrapper_room c.in_ok-bodies.ensures.ok in
-    let same : c.as_slice-2.result.now ≡ c.in_ok-bodies.bodies = search rules in
+    let few = bodies_few input c.args.things.now.placing.now c.in_ok-values.bodies
+    c.requires.things.wrapper_room c.in_ok-values.ensures.bodies in
+    let same : c.as_slice.result.now ≡ c.in_ok-values.bodies = search rules in
     subst (λ (bodies : List Body). length bodies ≤ MAX_ENTRIES) (sym same) few
 
 pub section_sizes-requires-clause-layouts : goal.section_sizes-requires-clause-layouts
@@ -37,10 +35,10 @@ returns-in_err-sizes-clause-err c =
     let input = c.args.things.now.input.now in
     let g = c.args.things.now.placing.now in
     let e = c.in_err-sizes.field-0.0 in
-    let bodies : c.as_slice-2.result.now ≡ c.in_ok-bodies.bodies = search rules in
+    let bodies : c.as_slice.result.now ≡ c.in_ok-values.bodies = search rules in
     let layouts : c.as_slice-layouts.result.now ≡ g.places.layouts = search rules in
-    let big : IsTooBig c.in_ok-bodies.bodies g.places.layouts e =
-    subst (λ (rows : List (List SegmentLayout)). IsTooBig c.in_ok-bodies.bodies rows e) layouts
+    let big : IsTooBig c.in_ok-values.bodies g.places.layouts e =
+    subst (λ (rows : List (List SegmentLayout)). IsTooBig c.in_ok-values.bodies rows e) layouts
     (subst (λ (bs : List Body). IsTooBig bs c.as_slice-layouts.result.now e) bodies
     c.in_err-sizes.ensures.err) in
     let forms : FormsAreOne = record {
@@ -52,8 +50,8 @@ returns-in_err-sizes-clause-err c =
     } in
     let values : Clear (IsValueFault input g) =
     values_clear forms c.body_or_fault.ensures.either input g (c.entries_stand_once.ensures.globals input)
-    c.in_ok-bodies.bodies c.in_ok-bodies.ensures.ok c.in_ok-values.ensures.clear in
-    let fault = size_refuses input g c.in_ok-bodies.bodies e c.in_ok-bodies.ensures.ok big in
+    c.in_ok-values.bodies c.in_ok-values.ensures.bodies c.in_ok-values.ensures.clear in
+    let fault = size_refuses input g c.in_ok-values.bodies e c.in_ok-values.ensures.bodies big in
     rw (p.1, p.2) (refuses_behind (IsValueFault input g) _ e values
     (refuses_behind (IsExportFault input) (Step (IsSizeFault input g) NoStep) e
     (rw c.requires.input at c.in_ok-check_exports.ensures.clear)
@@ -70,34 +68,32 @@ returns-clause-clear c =
       calls = c.init_calls_are_one.ensures;
       encoded = c.body_or_fault.ensures.one;
     } in
-    let bodies : c.as_slice-2.result.now ≡ c.in_ok-bodies.bodies = search rules in
+    let bodies : c.as_slice.result.now ≡ c.in_ok-values.bodies = search rules in
     let layouts : c.as_slice-layouts.result.now ≡ g.places.layouts = search rules in
-    let small : Clear (IsTooBig c.in_ok-bodies.bodies g.places.layouts) =
-    subst (λ (rows : List (List SegmentLayout)). Clear (IsTooBig c.in_ok-bodies.bodies rows))
+    let small : Clear (IsTooBig c.in_ok-values.bodies g.places.layouts) =
+    subst (λ (rows : List (List SegmentLayout)). Clear (IsTooBig c.in_ok-values.bodies rows))
     layouts
     (subst (λ (bs : List Body). Clear (IsTooBig bs c.as_slice-layouts.result.now)) bodies
     c.in_ok-sizes.ensures.clear) in
     let values : Clear (IsValueFault input g) =
     values_clear forms c.body_or_fault.ensures.either input g (c.entries_stand_once.ensures.globals input)
-    c.in_ok-bodies.bodies c.in_ok-bodies.ensures.ok c.in_ok-values.ensures.clear in
+    c.in_ok-values.bodies c.in_ok-values.ensures.bodies c.in_ok-values.ensures.clear in
     clear_step (IsValueFault input g) _ values
     (clear_step (IsExportFault input) (Step (IsSizeFault input g) NoStep)
     (rw c.requires.input at c.in_ok-check_exports.ensures.clear)
     (clear_step (IsSizeFault input g) NoStep
-    (size_clear forms input g c.in_ok-bodies.bodies (c.entries_stand_once.ensures.functions input)
+    (size_clear forms input g c.in_ok-values.bodies (c.entries_stand_once.ensures.functions input)
     (c.entries_stand_once.ensures.globals input)
-    c.in_ok-bodies.ensures.ok small)
+    c.in_ok-values.ensures.bodies small)
     clear_end))
 
 pub returns-in_err-values-clause-err : goal.returns-in_err-values-clause-err
 returns-in_err-values-clause-err c =
-    let residual = c.from_residual-in_err-values in
-    let p = err_from_is_err_and residual.result residual.ensures.1 in
+    let p = err_from_is_err_and c.from_residual.result c.from_residual.ensures.1 in
     let input = c.args.things.now.input.now in
     let g = c.args.things.now.placing.now in
     rw (p.1, p.2)
-    (refuses_here (IsValueFault input g) _ c.in_err-values.field-0.0
-    (number_refuses input g c.in_err-values.field-0.0 c.in_err-values.ensures.err))
+    (refuses_here (IsValueFault input g) _ c.in_err-values.field-0.0 c.in_err-values.ensures.err)
 
 pub returns-in_err-check_exports-clause-err : goal.returns-in_err-check_exports-clause-err
 returns-in_err-check_exports-clause-err c =
@@ -115,23 +111,7 @@ returns-in_err-check_exports-clause-err c =
     } in
     let values : Clear (IsValueFault input g) =
     values_clear forms c.body_or_fault.ensures.either input g (c.entries_stand_once.ensures.globals input)
-    c.in_ok-bodies.bodies c.in_ok-bodies.ensures.ok c.in_ok-values.ensures.clear in
+    c.in_ok-values.bodies c.in_ok-values.ensures.bodies c.in_ok-values.ensures.clear in
     let refused = rw c.requires.input at c.in_err-check_exports.ensures.err in
     rw (p.1, p.2) (refuses_behind (IsValueFault input g) _ e values
     (refuses_here (IsExportFault input) _ e refused))
-
-pub returns-in_err-bodies-clause-err : goal.returns-in_err-bodies-clause-err
-returns-in_err-bodies-clause-err c =
-    let residual = c.from_residual-in_err-bodies in
-    let p = err_from_is_err_and residual.result residual.ensures.1 in
-    let input = c.args.things.now.input.now in
-    let g = c.args.things.now.placing.now in
-    rw (p.1, p.2)
-    (refuses_here (IsValueFault input g) _ c.in_err-bodies.field-0.0
-    (body_refuses input g c.in_err-bodies.field-0.0 c.in_err-bodies.ensures.err))
-
-pub output_bodies-requires-clause-globals : goal.output_bodies-requires-clause-globals
-output_bodies-requires-clause-globals c =
-    let input = c.args.things.now.input.now in
-    let g = c.args.things.now.placing.now in
-    first_of_both (IsGlobalFault input g) (IsFixupFault input g) c.in_ok-values.ensures.clear

@@ -1,15 +1,13 @@
 use Rattle.std.proofs.Common.{◌≡◌, ◌∙◌, ◌≤◌, ℕ, List, ◌++◌, ap, arith, length, map, rules, subst, sym}
-use Rattle.std.specs.List.{AllZip}
 use Rattle.wl_linking.specs.Steps.{Clear}
 use Rattle.wl_bind.specs.FunctionSpace.{function_space}
 use Rattle.wl_bind.specs.Scan.{table_functions}
 use Rattle.wl_index.specs.declared.index.TheConstants.{WASM_DEAD_INDEX, MAX_ENTRIES}
 use Rattle.wl_symbols.specs.Input.{Input}
-use Rattle.wl_symbols.specs.Relocations.{relocations}
 use Rattle.wl_exports.specs.Wrapped.{WrapperEntry}
-use Rattle.wl_plan.specs.Bodies.{IsMovedIn}
+use Rattle.wl_plan.specs.steps.Positions.{AreMovedFields}
 use Rattle.wl_plan.specs.Fixups.{AreFixups, IsFixupFault}
-use Rattle.wl_plan.specs.FixupSteps.{HasRoom}
+use Rattle.wl_plan.specs.steps.Fixups.{HasRoom}
 use Rattle.wl_plan.specs.Globals.{ArePlannedGlobals, IsGlobalFault}
 use Rattle.wl_plan.specs.Table.{function_slots, space_slots}
 use Rattle.wl_places.specs.declared.placing.Placing.{Placing}
@@ -78,8 +76,6 @@ all_fixups-requires-clause-positions c =
     let input = c.args.things.now.input.now in
     let book = c.args.book.now in
     let positions = c.args.positions.now in
-    let placed : AllZip (IsMovedIn input book.placing.now) (relocations input) positions =
-    subst (λ (p : Placing). AllZip (IsMovedIn input p) (relocations input) positions)
-    (sym c.requires.book.placing) c.requires.positions in
-    subst (λ (i : Input). AllZip (IsMovedIn i book.placing.now) (relocations i) positions)
-    (sym c.requires.book.input) placed
+    let placed : AreMovedFields input book.placing.now positions =
+    subst (λ (p : Placing). AreMovedFields input p positions) (sym c.requires.book.placing) c.requires.positions in
+    subst (λ (i : Input). AreMovedFields i book.placing.now positions) (sym c.requires.book.input) placed

@@ -1,6 +1,6 @@
 use Rattle.std.proofs.lemmas.Result.{err_from_is_err_and}
 use Rattle.wl_plan.proofs.PlanLaws.{few_by, settled_by, signatures_by}
-use Rattle.wl_plan.proofs.PlannedLaws.{behind_refuses, index_refuses, kept_clear, laid_clear, laid_refuses, place_refuses, wrapper_refuses, wrapper_room}
+use Rattle.wl_plan.proofs.PlannedLaws.{behind_refuses, index_refuses, kept_clear, wrapper_refuses, wrapper_room}
 use Rattle.wl_plan.proofs.plan.plan_kept.Goals as goal
 
 pub returns-in_err-bound-clause-err : goal.returns-in_err-bound-clause-err
@@ -32,40 +32,24 @@ returns-in_err-outline-clause-err c =
     (wrapper_refuses c.args.input.now c.in_err-outline.field-0.0 c.in_ok-bound.ensures.clear
     c.in_err-outline.ensures.err)
 
-pub placed_parts-requires-clause-few : goal.placed_parts-requires-clause-few
-placed_parts-requires-clause-few c = few_by c.args.input.now c.in_ok-bound.ensures.clear
+pub laid_parts-requires-clause-few : goal.laid_parts-requires-clause-few
+laid_parts-requires-clause-few c = few_by c.args.input.now c.in_ok-bound.ensures.clear
 
-pub placed_parts-requires-clause-wrapper_room : goal.placed_parts-requires-clause-wrapper_room
-placed_parts-requires-clause-wrapper_room c =
+pub laid_parts-requires-clause-wrapper_room : goal.laid_parts-requires-clause-wrapper_room
+laid_parts-requires-clause-wrapper_room c =
     wrapper_room c.args.input.now c.in_ok-outline.ensures.clear
 
 pub returns-in_err-placing-clause-err : goal.returns-in_err-placing-clause-err
 returns-in_err-placing-clause-err c =
     let residual = c.from_residual-in_err-placing in
     let p = err_from_is_err_and residual.result residual.ensures.1 in
-    let input = c.args.input.now in
-    let e = c.in_err-placing.field-0.0 in
     rw (p.1, p.2)
-    (behind_refuses input e
+    (behind_refuses c.args.input.now c.in_err-placing.field-0.0
     (record { indexed = c.in_ok-bound.ensures.clear; few = c.in_ok-outline.ensures.clear })
-    (place_refuses input e c.in_err-placing.ensures.err))
-
-pub returns-in_err-maps-clause-err : goal.returns-in_err-maps-clause-err
-returns-in_err-maps-clause-err c =
-    let residual = c.from_residual-in_err-maps in
-    let p = err_from_is_err_and residual.result residual.ensures.1 in
-    let input = c.args.input.now in
-    let e = c.in_err-maps.field-0.0 in
-    rw (p.1, p.2)
-    (behind_refuses input e
-    (record { indexed = c.in_ok-bound.ensures.clear; few = c.in_ok-outline.ensures.clear })
-    (laid_refuses input c.in_ok-placing.placing e c.in_ok-placing.ensures.ok
-    c.in_ok-placing.ensures.clear c.in_err-maps.ensures.err))
+    c.in_err-placing.ensures.err)
 
 pub returns-clause-clear : goal.returns-clause-clear
 returns-clause-clear c =
-    let input = c.args.input.now in
-    kept_clear input
+    kept_clear c.args.input.now
     (record { indexed = c.in_ok-bound.ensures.clear; few = c.in_ok-outline.ensures.clear })
-    (laid_clear c.placings_are_one.ensures input c.in_ok-placing.placing c.in_ok-placing.ensures.ok
-    c.in_ok-placing.ensures.clear c.in_ok-maps.ensures.clear)
+    c.in_ok-placing.ensures.clear

@@ -27,7 +27,7 @@ returns c =
         data_size = parts.sizes.segments;
       };
       spaces = record {
-        types = c.in_ok-output_types.ensures.types ∙ outline.bindings.types;
+        types = c.in_ok-output_types.ensures ∙ outline.bindings.types;
         imports = parts.names.imports;
         functions = outline.functions;
         globals = parts.values.globals;

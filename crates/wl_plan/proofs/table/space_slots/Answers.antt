@@ -1,7 +1,7 @@
 use Rattle.std.proofs.Common.{◌∙◌, ◌≤◌, arith, get_or, length, take}
 use Rattle.wl_bind.specs.FunctionSpace.{FunctionOf, function_space}
 use Rattle.wl_bind.specs.Scan.{table_functions}
-use Rattle.wl_plan.specs.TableSteps.{slot_among}
+use Rattle.wl_plan.specs.steps.Table.{slot_among}
 use Rattle.wl_plan.proofs.TableLaws.{TableIs}
 use Rattle.wl_plan.proofs.TableSlotLaws.{ElementIs, element_fits, element_is, element_set, elements_length, elements_set, index_within}
 use Rattle.wl_plan.proofs.table.space_slots.Goals as goal

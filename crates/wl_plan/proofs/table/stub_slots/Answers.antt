@@ -5,7 +5,7 @@ use Rattle.wl_bind.specs.FunctionBinding.{link_stubs}
 use Rattle.wl_bind.specs.FunctionSpace.{FunctionOf, function_space}
 use Rattle.wl_bind.specs.FunctionTypes.{stub_types}
 use Rattle.wl_bind.specs.declared.binding.FunctionTarget.TheVariants.{Stub}
-use Rattle.wl_plan.specs.TableSteps.{stub_slot}
+use Rattle.wl_plan.specs.steps.Table.{stub_slot}
 use Rattle.wl_plan.proofs.FunctionLaws.{stubs_length}
 use Rattle.wl_plan.proofs.TableSlotLaws.{StubStands, all_dead, index_within, stub_has_entry, stub_set, stub_stands_at, stubs_set}
 use Rattle.wl_plan.proofs.table.stub_slots.Goals as goal

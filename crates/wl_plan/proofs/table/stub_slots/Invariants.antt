@@ -1,7 +1,7 @@
 use Rattle.std.proofs.Common.{◌≡◌, map, take}
 use Rattle.wl_bind.specs.FunctionBinding.{link_stubs}
 use Rattle.wl_bind.specs.FunctionSpace.{function_space}
-use Rattle.wl_plan.specs.TableSteps.{stub_slot}
+use Rattle.wl_plan.specs.steps.Table.{stub_slot}
 use Rattle.wl_plan.proofs.table.stub_slots.Given as goal
 
 abbrev pub invariant-loop-stub : goal.invariant-loop-stub

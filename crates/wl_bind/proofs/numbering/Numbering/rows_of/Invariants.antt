@@ -1,5 +1,5 @@
 use Rattle.std.proofs.Common.{take}
-use Rattle.wl_bind.specs.NumberingSteps.{AreObjectIndices}
+use Rattle.wl_bind.specs.steps.Numbered.{AreObjectIndices}
 use Rattle.wl_bind.specs.Parts.{AreRows}
 use Rattle.wl_bind.proofs.numbering.Numbering.rows_of.Given as goal
 

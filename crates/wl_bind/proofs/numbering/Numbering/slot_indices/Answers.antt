@@ -1,6 +1,6 @@
 use Rattle.std.proofs.Common.{List}
 use Rattle.wl_symbols.specs.ImportSlots.{ImportSlot, import_slots}
-use Rattle.wl_bind.specs.NumberingSteps.{IsSlotIndex}
+use Rattle.wl_bind.specs.steps.Numbered.{IsSlotIndex}
 use Rattle.wl_bind.specs.declared.resolution.ImportResolution.TheVariants.{Unresolved}
 use Rattle.wl_bind.proofs.NumberingLaws.{zip_more, has_index, is_slot_index, slots_long}
 use Rattle.wl_bind.proofs.numbering.Numbering.slot_indices.Goals as goal

@@ -1,7 +1,7 @@
 use Rattle.std.specs.List.{AllZip}
 use Rattle.std.proofs.Common.{take}
 use Rattle.wl_symbols.specs.ImportSlots.{import_slots}
-use Rattle.wl_bind.specs.NumberingSteps.{IsSlotIndex}
+use Rattle.wl_bind.specs.steps.Numbered.{IsSlotIndex}
 use Rattle.wl_bind.proofs.numbering.Numbering.slot_indices.Given as goal
 
 abbrev pub invariant-loop-slot : goal.invariant-loop-slot

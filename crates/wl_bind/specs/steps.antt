@@ -1,0 +1,19 @@
+-- What proofs alone speak of: no clause of a public function does.
+pub mod Kinds
+pub mod Scanning
+pub mod Walks
+pub mod Shared
+pub mod HostSlots
+pub mod FunctionSlots
+pub mod GlobalSlots
+pub mod Parts
+pub mod Exported
+pub mod ThreadSegments
+pub mod Needs
+pub mod OwnIndices
+pub mod Numbering
+pub mod Merging
+pub mod Numbered
+pub mod GotGlobals
+pub mod Redirects
+pub mod IndexMaps

@@ -1,0 +1,123 @@
+-- How globals of the output come to be.
+use Rattle.std.specs.Prelude.{◌≡◌, ℕ, ◌∷◌, ◌++◌, Bool, true, false, List, [], if◌then◌else◌, Contains, Result, Ok, Err, unwrap_or, slice_get}
+use Rattle.std.specs.List.{AllZip}
+use Rattle.std.specs.Option.{option_map_or}
+use Rattle.wl_module.specs.Globals.{DefinedGlobal}
+use Rattle.wl_linking.specs.Steps.{Clear}
+use Rattle.wl_linking.specs.declared.error.LinkError.{LinkError}
+use Rattle.wl_symbols.specs.declared.entry.Definition.{Definition}
+use Rattle.wl_symbols.specs.declared.linker_symbol.WasmLinkerSymbol.{WasmLinkerSymbol}
+use Rattle.wl_symbols.specs.declared.linker_symbol.WasmLinkerSymbol.TheVariants as linker
+use Rattle.wl_symbols.specs.declared.units.WasmGcUnit.TheVariants.{DefinedGlobal as OwnGlobal}
+use Rattle.wl_bind.specs.GlobalSpace.{GlobalEntry, GlobalOf, made_global_part, address_part, got_mem_part, got_func_part, dynamic_part, forced_part}
+use Rattle.wl_symbols.specs.Input.{Input, keeps}
+use Rattle.wl_bind.specs.Sameness.{same_definition}
+use Rattle.wl_bind.specs.Scan.{got_mem_of, got_func}
+use Rattle.wl_bind.specs.declared.binding.FunctionTarget.{FunctionTarget}
+use Rattle.wl_bind.specs.declared.binding.GlobalTarget.TheVariants.{Defined}
+use Rattle.wl_symbols.specs.declared.relocated.Relocated.{Relocated}
+use Rattle.wl_places.specs.AddressSteps.{IsBook}
+use Rattle.wl_places.specs.Addresses.{IsAddressTooHigh}
+use Rattle.wl_plan.specs.steps.Bindings.{AreBindings}
+use Rattle.wl_plan.specs.Globals.{IsConstant, i32_global, start_of_global, may_change, IsPlannedGlobal}
+use Rattle.wl_places.specs.IndexedMaps.{AreWholeMaps}
+use Rattle.wl_plan.specs.Table.{slot_of}
+use Rattle.wl_plan.specs.declared.global_starts.GlobalSources.{GlobalSources}
+use Rattle.wl_plan.specs.declared.global_starts.Start.{Start}
+use Rattle.wl_output.specs.declared.entities.GlobalOrigin.TheVariants as origin
+use Rattle.wl_output.specs.declared.entities.MadeGlobal.{MadeGlobal}
+use Rattle.wl_plan.specs.declared.layout.PlannedGlobal.{PlannedGlobal}
+
+-- ---- sources
+
+-- they are those of one link, where no address is past the last one
+pub record AreSources (s : GlobalSources) : Type 0 where
+  pub book : IsBook s.book.now
+  pub bindings : AreBindings s.book.now.input.now s.bindings.now
+  pub maps : AreWholeMaps s.book.now.input.now s.book.now.placing.now s.maps.now
+  pub low : Clear (IsAddressTooHigh s.book.now.input.now s.book.now.placing.now)
+
+-- ---- what a global starts with
+
+-- what was found is what the entry starts with, or why it can't
+abbrev pub AnswersStart : GlobalSources → GlobalEntry → Result Start LinkError → Type 0
+AnswersStart s entry (Ok start) =
+    (start_of_global s.book.now.input.now s.book.now.placing.now entry ≡ Ok start.number)
+    × (may_change s.book.now.input.now s.book.now.placing.now entry ≡ start.mutable)
+AnswersStart s entry (Err e) =
+    start_of_global s.book.now.input.now s.book.now.placing.now entry ≡ Err e
+
+-- the relocation asks for the entry of that definition in the GOT list of data
+abbrev pub asks_for_entry : Input → Definition → Relocated → Bool
+asks_for_entry input d r = option_map_or (same_definition d) (got_mem_of input r) false
+
+-- the slot of the function of that place in the GOT list of functions, 0 where it has none
+abbrev pub func_slot : Input → ℕ → ℕ
+func_slot input place =
+    option_map_or (λ (p : Definition × FunctionTarget). unwrap_or (slot_of input p.1) 0)
+    (slice_get (got_func input) place) 0
+
+-- ---- lists that grow
+
+-- the global starts so
+pub record IsStarted (start : Start) (global : DefinedGlobal) : Type 0 where
+  pub ty : global.ty ≡ i32_global start.mutable
+  pub body : IsConstant start.number global.body
+  pub owned : global.owned ≡ true
+
+-- the list grows by a global that the linker makes
+pub record AddsMade (made : MadeGlobal) (start : Start) (old new : List PlannedGlobal)
+    : Type 0 where
+  pub global : DefinedGlobal
+  pub started : IsStarted start global
+  pub grown : new ≡ old ++ record { global = global; origin = origin.Made made } ∷ []
+
+-- the list grows by globals that are these entries
+pub record AddsPart (s : GlobalSources) (part : List GlobalEntry) (old new : List PlannedGlobal)
+    : Type 0 where
+  pub more : List PlannedGlobal
+  pub are : AllZip (IsPlannedGlobal s.book.now.input.now s.book.now.placing.now) part more
+  pub grown : new ≡ old ++ more
+
+-- one of these entries can't start
+pub record IsPartFault (s : GlobalSources) (part : List GlobalEntry) (e : LinkError) : Type 0 where
+  pub entry : GlobalEntry
+  pub one : Contains part entry
+  pub fault : start_of_global s.book.now.input.now s.book.now.placing.now entry ≡ Err e
+
+-- ---- parts
+
+-- it is a global that the linker makes under a name
+abbrev pub is_linker_global : WasmLinkerSymbol → Bool
+is_linker_global linker.MemoryBase = true
+is_linker_global linker.TableBase = true
+is_linker_global linker.StackPointer = true
+is_linker_global linker.TlsBase = true
+is_linker_global linker.TlsSize = true
+is_linker_global linker.TlsAlign = true
+is_linker_global m = false
+
+-- those that the output has
+abbrev pub linker_parts : Input → List GlobalEntry
+linker_parts input =
+    made_global_part input linker.MemoryBase
+    ++ (made_global_part input linker.TableBase
+    ++ (made_global_part input linker.StackPointer
+    ++ (made_global_part input linker.TlsBase
+    ++ (made_global_part input linker.TlsSize
+    ++ made_global_part input linker.TlsAlign))))
+
+-- all that the linker makes
+abbrev pub made_parts : Input → List GlobalEntry
+made_parts input =
+    linker_parts input
+    ++ (address_part input
+    ++ (got_mem_part input
+    ++ (got_func_part input
+    ++ (dynamic_part input
+    ++ forced_part input))))
+
+-- a global of an object, where it is kept
+abbrev pub own_global_part : Input → ℕ → ℕ → List GlobalEntry
+own_global_part input object number =
+    if keeps input object (OwnGlobal number) then GlobalOf (Defined object number) ∷ [] else []
