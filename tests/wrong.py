@@ -116,7 +116,7 @@ def main():
         for edit in edits:
             crate = edit.parent.name
             verdict, goal = tried(edit, copy / "crates" / crate)
-            print(f"{crate:12}{edit.stem:50}{verdict:18}{goal[:200]}", flush=True)
+            print(f"{crate:12}{edit.stem:60}{verdict:18}{goal[:200]}", flush=True)
             refused += verdict == "refused"
     print(f"{refused} refused, {len(edits) - refused} not")
     return 1 if refused < len(edits) else 0
