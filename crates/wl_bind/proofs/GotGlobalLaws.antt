@@ -1,9 +1,9 @@
 -- The globals of the symbols of an object.
-use Rattle.std.proofs.Common.{◌≡◌, ◌∙◌, ◌||◌, ◌&&◌, ◌<◌, ℕ, zero, suc, ◌+◌, Bool, true, false, if◌then◌else◌, List, [], ◌∷◌, ◌++◌, length, map, replicate, get_or, take, position, refl, sym, ap, subst, arith, Option, Some, None, slice_get, ◌==◌, Result, Ok, Err, IfOk, inl, inr}
+use Rattle.std.proofs.Common.{◌≡◌, ◌∙◌, ◌||◌, ◌&&◌, ◌<◌, ℕ, zero, suc, ◌+◌, Bool, true, false, if◌then◌else◌, List, [], ◌∷◌, ◌++◌, length, map, replicate, get_or, take, position, refl, sym, ap, subst, arith, Option, Some, None, slice_get, ◌==◌}
 use Rattle.std.proofs.Math.Bool.{or-false}
 use Rattle.std.specs.List.{list_any, range_with_len}
 use Rattle.std.specs.Option.{IsSome, option_map, option_and_then}
-use Rattle.std.proofs.lemmas.Bool.{cases_Bool, eqb-true}
+use Rattle.std.proofs.lemmas.Bool.{eqb-true}
 use Rattle.std.proofs.lemmas.List.{take_more, nil_from_length}
 use Rattle.std.proofs.lemmas.List.Folds.{list_any-append}
 use Rattle.std.proofs.lemmas.List.FromFn.{length-map-range_with_len, get_or-map-range_with_len}
@@ -16,13 +16,13 @@ use Rattle.wl_symbols.specs.Names.{def}
 use Rattle.wl_symbols.specs.declared.entry.Definition.{Definition}
 use Rattle.wl_bind.specs.FunctionSymbols.{fun}
 use Rattle.wl_bind.specs.GlobalSpace.{GlobalOf, global_space, global_parts, got_mem_part, got_func_part}
-use Rattle.wl_bind.specs.steps.GotGlobals.{marked, asks_globals, AreGlobalMarks}
+use Rattle.wl_bind.specs.steps.GotGlobals.{marked, func_global_if}
 use Rattle.wl_bind.specs.IndexMaps.{is_global_of, has_global, is_data_symbol, mem_place, got_mem_global, got_mem_globals, func_place, got_func_global, got_func_globals}
 use Rattle.wl_symbols.specs.Input.{Input}
 use Rattle.wl_bind.specs.steps.Numbering.{IsNumbering}
 use Rattle.wl_bind.specs.Parts.{IsPlaceOf, ArePlacesOf, HasEntry}
 use Rattle.wl_bind.specs.Sameness.{same_definition, same_pair}
-use Rattle.wl_bind.specs.Scan.{got_mem, got_func, got_mem_entry, got_func_entry, GotMemEntry, GotFuncEntry, Scanned}
+use Rattle.wl_bind.specs.Scan.{got_mem, got_func, got_mem_entry, got_func_entry, GotMemEntry, GotFuncEntry}
 use Rattle.wl_bind.specs.declared.binding.FunctionTarget.{FunctionTarget}
 use Rattle.wl_bind.specs.declared.binding.GlobalTarget.TheVariants.{GotMem, GotFunc}
 use Rattle.wl_bind.specs.declared.numbering.Numbering.{Numbering}
@@ -121,6 +121,14 @@ no_func_place input d None empty = refl
 no_func_place input d (Some f) empty = sym (func_placed input [] d f empty)
 
 -- an empty list has no place, so no symbol has a global
+pub no_func_global : (input : Input) (object number : ℕ) (mark : Bool) (funcs : List GotFuncEntry)
+    → funcs ≡ map (got_func_entry input) (got_func input) → (length funcs == 0) ≡ true
+    → func_global_if input object number mark ≡ None
+no_func_global input object number mark funcs are empty =
+    at_none mark (λ p. GlobalOf (GotFunc p)) (func_place input object number)
+    (no_func_place input (def input.link object number) (fun input object number)
+    (sym (nil_from_length funcs (eqb-true (length funcs) 0 empty)) ∙ are))
+
 pub mem_none : (input : Input) (object : ℕ) (o : Object) (mems : List GotMemEntry)
     → mems ≡ map (got_mem_entry input) (got_mem input) → (length mems == 0) ≡ true
     → ArePlacesOf (global_space input) (got_mem_globals input object o)
@@ -138,17 +146,8 @@ pub func_none : (input : Input) (object : ℕ) (o : Object) (funcs : List GotFun
     → ArePlacesOf (global_space input) (got_func_globals input object o)
     (replicate (length o.symbols) None)
 func_none input object o funcs are empty =
-    let none : [] ≡ map (got_func_entry input) (got_func input) =
-    sym (nil_from_length funcs (eqb-true (length funcs) 0 empty)) ∙ are in
-    all_none (global_space input) (got_func_global input object o) 0 (length o.symbols) (λ k.
-    at_none (has_global input object o k) (λ p. GlobalOf (GotFunc p)) (func_place input object k)
-    (no_func_place input (def input.link object k) (fun input object k) none))
-
--- what is so of the one thing that a call may answer is so of what it answers
-pub so_of_answer : {X E : Type 0} (P : X → Type 0) (r : Result X E) (x : X)
-    → IfOk r (λ y. y ≡ x) → P x → IfOk r P
-so_of_answer P (Ok y) x same p = subst P (sym same) p
-so_of_answer P (Err e) x same p = tt
+    all_none (global_space input) (got_func_global input object o) 0 (length o.symbols)
+    (λ k. no_func_global input object k (has_global input object o k) funcs are empty)
 
 -- ---- by symbols
 
@@ -201,27 +200,3 @@ symbol_more {X} space f g n i marks mark old new place are lt stands at pushed s
     ∙ get_or-map-range_with_len h 0 n i i o within same in
     subst (λ (x : Option X). IsPlaceOf space x place)
     (ap (λ (b : Bool). f i b) set ∙ sym is) stands) pushed so_far
-
--- ---- where globals are asked for
-
-pub asked_by_mem : (a b : Scanned) → a ≡ b → (length a.got_mem == 0) ≡ false → asks_globals b ≡ true
-asked_by_mem a b same some = subst (λ (s : Scanned). asks_globals s ≡ true) same (rw some refl)
-
-pub asked_by_func : (a b : Scanned) → a ≡ b → (length a.got_func == 0) ≡ false → asks_globals b ≡ true
-asked_by_func a b same some =
-    let asks : asks_globals a ≡ true = elim (cases_Bool (length a.got_mem == 0)) [
-      | inl t ↦ rw (t, some) refl
-      | inr f ↦ rw f refl
-    ] in
-    subst (λ (s : Scanned). asks_globals s ≡ true) same asks
-
--- marks by relocations are marks whether or not a GOT list has an entry
-pub marks_named : {V E : Type 0} (items : V → List Bool) (n : Numbering) (object : ℕ) (o : Object) (r : Result V E)
-    → IfOk r (λ v. items v ≡ map (has_global n.input.now object o) (range_with_len 0 (length o.symbols)))
-    → IfOk r (λ v. AreGlobalMarks n object o (items v))
-marks_named items n object o (Ok v) is = record {
-  count = ap (λ (bs : List Bool). length bs) is
-      ∙ length-map-range_with_len (has_global n.input.now object o) 0 (length o.symbols);
-  named = λ asked. is;
-}
-marks_named items n object o (Err e) is = tt

@@ -47,7 +47,7 @@ exported_with_memory InitTls = refl
 wrong_is : (input : Input) (e : LinkError) (h : IsWrongUse input e) → is_wrong_relocation input h.relocated ≡ true
 wrong_is input e h = rw (h.by_symbol, h.names) h.wrong
 
-pub no_wrong_use : (input : Input) → find (is_wrong_relocation input) (relocations input) ≡ None → Clear (IsWrongUse input)
+no_wrong_use : (input : Input) → find (is_wrong_relocation input) (relocations input) ≡ None → Clear (IsWrongUse input)
 no_wrong_use input none = record {
   none = λ e h. true≢false (sym (wrong_is input e h) ∙ find_none (is_wrong_relocation input) (relocations input) none h.relocated h.kept);
 }
@@ -136,7 +136,7 @@ symbol_here : (objects : List Object) (k n : ℕ) (o : Object) (s : Symbol) → 
     → slice_get o.symbols n ≡ Some s
 symbol_here objects k n o s here e = rw here at e
 
-pub no_wrong_init : (input : Input) → wrong_init_from input 0 input.link.objects ≡ None → Clear (IsWrongInit input)
+no_wrong_init : (input : Input) → wrong_init_from input 0 input.link.objects ≡ None → Clear (IsWrongInit input)
 no_wrong_init input none = record {
   none = λ e h.
       let here : symbol_in input.link.objects h.object h.function.symbol_index ≡ Some h.symbol = rw h.here h.names in
@@ -167,7 +167,11 @@ a_wrong_init input object number e =
 
 -- ---- both
 
-pub both_clear : (input : Input) → Clear (IsWrongUse input) → Clear (IsWrongInit input) → Clear (IsWrongKind input)
-both_clear input uses inits = record {
-  none = λ e h. elim h [ inl u ↦ uses.none e u | inr i ↦ inits.none e i ];
+pub none_wrong : (input : Input) → find (is_wrong_relocation input) (relocations input) ≡ None
+    → wrong_init_from input 0 input.link.objects ≡ None → Clear (IsWrongKind input)
+none_wrong input uses inits = record {
+  none = λ e h. elim h [
+    | inl u ↦ (no_wrong_use input uses).none e u
+    | inr i ↦ (no_wrong_init input inits).none e i
+  ];
 }

@@ -66,6 +66,12 @@ symbol_more n symbols i s old new lt at is so_far =
     is ∙ (ap (λ (bs : List Bool). marked bs s) so_far
     ∙ one_more f g n s.index (is_thread_data s) more)
 
+-- the last symbol
+pub symbols_end : (n : ℕ) (symbols : List Symbol) (i : ℕ) (marks : List Bool) → length symbols ≤ i
+    → marks ≡ map (λ k. list_any (is_thread_symbol_on k) (take i symbols)) (range_with_len 0 n)
+    → marks ≡ map (λ k. list_any (is_thread_symbol_on k) symbols) (range_with_len 0 n)
+symbols_end n symbols i marks le so_far = rw (take_all i symbols le) at so_far
+
 -- ---- by infos
 
 taken_here : {X : Type 0} (xs : List X) (i : ℕ) (x : X) → i < length xs → x ≡ get_or xs i x

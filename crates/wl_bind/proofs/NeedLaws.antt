@@ -144,7 +144,12 @@ rows_bound input m n (o ∷ os) =
     let gs : List ImportSlot = object_slots n Global o in
     let functions : List ImportSlot = slots_from Func (n + 1) os in
     let globals : List ImportSlot = slots_from Global (n + 1) os in
-    rw (functions_of input m fs, globals_of input m gs, rows_bound input m (n + 1) os)
+    rw (
+      list_any-append (leads_to m) (map (function_resolution input) fs) (map (global_resolution input) gs),
+      functions_of input m fs,
+      globals_of input m gs,
+      rows_bound input m (n + 1) os,
+    )
     (crossed (functions_bound input m fs) (globals_bound input m gs)
     (functions_bound input m functions) (globals_bound input m globals)
     ∙ rw (functions_more input m fs functions, globals_more input m gs globals) refl)

@@ -1,5 +1,5 @@
 -- The index of a function that a function symbol leads to stands in the row of an object.
-use Rattle.std.proofs.Common.{◌≡◌, ◌∙◌, ◌⊎◌, ◌≤◌, ◌<◌, ◌==◌, ◌||◌, ◌&&◌, not, ℕ, zero, suc, ◌+◌, ◌-◌, Bool, true, false, List, [], ◌∷◌, length, map, refl, sym, ap, subst, arith, inl, inr, Option, Some, None, unwrap_or, slice_get, nat_lt, nat_le, if◌then◌else◌, eqb-true, Result, Ok, Err, IfOk}
+use Rattle.std.proofs.Common.{◌≡◌, ◌∙◌, ◌⊎◌, ◌≤◌, ◌<◌, ◌==◌, ◌||◌, ◌&&◌, not, ℕ, zero, suc, ◌+◌, ◌-◌, Bool, true, false, List, [], ◌∷◌, length, map, refl, sym, ap, subst, arith, inl, inr, Option, Some, None, unwrap_or, slice_get, nat_lt, nat_le, if◌then◌else◌, eqb-true}
 use Rattle.std.specs.List.{AllByRecursion, range_with_len}
 use Rattle.std.specs.Option.{option_map, option_and_then, option_or}
 use Rattle.std.proofs.lemmas.Bool.{cases_Bool, or_parts}
@@ -420,11 +420,3 @@ symbol_places input rows given object o =
     zip_maps (IsPlaceOf (function_space input)) (symbol_function input object) (redirect_of input.link rows object)
     (λ k. object_place input rows given object k (slice_get input.link.objects object) refl)
     (range_with_len 0 (length o.symbols))
-
--- a list that is the places, where there is one
-pub if_ok_places : {X E : Type 0} (space : List X) (entries : List (Option X)) (places : List (Option ℕ))
-    (result : Result (List (Option ℕ)) E) → ArePlacesOf space entries places
-    → IfOk result (λ (list : List (Option ℕ)). list ≡ places) → IfOk result (λ (list : List (Option ℕ)). ArePlacesOf space entries list)
-if_ok_places space entries places (Ok list) are is =
-    subst (λ (ps : List (Option ℕ)). ArePlacesOf space entries ps) (sym is) are
-if_ok_places space entries places (Err e) are is = tt

@@ -1,9 +1,7 @@
 -- Slots and rows, object by object.
-use Rattle.std.proofs.Common.{◌≡◌, ◌∙◌, ℕ, zero, suc, ◌+◌, ◌<◌, ◌≤◌, List, [], ◌∷◌, ◌++◌, length, drop, map, refl, sym, ap, arith, append_assoc, append-nil, Option, slice_get, slice_index_or, Contains}
+use Rattle.std.proofs.Common.{◌≡◌, ◌∙◌, ℕ, zero, suc, ◌+◌, ◌<◌, List, [], ◌∷◌, ◌++◌, length, drop, map, refl, sym, ap, arith, append_assoc, Option, slice_get, Contains}
 use Rattle.std.specs.Option.{option_map_or, option_and_then}
-use Rattle.std.proofs.lemmas.List.{drop_all}
 use Rattle.std.proofs.lemmas.List.Elements.{Contains-append_left, Contains-append_right}
-use Rattle.std.proofs.lemmas.Option.{get_or_from_slice_get}
 use Rattle.wl_linking.specs.Object.{Object}
 use Rattle.wl_custom.specs.declared.symbols.WasmSymbolKind.{WasmSymbolKind}
 use Rattle.wl_custom.specs.declared.symbols.WasmSymbolKind.TheVariants.{Func}
@@ -32,6 +30,11 @@ slot_is_one kind objects i t listed = slot_within kind 0 i i objects t (omega ar
 
 -- ---- rows
 
+-- one more behind the others, and what is left of them
+pub one_more : {X : Type 0} (x : X) (list new left rest all : List X) → left ≡ x ∷ rest → new ≡ list ++ x ∷ [] → list ++ left ≡ all → new ++ rest ≡ all
+one_more {X} x list new left rest all first pushed so =
+    ap (λ (t : List X). t ++ rest) pushed ∙ append_assoc list (x ∷ []) rest ∙ (ap (λ (t : List X). list ++ t) (sym first) ∙ so)
+
 -- the row of one more object
 pub rows_more : {X : Type 0} (f : ImportSlot → X) (kind : WasmSymbolKind) (objects : List Object) (k : ℕ) → k < length objects
     → slot_rows f kind k (drop k objects) ≡ map f (import_slots objects k kind) ∷ slot_rows f kind (k + 1) (drop (k + 1) objects)
@@ -45,30 +48,9 @@ rows_more f kind objects k lt =
 pub row_pushed : {X : Type 0} (f : ImportSlot → X) (kind : WasmSymbolKind) (objects : List Object) (k : ℕ) (row : List X) (rows new all : List (List X)) → k < length objects
     → row ≡ map f (import_slots objects k kind) → new ≡ rows ++ row ∷ [] → rows ++ slot_rows f kind k (drop k objects) ≡ all
     → new ++ slot_rows f kind (k + 1) (drop (k + 1) objects) ≡ all
-row_pushed {X} f kind objects k row rows new all lt is pushed so =
-    let rest : List (List X) = slot_rows f kind (k + 1) (drop (k + 1) objects) in
-    let step : slot_rows f kind k (drop k objects) ≡ row ∷ rest = rw is (rows_more f kind objects k lt) in
-    ap (λ (t : List (List X)). t ++ rest) pushed ∙ append_assoc rows (row ∷ []) rest ∙ (ap (λ (t : List (List X)). rows ++ t) (sym step) ∙ so)
-
--- after the last entry there are all
-pub entries_all : {X Y : Type 0} (f : X → Y) (xs all : List X) (k : ℕ) (list : List Y) → length xs ≤ k → xs ≡ all
-    → list ++ map f (drop k xs) ≡ map f xs → list ≡ map f all
-entries_all {X} {Y} f xs all k list behind same so =
-    let none : [] ≡ map f (drop k xs) = ap (λ (rest : List X). map f rest) (sym (drop_all k xs behind)) in
-    sym (append-nil list) ∙ (ap (λ (rest : List Y). list ++ rest) none ∙ (so ∙ ap (λ (ts : List X). map f ts) same))
-
--- one more entry after the others
-pub entry_pushed : {X Y : Type 0} (f : X → Y) (xs : List X) (k : ℕ) (x : X) (y : Y) (list new all : List Y) → k < length xs → x ≡ slice_index_or xs k x → y ≡ f x
-    → new ≡ list ++ y ∷ [] → list ++ map f (drop k xs) ≡ all → new ++ map f (drop (k + 1) xs) ≡ all
-entry_pushed {X} {Y} f xs k x y list new all lt at is pushed so =
-    let s = splits xs k lt in
-    let e : k + 1 ≡ suc k = omega arith in
-    let same : x ≡ s.x = at ∙ get_or_from_slice_get xs k s.x x s.here in
-    let first : f s.x ≡ y = sym (is ∙ ap f same) in
-    let rest : List Y = map f (drop (k + 1) xs) in
-    let split : drop k xs ≡ s.x ∷ drop (k + 1) xs = rw e s.split in
-    let step : map f (drop k xs) ≡ y ∷ rest = rw (split, first) refl in
-    ap (λ (t : List Y). t ++ rest) pushed ∙ append_assoc list (y ∷ []) rest ∙ (ap (λ (t : List Y). list ++ t) (sym step) ∙ so)
+row_pushed f kind objects k row rows new all lt is pushed so =
+    let rest = slot_rows f kind (k + 1) (drop (k + 1) objects) in
+    one_more row rows new (slot_rows f kind k (drop k objects)) rest all (rw is (rows_more f kind objects k lt)) pushed so
 
 entry_of : {X Y : Type 0} (f : X → Option Y) (xs : List X) (k : ℕ) → option_and_then (λ (y : Option Y). y) (slice_get (map f xs) k) ≡ option_and_then f (slice_get xs k)
 entry_of f [] k = refl

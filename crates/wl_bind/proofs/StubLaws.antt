@@ -1,5 +1,5 @@
 -- Function slots with what they are resolved to, and the rows of resolutions.
-use Rattle.std.proofs.Common.{◌≡◌, ◌∙◌, ℕ, ◌+◌, Bool, true, false, List, [], ◌∷◌, map, Option, Some, None, is_some, Contains, refl, sym, ap, if◌then◌else◌, unwrap_or}
+use Rattle.std.proofs.Common.{◌≡◌, ◌⊎◌, ◌∙◌, inl, inr, arith, length, ℕ, ◌+◌, Bool, true, false, List, [], ◌∷◌, map, Option, Some, None, is_some, Contains, refl, sym, ap, if◌then◌else◌, unwrap_or}
 use Rattle.std.specs.List.{position}
 use Rattle.std.specs.Option.{option_or, option_map, option_map_or, is_none}
 use Rattle.std.specs.Str.{bytes_eq}
@@ -15,9 +15,10 @@ use Rattle.wl_symbols.specs.KeptSlots.{slots_from, is_kept_slot, kept_slots}
 use Rattle.wl_bind.specs.FunctionBinding.{left_functions, link_stubs, named_function, by_stub, by_host, binds_function}
 use Rattle.wl_bind.specs.Resolutions.{resolved, as_function, function_resolution, global_resolution, rows_from, by_names_and_got, by_all_rules, resolutions}
 use Rattle.wl_bind.specs.Stepped.{stepped}
-use Rattle.wl_bind.specs.Later.{with_functions, with_globals}
+use Rattle.wl_bind.specs.Later.{with_functions}
 use Rattle.wl_bind.specs.BindingSteps.{left_resolution}
-use Rattle.wl_bind.specs.SlotRows.{slot_rows, function_part}
+use Rattle.wl_bind.specs.SlotRows.{slot_rows}
+use Rattle.wl_bind.specs.steps.SlotRows.{joined_rows}
 use Rattle.wl_bind.specs.declared.binding.FunctionTarget.{FunctionTarget}
 use Rattle.wl_bind.specs.declared.binding.FunctionTarget.TheVariants as function
 use Rattle.wl_bind.specs.declared.resolution.ImportResolution.{ImportResolution}
@@ -105,32 +106,29 @@ set_rows input n (o ∷ os) =
     (set_rows input (n + 1) os)
 
 -- rows that names and the GOT lists resolve, with what all rules make of function slots
-pub stubbed : (input : Input) (bound old new : List ObjectImportResolutions)
-    → map function_part bound ≡ slot_rows (function_resolution input) Func 0 input.link.objects
-    → old ≡ resolutions input (by_names_and_got input) → new ≡ stepped with_functions 0 (map function_part bound) old
+pub stubbed : (input : Input) (functions : List (List ImportResolution)) (old new : List ObjectImportResolutions)
+    → functions ≡ slot_rows (function_resolution input) Func 0 input.link.objects
+    → old ≡ resolutions input (by_names_and_got input) → new ≡ stepped with_functions 0 functions old
     → new ≡ resolutions input (by_all_rules input)
-stubbed input bound old new functions were are =
-    are
-    ∙ (ap (λ (fs : List (List ImportResolution)). stepped with_functions 0 fs old) functions
-    ∙ (ap (stepped with_functions 0 (slot_rows (function_resolution input) Func 0 input.link.objects)) were ∙ set_rows input 0 input.link.objects))
+stubbed input functions old new fs were are = rw (are, fs, were) (set_rows input 0 input.link.objects)
 
-joined_rows : (input : Input) (n : ℕ) (os : List Object) (rows : List ObjectImportResolutions)
-    → map function_part rows ≡ slot_rows (function_resolution input) Func n os
-    → stepped with_globals n (slot_rows (global_resolution input) Global n os) rows ≡ rows_from (by_all_rules input) n os
-joined_rows input n [] [] are = refl
-joined_rows input n [] (row ∷ rows) are = absurd cc
-joined_rows input n (o ∷ os) [] are = absurd cc
-joined_rows input n (o ∷ os) (row ∷ rows) are =
-    let here : row.function_resolutions ≡ map (function_resolution input) (object_slots n Func o) = cc in
-    let rest : map function_part rows ≡ slot_rows (function_resolution input) Func (n + 1) os = cc in
-    let globals = map (global_resolution input) (object_slots n Global o) in
-    ap (λ (fs : List ImportResolution). the_row fs globals ∷ stepped with_globals (n + 1) (slot_rows (global_resolution input) Global (n + 1) os) rows) here
-    ∙ ap (λ (rs : List ObjectImportResolutions). the_row (map (function_resolution input) (object_slots n Func o)) globals ∷ rs) (joined_rows input (n + 1) os rows rest)
+-- no row follows where one of the lists has ended
+pub none_joined : (functions globals : List (List ImportResolution)) → (length functions ≡ 0) ⊎ (length globals ≡ 0) → joined_rows functions globals ≡ []
+none_joined [] globals ended = refl
+none_joined (fs ∷ functions) [] ended = refl
+none_joined (fs ∷ functions) (gs ∷ globals) (inl none) = absurd (omega (arith, none))
+none_joined (fs ∷ functions) (gs ∷ globals) (inr none) = absurd (omega (arith, none))
 
--- rows of function slots, with what all rules make of global slots
-pub globals_joined : (input : Input) (old new : List ObjectImportResolutions) (globals : List (List ImportResolution))
-    → map function_part old ≡ slot_rows (function_resolution input) Func 0 input.link.objects
-    → globals ≡ slot_rows (global_resolution input) Global 0 input.link.objects → new ≡ stepped with_globals 0 globals old
-    → new ≡ resolutions input (by_all_rules input)
-globals_joined input old new globals functions rows are =
-    are ∙ (ap (λ (gs : List (List ImportResolution)). stepped with_globals 0 gs old) rows ∙ joined_rows input 0 input.link.objects old functions)
+-- the rows of function slots and those of global slots, by all rules
+joined_from : (input : Input) (n : ℕ) (os : List Object)
+    → joined_rows (slot_rows (function_resolution input) Func n os) (slot_rows (global_resolution input) Global n os) ≡ rows_from (by_all_rules input) n os
+joined_from input n [] = refl
+joined_from input n (o ∷ os) =
+    ap (λ (rows : List ObjectImportResolutions). the_row (map (function_resolution input) (object_slots n Func o)) (map (global_resolution input) (object_slots n Global o)) ∷ rows)
+    (joined_from input (n + 1) os)
+
+pub all_joined : (input : Input) (functions globals : List (List ImportResolution)) (rows : List ObjectImportResolutions)
+    → functions ≡ slot_rows (function_resolution input) Func 0 input.link.objects
+    → globals ≡ slot_rows (global_resolution input) Global 0 input.link.objects → rows ≡ joined_rows functions globals
+    → rows ≡ resolutions input (by_all_rules input)
+all_joined input functions globals rows fs gs are = rw (are, fs, gs) (joined_from input 0 input.link.objects)

@@ -65,11 +65,6 @@ globals_walked input scan object o row =
       global_resolutions = walked (walk_of input scan object) o row.global_resolutions;
     }
 
--- the resolutions of an object with these of its global slots
-abbrev pub with_globals : ℕ → List ImportResolution → ObjectImportResolutions
-    → ObjectImportResolutions
-with_globals object globals row = record row { global_resolutions = globals }
-
 -- the resolutions of an object with these of its function slots
 abbrev pub with_functions : ℕ → List ImportResolution → ObjectImportResolutions
     → ObjectImportResolutions

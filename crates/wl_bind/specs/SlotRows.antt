@@ -3,8 +3,6 @@ use Rattle.std.specs.Prelude.{ℕ, ◌+◌, List, [], ◌∷◌, map}
 use Rattle.wl_linking.specs.Object.{Object}
 use Rattle.wl_custom.specs.declared.symbols.WasmSymbolKind.{WasmSymbolKind}
 use Rattle.wl_symbols.specs.ImportSlots.{ImportSlot, object_slots}
-use Rattle.wl_bind.specs.declared.resolution.ImportResolution.{ImportResolution}
-use Rattle.wl_bind.specs.declared.resolution.ObjectImportResolutions.{ObjectImportResolutions}
 
 -- what is made of the slots of that kind of these objects, a row an object, the first of which has
 -- that number
@@ -13,7 +11,3 @@ abbrev pub slot_rows : {X : Type 0} → (ImportSlot → X) → WasmSymbolKind �
 slot_rows f kind object [] = []
 slot_rows f kind object (o ∷ objects) =
     map f (object_slots object kind o) ∷ slot_rows f kind (object + 1) objects
-
--- the function slots of a row of resolutions
-abbrev pub function_part : ObjectImportResolutions → List ImportResolution
-function_part row = row.function_resolutions

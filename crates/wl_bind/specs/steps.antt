@@ -4,6 +4,7 @@ pub mod Scanning
 pub mod Walks
 pub mod Shared
 pub mod HostSlots
+pub mod SlotRows
 pub mod FunctionSlots
 pub mod GlobalSlots
 pub mod Parts

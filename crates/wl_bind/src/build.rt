@@ -6,7 +6,6 @@ ghost use Rattle.wl_bind.specs.Bound.{bound_of};
 ghost use Rattle.wl_bind.specs.BoundIndices.{IsBoundIndices};
 ghost use Rattle.wl_bind.specs.IndexMaps.{AreIndexMaps};
 ghost use Rattle.wl_bind.specs.MadeIndices.{AreMadeIndices};
-ghost use Rattle.wl_bind.specs.steps.Numbering.{IsNumbering};
 ghost use Rattle.wl_bind.specs.OutputTypes.{IsMerged};
 ghost use Rattle.wl_bind.specs.SpaceFaults.{AreTooMany, IsSpaceOver, IsSpaceTooLarge, index_fault};
 
@@ -52,20 +51,6 @@ struct IndexedThings {
     maps: ItemList<WasmObjectIndexMap>,
 }
 
-/// The maps of all objects, by what their things are numbered by.
-fn numbered_maps(
-    alloc: Global,
-    numbering: &Numbering<'_, '_, '_>,
-    types: &MergedTypes,
-) -> Result<ItemList<WasmObjectIndexMap>, LinkError>
-    requires numbering { IsNumbering numbering.now.input.now numbering.now }
-    requires types { IsMerged numbering.now.input.now types.now }
-    ensures ok { IfOk result (AreIndexMaps numbering.now.input.now) }
-    ensures err { IfErr result (IsSpaceOver numbering.now.input.now) }
-{
-    Ok(index_maps_of(alloc, numbering, types)?)
-}
-
 /// The maps of all objects.
 fn index_maps(
     alloc: Global,
@@ -83,7 +68,7 @@ fn index_maps(
 {
     let rows = bound.resolutions.as_slice();
     let numbering = Numbering::new(alloc, input, rows, &bound.scan, &bound.shared, indices)?;
-    numbered_maps(alloc, &numbering, types)
+    Ok(index_maps_of(alloc, &numbering, types)?)
 }
 
 /// Where the things of a link stand in the output, by what its references are bound to.

@@ -4,12 +4,11 @@ ghost use Rattle.std.specs.Prelude.{◌≡◌, [], option_map, IfOk, OnOk, IfErr
 ghost use Rattle.indexmap.specs.IndexSet.{insert_all};
 ghost use Rattle.wl_linking.specs.Steps.{Clear, Refuses};
 ghost use Rattle.wl_bind.specs.Conflicts.{same_function_type, global_type, same_global_type, same_slot_type, IsConflict};
-ghost use Rattle.wl_bind.specs.ConflictSteps.{conflicting, conflict_of, same_slot, place_among, AreImportsOf};
+ghost use Rattle.wl_bind.specs.ConflictSteps.{conflict_of, same_slot, place_among, AreImportsOf};
 
 use crate::first_slots::FirstSlots;
 use crate::types::slot_type;
 use std::alloc::{AllocError, Global};
-use std::marker::Model;
 use wl_linking::{FileList, LinkError};
 use wl_lists::Text;
 use wl_module::{FuncType, GlobalType, ImportEntity};
@@ -59,42 +58,6 @@ fn same_slot_type(files: &FileList<'_>, a: &ImportSlot<'_, '_>, b: &ImportSlot<'
         && same_global_type(global_type(a.entity()), global_type(b.entity()))
 }
 
-// ---- two slots of one import
-
-/// Two slots of one import with different types.
-#[derive(Drop)]
-struct Conflict<'s, 'f, 'a> {
-    first: &'s ImportSlot<'f, 'a>,
-    second: &'s ImportSlot<'f, 'a>,
-}
-
-impl<'s, 'f, 'a> Model for Conflict<'s, 'f, 'a> {
-    ghost use Rattle.wl_bind.specs.ConflictSteps.{SlotPair as Pair};
-
-    ghost Value = { Pair };
-
-    ghost view = { λ c. record { first = c.first.now; second = c.second.now } };
-}
-
-/// The slot with the first of its import, where the two have different types.
-fn conflicting<'s, 'f, 'a>(
-    files: &FileList<'_>,
-    first: Option<&'s ImportSlot<'f, 'a>>,
-    slot: &'s ImportSlot<'f, 'a>,
-) -> Option<Conflict<'s, 'f, 'a>>
-    ensures { result ≡ conflicting files.now (option_map (λ t. t.now) first.entry) slot.now }
-{
-    let first = first?;
-    if same_slot_type(files, first, slot) {
-        None
-    } else {
-        Some(Conflict {
-            first,
-            second: slot,
-        })
-    }
-}
-
 // ---- all slots
 
 /// The imports that slots are: stubs, or imports of the host.
@@ -117,11 +80,14 @@ impl<'h, 'a> SlotImports<'h, 'a> {
 }
 
 /// The refusal of two slots of one import with different types.
-fn refusal(alloc: Global, conflict: &Conflict<'_, '_, '_>) -> Result<LinkError, AllocError>
-    ensures { IfOk result (λ e. e ≡ conflict_of conflict.now) }
+fn refusal(
+    alloc: Global,
+    first: &ImportSlot<'_, '_>,
+    second: &ImportSlot<'_, '_>,
+) -> Result<LinkError, AllocError>
+    ensures { IfOk result
+        (λ e. e ≡ conflict_of (record { first = first.now; second = second.now })) }
 {
-    let first = conflict.first;
-    let second = conflict.second;
     Ok(LinkError::ConflictingTypes {
         name: Text::new(String::from_str(alloc, first.field())?),
         first_object: first.object(),
@@ -153,11 +119,13 @@ pub(crate) fn check_types<'s, 'f, 'a>(
     let files = input.files();
     let mut firsts = FirstSlots::new(alloc);
     for slot in slots {
-        let first = firsts.get(imports.place(slot));
-        if let Some(conflict) = conflicting(files, first, slot) {
-            return Err(refusal(alloc, &conflict)?);
+        let Some(first) = firsts.get(imports.place(slot)) else {
+            firsts.push(slot)?;
+            continue;
+        };
+        if !same_slot_type(files, first, slot) {
+            return Err(refusal(alloc, first, slot)?);
         }
-        firsts.add(first, slot)?;
     }
     Ok(firsts)
 }

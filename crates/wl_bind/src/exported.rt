@@ -2,8 +2,8 @@
 
 ghost use Rattle.std.specs.Prelude.{◌≡◌, ◌++◌, OnOk, IfOk};
 ghost use Rattle.wl_bind.specs.ExportedAddresses.{data_named, exported_addresses};
-ghost use Rattle.wl_bind.specs.ExportedData.{is_dynamic_data, dynamic_in, dynamic_data, is_made_name, is_dynamic, data_of, forced_by, forced_data};
-ghost use Rattle.wl_bind.specs.steps.Exported.{dynamic_at, unless_dynamic, forced_alone};
+ghost use Rattle.wl_bind.specs.ExportedData.{is_dynamic_data, dynamic_data, is_made_name, is_dynamic, forced_by, forced_data};
+ghost use Rattle.wl_bind.specs.steps.Exported.{forced_alone};
 ghost use Rattle.wl_bind.specs.GotSteps.{insert_some};
 ghost use Rattle.wl_bind.specs.Made.{linker_needs};
 ghost use Rattle.wl_bind.specs.MadeIndices.{AreExported};
@@ -12,7 +12,7 @@ use crate::needs::{LinkerImportAbsorption, is_made};
 use indexmap::IndexSet;
 use std::alloc::{AllocError, Global};
 use std::hash::Hash;
-use wl_linking::{File, WasmSymbol};
+use wl_linking::WasmSymbol;
 use wl_lists::ItemList;
 use wl_symbols::{Definition, LinkInput, WasmLinkerSymbol, is_candidate};
 use wl_words::WasmArgs;
@@ -52,12 +52,7 @@ impl Drop for ExportedData {
 fn data_named(name: &str) -> Option<WasmLinkerSymbol>
     ensures { result ≡ data_named name.now }
 {
-    let made = WasmLinkerSymbol::parse(name)?;
-    if made.exported_as_data_global(true) {
-        Some(made)
-    } else {
-        None
-    }
+    WasmLinkerSymbol::parse(name).filter(|made| made.exported_as_data_global(true))
 }
 
 /// The data that the linker makes whose names are to be exported.
@@ -113,42 +108,6 @@ fn is_dynamic_data(
         && is_candidate(input.symbols(), object, number, symbol)
 }
 
-/// Adds a symbol of an object, if it is a named data symbol that `--export-dynamic` exports.
-fn push_if_dynamic(
-    list: &mut ItemList<DataSymbol>,
-    input: &LinkInput<'_, '_>,
-    object: usize,
-    number: u32,
-    symbol: &WasmSymbol<'_>,
-) -> Result<(), AllocError>
-    ensures { OnOk result (list.new
-        ≡ list.old ++ dynamic_at input.now object number symbol.now) }
-{
-    if is_dynamic_data(input, object, number, symbol) {
-        list.push(DataSymbol {
-            object,
-            symbol: number,
-        })?;
-    }
-    Ok(())
-}
-
-/// Adds the named data symbols of an object that `--export-dynamic` exports.
-fn push_dynamic(
-    list: &mut ItemList<DataSymbol>,
-    input: &LinkInput<'_, '_>,
-    object: usize,
-    file: &File<'_>,
-) -> Result<(), AllocError>
-    ensures { OnOk result (list.new ≡ list.old ++ dynamic_in input.now object file.now) }
-{
-    file.stands_for_an_object();
-    for (i, symbol) in file.symbols().iter().enumerate() {
-        push_if_dynamic(list, input, object, i as u32, symbol)?;
-    }
-    Ok(())
-}
-
 /// The named data symbols that `--export-dynamic` exports, where it is given.
 fn dynamic_data(
     alloc: Global,
@@ -160,7 +119,16 @@ fn dynamic_data(
     let mut list = ItemList::empty(alloc);
     if input.args().export_dynamic {
         for (object, file) in files.iter().enumerate() {
-            push_dynamic(&mut list, input, object, file)?;
+            file.stands_for_an_object();
+            for (i, symbol) in file.symbols().iter().enumerate() {
+                let number = i as u32;
+                if is_dynamic_data(input, object, number, symbol) {
+                    list.push(DataSymbol {
+                        object,
+                        symbol: number,
+                    })?;
+                }
+            }
         }
     }
     Ok(list)
@@ -192,21 +160,6 @@ fn is_dynamic(input: &LinkInput<'_, '_>, place: DataSymbol) -> bool
     }
 }
 
-/// The data of an object, where this is its definition.
-fn data_of(input: &LinkInput<'_, '_>, definition: Definition) -> Option<DataSymbol>
-    ensures { result ≡ data_of input.now definition }
-{
-    let Definition::Symbol { object, symbol } = definition else {
-        return None;
-    };
-    let found = input.symbols().symbol(object, symbol)?;
-    if found.is_defined_data() {
-        Some(DataSymbol { object, symbol })
-    } else {
-        None
-    }
-}
-
 /// The data of an object that a name stands for, unless the linker makes the name.
 fn forced_by(
     input: &LinkInput<'_, '_>,
@@ -219,7 +172,13 @@ fn forced_by(
     if is_made_name(input, needs, name) {
         return None;
     }
-    data_of(input, input.symbols().lookup(name)?)
+    let Definition::Symbol { object, symbol } = input.symbols().lookup(name)? else {
+        return None;
+    };
+    let found = input.symbols().symbol(object, symbol)?;
+    found
+        .is_defined_data()
+        .then_some(DataSymbol { object, symbol })
 }
 
 /// The data of an object that a name stands for, unless it is exported anyway.
@@ -231,18 +190,8 @@ fn forced_alone(
     requires { needs ≡ linker_needs input.now }
     ensures { result ≡ forced_alone input.now name.now }
 {
-    unless_dynamic(input, forced_by(input, needs, name)?)
-}
-
-/// The symbol of a place, unless it is exported anyway.
-fn unless_dynamic(input: &LinkInput<'_, '_>, place: DataSymbol) -> Option<DataSymbol>
-    ensures { result ≡ unless_dynamic input.now place }
-{
-    if is_dynamic(input, place) {
-        None
-    } else {
-        Some(place)
-    }
+    let place = forced_by(input, needs, name)?;
+    (!is_dynamic(input, place)).then_some(place)
 }
 
 /// The data symbols whose names are to be exported; those that are exported anyway aside.

@@ -1,7 +1,7 @@
 //! The first slot of each import.
 
-ghost use Rattle.std.specs.Prelude.{◌≡◌, [], map, option_map, OnOk};
-ghost use Rattle.wl_bind.specs.ConflictSteps.{slot_at, with_first};
+ghost use Rattle.std.specs.Prelude.{◌≡◌, [], ◌∷◌, ◌++◌, map, option_map, OnOk};
+ghost use Rattle.wl_bind.specs.ConflictSteps.{slot_at};
 
 use std::alloc::{AllocError, Global};
 use std::marker::Model;
@@ -46,21 +46,11 @@ impl<'s, 'f, 'a> FirstSlots<'s, 'f, 'a> {
         self.slots.as_slice()
     }
 
-    /// Adds a slot, where no other of its import was met before.
-    pub(crate) fn add(
-        &mut self,
-        first: Option<&'s ImportSlot<'f, 'a>>,
-        slot: &'s ImportSlot<'f, 'a>,
-    ) -> Result<(), AllocError>
-        ensures { OnOk result
-            (self.new ≡ with_first self.old (option_map (λ t. t.now) first.entry) slot.now) }
+    /// Adds a slot behind the others.
+    pub(crate) fn push(&mut self, slot: &'s ImportSlot<'f, 'a>) -> Result<(), AllocError>
+        ensures { OnOk result (self.new ≡ self.old ++ slot.now ∷ []) }
     {
-        match first {
-            Some(_) => Ok(()),
-            None => {
-                self.slots.push(slot)?;
-                Ok(())
-            }
-        }
+        self.slots.push(slot)?;
+        Ok(())
     }
 }

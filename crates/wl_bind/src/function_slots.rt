@@ -1,6 +1,6 @@
 //! What function slots are bound to, by all rules: each is found once a link, and lent from here.
 
-ghost use Rattle.std.specs.Prelude.{◌≡◌, ◌++◌, ◌∷◌, [], map, option_map, OnOk, IfOk, Some, None, Contains, slice_get};
+ghost use Rattle.std.specs.Prelude.{◌≡◌, map, option_map, IfOk, Some, None, Contains, slice_get};
 ghost use Rattle.std.specs.Option.{option_and_then};
 ghost use Rattle.wl_custom.specs.declared.symbols.WasmSymbolKind.TheVariants.{Func};
 ghost use Rattle.wl_symbols.specs.ImportSlots.{import_slots};
@@ -11,14 +11,15 @@ ghost use Rattle.wl_bind.specs.FunctionSymbols.{kept_binding, function_bindings}
 ghost use Rattle.wl_bind.specs.steps.FunctionSlots.{AreFunctionSlots};
 ghost use Rattle.wl_bind.specs.Resolutions.{resolved, function_resolution};
 ghost use Rattle.wl_bind.specs.Shared.{function_imports, import_place, import_places};
-ghost use Rattle.wl_bind.specs.SlotRows.{slot_rows, function_part};
+ghost use Rattle.wl_bind.specs.SlotRows.{slot_rows};
 ghost use Rattle.wl_bind.specs.BindingSteps.{host_target, left_target, left_place, left_resolution};
 ghost use Rattle.wl_bind.specs.declared.resolution.ImportResolution.TheVariants.{Unresolved, WeakUndefStub};
 
 use crate::binding::FunctionTarget;
-use crate::resolution::{ImportResolution, ObjectImportResolutions, ResolutionList};
+use crate::resolution::{ImportResolution, ResolutionList};
 use crate::resolving::resolved;
 use crate::shared::{HostSlots, SharedImports};
+use crate::slot_rows::{BoundSlot, SlotRow, SlotRows};
 use crate::targets::{FunctionBindings, named_function};
 use std::alloc::{AllocError, Global};
 use wl_linking::WasmSymbolKind;
@@ -81,16 +82,14 @@ pub fn stub_imports<'a>(alloc: Global, input: &LinkInput<'_, 'a>) -> Result<Stub
 struct BoundFunction {
     /// Nothing where the slot isn't kept.
     target: Option<FunctionTarget>,
-    resolution: ImportResolution,
-    /// The place of its import, where it is left to the host.
-    place: Option<usize>,
+    slot: BoundSlot,
 }
 
 /// The host import that a slot is; a slot that is none of them stands for itself.
 fn host_slot(hosts: &HostImports<'_>, slot: &ImportSlot<'_, '_>) -> BoundFunction
     ensures target { result.target ≡ Some (host_target hosts.now slot.now) }
-    ensures resolution { result.resolution ≡ Unresolved }
-    ensures place { result.place
+    ensures resolution { result.slot.resolution ≡ Unresolved }
+    ensures place { result.slot.place
         ≡ place_of_import slot.now.item.origin slot.now.item.name hosts.now }
 {
     let place = hosts.place(slot.module(), slot.field());
@@ -103,8 +102,10 @@ fn host_slot(hosts: &HostImports<'_>, slot: &ImportSlot<'_, '_>) -> BoundFunctio
             object,
             slot: number,
         }),
-        resolution: ImportResolution::Unresolved,
-        place,
+        slot: BoundSlot {
+            resolution: ImportResolution::Unresolved,
+            place,
+        },
     }
 }
 
@@ -122,9 +123,10 @@ fn import_at<'h, 'a>(
 fn stub_slot(left: &LeftFunctions<'_, '_>, place: usize, slot: &ImportSlot<'_, '_>) -> BoundFunction
     requires { place_of_name slot.now.item.name left.now.stubs ≡ Some place }
     ensures target { result.target ≡ Some (left_target left.now.stubs left.now.hosts slot.now) }
-    ensures resolution { result.resolution ≡ WeakUndefStub place }
-    ensures place { result.place ≡ None }
+    ensures resolution { result.slot.resolution ≡ WeakUndefStub place }
+    ensures place { result.slot.place ≡ None }
 {
+    let bound = BoundSlot::without_import(ImportResolution::WeakUndefStub { stub_index: place });
     let target = match left.stubs.as_slice().get(place) {
         None => host_slot(&left.hosts, slot).target,
         Some(stub) => Some(FunctionTarget::Stub {
@@ -134,16 +136,15 @@ fn stub_slot(left: &LeftFunctions<'_, '_>, place: usize, slot: &ImportSlot<'_, '
     };
     BoundFunction {
         target,
-        resolution: ImportResolution::WeakUndefStub { stub_index: place },
-        place: None,
+        slot: bound,
     }
 }
 
 /// The stub that a slot is to which names bind nothing, or else the host import.
 fn left_slot(left: &LeftFunctions<'_, '_>, slot: &ImportSlot<'_, '_>) -> BoundFunction
     ensures target { result.target ≡ Some (left_target left.now.stubs left.now.hosts slot.now) }
-    ensures resolution { result.resolution ≡ left_resolution left.now.stubs slot.now }
-    ensures place { result.place ≡ left_place left.now.stubs left.now.hosts slot.now }
+    ensures resolution { result.slot.resolution ≡ left_resolution left.now.stubs slot.now }
+    ensures place { result.slot.place ≡ left_place left.now.stubs left.now.hosts slot.now }
 {
     match left.stubs.place(slot.field()) {
         None => host_slot(&left.hosts, slot),
@@ -154,13 +155,12 @@ fn left_slot(left: &LeftFunctions<'_, '_>, slot: &ImportSlot<'_, '_>) -> BoundFu
 /// What names bind a function slot to.
 fn named_slot(input: &LinkInput<'_, '_>, target: SlotTarget) -> BoundFunction
     ensures target { result.target ≡ Some (named_function target) }
-    ensures resolution { result.resolution ≡ resolved input.now Func target }
-    ensures place { result.place ≡ None }
+    ensures resolution { result.slot.resolution ≡ resolved input.now Func target }
+    ensures place { result.slot.place ≡ None }
 {
     BoundFunction {
         target: Some(named_function(target)),
-        resolution: resolved(input, WasmSymbolKind::Func, target),
-        place: None,
+        slot: BoundSlot::without_import(resolved(input, WasmSymbolKind::Func, target)),
     }
 }
 
@@ -174,16 +174,15 @@ fn bound_slot(
     requires hosts { left.now.hosts ≡ function_imports input.now }
     requires here { Contains (slots_from Func 0 input.now.link.objects) slot.now }
     ensures target { result.target ≡ kept_binding input.now slot.now }
-    ensures resolution { result.resolution ≡ function_resolution input.now slot.now }
-    ensures place { result.place
+    ensures resolution { result.slot.resolution ≡ function_resolution input.now slot.now }
+    ensures place { result.slot.place
         ≡ import_place input.now Func (function_imports input.now) slot.now }
 {
     stubs_are_found_by_name();
     if !is_kept_slot(input, slot) {
         return BoundFunction {
             target: None,
-            resolution: ImportResolution::Unresolved,
-            place: None,
+            slot: BoundSlot::without_import(ImportResolution::Unresolved),
         };
     }
     match slot_target(input.symbols(), slot) {
@@ -198,28 +197,7 @@ fn bound_slot(
 #[derive(Drop)]
 struct FunctionRow {
     targets: Vec<Option<FunctionTarget>>,
-    resolutions: Vec<ImportResolution>,
-    places: Vec<Option<usize>>,
-}
-
-impl FunctionRow {
-    /// Adds the next slot.
-    ///
-    /// # Errors
-    /// `AllocError` where memory runs out.
-    fn push(&mut self, slot: BoundFunction) -> Result<(), AllocError>
-        ensures targets { OnOk result
-            (self.new.targets.items ≡ self.old.targets.items ++ slot.target ∷ []) }
-        ensures resolutions { OnOk result
-            (self.new.resolutions.items ≡ self.old.resolutions.items ++ slot.resolution ∷ []) }
-        ensures places { OnOk result
-            (self.new.places.items ≡ self.old.places.items ++ slot.place ∷ []) }
-    {
-        self.targets.push(slot.target)?;
-        self.resolutions.push(slot.resolution)?;
-        self.places.push(slot.place)?;
-        Ok(())
-    }
+    slots: SlotRow,
 }
 
 /// What the function slots of an object are bound to.
@@ -233,22 +211,24 @@ fn bind_row(
     requires hosts { left.now.hosts ≡ function_imports input.now }
     ensures targets { IfOk result (λ row. row.targets.items
         ≡ map (kept_binding input.now) (import_slots input.now.link.objects object Func)) }
-    ensures resolutions { IfOk result (λ row. row.resolutions.items
+    ensures resolutions { IfOk result (λ row. row.slots.resolutions.items
         ≡ map (function_resolution input.now) (import_slots input.now.link.objects object Func)) }
-    ensures places { IfOk result (λ row. row.places.items
+    ensures places { IfOk result (λ row. row.slots.places.items
         ≡ map (import_place input.now Func (function_imports input.now))
         (import_slots input.now.link.objects object Func)) }
 {
     let slots = import_slots(alloc, input.symbols(), object, WasmSymbolKind::Func)?;
-    let mut row = FunctionRow {
-        targets: Vec::new(alloc),
-        resolutions: Vec::new(alloc),
-        places: Vec::new(alloc),
-    };
+    let mut targets = Vec::new(alloc);
+    let mut row = SlotRow::new(alloc);
     for slot in &slots {
-        row.push(bound_slot(input, left, slot))?;
+        let bound = bound_slot(input, left, slot);
+        targets.push(bound.target)?;
+        row.push(bound.slot)?;
     }
-    Ok(row)
+    Ok(FunctionRow {
+        targets,
+        slots: row,
+    })
 }
 
 // ---- the slots of all objects
@@ -257,31 +237,7 @@ fn bind_row(
 #[derive(Drop)]
 struct FunctionRows {
     targets: Vec<ItemList<Option<FunctionTarget>>>,
-    resolutions: Vec<ObjectImportResolutions>,
-    places: Vec<ItemList<Option<usize>>>,
-}
-
-impl FunctionRows {
-    /// Adds the row of the next object.
-    ///
-    /// # Errors
-    /// `AllocError` where memory runs out.
-    fn push(&mut self, alloc: Global, row: FunctionRow) -> Result<(), AllocError>
-        ensures targets { OnOk result
-            (self.new.targets.items ≡ self.old.targets.items ++ row.targets.items ∷ []) }
-        ensures resolutions { OnOk result (map function_part self.new.resolutions.items
-            ≡ map function_part self.old.resolutions.items ++ row.resolutions.items ∷ []) }
-        ensures places { OnOk result
-            (self.new.places.items ≡ self.old.places.items ++ row.places.items ∷ []) }
-    {
-        self.targets.push(ItemList::new(row.targets))?;
-        self.resolutions.push(ObjectImportResolutions {
-            function_resolutions: ResolutionList::new(row.resolutions),
-            global_resolutions: ResolutionList::new(Vec::new(alloc)),
-        })?;
-        self.places.push(ItemList::new(row.places))?;
-        Ok(())
-    }
+    slots: SlotRows,
 }
 
 /// What the function slots of all objects are bound to.
@@ -293,20 +249,22 @@ fn bind_rows(
     requires stubs { left.now.stubs ≡ map first_slot (link_stubs input.now) }
     requires hosts { left.now.hosts ≡ function_imports input.now }
     ensures targets { IfOk result (λ rows. rows.targets.items ≡ function_bindings input.now) }
-    ensures resolutions { IfOk result (λ rows. map function_part rows.resolutions.items
+    ensures resolutions { IfOk result (λ rows. rows.slots.resolutions.items
         ≡ slot_rows (function_resolution input.now) Func 0 input.now.link.objects) }
-    ensures places { IfOk result (λ rows. rows.places.items
+    ensures places { IfOk result (λ rows. rows.slots.places.items
         ≡ import_places input.now Func (function_imports input.now)) }
 {
-    let mut rows = FunctionRows {
-        targets: Vec::new(alloc),
-        resolutions: Vec::new(alloc),
-        places: Vec::new(alloc),
-    };
+    let mut targets = Vec::new(alloc);
+    let mut rows = SlotRows::new(alloc);
     for object in 0..input.files().len() {
-        rows.push(alloc, bind_row(alloc, input, left, object)?)?;
+        let row = bind_row(alloc, input, left, object)?;
+        targets.push(ItemList::new(row.targets))?;
+        rows.push(row.slots)?;
     }
-    Ok(rows)
+    Ok(FunctionRows {
+        targets,
+        slots: rows,
+    })
 }
 
 /// The slots of stubs, and the stubs that they are.
@@ -329,8 +287,8 @@ impl<'i, 'a> Drop for StubSlots<'i, 'a> {
 pub(crate) struct FunctionSlots<'i, 'a> {
     /// What each is bound to.
     pub(crate) bindings: FunctionBindings,
-    /// What each is resolved to. Those of globals aren't there yet.
-    pub(crate) resolutions: Vec<ObjectImportResolutions>,
+    /// What each is resolved to.
+    pub(crate) resolutions: Vec<ResolutionList>,
     /// Those that are stubs.
     pub(crate) weak: StubSlots<'i, 'a>,
     /// Those that are left to the host.
@@ -349,7 +307,7 @@ impl<'i, 'a> FunctionSlots<'i, 'a> {
         let rows = bind_rows(alloc, input, &left)?;
         Ok(FunctionSlots {
             bindings: FunctionBindings::of(rows.targets),
-            resolutions: rows.resolutions,
+            resolutions: rows.slots.resolutions,
             weak: StubSlots {
                 slots: left.stub_slots,
                 stubs: left.stubs,
@@ -358,7 +316,7 @@ impl<'i, 'a> FunctionSlots<'i, 'a> {
                 slots: left.host_slots,
                 shared: SharedImports {
                     imports: left.hosts,
-                    places: rows.places,
+                    places: rows.slots.places,
                 },
             },
         })

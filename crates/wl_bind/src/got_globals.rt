@@ -1,19 +1,16 @@
 //! The globals that hold the addresses and slots of the symbols of an object.
 
-ghost use Rattle.std.specs.Prelude.{◌≡◌, ◌==◌, ◌<◌, ◌≤◌, false, map, length, replicate, IfOk, IsSome, Some, None, slice_get};
+ghost use Rattle.std.specs.Prelude.{◌≡◌, ◌==◌, false, map, length, replicate, IfOk, IsSome, Some, None, slice_get};
 ghost use Rattle.std.specs.List.{range_with_len};
-ghost use Rattle.wl_bytes.specs.declared.reader.TheConstants.{MAX_LEN};
-ghost use Rattle.wl_linking.specs.Object.{Object as SpecObject};
 ghost use Rattle.wl_symbols.specs.Entries.{symbol_in};
 ghost use Rattle.wl_bind.specs.FunctionSymbols.{function_bindings};
 ghost use Rattle.wl_bind.specs.GlobalSpace.{global_space};
-ghost use Rattle.wl_bind.specs.steps.GotGlobals.{marked, asks_globals, AreGlobalMarks, mem_entry_at, mem_global_if, func_entry_at, func_global_if};
-ghost use Rattle.wl_bind.specs.IndexMaps.{has_global, is_data_symbol, mem_place, got_mem_globals, func_place, got_func_globals};
+ghost use Rattle.wl_bind.specs.steps.GotGlobals.{marked, mem_global_if, func_global_if};
+ghost use Rattle.wl_bind.specs.IndexMaps.{has_global, mem_place, got_mem_globals, func_place, got_func_globals};
 ghost use Rattle.wl_bind.specs.steps.Numbering.{IsNumbering};
 ghost use Rattle.wl_bind.specs.Parts.{IsPlaceOf, ArePlacesOf};
 
 use crate::numbering::Numbering;
-use crate::scan::RelocScan;
 use crate::targets::FunctionBindings;
 use std::alloc::{AllocError, Global};
 use wl_linking::File;
@@ -51,28 +48,6 @@ fn global_marks(
     Ok(marks)
 }
 
-/// Whether a GOT list has an entry: where none has, no symbol has a global.
-fn asks_globals(scan: &RelocScan<'_>) -> bool
-    ensures { result ≡ asks_globals scan.now }
-{
-    !(scan.got_mem.is_empty() && scan.got_func.is_empty())
-}
-
-/// Those marks, where a GOT list has an entry; else no relocation is looked at.
-fn asked_marks(
-    alloc: Global,
-    numbering: &Numbering<'_, '_, '_>,
-    object: usize,
-    file: &File<'_>,
-) -> Result<Vec<bool>, AllocError>
-    ensures { IfOk result (λ marks. AreGlobalMarks numbering.now object file.now marks.items) }
-{
-    if !asks_globals(numbering.scan) {
-        return vec![in alloc; false; file.symbols().len()];
-    }
-    global_marks(alloc, numbering.input, object, file)
-}
-
 // ---- where nothing asks for a global
 
 /// No global for each of so many symbols.
@@ -85,16 +60,6 @@ fn no_globals(alloc: Global, count: usize) -> Result<ItemList<Option<u32>>, Allo
 
 // ---- data
 
-/// Whether a symbol is data.
-fn is_data_symbol(input: &LinkInput<'_, '_>, object: usize, number: u32) -> bool
-    ensures { result ≡ is_data_symbol input.now object number }
-{
-    match input.symbols().symbol(object, number) {
-        None => false,
-        Some(symbol) => symbol.kind.is_data(),
-    }
-}
-
 /// The place of the definition of a symbol in the GOT list of data.
 fn mem_place(numbering: &Numbering<'_, '_, '_>, object: usize, number: u32) -> Option<usize>
     requires numbering { IsNumbering numbering.now.input.now numbering.now }
@@ -106,19 +71,8 @@ fn mem_place(numbering: &Numbering<'_, '_, '_>, object: usize, number: u32) -> O
     scan.got_mem.place(definition)
 }
 
-/// The index of the global with the address of a symbol, where the GOT list of data has its
-/// definition.
-fn mem_index(numbering: &Numbering<'_, '_, '_>, object: usize, number: u32) -> Option<u32>
-    requires numbering { IsNumbering numbering.now.input.now numbering.now }
-    requires there { IsSome (symbol_in numbering.now.input.now.link.objects object number) }
-    ensures { IsPlaceOf (global_space numbering.now.input.now)
-        (mem_entry_at (mem_place numbering.now.input.now object number)) result }
-{
-    let place = mem_place(numbering, object, number)?;
-    Some(numbering.indices.got_mem(place))
-}
-
-/// The index of the global with the address of a symbol, if it is data that is marked.
+/// The index of the global with the address of a symbol, if it is data that is marked and the GOT
+/// list of data has its definition.
 fn got_mem_global(
     numbering: &Numbering<'_, '_, '_>,
     object: usize,
@@ -130,40 +84,13 @@ fn got_mem_global(
     ensures { IsPlaceOf (global_space numbering.now.input.now)
         (mem_global_if numbering.now.input.now object number mark) result }
 {
-    if is_data_symbol(numbering.input, object, number) && mark {
-        mem_index(numbering, object, number)
-    } else {
-        None
+    let symbol = numbering.input.symbols().symbol(object, number);
+    let is_data = symbol.is_some_and(|symbol| symbol.kind.is_data());
+    if !is_data || !mark {
+        return None;
     }
-}
-
-/// For each symbol of an object, the index of the global with its address, where it is data and is
-/// marked.
-fn got_mem_globals(
-    alloc: Global,
-    numbering: &Numbering<'_, '_, '_>,
-    object: usize,
-    marks: &[bool],
-) -> Result<ItemList<Option<u32>>, AllocError>
-    requires numbering { IsNumbering numbering.now.input.now numbering.now }
-    requires within { object < length numbering.now.input.now.link.objects }
-    requires few { length marks.now ≤ MAX_LEN }
-    requires marks { (o : SpecObject)
-        → slice_get numbering.now.input.now.link.objects object ≡ Some o
-        → AreGlobalMarks numbering.now object o marks.now }
-    ensures { let input = numbering.now.input.now in IfOk result
-        (λ globals. (o : SpecObject) → slice_get input.link.objects object ≡ Some o
-        → ArePlacesOf (global_space input) (got_mem_globals input object o) globals) }
-{
-    let scan = numbering.scan;
-    if scan.got_mem.is_empty() {
-        return no_globals(alloc, marks.len());
-    }
-    let mut globals = ItemList::empty(alloc);
-    for (number, mark) in marks.iter().enumerate() {
-        globals.push(got_mem_global(numbering, object, number as u32, *mark))?;
-    }
-    Ok(globals)
+    let place = mem_place(numbering, object, number)?;
+    Some(numbering.indices.got_mem(place))
 }
 
 // ---- functions
@@ -187,26 +114,8 @@ fn func_place(
     scan.got_func.place(definition, function)
 }
 
-/// The index of the global with the slot of the function that a symbol leads to, where the GOT list
-/// of functions has its definition.
-fn func_index(
-    numbering: &Numbering<'_, '_, '_>,
-    bindings: &FunctionBindings,
-    object: usize,
-    number: u32,
-) -> Option<u32>
-    requires numbering { IsNumbering numbering.now.input.now numbering.now }
-    requires bindings { bindings.now ≡ function_bindings numbering.now.input.now }
-    requires there { IsSome (symbol_in numbering.now.input.now.link.objects object number) }
-    ensures { IsPlaceOf (global_space numbering.now.input.now)
-        (func_entry_at (func_place numbering.now.input.now object number)) result }
-{
-    let place = func_place(numbering, bindings, object, number)?;
-    Some(numbering.indices.got_func(place))
-}
-
-/// The index of the global with the slot of the function that a symbol leads to, if it is a
-/// function's that is marked.
+/// The index of the global with the slot of the function that a symbol leads to, if it is marked and
+/// the GOT list of functions has its definition.
 fn got_func_global(
     numbering: &Numbering<'_, '_, '_>,
     bindings: &FunctionBindings,
@@ -215,48 +124,18 @@ fn got_func_global(
     mark: bool,
 ) -> Option<u32>
     requires numbering { IsNumbering numbering.now.input.now numbering.now }
-    requires bindings { bindings.now ≡ function_bindings numbering.now.input.now }
+    requires bindings { (length numbering.now.scan.now.got_func == 0) ≡ false
+        → bindings.now ≡ function_bindings numbering.now.input.now }
     requires there { IsSome (symbol_in numbering.now.input.now.link.objects object number) }
     ensures { IsPlaceOf (global_space numbering.now.input.now)
         (func_global_if numbering.now.input.now object number mark) result }
 {
-    if mark {
-        func_index(numbering, bindings, object, number)
-    } else {
-        None
-    }
-}
-
-/// For each symbol of an object, the index of the global with the slot of the function that it
-/// leads to, where it is marked.
-fn got_func_globals(
-    alloc: Global,
-    numbering: &Numbering<'_, '_, '_>,
-    bindings: &FunctionBindings,
-    object: usize,
-    marks: &[bool],
-) -> Result<ItemList<Option<u32>>, AllocError>
-    requires numbering { IsNumbering numbering.now.input.now numbering.now }
-    requires bindings { (length numbering.now.scan.now.got_func == 0) ≡ false
-        → bindings.now ≡ function_bindings numbering.now.input.now }
-    requires within { object < length numbering.now.input.now.link.objects }
-    requires few { length marks.now ≤ MAX_LEN }
-    requires marks { (o : SpecObject)
-        → slice_get numbering.now.input.now.link.objects object ≡ Some o
-        → AreGlobalMarks numbering.now object o marks.now }
-    ensures { let input = numbering.now.input.now in IfOk result
-        (λ globals. (o : SpecObject) → slice_get input.link.objects object ≡ Some o
-        → ArePlacesOf (global_space input) (got_func_globals input object o) globals) }
-{
     let scan = numbering.scan;
-    if scan.got_func.is_empty() {
-        return no_globals(alloc, marks.len());
+    if !mark || scan.got_func.is_empty() {
+        return None;
     }
-    let mut globals = ItemList::empty(alloc);
-    for (number, mark) in marks.iter().enumerate() {
-        globals.push(got_func_global(numbering, bindings, object, number as u32, *mark))?;
-    }
-    Ok(globals)
+    let place = func_place(numbering, bindings, object, number)?;
+    Some(numbering.indices.got_func(place))
 }
 
 // ---- both
@@ -271,7 +150,8 @@ pub(crate) struct GotGlobals {
 }
 
 /// The globals that hold the addresses and slots of the symbols of an object which a kept
-/// relocation of the object names by the number of a global.
+/// relocation of the object names by the number of a global. Where no GOT list has an entry, no
+/// relocation is looked at.
 ///
 /// # Errors
 /// `AllocError` where memory runs out.
@@ -294,9 +174,21 @@ pub(crate) fn got_globals(
         globals.func) }
 {
     file.stands_for_an_object();
-    let marks = asked_marks(alloc, numbering, object, file)?;
-    Ok(GotGlobals {
-        mem: got_mem_globals(alloc, numbering, object, &marks)?,
-        func: got_func_globals(alloc, numbering, bindings, object, &marks)?,
-    })
+    let scan = numbering.scan;
+    if scan.got_mem.is_empty() && scan.got_func.is_empty() {
+        let count = file.symbols().len();
+        return Ok(GotGlobals {
+            mem: no_globals(alloc, count)?,
+            func: no_globals(alloc, count)?,
+        });
+    }
+    let marks = global_marks(alloc, numbering.input, object, file)?;
+    let mut mem = ItemList::empty(alloc);
+    let mut func = ItemList::empty(alloc);
+    for (number, mark) in marks.iter().enumerate() {
+        let symbol = number as u32;
+        mem.push(got_mem_global(numbering, object, symbol, *mark))?;
+        func.push(got_func_global(numbering, bindings, object, symbol, *mark))?;
+    }
+    Ok(GotGlobals { mem, func })
 }

@@ -3,13 +3,13 @@
 ghost use Rattle.std.specs.Prelude.{◌≡◌, ◌==◌, ◌<◌, false, length, slice_get, IfOk, Some};
 ghost use Rattle.wl_linking.specs.Object.{Object as SpecObject};
 ghost use Rattle.wl_bind.specs.FunctionSymbols.{function_bindings};
-ghost use Rattle.wl_bind.specs.steps.IndexMaps.{AreMapSources, AreSymbolLists};
+ghost use Rattle.wl_bind.specs.steps.IndexMaps.{AreMapSources};
 ghost use Rattle.wl_bind.specs.IndexMaps.{IsIndexMap, AreIndexMaps};
 ghost use Rattle.wl_bind.specs.steps.Numbering.{IsNumbering};
 ghost use Rattle.wl_bind.specs.OutputTypes.{IsMerged};
 
 use crate::function_slots::FunctionSlots;
-use crate::got_globals::{GotGlobals, got_globals};
+use crate::got_globals::got_globals;
 use crate::merging::MergedTypes;
 use crate::numbering::Numbering;
 use crate::own_indices::Own;
@@ -34,21 +34,6 @@ struct MapSources<'m, 'n, 'i, 'a> {
     globals: &'m [ItemList<u32>],
 }
 
-/// What the map of an object has by the numbers of types, functions and globals.
-#[derive(Drop)]
-struct NumberLists {
-    types: ItemList<u32>,
-    functions: ItemList<u32>,
-    globals: ItemList<u32>,
-}
-
-/// What the map of an object has by the numbers of symbols.
-#[derive(Drop)]
-struct SymbolLists {
-    redirects: ItemList<Option<u32>>,
-    got: GotGlobals,
-}
-
 /// A copy of the row of an object.
 fn row_copy(
     alloc: Global,
@@ -63,54 +48,6 @@ fn row_copy(
     Ok(row)
 }
 
-/// Copies of the rows of an object.
-fn number_lists(
-    alloc: Global,
-    types: &[ItemList<u32>],
-    functions: &[ItemList<u32>],
-    globals: &[ItemList<u32>],
-    object: usize,
-) -> Result<NumberLists, AllocError>
-    requires types { object < length types.now }
-    requires functions { object < length functions.now }
-    requires globals { object < length globals.now }
-    ensures types { IfOk result (λ l. slice_get types.now object ≡ Some l.types) }
-    ensures functions { IfOk result (λ l. slice_get functions.now object ≡ Some l.functions) }
-    ensures globals { IfOk result (λ l. slice_get globals.now object ≡ Some l.globals) }
-{
-    Ok(NumberLists {
-        types: row_copy(alloc, types, object)?,
-        functions: row_copy(alloc, functions, object)?,
-        globals: row_copy(alloc, globals, object)?,
-    })
-}
-
-/// What the map of an object has by the numbers of symbols.
-fn symbol_lists(
-    alloc: Global,
-    sources: &MapSources<'_, '_, '_, '_>,
-    object: usize,
-) -> Result<SymbolLists, AllocError>
-    requires sources { AreMapSources sources.now.numbering.now.input.now sources.now }
-    requires within { object < length sources.now.numbering.now.input.now.link.objects }
-    ensures { let input = sources.now.numbering.now.input.now in IfOk result
-        (λ lists. (o : SpecObject) → slice_get input.link.objects object ≡ Some o
-        → AreSymbolLists input object o lists) }
-{
-    let files = sources.numbering.input.files().as_slice();
-    let file = &files[object];
-    Ok(SymbolLists {
-        redirects: function_redirects(
-            alloc,
-            sources.numbering.input,
-            sources.functions,
-            object,
-            file,
-        )?,
-        got: got_globals(alloc, sources.numbering, sources.bindings, object, file)?,
-    })
-}
-
 /// The map of an object.
 fn index_map(
     alloc: Global,
@@ -123,39 +60,26 @@ fn index_map(
         (λ map. (o : SpecObject) → slice_get input.link.objects object ≡ Some o
         → IsIndexMap input object o map) }
 {
-    let numbers = number_lists(
-        alloc,
-        sources.types,
-        sources.functions,
-        sources.globals,
-        object,
-    )?;
-    let symbols = symbol_lists(alloc, sources, object)?;
+    let input = sources.numbering.input;
+    let files = input.files().as_slice();
+    let file = &files[object];
+    let got = got_globals(alloc, sources.numbering, sources.bindings, object, file)?;
     Ok(WasmObjectIndexMap {
-        type_indices: numbers.types,
-        function_indices: numbers.functions,
-        global_indices: numbers.globals,
-        function_symbol_redirects: symbols.redirects,
-        got_mem_globals: symbols.got.mem,
-        got_func_globals: symbols.got.func,
+        type_indices: row_copy(alloc, sources.types, object)?,
+        function_indices: row_copy(alloc, sources.functions, object)?,
+        global_indices: row_copy(alloc, sources.globals, object)?,
+        function_symbol_redirects: function_redirects(
+            alloc,
+            input,
+            sources.functions,
+            object,
+            file,
+        )?,
+        got_mem_globals: got.mem,
+        got_func_globals: got.func,
         segment_indices: ItemList::empty(alloc),
         data_addresses: ItemList::empty(alloc),
     })
-}
-
-/// The maps of all objects, made from these.
-fn maps_from(
-    alloc: Global,
-    sources: &MapSources<'_, '_, '_, '_>,
-) -> Result<ItemList<WasmObjectIndexMap>, AllocError>
-    requires { AreMapSources sources.now.numbering.now.input.now sources.now }
-    ensures { IfOk result (AreIndexMaps sources.now.numbering.now.input.now) }
-{
-    let mut maps = ItemList::empty(alloc);
-    for object in 0..sources.numbering.input.files().len() {
-        maps.push(index_map(alloc, sources, object)?)?;
-    }
-    Ok(maps)
 }
 
 /// The functions that function slots are bound to, where the GOT list of functions asks for any.
@@ -197,5 +121,9 @@ pub(crate) fn index_maps_of(
         functions: functions.as_slice(),
         globals: globals.as_slice(),
     };
-    maps_from(alloc, &sources)
+    let mut maps = ItemList::empty(alloc);
+    for object in 0..numbering.input.files().len() {
+        maps.push(index_map(alloc, &sources, object)?)?;
+    }
+    Ok(maps)
 }

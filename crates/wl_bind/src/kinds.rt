@@ -2,11 +2,9 @@
 
 ghost use Rattle.std.specs.Prelude.{◌≡◌, Some, find, OnOk, IfErr};
 ghost use Rattle.wl_linking.specs.Steps.{Clear};
-ghost use Rattle.wl_custom.specs.Symbols.{is_data};
-ghost use Rattle.wl_symbols.specs.LinkerNames.{row_of};
 ghost use Rattle.wl_bind.specs.FunctionSymbols.{function_bindings};
 ghost use Rattle.wl_bind.specs.FunctionTypes.{target_type};
-ghost use Rattle.wl_bind.specs.Kinds.{is_no_data, is_wrong_use, takes_parameters, leads_to_parameters, IsWrongUse, IsWrongInit, IsWrongKind};
+ghost use Rattle.wl_bind.specs.Kinds.{is_wrong_use, takes_parameters, IsWrongKind};
 ghost use Rattle.wl_bind.specs.steps.Kinds.{is_wrong_relocation, is_wrong_at, wrong_init_from};
 ghost use Rattle.wl_bind.specs.Scan.{symbol_of};
 ghost use Rattle.wl_symbols.specs.Relocations.{relocations};
@@ -19,30 +17,10 @@ use wl_symbols::{Definition, LinkInput, Relocated, WasmLinkerSymbol};
 
 // ---- relocations
 
-/// Whether what the linker makes is data. With a memory, all of that is exported as globals with
-/// addresses.
+/// Whether the relocation doesn't take the symbol that it names, or this is data that an object
+/// defines as something else, or that is something else that the linker makes. With a memory, all
+/// data of the linker's is exported as globals with addresses.
 #[tactic(auto, using(crate::proofs::KindLaws::exported_with_memory))]
-fn is_made_data(made: WasmLinkerSymbol) -> bool
-    ensures { result ≡ is_data (row_of made).kind }
-{
-    made.exported_as_data_global(true)
-}
-
-/// Whether an object defines it as something else than data, or it is something else that the
-/// linker makes.
-fn is_no_data(input: &LinkInput<'_, '_>, definition: Definition) -> bool
-    ensures { result ≡ is_no_data input.now definition }
-{
-    match definition {
-        Definition::Symbol { object, symbol } => match input.symbols().symbol(object, symbol) {
-            None => false,
-            Some(symbol) => symbol.is_defined() && !symbol.kind.is_data(),
-        },
-        Definition::Made(made) => !is_made_data(made),
-    }
-}
-
-/// Whether the relocation doesn't take the symbol that it names.
 pub(crate) fn is_wrong_use(
     input: &LinkInput<'_, '_>,
     relocated: &Relocated,
@@ -55,23 +33,15 @@ pub(crate) fn is_wrong_use(
     if !relocated.relocation.ty.takes_kind(symbol.kind) {
         return true;
     }
-    symbol.kind.is_data() && is_no_data(input, input.symbols().definition(relocated.object, number))
-}
-
-/// Sees that each kept relocation takes the symbol that it names, where the first that doesn't is
-/// known.
-#[tactic(auto, using(crate::proofs::KindLaws::no_wrong_use, crate::proofs::KindLaws::a_wrong_use))]
-fn check_uses(input: &LinkInput<'_, '_>, wrong: Option<Relocated>) -> Result<(), LinkError>
-    requires { wrong ≡ find (is_wrong_relocation input.now) (relocations input.now) }
-    ensures clear { OnOk result (Clear (IsWrongUse input.now)) }
-    ensures err { IfErr result (IsWrongUse input.now) }
-{
-    match wrong {
-        None => Ok(()),
-        Some(relocated) => Err(LinkError::WrongKind {
-            object: relocated.object,
-            symbol: relocated.relocation.index,
-        }),
+    if !symbol.kind.is_data() {
+        return false;
+    }
+    match input.symbols().definition(relocated.object, number) {
+        Definition::Symbol { object, symbol } => match input.symbols().symbol(object, symbol) {
+            None => false,
+            Some(symbol) => symbol.is_defined() && !symbol.kind.is_data(),
+        },
+        Definition::Made(made) => !made.exported_as_data_global(true),
     }
 }
 
@@ -94,22 +64,6 @@ fn takes_parameters(input: &LinkInput<'_, '_>, target: FunctionTarget) -> bool
     }
 }
 
-/// Whether a symbol leads to a function that takes parameters.
-fn leads_to_parameters(
-    input: &LinkInput<'_, '_>,
-    bindings: &FunctionBindings,
-    object: usize,
-    number: u32,
-) -> bool
-    requires { bindings.now ≡ function_bindings input.now }
-    ensures { result ≡ leads_to_parameters input.now object number }
-{
-    match bindings.function(input, object, number) {
-        None => false,
-        Some(target) => takes_parameters(input, target),
-    }
-}
-
 /// Whether the symbol of a function isn't for one that runs at the start.
 fn is_wrong_init(
     input: &LinkInput<'_, '_>,
@@ -121,30 +75,16 @@ fn is_wrong_init(
     ensures { result ≡ is_wrong_at input.now object function.now }
 {
     let number = function.symbol_index;
-    match input.symbols().symbol(object, number) {
+    let Some(symbol) = input.symbols().symbol(object, number) else {
+        return false;
+    };
+    if !symbol.is_defined_function() {
+        return true;
+    }
+    match bindings.function(input, object, number) {
         None => false,
-        Some(symbol) => {
-            !symbol.is_defined_function() || leads_to_parameters(input, bindings, object, number)
-        }
+        Some(target) => takes_parameters(input, target),
     }
-}
-
-/// The first function of an object with such a symbol.
-fn find_in_object(
-    input: &LinkInput<'_, '_>,
-    bindings: &FunctionBindings,
-    object: usize,
-    functions: &[WasmInitFunc],
-) -> Option<WasmInitFunc>
-    requires { bindings.now ≡ function_bindings input.now }
-    ensures { result ≡ find (is_wrong_at input.now object) functions.now }
-{
-    for function in functions {
-        if is_wrong_init(input, bindings, object, function) {
-            return Some(*function);
-        }
-    }
-    None
 }
 
 /// The first such symbol, by the number of its object and its own.
@@ -154,25 +94,13 @@ fn find_wrong_init(input: &LinkInput<'_, '_>, bindings: &FunctionBindings) -> Op
 {
     let files = input.files().as_slice();
     for (object, file) in files.iter().enumerate() {
-        if let Some(function) = find_in_object(input, bindings, object, file.init_funcs()) {
-            return Some((object, function.symbol_index));
+        for function in file.init_funcs() {
+            if is_wrong_init(input, bindings, object, function) {
+                return Some((object, function.symbol_index));
+            }
         }
     }
     None
-}
-
-/// Sees that the functions of objects that run at the start are defined there, and that none takes
-/// parameters.
-#[tactic(auto, using(crate::proofs::KindLaws::no_wrong_init, crate::proofs::KindLaws::a_wrong_init))]
-fn check_inits(input: &LinkInput<'_, '_>, bindings: &FunctionBindings) -> Result<(), LinkError>
-    requires { bindings.now ≡ function_bindings input.now }
-    ensures clear { OnOk result (Clear (IsWrongInit input.now)) }
-    ensures err { IfErr result (IsWrongInit input.now) }
-{
-    match find_wrong_init(input, bindings) {
-        None => Ok(()),
-        Some((object, symbol)) => Err(LinkError::WrongKind { object, symbol }),
-    }
 }
 
 /// Sees that each symbol is of the kind that its use asks for: first those that kept relocations
@@ -183,7 +111,7 @@ fn check_inits(input: &LinkInput<'_, '_>, bindings: &FunctionBindings) -> Result
 /// `WrongKind` where a relocation names a symbol of a kind that its type doesn't take, or data that
 /// is defined as something else; and where a function that runs at the start isn't defined by its
 /// object, or leads to one that takes parameters.
-#[tactic(auto, using(crate::proofs::KindLaws::both_clear))]
+#[tactic(auto, using(crate::proofs::KindLaws::none_wrong, crate::proofs::KindLaws::a_wrong_use, crate::proofs::KindLaws::a_wrong_init))]
 pub(crate) fn check_kinds(
     input: &LinkInput<'_, '_>,
     bindings: &FunctionBindings,
@@ -194,6 +122,14 @@ pub(crate) fn check_kinds(
     ensures clear { OnOk result (Clear (IsWrongKind input.now)) }
     ensures err { IfErr result (IsWrongKind input.now) }
 {
-    check_uses(input, wrong)?;
-    check_inits(input, bindings)
+    if let Some(relocated) = wrong {
+        return Err(LinkError::WrongKind {
+            object: relocated.object,
+            symbol: relocated.relocation.index,
+        });
+    }
+    match find_wrong_init(input, bindings) {
+        None => Ok(()),
+        Some((object, symbol)) => Err(LinkError::WrongKind { object, symbol }),
+    }
 }

@@ -10,6 +10,7 @@
 mod binding;
 mod function_slots;
 mod resolution;
+mod slot_rows;
 mod targets;
 mod types;
 

@@ -1,19 +1,17 @@
 //! What the linker makes: which functions and globals of its own the output has.
 
-ghost use Rattle.std.specs.Prelude.{◌≡◌, ◌&&◌, ◌||◌, not, bytes_eq, IfOk};
+ghost use Rattle.std.specs.Prelude.{◌≡◌, ◌&&◌, ◌||◌, not, IfOk};
 ghost use Rattle.std.specs.List.{list_any};
 ghost use Rattle.wl_symbols.specs.declared.units.WasmGcUnit.TheVariants.{DataSegment};
-ghost use Rattle.wl_words.specs.Texts.{texts};
 ghost use Rattle.wl_symbols.specs.Input.{Input as Linked, keeps};
 ghost use Rattle.wl_bind.specs.Made.{is_bound, is_forced, has_init_functions, is_filled, keeps_thread_data, keeps_common_data, has_shared_tls, has_init_memory, linker_needs, is_made};
 ghost use Rattle.wl_bind.specs.steps.Needs.{is_asked_for, leads_to, row_leads_to};
 ghost use Rattle.wl_bind.specs.Parts.{any_object};
 ghost use Rattle.wl_bind.specs.Resolutions.{resolutions, by_all_rules};
-ghost use Rattle.wl_bind.specs.Scan.{needs_of, scan_of};
-ghost use Rattle.wl_bind.specs.ThreadData.{thread_data};
+ghost use Rattle.wl_bind.specs.Scan.{scan_of};
 
 use crate::resolution::{ImportResolution, ObjectImportResolutions};
-use crate::scan::{RelocNeeds, RelocScan};
+use crate::scan::RelocScan;
 use crate::thread_segments::thread_data;
 use std::alloc::{AllocError, Global};
 use wl_linking::File;
@@ -40,23 +38,18 @@ pub struct LinkerImportAbsorption {
     pub needs_ctors: bool,
 }
 
-/// Whether one of the names is this one.
-fn is_among(names: &[String], name: &[u8]) -> bool
-    ensures { result ≡ list_any (bytes_eq name.now) (texts names.now) }
+/// Whether the name is to be exported.
+fn is_forced(input: &LinkInput<'_, '_>, made: WasmLinkerSymbol) -> bool
+    ensures { result ≡ is_forced input.now made }
 {
+    let names = input.args().force_export_symbol_names();
+    let name = made.name();
     for other in names {
         if name == other.as_bytes() {
             return true;
         }
     }
     false
-}
-
-/// Whether the name is to be exported.
-fn is_forced(input: &LinkInput<'_, '_>, made: WasmLinkerSymbol) -> bool
-    ensures { result ≡ is_forced input.now made }
-{
-    is_among(input.args().force_export_symbol_names(), made.name())
 }
 
 /// Whether it is made, whatever is to be exported.
@@ -111,21 +104,16 @@ fn leads_to(resolution: &ImportResolution, made: WasmLinkerSymbol) -> bool
     }
 }
 
-/// Whether one of these slots is resolved to what the linker makes.
-fn any_leads_to(resolutions: &[ImportResolution], made: WasmLinkerSymbol) -> bool
-    ensures { result ≡ list_any (leads_to made) resolutions.now }
-{
-    resolutions
-        .iter()
-        .any(|resolution| leads_to(resolution, made))
-}
-
 /// Whether a slot of an object is resolved to what the linker makes.
 fn row_leads_to(row: &ObjectImportResolutions, made: WasmLinkerSymbol) -> bool
     ensures { result ≡ row_leads_to made row.now }
 {
-    any_leads_to(row.function_resolutions.as_slice(), made)
-        || any_leads_to(row.global_resolutions.as_slice(), made)
+    let functions = row.function_resolutions.as_slice();
+    let globals = row.global_resolutions.as_slice();
+    functions
+        .iter()
+        .chain(globals.iter())
+        .any(|resolution| leads_to(resolution, made))
 }
 
 /// Whether a slot of one of the objects is resolved to what the linker makes.
@@ -168,13 +156,6 @@ fn joined(one: KeptData, other: KeptData) -> KeptData
     }
 }
 
-/// Whether a segment has bytes that go into the memory when a module starts.
-fn is_filled(segment: &WasmDataSegment<'_>) -> bool
-    ensures { result ≡ is_filled segment.now }
-{
-    segment.kind == DataKind::Active && !segment.payload.is_empty()
-}
-
 /// What is kept by a segment of that number, of which each thread may have its own.
 fn kept_by_segment(
     input: &LinkInput<'_, '_>,
@@ -194,28 +175,11 @@ fn kept_by_segment(
         .is_live(object, WasmGcUnit::DataSegment(number));
     KeptData {
         thread: is_kept && is_thread_data,
-        common: is_kept && !is_thread_data && is_filled(segment),
+        common: is_kept
+            && !is_thread_data
+            && segment.kind == DataKind::Active
+            && !segment.payload.is_empty(),
     }
-}
-
-/// Which segments of an object are kept, where it is known of which each thread has its own.
-fn kept_among(input: &LinkInput<'_, '_>, object: usize, file: &File<'_>, marks: &[bool]) -> KeptData
-    requires { marks.now ≡ thread_data file.now }
-    ensures thread { result.thread ≡ keeps_thread_data input.now object file.now }
-    ensures common { result.common ≡ keeps_common_data input.now object file.now }
-{
-    file.stands_for_an_object();
-    let mut kept = KeptData {
-        thread: false,
-        common: false,
-    };
-    for (k, segment) in file.segments().iter().enumerate() {
-        kept = joined(
-            kept,
-            kept_by_segment(input, object, k as u32, marks[k], segment),
-        );
-    }
-    kept
 }
 
 /// Which segments of an object are kept.
@@ -228,8 +192,18 @@ fn kept_data_in(
     ensures thread { IfOk result (λ d. d.thread ≡ keeps_thread_data input.now object file.now) }
     ensures common { IfOk result (λ d. d.common ≡ keeps_common_data input.now object file.now) }
 {
+    file.stands_for_an_object();
     let marks = thread_data(alloc, file)?;
-    Ok(kept_among(input, object, file, &marks))
+    let of_threads = marks.as_slice();
+    let mut kept = KeptData {
+        thread: false,
+        common: false,
+    };
+    for (k, segment) in file.segments().iter().enumerate() {
+        let here = kept_by_segment(input, object, k as u32, of_threads[k], segment);
+        kept = joined(kept, here);
+    }
+    Ok(kept)
 }
 
 /// Which segments of all objects are kept.
@@ -285,35 +259,6 @@ pub fn has_init_functions(input: &LinkInput<'_, '_>) -> bool
     files.iter().any(|file| !file.init_funcs().is_empty())
 }
 
-/// What the linker is asked for, where it is known what kept relocations ask for, and whether data
-/// of threads is kept.
-fn absorption(
-    input: &LinkInput<'_, '_>,
-    rows: &[ObjectImportResolutions],
-    needs: RelocNeeds,
-    keeps_data: bool,
-) -> LinkerImportAbsorption
-    requires rows { rows.now ≡ resolutions input.now (by_all_rules input.now) }
-    requires needs { needs ≡ needs_of input.now }
-    requires kept { keeps_data ≡ any_object (keeps_thread_data input.now) 0 input.now.link.objects }
-    ensures { result ≡ linker_needs input.now }
-{
-    let has_block = has_shared_tls(input, rows, keeps_data);
-    LinkerImportAbsorption {
-        needs_memory_base: is_asked_or_bound(rows, needs.memory_base, WasmLinkerSymbol::MemoryBase),
-        needs_table_base: is_asked_or_bound(rows, needs.table_base, WasmLinkerSymbol::TableBase),
-        needs_tls_base: is_asked_or_bound(rows, has_block, WasmLinkerSymbol::TlsBase),
-        needs_tls_size: has_block,
-        needs_tls_align: has_block,
-        needs_init_tls: has_block,
-        needs_ctors: is_asked_or_bound(
-            rows,
-            has_init_functions(input),
-            WasmLinkerSymbol::CallCtors,
-        ),
-    }
-}
-
 /// What the linker is asked for.
 ///
 /// # Errors
@@ -330,9 +275,27 @@ pub(crate) fn linker_needs(
     ensures init_memory { IfOk result (λ needs. needs.init_memory ≡ has_init_memory input.now) }
 {
     let kept = kept_data(alloc, input)?;
-    let absorption = absorption(input, rows, scan.needs, kept.thread);
+    let has_block = has_shared_tls(input, rows, kept.thread);
+    let has_functions = has_init_functions(input);
+    let needs = scan.needs;
     Ok(LinkerNeeds {
-        absorption,
+        absorption: LinkerImportAbsorption {
+            needs_memory_base: is_asked_or_bound(
+                rows,
+                needs.memory_base,
+                WasmLinkerSymbol::MemoryBase,
+            ),
+            needs_table_base: is_asked_or_bound(
+                rows,
+                needs.table_base,
+                WasmLinkerSymbol::TableBase,
+            ),
+            needs_tls_base: is_asked_or_bound(rows, has_block, WasmLinkerSymbol::TlsBase),
+            needs_tls_size: has_block,
+            needs_tls_align: has_block,
+            needs_init_tls: has_block,
+            needs_ctors: is_asked_or_bound(rows, has_functions, WasmLinkerSymbol::CallCtors),
+        },
         init_memory: input.args().shared_memory && kept.common,
     })
 }

@@ -1,16 +1,15 @@
 //! The indices of the functions that function symbols lead to.
 
-ghost use Rattle.std.specs.Prelude.{◌≡◌, ◌≤◌, length, slice_get, IfOk, IsSome, Some};
-ghost use Rattle.wl_symbols.specs.Entries.{symbol_in};
+ghost use Rattle.std.specs.Prelude.{◌≡◌, ◌≤◌, length, slice_get, IfOk, Some};
 ghost use Rattle.wl_index.specs.declared.index.TheConstants.{MAX_ENTRIES};
 ghost use Rattle.wl_bind.specs.FunctionSpace.{function_space, local_functions};
 ghost use Rattle.wl_bind.specs.IndexMaps.{symbol_functions};
 ghost use Rattle.wl_bind.specs.Parts.{AreIndicesOf, ArePlacesOf, AreRows};
-ghost use Rattle.wl_bind.specs.steps.Redirects.{as_place, row_place, defined_by, definition_function, leads_to, redirect_of, redirects_of};
+ghost use Rattle.wl_bind.specs.steps.Redirects.{row_place, definition_function, redirect_of};
 
 use std::alloc::{AllocError, Global};
 use wl_index::WASM_DEAD_INDEX;
-use wl_linking::{File, WasmSymbol, whole_objects};
+use wl_linking::{File, whole_objects};
 use wl_lists::ItemList;
 use wl_symbols::{
     Definition, LinkInput, definitions_have_numbers, live_units_are_closed, slots_are_numbered,
@@ -24,10 +23,12 @@ struct LocalFunction {
     index: u32,
 }
 
-/// An index, where it isn't the one of nothing.
-fn as_place(index: u32) -> Option<u32>
-    ensures { result ≡ as_place index }
+/// The index of a function of an object, where the output has it.
+fn row_place(rows: &[ItemList<u32>], function: LocalFunction) -> Option<u32>
+    ensures { result ≡ row_place rows.now function }
 {
+    let row = rows.get(function.object)?;
+    let index = *row.as_slice().get(function.index as usize)?;
     if index == WASM_DEAD_INDEX {
         None
     } else {
@@ -35,19 +36,17 @@ fn as_place(index: u32) -> Option<u32>
     }
 }
 
-/// The index of a function of an object, where the output has it.
-fn row_place(rows: &[ItemList<u32>], function: LocalFunction) -> Option<u32>
-    ensures { result ≡ row_place rows.now function }
+/// The function that an object defines, where this is its definition.
+fn definition_function(input: &LinkInput<'_, '_>, definition: Definition) -> Option<LocalFunction>
+    ensures { result ≡ definition_function input.now.link.objects definition }
 {
-    let row = rows.get(function.object)?;
-    let index = row.as_slice().get(function.index as usize)?;
-    as_place(*index)
-}
-
-/// The function that a symbol defines, where it defines one.
-fn defined_by(input: &LinkInput<'_, '_>, object: usize, number: u32) -> Option<LocalFunction>
-    ensures { result ≡ defined_by input.now.link.objects object number }
-{
+    let Definition::Symbol {
+        object,
+        symbol: number,
+    } = definition
+    else {
+        return None;
+    };
     let symbol = input.symbols().symbol(object, number)?;
     if symbol.is_defined_function() {
         Some(LocalFunction {
@@ -59,43 +58,8 @@ fn defined_by(input: &LinkInput<'_, '_>, object: usize, number: u32) -> Option<L
     }
 }
 
-/// The function that an object defines, where this is its definition.
-fn definition_function(input: &LinkInput<'_, '_>, definition: Definition) -> Option<LocalFunction>
-    ensures { result ≡ definition_function input.now.link.objects definition }
-{
-    match definition {
-        Definition::Symbol { object, symbol } => defined_by(input, object, symbol),
-        Definition::Made(_) => None,
-    }
-}
-
-/// The function of an object that a function symbol leads to: that of its own index, or the one
-/// that a weak and defined symbol stands for.
-fn leads_to(
-    input: &LinkInput<'_, '_>,
-    object: usize,
-    number: u32,
-    symbol: &WasmSymbol<'_>,
-) -> LocalFunction
-    requires { IsSome (symbol_in input.now.link.objects object number) }
-    ensures { result ≡ leads_to input.now.link object number symbol.now }
-{
-    let own = LocalFunction {
-        object,
-        index: symbol.index,
-    };
-    if symbol.is_undefined() || !symbol.is_weak() {
-        return own;
-    }
-    let definition = input.symbols().definition(object, number);
-    match definition_function(input, definition) {
-        Some(function) => function,
-        None => own,
-    }
-}
-
 /// The index of the function that a symbol leads to, where it is a function's and the output has
-/// that function.
+/// that function: the one of its own index, or the one that a weak and defined symbol stands for.
 fn redirect(
     input: &LinkInput<'_, '_>,
     rows: &[ItemList<u32>],
@@ -105,30 +69,18 @@ fn redirect(
     ensures { result ≡ redirect_of input.now.link rows.now object number }
 {
     let symbol = input.symbols().symbol(object, number)?;
-    if symbol.kind.is_function() {
-        row_place(rows, leads_to(input, object, number, symbol))
-    } else {
-        None
+    if !symbol.kind.is_function() {
+        return None;
     }
-}
-
-/// Those of the symbols of an object.
-fn redirects(
-    alloc: Global,
-    input: &LinkInput<'_, '_>,
-    rows: &[ItemList<u32>],
-    object: usize,
-    file: &File<'_>,
-) -> Result<ItemList<Option<u32>>, AllocError>
-    ensures { IfOk result
-        (λ list. list ≡ redirects_of input.now.link rows.now object file.now) }
-{
-    file.stands_for_an_object();
-    let mut list = ItemList::empty(alloc);
-    for number in 0..file.symbols().len() {
-        list.push(redirect(input, rows, object, number as u32))?;
+    let own = LocalFunction {
+        object,
+        index: symbol.index,
+    };
+    if symbol.is_undefined() || !symbol.is_weak() {
+        return row_place(rows, own);
     }
-    Ok(list)
+    let definition = input.symbols().definition(object, number);
+    row_place(rows, definition_function(input, definition).unwrap_or(own))
 }
 
 /// For each symbol of an object the index of the function that it leads to, where it is a
@@ -157,5 +109,10 @@ pub(crate) fn function_redirects(
     live_units_are_closed();
     let _ = input.live();
     let _ = input.files().as_slice();
-    redirects(alloc, input, function_rows, object, file)
+    file.stands_for_an_object();
+    let mut list = ItemList::empty(alloc);
+    for number in 0..file.symbols().len() {
+        list.push(redirect(input, function_rows, object, number as u32))?;
+    }
+    Ok(list)
 }

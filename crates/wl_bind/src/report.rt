@@ -70,43 +70,6 @@ fn undefined_import_of<'a>(
     }
 }
 
-/// Adds those of these symbols of an object that have to be defined, and whose slots are left to
-/// the host.
-fn add_undefined_imports<'a>(
-    names: &mut UndefinedNames<'a>,
-    input: &LinkInput<'_, 'a>,
-    rows: &[ObjectImportResolutions],
-    object: usize,
-    symbols: &[WasmSymbol<'a>],
-) -> Result<(), AllocError>
-    requires rows { rows.now ≡ resolutions input.now (by_all_rules input.now) }
-    ensures { OnOk result (names.new ≡ insert_all same_undefined names.old
-        (filter_map (undefined_import_of input.now object) symbols.now)) }
-{
-    for symbol in symbols {
-        names.add_some(undefined_import_of(input, rows, object, symbol))?;
-    }
-    Ok(())
-}
-
-/// The symbols of all objects that have to be defined, and whose slots are left to the host, each
-/// name once with an object, in order of first occurrence.
-fn collect_undefined_imports<'a>(
-    alloc: Global,
-    input: &LinkInput<'_, 'a>,
-    rows: &[ObjectImportResolutions],
-) -> Result<UndefinedNames<'a>, AllocError>
-    requires rows { rows.now ≡ resolutions input.now (by_all_rules input.now) }
-    ensures { IfOk result (λ names. names ≡ undefined_imports input.now) }
-{
-    let files = input.files().as_slice();
-    let mut names = UndefinedNames::new(alloc);
-    for (object, file) in files.iter().enumerate() {
-        add_undefined_imports(&mut names, input, rows, object, file.symbols())?;
-    }
-    Ok(names)
-}
-
 /// Sees that functions and globals that are left to the host may be undefined.
 ///
 /// # Errors
@@ -124,7 +87,13 @@ pub fn report_disallowed_unresolved_imports(
     if input.args().allow_undefined {
         return Ok(());
     }
-    let names = collect_undefined_imports(alloc, input, rows)?;
+    let files = input.files().as_slice();
+    let mut names = UndefinedNames::new(alloc);
+    for (object, file) in files.iter().enumerate() {
+        for symbol in file.symbols() {
+            names.add_some(undefined_import_of(input, rows, object, symbol))?;
+        }
+    }
     if names.is_empty() {
         return Ok(());
     }

@@ -3,14 +3,13 @@
 ghost use Rattle.std.specs.Prelude.{◌≡◌, IfOk, OnOk, IfErr};
 ghost use Rattle.wl_linking.specs.Steps.{Clear, Refuses};
 ghost use Rattle.wl_bind.specs.Conflicts.{IsHostConflict};
-ghost use Rattle.wl_bind.specs.steps.FunctionSlots.{AreFunctionSlots};
 ghost use Rattle.wl_bind.specs.steps.HostSlots.{AreHostFunctions, AreHostGlobals};
 ghost use Rattle.wl_bind.specs.Resolutions.{resolutions, by_all_rules};
 ghost use Rattle.wl_bind.specs.Shared.{shared_of, place_in, place_at};
 
 use crate::conflicts::{SlotImports, check_types};
 use crate::function_slots::FunctionSlots;
-use crate::global_slots::bind_globals;
+use crate::global_slots::GlobalSlots;
 use crate::resolution::ObjectImportResolutions;
 use crate::scanning::gather;
 use std::alloc::Global;
@@ -157,27 +156,6 @@ impl<'a> SharedUnresolvedImports<'a> {
     }
 }
 
-/// The global slots that are left to the host, where the slots of each host import have one type.
-///
-/// # Errors
-/// As [`check_hosts`].
-fn host_globals<'i, 'a>(
-    alloc: Global,
-    input: &LinkInput<'i, 'a>,
-    functions: &mut FunctionSlots<'i, 'a>,
-) -> Result<HostSlots<'i, 'a>, LinkError>
-    requires { AreFunctionSlots input.now functions.old }
-    ensures hosts { functions.new.hosts ≡ functions.old.hosts }
-    ensures globals { IfOk result (AreHostGlobals input.now) }
-    ensures clear { OnOk result (Clear (IsHostConflict input.now)) }
-    ensures err { IfErr result (Refuses (IsHostConflict input.now)) }
-{
-    let scan = gather(alloc, input, &functions.bindings)?;
-    let globals = bind_globals(alloc, input, &scan, functions.resolutions.as_mut_slice())?;
-    check_hosts(alloc, input, &functions.hosts, &globals)?;
-    Ok(globals)
-}
-
 /// Collects the functions and globals that the host is asked for, one per module and field name.
 ///
 /// # Errors
@@ -193,7 +171,9 @@ pub fn collect_shared_unresolved_imports<'a>(
     ensures clear { OnOk result (Clear (IsHostConflict input.now)) }
     ensures err { IfErr result (Refuses (IsHostConflict input.now)) }
 {
-    let mut functions = FunctionSlots::new(alloc, input)?;
-    let globals = host_globals(alloc, input, &mut functions)?;
-    Ok(SharedUnresolvedImports::of(functions.hosts, globals))
+    let functions = FunctionSlots::new(alloc, input)?;
+    let scan = gather(alloc, input, &functions.bindings)?;
+    let globals = GlobalSlots::new(alloc, input, &scan)?;
+    check_hosts(alloc, input, &functions.hosts, &globals.hosts)?;
+    Ok(SharedUnresolvedImports::of(functions.hosts, globals.hosts))
 }

@@ -5,10 +5,9 @@ ghost use Rattle.wl_linking.specs.Steps.{Clear};
 ghost use Rattle.wl_symbols.specs.Entries.{symbol_in};
 ghost use Rattle.wl_bind.specs.FunctionSymbols.{function_bindings};
 ghost use Rattle.wl_symbols.specs.Relocations.{relocations};
-ghost use Rattle.wl_bind.specs.Signatures.{NamedByRelocation, OnKeptSlot, NamedByInit, IsMismatch};
-ghost use Rattle.wl_bind.specs.BindingSteps.{slot_numbers, differs, is_mismatch, names_mismatch, mismatch_error, TellsMismatch, AreOwnClear};
+ghost use Rattle.wl_bind.specs.Signatures.{OnKeptSlot, NamedByInit, IsMismatch};
+ghost use Rattle.wl_bind.specs.BindingSteps.{slot_numbers, is_mismatch, names_mismatch, mismatch_error, TellsMismatch, AreOwnClear};
 
-use crate::binding::FunctionTarget;
 use crate::targets::FunctionBindings;
 use crate::types::{SlotTypes, declared_type, is_other_type};
 use std::alloc::{AllocError, Global};
@@ -53,17 +52,6 @@ impl<'c, 'i, 'a> TypeCheck<'c, 'i, 'a> {
         })
     }
 
-    /// Whether a function has another type than the one under which an object knows its symbol.
-    fn differs(&self, object: usize, symbol: &WasmSymbol<'_>, target: FunctionTarget) -> bool
-        ensures { result ≡ differs self.now.input.now object symbol.now target }
-    {
-        let files = self.input.files();
-        match declared_type(files, &self.types, object, symbol) {
-            None => false,
-            Some(declared) => is_other_type(files, declared, target),
-        }
-    }
-
     /// Whether a symbol of that number is a function's, and leads to one of another type.
     pub(crate) fn leads_to_other(&self, object: usize, number: u32, symbol: &WasmSymbol<'_>) -> bool
         requires { symbol_in self.now.input.now.link.objects object number ≡ Some symbol.now }
@@ -73,19 +61,13 @@ impl<'c, 'i, 'a> TypeCheck<'c, 'i, 'a> {
         if !symbol.kind.is_function() || (symbol.is_defined() && !symbol.is_weak()) {
             return false;
         }
-        match self.bindings.function(self.input, object, number) {
+        let Some(target) = self.bindings.function(self.input, object, number) else {
+            return false;
+        };
+        let files = self.input.files();
+        match declared_type(files, &self.types, object, symbol) {
             None => false,
-            Some(target) => self.differs(object, symbol, target),
-        }
-    }
-
-    /// The same of the symbol of that number, if there is one.
-    fn is_mismatch(&self, object: usize, number: u32) -> bool
-        ensures { result ≡ is_mismatch self.now.input.now object number }
-    {
-        match self.input.symbols().symbol(object, number) {
-            None => false,
-            Some(symbol) => self.leads_to_other(object, number, symbol),
+            Some(declared) => is_other_type(files, declared, target),
         }
     }
 
@@ -95,32 +77,16 @@ impl<'c, 'i, 'a> TypeCheck<'c, 'i, 'a> {
         ensures err { IfErr result
             (λ m. TellsMismatch self.now.input.now object number (mismatch_error m)) }
     {
-        if self.is_mismatch(object, number) {
+        let Some(symbol) = self.input.symbols().symbol(object, number) else {
+            return Ok(());
+        };
+        if self.leads_to_other(object, number, symbol) {
             Err(Mismatch {
                 object,
                 symbol: number,
             })
         } else {
             Ok(())
-        }
-    }
-
-    /// Sees that kept relocations name no such symbol, where the first that does is known.
-    #[tactic(auto, using(crate::proofs::MismatchLaws::no_relocation, crate::proofs::MismatchLaws::a_relocation))]
-    fn check_relocations(&self, mismatch: Option<Relocated>) -> Result<(), Mismatch>
-        requires { mismatch
-            ≡ find (names_mismatch self.now.input.now) (relocations self.now.input.now) }
-        ensures clear { OnOk result ((object number : ℕ)
-            → NamedByRelocation self.now.input.now object number
-            → is_mismatch self.now.input.now object number ≡ false) }
-        ensures err { IfErr result (λ m. IsMismatch self.now.input.now (mismatch_error m)) }
-    {
-        match mismatch {
-            None => Ok(()),
-            Some(relocated) => Err(Mismatch {
-                object: relocated.object,
-                symbol: relocated.relocation.index,
-            }),
         }
     }
 
@@ -174,37 +140,16 @@ impl<'c, 'i, 'a> TypeCheck<'c, 'i, 'a> {
         Ok(())
     }
 
-    /// The same of the symbols that an object names without a relocation.
-    fn check_object(&self, object: usize, file: &File<'_>) -> Result<(), Mismatch>
-        requires { slice_get self.now.input.now.link.objects object ≡ Some file.now }
-        ensures clear { OnOk result (AreOwnClear self.now.input.now object) }
-        ensures err { IfErr result (λ m. IsMismatch self.now.input.now (mismatch_error m)) }
-    {
-        self.check_slots(object, file)?;
-        self.check_inits(object, file)
-    }
-
-    /// The same of all objects.
+    /// The same of the symbols that objects name without a relocation.
     fn check_objects(&self) -> Result<(), Mismatch>
         ensures clear { OnOk result ((object : ℕ) → AreOwnClear self.now.input.now object) }
         ensures err { IfErr result (λ m. IsMismatch self.now.input.now (mismatch_error m)) }
     {
         let files = self.input.files().as_slice();
         for (object, file) in files.iter().enumerate() {
-            self.check_object(object, file)?;
+            self.check_slots(object, file)?;
+            self.check_inits(object, file)?;
         }
-        Ok(())
-    }
-
-    /// The same of all function symbols that are looked at.
-    fn check_all(&self, mismatch: Option<Relocated>) -> Result<(), Mismatch>
-        requires { mismatch
-            ≡ find (names_mismatch self.now.input.now) (relocations self.now.input.now) }
-        ensures clear { OnOk result (Clear (IsMismatch self.now.input.now)) }
-        ensures err { IfErr result (λ m. IsMismatch self.now.input.now (mismatch_error m)) }
-    {
-        self.check_relocations(mismatch)?;
-        self.check_objects()?;
         Ok(())
     }
 
@@ -214,13 +159,20 @@ impl<'c, 'i, 'a> TypeCheck<'c, 'i, 'a> {
     ///
     /// # Errors
     /// `SignatureMismatch` names a symbol that leads to a function of another type.
+    #[tactic(auto, using(crate::proofs::MismatchLaws::a_relocation))]
     pub(crate) fn check(&self, mismatch: Option<Relocated>) -> Result<(), LinkError>
         requires { mismatch
             ≡ find (names_mismatch self.now.input.now) (relocations self.now.input.now) }
         ensures clear { OnOk result (Clear (IsMismatch self.now.input.now)) }
         ensures err { IfErr result (IsMismatch self.now.input.now) }
     {
-        match self.check_all(mismatch) {
+        if let Some(relocated) = mismatch {
+            return Err(LinkError::SignatureMismatch {
+                object: relocated.object,
+                symbol: relocated.relocation.index,
+            });
+        }
+        match self.check_objects() {
             Ok(()) => Ok(()),
             Err(found) => Err(LinkError::SignatureMismatch {
                 object: found.object,

@@ -1,12 +1,11 @@
 //! Stubs: functions that are named weakly, and that nothing defines.
 
-ghost use Rattle.std.specs.Prelude.{◌≡◌, ◌++◌, map, option_map, IfOk, OnOk, OnErr, IfErr, filter_map};
+ghost use Rattle.std.specs.Prelude.{◌≡◌, ◌++◌, option_map, IfOk, OnOk, OnErr, IfErr, filter_map};
 ghost use Rattle.std.specs.Option.{option_to_list};
 ghost use Rattle.wl_linking.specs.Steps.{Clear, Refuses};
 ghost use Rattle.wl_bind.specs.Stepped.{stepped, step_at};
 ghost use Rattle.wl_bind.specs.FunctionTypes.{slot_type, stub_types};
 ghost use Rattle.wl_bind.specs.steps.FunctionSlots.{AreFunctionSlots};
-ghost use Rattle.wl_bind.specs.SlotRows.{function_part};
 ghost use Rattle.wl_bind.specs.Conflicts.{IsStubConflict};
 ghost use Rattle.wl_bind.specs.Later.{with_functions};
 ghost use Rattle.wl_bind.specs.Resolutions.{resolutions, by_names_and_got, by_all_rules};
@@ -85,12 +84,11 @@ fn set_functions_at(rows: &mut [ObjectImportResolutions], object: usize, functio
 }
 
 /// Puts the resolutions of the function slots of all objects into their rows.
-fn set_functions(rows: &mut [ObjectImportResolutions], bound: Vec<ObjectImportResolutions>)
-    ensures { rows.new
-        ≡ stepped with_functions 0 (map function_part bound.items) rows.old }
+fn set_functions(rows: &mut [ObjectImportResolutions], functions: Vec<ResolutionList>)
+    ensures { rows.new ≡ stepped with_functions 0 functions.items rows.old }
 {
-    for (object, row) in bound.into_iter().enumerate() {
-        set_functions_at(rows, object, row.function_resolutions);
+    for (object, list) in functions.into_iter().enumerate() {
+        set_functions_at(rows, object, list);
     }
 }
 

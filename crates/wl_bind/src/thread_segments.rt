@@ -1,8 +1,7 @@
 //! Segments that hold data of which each thread has its own.
 
-ghost use Rattle.std.specs.Prelude.{◌≡◌, map, slice_set, IfOk};
-ghost use Rattle.std.specs.List.{list_any, range_with_len};
-ghost use Rattle.wl_bind.specs.ThreadData.{is_thread_symbol_on, thread_data};
+ghost use Rattle.std.specs.Prelude.{◌≡◌, slice_set, IfOk};
+ghost use Rattle.wl_bind.specs.ThreadData.{thread_data};
 ghost use Rattle.wl_custom.specs.Symbols.{is_thread_data};
 ghost use Rattle.wl_bind.specs.steps.ThreadSegments.{marked};
 
@@ -27,22 +26,6 @@ fn mark_by_symbol(marks: &mut Vec<bool>, symbol: &WasmSymbol<'_>)
     }
 }
 
-/// For each of so many segments, whether data of a thread lies on it.
-fn marks_by_symbols(
-    alloc: Global,
-    count: usize,
-    symbols: &[WasmSymbol<'_>],
-) -> Result<Vec<bool>, AllocError>
-    ensures { IfOk result (λ marks. marks.items
-        ≡ map (λ k. list_any (is_thread_symbol_on k) symbols.now) (range_with_len 0 count)) }
-{
-    let mut marks = vec![in alloc; false; count]?;
-    for symbol in symbols {
-        mark_by_symbol(&mut marks, symbol);
-    }
-    Ok(marks)
-}
-
 /// Whether each thread has its own of each segment of an object: its info says so, or, where it has
 /// none, data of a thread that lies on it does.
 ///
@@ -51,7 +34,10 @@ fn marks_by_symbols(
 pub fn thread_data(alloc: Global, file: &File<'_>) -> Result<Vec<bool>, AllocError>
     ensures { IfOk result (λ marks. marks.items ≡ thread_data file.now) }
 {
-    let mut marks = marks_by_symbols(alloc, file.segments().len(), file.symbols())?;
+    let mut marks = vec![in alloc; false; file.segments().len()]?;
+    for symbol in file.symbols() {
+        mark_by_symbol(&mut marks, symbol);
+    }
     for (segment, info) in file.segment_infos().iter().enumerate() {
         set_mark(&mut marks, segment, info.is_tls());
     }

@@ -1,10 +1,9 @@
 //! Names that nothing defines.
 
-ghost use Rattle.std.specs.Prelude.{◌≡◌, ◌↔◌, [], Some, false, option_map, map, IfOk, OnOk, OnErr, IfErr, IsTrue};
-ghost use Rattle.indexmap.specs.IndexSet.{insert_key};
+ghost use Rattle.std.specs.Prelude.{◌≡◌, ◌↔◌, [], Some, false, option_map, IfOk, OnOk, OnErr, IfErr, IsTrue};
 ghost use Rattle.wl_linking.specs.Steps.{Clear, Refuses};
-ghost use Rattle.wl_bind.specs.Undefined.{wants_definition, same_undefined, is_undefined_definition, undefined_data_of, undefined_data, IsUndefinedData};
-ghost use Rattle.wl_bind.specs.UndefinedSteps.{named_in, as_undefined, insert_some, is_undefined_data};
+ghost use Rattle.wl_bind.specs.Undefined.{wants_definition, is_undefined_definition, undefined_data_of, undefined_data, IsUndefinedData};
+ghost use Rattle.wl_bind.specs.UndefinedSteps.{as_undefined, insert_some};
 ghost use Rattle.wl_bind.specs.Scan.{symbol_of};
 ghost use Rattle.wl_custom.specs.RelocationTypes.{names_a_type};
 
@@ -54,19 +53,6 @@ impl<'a> UndefinedNames<'a> {
         self.names.as_slice().is_empty()
     }
 
-    /// Adds a name to which that object refers, unless both are there.
-    ///
-    /// # Errors
-    /// `AllocError` where memory runs out. The names are as they were then.
-    pub(crate) fn add(&mut self, object: usize, name: &'a str) -> Result<(), AllocError>
-        ensures ok { OnOk result
-            (self.new ≡ insert_key same_undefined self.old (named_in object name.now)) }
-        ensures err { OnErr result (self.new ≡ self.old) }
-    {
-        self.names.insert((object, name))?;
-        Ok(())
-    }
-
     /// Adds an object and a name, where there are, unless both are there.
     ///
     /// # Errors
@@ -78,7 +64,10 @@ impl<'a> UndefinedNames<'a> {
     {
         match item {
             None => Ok(()),
-            Some((object, name)) => self.add(object, name),
+            Some(item) => {
+                self.names.insert(item)?;
+                Ok(())
+            }
         }
     }
 
@@ -89,22 +78,16 @@ impl<'a> UndefinedNames<'a> {
     pub(crate) fn symbols(&self, alloc: Global) -> Result<ItemList<UndefinedSymbol>, AllocError>
         ensures { IfOk result (λ symbols. symbols ≡ self.now) }
     {
-        told(alloc, self.names.as_slice())
+        let mut symbols = ItemList::empty(alloc);
+        let names = self.names.as_slice();
+        for (object, name) in names {
+            symbols.push(UndefinedSymbol {
+                object: *object,
+                name: Text::new(String::from_str(alloc, name)?),
+            })?;
+        }
+        Ok(symbols)
     }
-}
-
-/// These objects and names as a refusal lists them.
-fn told(alloc: Global, names: &[(usize, &str)]) -> Result<ItemList<UndefinedSymbol>, AllocError>
-    ensures { IfOk result (λ symbols. symbols ≡ map as_undefined names.now) }
-{
-    let mut symbols = ItemList::empty(alloc);
-    for (object, name) in names {
-        symbols.push(UndefinedSymbol {
-            object: *object,
-            name: Text::new(String::from_str(alloc, name)?),
-        })?;
-    }
-    Ok(symbols)
 }
 
 /// Whether a symbol has to be defined: an undefined one that isn't weak, and has no name of its
@@ -128,22 +111,6 @@ fn is_undefined_definition(input: &LinkInput<'_, '_>, definition: Definition) ->
     }
 }
 
-/// Whether the symbol that a relocation names is data that has to be defined, and stands for an
-/// undefined symbol.
-fn is_undefined_data(
-    input: &LinkInput<'_, '_>,
-    relocated: &Relocated,
-    symbol: &WasmSymbol<'_>,
-) -> bool
-    requires { symbol_of input.now relocated.now ≡ Some symbol.now }
-    ensures { result ≡ is_undefined_data input.now relocated.now symbol.now }
-{
-    let number = relocated.relocation.index;
-    symbol.kind.is_data()
-        && wants_definition(symbol)
-        && is_undefined_definition(input, input.symbols().definition(relocated.object, number))
-}
-
 /// The object and the name of the undefined data that a relocation names by that symbol, if it does.
 pub(crate) fn undefined_data_of<'a>(
     input: &LinkInput<'_, 'a>,
@@ -154,7 +121,11 @@ pub(crate) fn undefined_data_of<'a>(
     requires no_type { names_a_type relocated.now.relocation.ty ≡ false }
     ensures { option_map as_undefined result ≡ undefined_data_of input.now relocated.now }
 {
-    if is_undefined_data(input, relocated, symbol) {
+    let number = relocated.relocation.index;
+    if symbol.kind.is_data()
+        && wants_definition(symbol)
+        && is_undefined_definition(input, input.symbols().definition(relocated.object, number))
+    {
         Some((relocated.object, symbol.name))
     } else {
         None

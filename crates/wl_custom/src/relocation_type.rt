@@ -8,7 +8,7 @@ use crate::symbols::WasmSymbolKind;
 use crate::takings::{AddressBase, Taking};
 
 /// What a relocation puts into its field (object file linking, version 2, "Relocation Sections").
-#[derive(Clone, Copy, Debug, PartialEq, Eq)]
+#[derive(Clone, Copy, PartialEq, Eq)]
 pub enum RelocationType {
     /// The number of a function, in five bytes of LEB128.
     FunctionIndexLeb,

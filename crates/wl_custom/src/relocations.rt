@@ -64,7 +64,7 @@ pub struct WasmRelocSection {
 }
 
 /// What the fields of a relocation section lie in.
-#[derive(Clone, Copy, Debug, PartialEq, Eq)]
+#[derive(Clone, Copy, PartialEq, Eq)]
 pub enum Target {
     /// The code section.
     Code,

@@ -1,7 +1,7 @@
 //! What decides where data lies, beside the segments.
 
 /// What decides where the data of all objects lies, beside its segments.
-#[derive(Clone, Copy, Debug, PartialEq, Eq)]
+#[derive(Clone, Copy, PartialEq, Eq)]
 pub struct DataOptions {
     /// The address from which that of data counts where the stack doesn't stand first.
     pub memory_base: u32,

@@ -15,7 +15,7 @@ const PIECE: usize = 65536;
 const SMALL_PIECE: usize = 4096;
 
 /// Why a file wasn't read.
-#[derive(Clone, Copy, Debug, PartialEq, Eq)]
+#[derive(Clone, Copy, PartialEq, Eq)]
 pub enum ReadObject {
     /// Memory was short.
     OutOfMemory,

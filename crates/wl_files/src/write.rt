@@ -7,7 +7,7 @@ ghost use Rattle.wl_files.specs.Sink.{Took, TookPart, IsCalmWrite};
 use crate::sink::Sink;
 
 /// A sink didn't take all of a text.
-#[derive(Clone, Copy, Debug, PartialEq, Eq)]
+#[derive(Clone, Copy, PartialEq, Eq)]
 pub struct WriteFault;
 
 // Gives the front of a piece to a sink.

@@ -5,7 +5,7 @@ use wl_bytes::{Form, Why};
 use wl_lists::{ItemList, Text};
 
 /// What is larger than it may be.
-#[derive(Clone, Copy, Debug, PartialEq, Eq)]
+#[derive(Clone, Copy, PartialEq, Eq)]
 pub enum Quantity {
     /// An object: at most [`MAX_LEN`](wl_bytes::MAX_LEN) bytes.
     Object,
@@ -22,7 +22,7 @@ pub enum Quantity {
 }
 
 /// What shared memory lacks.
-#[derive(Clone, Copy, Debug, PartialEq, Eq)]
+#[derive(Clone, Copy, PartialEq, Eq)]
 pub enum SharedMemoryNeed {
     /// The object of that number disallows it.
     Disallowed(usize),
@@ -33,7 +33,7 @@ pub enum SharedMemoryNeed {
 }
 
 /// Which size of a memory was asked for.
-#[derive(Clone, Copy, Debug, PartialEq, Eq)]
+#[derive(Clone, Copy, PartialEq, Eq)]
 pub enum MemoryBound {
     /// The size that it starts with.
     Initial,

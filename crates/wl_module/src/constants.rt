@@ -13,7 +13,7 @@ const V128_CONST: u32 = 0x0c;
 
 /// The operators that a constant expression may have, by their first bytes (core specification,
 /// "Constant Expressions").
-#[derive(Clone, Copy, Debug, PartialEq, Eq)]
+#[derive(Clone, Copy, PartialEq, Eq)]
 pub enum ConstOperator {
     /// `i32.const`: 0x41.
     I32Const,

@@ -14,7 +14,7 @@ use std::marker::Model;
 use wl_bytes::{Item, ReadError, Reader, Why, read_payload};
 
 /// The type of a global.
-#[derive(Clone, Copy, Debug, PartialEq, Eq)]
+#[derive(Clone, Copy, PartialEq, Eq)]
 pub struct GlobalType {
     /// The type of its value.
     pub content_type: ValType,

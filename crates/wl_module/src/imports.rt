@@ -12,7 +12,7 @@ use std::marker::Model;
 use wl_bytes::{Form, Item, ReadError, Reader, Why, read_payload, read_placed_name};
 
 /// What can be imported and exported.
-#[derive(Clone, Copy, Debug, PartialEq, Eq)]
+#[derive(Clone, Copy, PartialEq, Eq)]
 pub enum ExternalKind {
     /// A function.
     Func,
@@ -25,7 +25,7 @@ pub enum ExternalKind {
 }
 
 /// What is imported, with its type.
-#[derive(Clone, Copy, Debug, PartialEq, Eq)]
+#[derive(Clone, Copy, PartialEq, Eq)]
 pub enum ImportEntity {
     /// A function, with the index of its type.
     Func(u32),

@@ -54,7 +54,7 @@ impl Limits {
 }
 
 /// The size of a memory, in pages of [`WASM_PAGE_SIZE`] bytes.
-#[derive(Clone, Copy, Debug, PartialEq, Eq)]
+#[derive(Clone, Copy, PartialEq, Eq)]
 pub struct MemoryType {
     /// The size at first.
     pub initial: u64,
@@ -65,7 +65,7 @@ pub struct MemoryType {
 }
 
 /// The size of a table, in references to functions.
-#[derive(Clone, Copy, Debug, PartialEq, Eq)]
+#[derive(Clone, Copy, PartialEq, Eq)]
 pub struct TableType {
     /// The size at first.
     pub initial: u64,

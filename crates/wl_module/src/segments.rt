@@ -11,7 +11,7 @@ use std::marker::Model;
 use wl_bytes::{Item, ReadError, Reader, Why, place_of, read_payload};
 
 /// When the bytes of a segment are written.
-#[derive(Clone, Copy, Debug, PartialEq, Eq)]
+#[derive(Clone, Copy, PartialEq, Eq)]
 pub enum DataKind {
     /// By an operator of a function, where and when it says.
     Passive,

@@ -2,10 +2,10 @@
 use Rattle.std.proofs.Common.{◌≡◌, ℕ, zero, suc, ◌+◌, ◌-◌, ◌*◌, ◌<◌, ◌≤◌, ◌^◌, true, false, leb, List, [], ◌∷◌, ◌++◌, length, take, drop, map, get_or, Option, Some, Result, Ok, Err, refl, sym, ap, subst, ◌∙◌, arith, append_assoc, length-append, inl, inr}
 use Rattle.std.specs.Prelude.{IfOk, OnOk}
 use Rattle.std.specs.List.{AllByRecursion}
-use Rattle.std.specs.List.Sorted.{IsNonDecreasingBy}
+use Rattle.std.specs.List.Sorted.{IsNonDecreasingBy, IsPartitionPoint}
 use Rattle.std.proofs.lemmas.Bool.{lt-leb, le-leb}
 use Rattle.std.proofs.lemmas.Bool.Decides.{leb_tells}
-use Rattle.std.proofs.lemmas.List.{take-append-drop, length-take}
+use Rattle.std.proofs.lemmas.List.{get_or_default, take-append-drop, length-take}
 use Rattle.std.proofs.lemmas.List.Sums.{sum_by-cons}
 use Rattle.wl_bytes.specs.Leb.{IsShortest, AppendsUleb}
 use Rattle.wl_bytes.proofs.ShortestLaws.{written_u32}
@@ -140,3 +140,24 @@ last_tells (s ∷ ss) (suc i) p q d lt low high =
 
 abbrev pub nowhere : Shift
 nowhere = record { old_end = 0; new_end = 0 }
+
+-- ---- how many end at a place or before
+
+-- so many, where the last of these does and the next one doesn't
+pub ends_parted : (ss : List Shift) (place k : ℕ) (x : Shift)
+    → IsNonDecreasingBy (λ (s : Shift). s.old_end) ss → k ≤ length ss
+    → (0 < k → (get_or ss (k - 1) x).old_end ≤ place)
+    → (k < length ss → place < (get_or ss k x).old_end)
+    → IsPartitionPoint (λ (s : Shift). s.old_end ≤ place) (λ (s : Shift). place < s.old_end) ss k
+ends_parted ss place k x ascend le last next = (
+  λ i d from to.
+      let at : (get_or ss i x).old_end ≤ (get_or ss (k - 1) x).old_end =
+      ascend i (k - 1) x (omega (arith, to)) (omega (arith, to, le)) in
+      let here : (get_or ss i x).old_end ≤ place = omega (arith, at, last (omega (arith, to))) in
+      subst (λ (s : Shift). s.old_end ≤ place) (get_or_default ss i x d (omega (arith, to, le))) here,
+  λ i d from to.
+      let at : (get_or ss k x).old_end ≤ (get_or ss i x).old_end =
+      ascend k i x from to in
+      let here : place < (get_or ss i x).old_end = omega (arith, at, next (omega (arith, from, to))) in
+      subst (λ (s : Shift). place < s.old_end) (get_or_default ss i x d to) here,
+)

@@ -1,10 +1,11 @@
 //! Rewriting the numbers of data segments in the bodies of functions.
 
-ghost use Rattle.std.specs.Prelude.{◌≡◌, ◌≤◌, ◌<◌, ◌++◌, ℕ, List, length, IfOk, OnOk, OnErr, MatchResult, map};
+ghost use Rattle.std.specs.Prelude.{◌≡◌, ◌≤◌, ◌<◌, ◌||◌, ◌++◌, ℕ, List, length, IfOk, OnOk, OnErr, MatchResult, map, IsTrue};
 ghost use Rattle.std.specs.List.{All, AllByRecursion};
 ghost use Rattle.std.specs.List.Sorted.{IsNonDecreasingBy, IsPartitionPoint};
 ghost use Rattle.std.specs.Cow.{cow_slice_items};
 ghost use Rattle.wl_bytes.specs.declared.reader.TheConstants.{MAX_LEN};
+ghost use Rattle.wl_module.specs.Slices.{is_owned};
 ghost use Rattle.wl_ops.specs.declared.op.DataIndexImm.{DataIndexImm as Number};
 ghost use Rattle.wl_ops.specs.declared.rewriting.Shift.{Shift as ShiftRecord};
 ghost use Rattle.wl_ops.specs.Numbers.{HasNumbers};
@@ -66,8 +67,9 @@ fn rewrite(
         r.bytes.items r.shifts.items)
         (RewriteFault (new_index indices.now) numbers.now) }
 {
-    let mut bytes = Vec::new(alloc);
-    let mut shifts = Vec::new(alloc);
+    // New numbers are seldom longer than those that they replace.
+    let mut bytes = Vec::with_capacity(alloc, body.len())?;
+    let mut shifts = Vec::with_capacity(alloc, numbers.len())?;
     let mut rest = body;
     let mut place = 0;
     for number in numbers {
@@ -87,30 +89,50 @@ fn rewrite(
     Ok(Rewritten { bytes, shifts })
 }
 
-/// How many of the shifts end at the place or before.
-fn shifts_before(shifts: &[Shift], place: usize) -> usize
+/// Whether so many of the shifts end at the place or before, and no more.
+fn end_before(shifts: &[Shift], place: usize, count: usize) -> bool
+    requires { IsNonDecreasingBy (λ (s : ShiftRecord). s.old_end) shifts.now }
+    ensures bound { IsTrue result → count ≤ length shifts.now }
+    ensures point { IsTrue result → IsPartitionPoint (λ (s : ShiftRecord). s.old_end ≤ place)
+        (λ (s : ShiftRecord). place < s.old_end) shifts.now count }
+{
+    count <= shifts.len()
+        && (count == 0 || shifts[count - 1].old_end <= place)
+        && (count == shifts.len() || place < shifts[count].old_end)
+}
+
+/// How many of the shifts end at the place or before, where it is known how many do so for another
+/// place. Fields mostly come in order, with one number between two: then nothing is searched.
+fn shifts_before(shifts: &[Shift], place: usize, near: usize) -> usize
     requires { IsNonDecreasingBy (λ (s : ShiftRecord). s.old_end) shifts.now }
     ensures bound { result ≤ length shifts.now }
     ensures point { IsPartitionPoint (λ (s : ShiftRecord). s.old_end ≤ place)
         (λ (s : ShiftRecord). place < s.old_end) shifts.now result }
 {
+    if end_before(shifts, place, near) {
+        return near;
+    }
+    let next = near.saturating_add(1);
+    if end_before(shifts, place, next) {
+        return next;
+    }
     shifts.partition_point(|shift| shift.old_end <= place)
 }
 
-/// Where a field stands in the rewritten body.
-fn moved(shifts: &[Shift], field: u32) -> u32
-    requires rising { IsNonDecreasingBy (λ (s : ShiftRecord). s.old_end) shifts.now }
+/// Where a field stands in the rewritten body, where so many of the shifts end at it or before.
+fn moved(shifts: &[Shift], field: u32, count: usize) -> u32
     requires near { AllByRecursion IsNear shifts.now }
     requires field { field ≤ MAX_LEN }
+    requires bound { count ≤ length shifts.now }
+    requires point { IsPartitionPoint (λ (s : ShiftRecord). s.old_end ≤ field)
+        (λ (s : ShiftRecord). field < s.old_end) shifts.now count }
     ensures { result ≡ shifted shifts.now field field }
 {
-    let place = field as usize;
-    let count = shifts_before(shifts, place);
     if count == 0 {
         return field;
     }
     let shift = shifts[count - 1];
-    (shift.new_end + (place - shift.old_end)) as u32
+    (shift.new_end + (field as usize - shift.old_end)) as u32
 }
 
 /// Moves each field.
@@ -120,8 +142,10 @@ fn move_fields(shifts: &[Shift], fields: &mut [u32])
     requires fields { All (λ p. p ≤ MAX_LEN) fields.old }
     ensures { fields.new ≡ map (λ p. shifted shifts.now p p) fields.old }
 {
+    let mut count = 0;
     for i in 0..fields.len() {
-        fields[i] = moved(shifts, fields[i]);
+        count = shifts_before(shifts, fields[i] as usize, count);
+        fields[i] = moved(shifts, fields[i], count);
     }
 }
 
@@ -130,7 +154,7 @@ fn move_fields(shifts: &[Shift], fields: &mut [u32])
 /// Fields are places in the body, in bytes. The answer says whether there was any number.
 ///
 /// The errors are those of `data_index_immediates`, and `Malformed(BadIndex)` where a number has no
-/// new one. Then body and fields are as they were.
+/// new one. Then body and fields are as they were. A body with a number becomes a list of its own.
 ///
 /// All operators stay but for their numbers, and so do the bytes of a field that overlaps no
 /// number, each in the operator in which it stood.
@@ -148,6 +172,7 @@ pub fn remap_body_data_indices(
         → HasNumbers numbers (cow_slice_items body.old)
         → Keeps (new_index indices.now) numbers
         (cow_slice_items body.old) (cow_slice_items body.new)) }
+    ensures owned { IfOk result (λ some. is_owned body.new ≡ (is_owned body.old || some)) }
     ensures body { OnErr result (cow_slice_items body.new ≡ cow_slice_items body.old) }
     ensures fields { OnErr result (fields.new ≡ fields.old) }
 {

@@ -196,33 +196,19 @@ rewrites_same f h same place (n ∷ ns) x y r = (
   rewrites_same f h same (n.offset + n.len) ns r.2 r.5 r.12,
 )
 
-not_not : (b : Bool) → false ≡ not b → b ≡ true
-not_not true e = refl
-not_not false e = absurd cc
-
-bytes_are : (f : ℕ → Option ℕ) (changed : Bool) (ns : List DataIndexImm) (own copy : List ℕ)
-    → changed ≡ not (length ns == 0) → Rewrites f 0 ns own copy
-    → (if changed then copy else own) ≡ copy
-bytes_are f true ns own copy e r = refl
-bytes_are f false [] own copy e r = sym r
-bytes_are f false (n ∷ ns) own copy e r =
-    absurd (let none = eqb-true (length (n ∷ ns)) 0 (not_not (length (n ∷ ns) == 0) e) in omega (arith, none))
-
 -- what becomes of a body
 pub renumbered_is : (input : Input) (g : Placing) (object function : ℕ) (own b : Body)
     (numbers : List (Option ℕ)) (fields after copy old : List ℕ) (changed : Bool)
     → body_in input object function ≡ Some own → AreNewNumbers input g object numbers
     → old ≡ own.bytes
     → IsRemapped (new_index numbers) fields (changed, (copy, after)) old
-    → b.bytes ≡ (if changed then copy else own.bytes) → b.owned ≡ (own.owned || changed)
-    → b.code_offset ≡ own.code_offset → b.object_index ≡ object
-    → IsBodyIn input g object function b
+    → b.bytes ≡ copy → b.owned ≡ (own.owned || changed) → b.code_offset ≡ own.code_offset
+    → b.object_index ≡ object → IsBodyIn input g object function b
 renumbered_is input g object function own b numbers fields after copy old changed found new same m bytes owned offset index =
     let ns : List DataIndexImm = m.numbers in
     let some : changed ≡ not (length ns == 0) = m.some in
     let r : Rewrites (new_index numbers) 0 ns own.bytes copy =
     subst (λ (t : List ℕ). Rewrites (new_index numbers) 0 ns t copy) same m.bytes in
-    let here : b.bytes ≡ copy = bytes ∙ bytes_are (new_index numbers) changed ns own.bytes copy some r in
     record {
       own = own;
       here = found;
@@ -230,7 +216,7 @@ renumbered_is input g object function own b numbers fields after copy old change
         numbers = ns;
         theirs = subst (λ (t : List ℕ). AreTold ns t) same m.theirs;
         rewritten =
-            subst (λ (t : List ℕ). Rewrites (new_number input g object) 0 ns own.bytes t) (sym here)
+            subst (λ (t : List ℕ). Rewrites (new_number input g object) 0 ns own.bytes t) (sym bytes)
             (rewrites_same (new_index numbers) (new_number input g object) new.each 0 ns own.bytes copy r);
       };
       owned = owned ∙ ap (λ c. own.owned || c) some;

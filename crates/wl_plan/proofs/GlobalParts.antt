@@ -29,11 +29,10 @@ use Rattle.wl_bind.specs.GlobalSpace.{GlobalEntry, GlobalOf, AddressOf, DataOf, 
 use Rattle.wl_symbols.specs.Input.{Input, keeps}
 use Rattle.wl_bind.specs.declared.binding.GlobalTarget.TheVariants.{Defined, Made, GotMem, GotFunc, Host}
 use Rattle.wl_plan.specs.steps.Globals.{AnswersStart, AddsMade, AddsPart, IsPartFault, is_linker_global, linker_parts, made_parts, own_global_part}
-use Rattle.wl_plan.specs.Globals.{start_of_global, i32_global, word_of_made, origin_of_global, IsMadeGlobal, IsGlobalOf, IsPlannedGlobal, own_globals, ArePlannedGlobals, IsGlobalFault}
+use Rattle.wl_plan.specs.Globals.{start_of_global, i32_global, IsMadeGlobal, IsGlobalOf, IsPlannedGlobal, own_globals, ArePlannedGlobals, IsGlobalFault}
 use Rattle.wl_plan.specs.declared.global_starts.GlobalSources.{GlobalSources}
 use Rattle.wl_plan.specs.declared.global_starts.Start.{Start}
 use Rattle.wl_output.specs.declared.entities.GlobalOrigin.TheVariants as origin
-use Rattle.wl_output.specs.declared.entities.MadeGlobal.{MadeGlobal}
 use Rattle.wl_plan.specs.declared.layout.PlannedGlobal.{PlannedGlobal}
 use Rattle.wl_places.specs.declared.placing.Placing.{Placing}
 use Rattle.wl_lists.proofs.Beside.{zip_joined}
@@ -183,30 +182,30 @@ module _ (s : GlobalSources) where
   }
 
   -- a global that the linker makes is that of the entry that it starts as
-  pub adds_made : (entry : GlobalEntry) (made : MadeGlobal) (start : Start)
-      (old new : List PlannedGlobal)
-      → origin_of_global entry ≡ origin.Made made
+  pub adds_made : (entry : GlobalEntry) (start : Start) (old new : List PlannedGlobal)
       → ((m : DefinedGlobal) → IsMadeGlobal s.book.now.input.now s.book.now.placing.now entry m
       → IsGlobalOf s.book.now.input.now s.book.now.placing.now entry m)
-      → AnswersStart s entry (Ok start) → AddsMade made start old new
-      → AddsPart s (entry ∷ []) old new
-  adds_made entry made start old new word is answers h = record {
-    more = record { global = h.global; origin = origin.Made made } ∷ [];
-    are = (
+      → AnswersStart s entry (Ok start) → AddsMade start old new → AddsPart s (entry ∷ []) old new
+  adds_made entry start old new is answers h =
+      let made : DefinedGlobal =
+      record { ty = i32_global start.mutable; body = h.body; owned = true } in
       record {
-        origin_is = sym word;
-        global_is = is h.global (record {
-          number = start.number;
-          starts = answers.0;
-          ty = h.started.ty ∙ ap i32_global (sym answers.1);
-          body = h.started.body;
-          owned = h.started.owned;
-        });
-      },
-      tt,
-    );
-    grown = h.grown;
-  }
+        more = record { global = made; origin = origin.Made start.made } ∷ [];
+        are = (
+          record {
+            origin_is = sym answers.1.1;
+            global_is = is made (record {
+              number = start.number;
+              starts = answers.0;
+              ty = ap i32_global (sym answers.1.0);
+              body = h.constant;
+              owned = refl;
+            });
+          },
+          tt,
+        );
+        grown = h.grown;
+      }
 
   -- one more element of a list
   pub adds_more : {X : Type 0} {a b c : List PlannedGlobal} (f : X → GlobalEntry) (xs : List X)
@@ -259,57 +258,6 @@ module _ (s : GlobalSources) where
       → Refuses (IsPartFault s (map f xs)) e → Refuses (IsPartFault s (map f ys)) e
   mapped_refused {X} {e} f xs ys is h =
       subst (λ (l : List X). Refuses (IsPartFault s (map f l)) e) is h
-
-  -- ---- six parts
-
-  pub six_added : {a b c d e f : List GlobalEntry} {g h i j k l m : List PlannedGlobal}
-      → AddsPart s a g h → AddsPart s b h i → AddsPart s c i j → AddsPart s d j k
-      → AddsPart s e k l → AddsPart s f l m
-      → AddsPart s (a ++ (b ++ (c ++ (d ++ (e ++ f))))) g m
-  six_added u v w x y z =
-      adds_join u (adds_join v (adds_join w (adds_join x (adds_join y z))))
-
-  pub first_refused : {r : LinkError} (a b c d e f : List GlobalEntry)
-      → Refuses (IsPartFault s a) r
-      → Refuses (IsPartFault s (a ++ (b ++ (c ++ (d ++ (e ++ f)))))) r
-  first_refused a b c d e f h = refuses_left a (b ++ (c ++ (d ++ (e ++ f)))) h
-
-  pub second_refused : {r : LinkError} (a b c d e f : List GlobalEntry)
-      → Refuses (IsPartFault s b) r
-      → Refuses (IsPartFault s (a ++ (b ++ (c ++ (d ++ (e ++ f)))))) r
-  second_refused a b c d e f h =
-      refuses_right a (b ++ (c ++ (d ++ (e ++ f)))) (refuses_left b (c ++ (d ++ (e ++ f))) h)
-
-  pub third_refused : {r : LinkError} (a b c d e f : List GlobalEntry)
-      → Refuses (IsPartFault s c) r
-      → Refuses (IsPartFault s (a ++ (b ++ (c ++ (d ++ (e ++ f)))))) r
-  third_refused a b c d e f h =
-      refuses_right a (b ++ (c ++ (d ++ (e ++ f))))
-      (refuses_right b (c ++ (d ++ (e ++ f))) (refuses_left c (d ++ (e ++ f)) h))
-
-  pub fourth_refused : {r : LinkError} (a b c d e f : List GlobalEntry)
-      → Refuses (IsPartFault s d) r
-      → Refuses (IsPartFault s (a ++ (b ++ (c ++ (d ++ (e ++ f)))))) r
-  fourth_refused a b c d e f h =
-      refuses_right a (b ++ (c ++ (d ++ (e ++ f))))
-      (refuses_right b (c ++ (d ++ (e ++ f)))
-      (refuses_right c (d ++ (e ++ f)) (refuses_left d (e ++ f) h)))
-
-  pub fifth_refused : {r : LinkError} (a b c d e f : List GlobalEntry)
-      → Refuses (IsPartFault s e) r
-      → Refuses (IsPartFault s (a ++ (b ++ (c ++ (d ++ (e ++ f)))))) r
-  fifth_refused a b c d e f h =
-      refuses_right a (b ++ (c ++ (d ++ (e ++ f))))
-      (refuses_right b (c ++ (d ++ (e ++ f)))
-      (refuses_right c (d ++ (e ++ f)) (refuses_right d (e ++ f) (refuses_left e f h))))
-
-  pub sixth_refused : {r : LinkError} (a b c d e f : List GlobalEntry)
-      → Refuses (IsPartFault s f) r
-      → Refuses (IsPartFault s (a ++ (b ++ (c ++ (d ++ (e ++ f)))))) r
-  sixth_refused a b c d e f h =
-      refuses_right a (b ++ (c ++ (d ++ (e ++ f))))
-      (refuses_right b (c ++ (d ++ (e ++ f)))
-      (refuses_right c (d ++ (e ++ f)) (refuses_right d (e ++ f) (refuses_right e f h))))
 
   -- ---- what objects define
 
@@ -393,15 +341,24 @@ own_globals_are input =
     (object_globals input)
     ∙ ap (λ (l : List GlobalEntry). l ++ object_globals input) (regroup a b c d e f g h i j k)
 
-pub planned : (s : GlobalSources) (old new : List PlannedGlobal) → old ≡ []
-    → AddsPart s (made_parts s.book.now.input.now ++ object_globals s.book.now.input.now) old new
-    → ArePlannedGlobals s.book.now.input.now s.book.now.placing.now new
-planned s old new none h =
+pub planned : (s : GlobalSources) {a b c d e f g h : List PlannedGlobal} → a ≡ []
+    → AddsPart s (flat_map (made_global_part s.book.now.input.now) six_names) a b
+    → AddsPart s (address_part s.book.now.input.now) b c
+    → AddsPart s (got_mem_part s.book.now.input.now) c d
+    → AddsPart s (got_func_part s.book.now.input.now) d e
+    → AddsPart s (dynamic_part s.book.now.input.now) e f
+    → AddsPart s (forced_part s.book.now.input.now) f g
+    → AddsPart s (object_globals s.book.now.input.now) g h
+    → ArePlannedGlobals s.book.now.input.now s.book.now.placing.now h
+planned s {a} {b} none named address mem func dynamic forced objects =
     let input = s.book.now.input.now in
     let R = IsPlannedGlobal input s.book.now.placing.now in
+    let first = subst (λ (part : List GlobalEntry). AddsPart s part a b) (six_are input) named in
+    let all = adds_join s (adds_join s first (adds_join s address (adds_join s mem
+    (adds_join s func (adds_join s dynamic forced))))) objects in
     subst (λ (l : List PlannedGlobal). AllZip R (own_globals input) l)
-    (sym (h.grown ∙ ap (λ (l : List PlannedGlobal). l ++ h.more) none))
-    (subst (λ (l : List GlobalEntry). AllZip R l h.more) (sym (own_globals_are input)) h.are)
+    (sym (all.grown ∙ ap (λ (l : List PlannedGlobal). l ++ all.more) none))
+    (subst (λ (l : List GlobalEntry). AllZip R l all.more) (sym (own_globals_are input)) all.are)
 
 pub part_refused : (s : GlobalSources) (e : LinkError)
     → Refuses (IsPartFault s (made_parts s.book.now.input.now)) e
@@ -610,15 +567,14 @@ unmade_by_index input m None is none = is
 unmade_by_index input m (Some i) is none = absurd cc
 
 -- so the list grows by that global, or by nothing
-pub adds_if_made : (s : GlobalSources) (m : WasmLinkerSymbol) (word : MadeGlobal) (start : Start)
+pub adds_if_made : (s : GlobalSources) (m : WasmLinkerSymbol) (start : Start)
     (old new : List PlannedGlobal) → is_made s.book.now.input.now m ≡ true
-    → word ≡ word_of_made m → AnswersStart s (GlobalOf (Made m)) (Ok start)
-    → AddsMade word start old new → AddsPart s (made_global_part s.book.now.input.now m) old new
-adds_if_made s m word start old new is same answers one =
+    → AnswersStart s (GlobalOf (Made m)) (Ok start) → AddsMade start old new
+    → AddsPart s (made_global_part s.book.now.input.now m) old new
+adds_if_made s m start old new is answers one =
     subst (λ (part : List GlobalEntry). AddsPart s part old new)
     (sym (made_part s.book.now.input.now m is))
-    (adds_made s (GlobalOf (Made m)) word start old new (ap origin.Made (sym same)) (λ g x. x)
-    answers one)
+    (adds_made s (GlobalOf (Made m)) start old new (λ g x. x) answers one)
 
 pub adds_unmade : (s : GlobalSources) (m : WasmLinkerSymbol) (old : List PlannedGlobal)
     → is_made s.book.now.input.now m ≡ false

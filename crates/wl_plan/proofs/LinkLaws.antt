@@ -10,7 +10,7 @@ use Rattle.wl_symbols.specs.Link.{Link, link_of}
 use Rattle.wl_symbols.specs.Repeats.{IsDuplicate}
 use Rattle.wl_words.specs.declared.args.WasmArgs.{WasmArgs}
 use Rattle.wl_features.specs.Taken.{AreTaken}
-use Rattle.wl_features.specs.Faults.{IsBadFeature, IsConflict, IsSharedFault, feature_fault, feature_steps}
+use Rattle.wl_features.specs.Faults.{IsBadFeature, IsConflict, IsSharedFault, feature_steps}
 use Rattle.wl_live.specs.Entry.{IsEntryFault}
 use Rattle.wl_live.specs.Faults.{IsKeptFault}
 use Rattle.wl_symbols.specs.Live.{Live, IsLiveOf}
@@ -21,6 +21,7 @@ use Rattle.wl_plan.specs.Faults.{IsLaterFault, input_of, kept_fault, link_fault}
 use Rattle.wl_plan.specs.LinkPlan.{HasLinkFault, IsLinkPlan, IsPlanOf}
 use Rattle.wl_plan.specs.Objects.{AreObjects}
 use Rattle.wl_plan.specs.Plan.{IsPlan}
+use Rattle.wl_plan.specs.steps.Link.{AreClear}
 use Rattle.wl_plan.specs.declared.layout.LinkPlan.{LinkPlan}
 use Rattle.wl_plan.specs.declared.objects.TheConstants.{MAX_OBJECT}
 use Rattle.wl_linking.proofs.StepLaws.{IsRow, clear_end, clear_step, refuses_behind, refuses_here, row_behind, row_clear, row_end, row_more}
@@ -73,13 +74,6 @@ pub feature_is_row : (link : Link) → IsRow (feature_row link)
 feature_is_row link =
     row_more (IsBadFeature link.objects) _ (row_more (IsSharedFault link) _
     (row_more (IsConflict link) _ row_end))
-
--- the steps before the last have no cause
-pub record AreClear (link : Link) : Type 0 where
-  pub names : Clear (IsDuplicate link.objects)
-  pub features : Clear (feature_fault link)
-  pub entry : Clear (IsEntryFault link)
-  pub kept : Clear (IsKeptFault link)
 
 -- the last step refuses
 last_refuses : (link : Link) (e : LinkError) → AreClear link → Refuses (IsLaterFault link) e

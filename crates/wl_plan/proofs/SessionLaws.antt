@@ -132,13 +132,21 @@ pub session_err : (held : Held) (kept files : List Object) (args : WasmArgs)
 session_err held kept files args r is same whole h =
     rw (← is, ← same) (link_err (bytes_of files) args files r (objects_of_bytes files whole) h)
 
+-- a step refuses the link of the objects
+pub session_refuses : (held : Held) (kept files : List Object) (args : WasmArgs) (e : LinkError)
+    → held_of kept args ≡ held → files ≡ kept → AllByRecursion IsWhole files
+    → Refuses (link_fault (link_of files args)) e
+    → Refuses (HasLinkFault held.objects held.args) e
+session_refuses held kept files args e is same whole h =
+    let failed : Result LinkPlan LinkError = Err e in
+    session_err held kept files args failed is same whole h
+
 -- the names of the objects refuse
 pub session_repeats : (held : Held) (kept files : List Object) (args : WasmArgs) (e : LinkError)
     → held_of kept args ≡ held → files ≡ kept → AllByRecursion IsWhole files
     → Refuses (IsDuplicate files) e → Refuses (HasLinkFault held.objects held.args) e
 session_repeats held kept files args e is same whole h =
-    let failed : Result LinkPlan LinkError = Err e in
-    session_err held kept files args failed is same whole (refuses_here (IsDuplicate files) _ e h)
+    session_refuses held kept files args e is same whole (refuses_here (IsDuplicate files) _ e h)
 
 -- ---- replacements
 

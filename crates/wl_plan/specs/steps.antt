@@ -11,3 +11,4 @@ pub mod Outline
 pub mod Plan
 pub mod Threads
 pub mod Parsing
+pub mod Link

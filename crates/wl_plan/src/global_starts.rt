@@ -1,25 +1,26 @@
 //! What the globals of the output start with.
 
-ghost use Rattle.std.specs.Prelude.{◌≡◌, IfOk, OnErr, Some, Contains, length, option_map, slice_get};
-ghost use Rattle.wl_linking.specs.declared.error.LinkError.TheVariants.{Unsupported};
+ghost use Rattle.std.specs.Prelude.{◌≡◌, IfOk, OnErr, Contains, length, slice_get};
 ghost use Rattle.wl_bind.specs.ExportedAddresses.{exported_addresses};
 ghost use Rattle.wl_bind.specs.ExportedData.{dynamic_data, forced_data};
 ghost use Rattle.wl_bind.specs.GlobalSpace.{GlobalOf, AddressOf, DataOf};
 ghost use Rattle.wl_bind.specs.Scan.{got_mem, got_func};
 ghost use Rattle.wl_bind.specs.declared.binding.GlobalTarget.TheVariants as global;
 ghost use Rattle.wl_places.specs.Addresses.{address_of_definition, symbol_address};
-ghost use Rattle.wl_plan.specs.steps.Globals.{AreSources, AnswersStart, asks_for_entry, func_slot};
-ghost use Rattle.wl_plan.specs.Globals.{constant_or_range, got_address, own_place, common_address, own_address, is_own, first_asking, is_in_block, made_start, may_change};
+ghost use Rattle.wl_plan.specs.steps.Globals.{AreSources, AnswersStart};
+ghost use Rattle.wl_plan.specs.Globals.{constant_or_range, got_address, own_place, common_address, own_address, is_own, first_asking};
 ghost use Rattle.wl_places.specs.declared.placing.Placing.{Placing as SpecPlacing};
 
 use crate::bindings::Bindings;
 use crate::table::slot_of;
-use wl_bind::{DataSymbol, FunctionTarget, got_mem_of};
+use crate::threads::place_in_block;
+use wl_bind::{DataSymbol, got_mem_of};
 use wl_bytes::Form;
 use wl_index::{LINKER_MEMORY_BASE, LINKER_TABLE_BASE, WasmDataAddress, WasmObjectIndexMap};
 use wl_linking::LinkError;
+use wl_output::MadeGlobal;
 use wl_places::{AddressBook, linker_address};
-use wl_symbols::{Definition, LinkInput, Relocated, WasmLinkerSymbol, kept_relocations};
+use wl_symbols::{Definition, LinkInput, WasmLinkerSymbol, kept_relocations};
 
 // ---- numbers
 
@@ -38,22 +39,22 @@ fn constant_or_range(number: u32) -> Result<u32, LinkError>
 
 // ---- addresses
 
-/// An address that has no value for an object.
-fn unsupported(object: usize, form: Form) -> LinkError
-    ensures { result ≡ Unsupported object form }
-{
-    LinkError::Unsupported { object, form }
-}
-
-/// The address of an entry of the GOT list of data, where a refusal names this object; what lies
-/// in the block of a thread is set when the thread starts.
-fn got_address(object: usize, address: WasmDataAddress) -> Result<u32, LinkError>
-    ensures { result ≡ got_address object address }
+/// The address of an entry of the GOT list of data, which stands for that definition; what lies in
+/// the block of a thread is set when the thread starts.
+fn mem_number(
+    input: &LinkInput<'_, '_>,
+    definition: Definition,
+    address: WasmDataAddress,
+) -> Result<u32, LinkError>
+    ensures { result ≡ got_address (first_asking input.now definition) address }
 {
     match address {
         WasmDataAddress::Placed(place) => Ok(place),
         WasmDataAddress::Missing => Ok(0),
-        WasmDataAddress::Passive => Err(unsupported(object, Form::PassiveAddress)),
+        WasmDataAddress::Passive => Err(LinkError::Unsupported {
+            object: first_asking(input, definition),
+            form: Form::PassiveAddress,
+        }),
         WasmDataAddress::TlsOffset(place) => {
             constant_or_range(place)?;
             Ok(0)
@@ -67,7 +68,10 @@ fn own_place(object: usize, base: u32, place: u32) -> Result<u32, LinkError>
 {
     match place.checked_sub(base) {
         Some(offset) if offset <= MAX_CONSTANT => Ok(offset),
-        Some(_) | None => Err(unsupported(object, Form::TlsAddress)),
+        Some(_) | None => Err(LinkError::Unsupported {
+            object,
+            form: Form::TlsAddress,
+        }),
     }
 }
 
@@ -78,8 +82,14 @@ fn common_address(object: usize, address: WasmDataAddress) -> Result<u32, LinkEr
     match address {
         WasmDataAddress::Missing => Ok(0),
         WasmDataAddress::Placed(place) => Ok(place),
-        WasmDataAddress::Passive => Err(unsupported(object, Form::PassiveAddress)),
-        WasmDataAddress::TlsOffset(_) => Err(unsupported(object, Form::TlsAddress)),
+        WasmDataAddress::Passive => Err(LinkError::Unsupported {
+            object,
+            form: Form::PassiveAddress,
+        }),
+        WasmDataAddress::TlsOffset(_) => Err(LinkError::Unsupported {
+            object,
+            form: Form::TlsAddress,
+        }),
     }
 }
 
@@ -91,7 +101,10 @@ fn own_address(object: usize, tls_base: u32, address: WasmDataAddress) -> Result
     match address {
         WasmDataAddress::Missing => Ok(0),
         WasmDataAddress::Placed(place) => own_place(object, tls_base, place),
-        WasmDataAddress::Passive => Err(unsupported(object, Form::PassiveAddress)),
+        WasmDataAddress::Passive => Err(LinkError::Unsupported {
+            object,
+            form: Form::PassiveAddress,
+        }),
         WasmDataAddress::TlsOffset(place) => own_place(object, 0, place),
     }
 }
@@ -109,23 +122,15 @@ pub(crate) struct GlobalSources<'g, 'b, 'i, 'a> {
     pub(crate) maps: &'g [WasmObjectIndexMap],
 }
 
-/// What a global starts with, and whether it may change.
+/// What a global that the linker makes is reported as and starts with, and whether it may change.
 #[derive(Clone, Copy)]
 pub(crate) struct Start {
+    pub(crate) made: MadeGlobal,
     pub(crate) number: u32,
     pub(crate) mutable: bool,
 }
 
 impl<'g, 'b, 'i, 'a> GlobalSources<'g, 'b, 'i, 'a> {
-    /// The object of the first kept relocation that asks for the entry of that definition in the
-    /// GOT list of data.
-    fn first_asking(&self, definition: Definition) -> usize
-        requires { AreSources self.now }
-        ensures { result ≡ first_asking self.now.book.now.input.now definition }
-    {
-        first_asking(self.book.input, definition)
-    }
-
     /// The definition of an entry of the GOT list of data.
     #[tactic(auto, using(crate::proofs::GlobalLaws::mem_at))]
     pub(crate) fn mem_definition(&self, place: usize) -> Option<Definition>
@@ -134,17 +139,6 @@ impl<'g, 'b, 'i, 'a> GlobalSources<'g, 'b, 'i, 'a> {
     {
         let scan = &self.bindings.scan;
         scan.got_mem.definition(place)
-    }
-
-    /// The function of an entry of the GOT list of functions.
-    #[tactic(auto, using(crate::proofs::GlobalLaws::func_at))]
-    fn func_target(&self, place: usize) -> Option<FunctionTarget>
-        requires { AreSources self.now }
-        ensures { result
-            ≡ option_map (λ p. p.1) (slice_get (got_func self.now.book.now.input.now) place) }
-    {
-        let scan = &self.bindings.scan;
-        scan.got_func.target(place)
     }
 
     /// How many entries the GOT list of data has.
@@ -202,19 +196,6 @@ impl<'g, 'b, 'i, 'a> GlobalSources<'g, 'b, 'i, 'a> {
         self.book.of_definition(definition)
     }
 
-    /// The number that an address of the GOT list of data is, of that definition.
-    fn mem_number(&self, definition: Definition, address: WasmDataAddress) -> Result<u32, LinkError>
-        requires { AreSources self.now }
-        ensures { result
-            ≡ got_address (first_asking self.now.book.now.input.now definition) address }
-    {
-        match address {
-            WasmDataAddress::Passive => got_address(self.first_asking(definition), address),
-            WasmDataAddress::Missing | WasmDataAddress::Placed(_) | WasmDataAddress::TlsOffset(_) =>
-                got_address(0, address),
-        }
-    }
-
     /// What an entry of the GOT list of data starts with.
     pub(crate) fn got_mem_start(&self, place: usize) -> Result<Start, LinkError>
         requires { AreSources self.now }
@@ -222,95 +203,36 @@ impl<'g, 'b, 'i, 'a> GlobalSources<'g, 'b, 'i, 'a> {
     {
         let Some(definition) = self.mem_definition(place) else {
             return Ok(Start {
+                made: MadeGlobal::GotMem,
                 number: 0,
                 mutable: false,
             });
         };
         let address = self.mem_address(definition)?;
         Ok(Start {
-            number: self.mem_number(definition, address)?,
-            mutable: is_in_block(address),
+            made: MadeGlobal::GotMem,
+            number: mem_number(self.book.input, definition, address)?,
+            mutable: place_in_block(address).is_some(),
         })
     }
 
-    /// The slot of an entry of the GOT list of functions; 0 where it has none.
-    fn func_slot(&self, place: usize) -> u32
-        requires { AreSources self.now }
-        ensures { result ≡ func_slot self.now.book.now.input.now place }
-    {
-        match self.func_target(place) {
-            Some(target) => slot_of(self.book.input, self.bindings, target).unwrap_or(0),
-            None => 0,
-        }
-    }
-
-    /// What an entry of the GOT list of functions starts with: the slot of its function.
+    /// What an entry of the GOT list of functions starts with: the slot of its function, and 0 where
+    /// it has none.
+    #[tactic(auto, using(crate::proofs::GlobalLaws::func_at))]
     pub(crate) fn got_func_start(&self, place: usize) -> Result<Start, LinkError>
         requires { AreSources self.now }
         ensures { AnswersStart self.now (GlobalOf (global.GotFunc place)) result }
     {
+        let scan = &self.bindings.scan;
+        let slot = match scan.got_func.target(place) {
+            Some(target) => slot_of(self.book.input, self.bindings, target).unwrap_or(0),
+            None => 0,
+        };
         Ok(Start {
-            number: constant_or_range(self.func_slot(place))?,
+            made: MadeGlobal::GotFunc,
+            number: constant_or_range(slot)?,
             mutable: false,
         })
-    }
-
-    /// The number that a thing which the linker makes under a name starts with.
-    fn made_number(&self, made: WasmLinkerSymbol) -> Result<u32, LinkError>
-        requires { AreSources self.now }
-        ensures { result
-            ≡ made_start self.now.book.now.input.now self.now.book.now.placing.now made }
-    {
-        let needs = self.bindings.indices.needs();
-        let placing = self.book.placing;
-        match made {
-            WasmLinkerSymbol::MemoryBase => Ok(if needs.needs_memory_base {
-                LINKER_MEMORY_BASE
-            } else {
-                0
-            }),
-            WasmLinkerSymbol::TableBase => Ok(LINKER_TABLE_BASE),
-            WasmLinkerSymbol::StackPointer => Ok(placing.stack_pointer),
-            WasmLinkerSymbol::TlsBase => Ok(if needs.needs_tls_size {
-                0
-            } else {
-                placing.places.tls_base
-            }),
-            WasmLinkerSymbol::TlsSize => constant_or_range(placing.places.tls_size),
-            WasmLinkerSymbol::TlsAlign => constant_or_range(placing.places.tls_align),
-            WasmLinkerSymbol::DataEnd
-            | WasmLinkerSymbol::GlobalBase
-            | WasmLinkerSymbol::HeapBase
-            | WasmLinkerSymbol::HeapEnd
-            | WasmLinkerSymbol::WasmFirstPageEnd
-            | WasmLinkerSymbol::DsoHandle
-            | WasmLinkerSymbol::CallCtors
-            | WasmLinkerSymbol::InitTls => Ok(0),
-        }
-    }
-
-    /// Whether a thing that the linker makes under a name may change.
-    fn may_change(&self, made: WasmLinkerSymbol) -> bool
-        requires { AreSources self.now }
-        ensures { result ≡ may_change self.now.book.now.input.now self.now.book.now.placing.now
-            (GlobalOf (global.Made made)) }
-    {
-        match made {
-            WasmLinkerSymbol::StackPointer => true,
-            WasmLinkerSymbol::TlsBase => self.bindings.indices.needs().needs_tls_size,
-            WasmLinkerSymbol::MemoryBase
-            | WasmLinkerSymbol::TableBase
-            | WasmLinkerSymbol::TlsSize
-            | WasmLinkerSymbol::TlsAlign
-            | WasmLinkerSymbol::DataEnd
-            | WasmLinkerSymbol::GlobalBase
-            | WasmLinkerSymbol::HeapBase
-            | WasmLinkerSymbol::HeapEnd
-            | WasmLinkerSymbol::WasmFirstPageEnd
-            | WasmLinkerSymbol::DsoHandle
-            | WasmLinkerSymbol::CallCtors
-            | WasmLinkerSymbol::InitTls => false,
-        }
     }
 
     /// What a thing that the linker makes under a name starts with.
@@ -318,9 +240,40 @@ impl<'g, 'b, 'i, 'a> GlobalSources<'g, 'b, 'i, 'a> {
         requires { AreSources self.now }
         ensures { AnswersStart self.now (GlobalOf (global.Made made)) result }
     {
+        let needs = self.bindings.indices.needs();
+        let placing = self.book.placing;
+        let (made, mutable, number) = match made {
+            WasmLinkerSymbol::MemoryBase if needs.needs_memory_base => {
+                (MadeGlobal::MemoryBase, false, LINKER_MEMORY_BASE)
+            }
+            WasmLinkerSymbol::MemoryBase => (MadeGlobal::MemoryBase, false, 0),
+            WasmLinkerSymbol::TableBase => (MadeGlobal::TableBase, false, LINKER_TABLE_BASE),
+            WasmLinkerSymbol::StackPointer => {
+                (MadeGlobal::StackPointer, true, placing.stack_pointer)
+            }
+            WasmLinkerSymbol::TlsBase if needs.needs_tls_size => (MadeGlobal::TlsBase, true, 0),
+            WasmLinkerSymbol::TlsBase => (MadeGlobal::TlsBase, false, placing.places.tls_base),
+            WasmLinkerSymbol::TlsSize => {
+                let size = constant_or_range(placing.places.tls_size)?;
+                (MadeGlobal::TlsSize, false, size)
+            }
+            WasmLinkerSymbol::TlsAlign => {
+                let align = constant_or_range(placing.places.tls_align)?;
+                (MadeGlobal::TlsAlign, false, align)
+            }
+            WasmLinkerSymbol::DataEnd
+            | WasmLinkerSymbol::GlobalBase
+            | WasmLinkerSymbol::HeapBase
+            | WasmLinkerSymbol::HeapEnd
+            | WasmLinkerSymbol::WasmFirstPageEnd
+            | WasmLinkerSymbol::DsoHandle
+            | WasmLinkerSymbol::CallCtors
+            | WasmLinkerSymbol::InitTls => (MadeGlobal::Address, false, 0),
+        };
         Ok(Start {
-            number: self.made_number(made)?,
-            mutable: self.may_change(made),
+            made,
+            number,
+            mutable,
         })
     }
 
@@ -350,6 +303,7 @@ impl<'g, 'b, 'i, 'a> GlobalSources<'g, 'b, 'i, 'a> {
             common_address(datum.object, address)?
         };
         Ok(Start {
+            made: MadeGlobal::Data,
             number,
             mutable: false,
         })
@@ -364,19 +318,10 @@ impl<'g, 'b, 'i, 'a> GlobalSources<'g, 'b, 'i, 'a> {
     {
         let address = linker_address(self.book.input, self.book.placing, made)?;
         Ok(Start {
+            made: MadeGlobal::Address,
             number: address.unwrap_or(0),
             mutable: false,
         })
-    }
-}
-
-/// Whether the address is in the block of a thread.
-fn is_in_block(address: WasmDataAddress) -> bool
-    ensures { result ≡ is_in_block address }
-{
-    match address {
-        WasmDataAddress::TlsOffset(_) => true,
-        WasmDataAddress::Missing | WasmDataAddress::Placed(_) | WasmDataAddress::Passive => false,
     }
 }
 
@@ -393,22 +338,12 @@ fn is_own(input: &LinkInput<'_, '_>, datum: DataSymbol) -> bool
     }
 }
 
-/// A kept relocation asks for the entry of that definition in the GOT list of data.
-fn asks_for(input: &LinkInput<'_, '_>, relocated: &Relocated, definition: Definition) -> bool
-    ensures { result ≡ asks_for_entry input.now definition relocated.now }
-{
-    match got_mem_of(input, relocated) {
-        Some(other) => definition == other,
-        None => false,
-    }
-}
-
 /// The object of the first kept relocation that asks for the entry of that definition.
 fn first_asking(input: &LinkInput<'_, '_>, definition: Definition) -> usize
     ensures { result ≡ first_asking input.now definition }
 {
     for relocated in kept_relocations(input) {
-        if asks_for(input, &relocated, definition) {
+        if got_mem_of(input, &relocated).is_some_and(|other| definition == other) {
             return relocated.object;
         }
     }

@@ -1,14 +1,12 @@
 //! The globals of the output that aren't imported, each with what it starts with.
 
-ghost use Rattle.std.specs.Prelude.{◌≡◌, ◌++◌, map, true, Some, IfOk, OnOk, IfErr, slice_get};
+ghost use Rattle.std.specs.Prelude.{◌≡◌, map, true, Some, IfOk, OnOk, IfErr, slice_get};
 ghost use Rattle.std.specs.List.{flat_map, list_all};
-ghost use Rattle.std.specs.Cow.{cow_slice_items};
-ghost use Rattle.wl_module.specs.Slices.{is_owned};
 ghost use Rattle.wl_linking.specs.Steps.{Clear, Refuses};
 ghost use Rattle.wl_bind.specs.ExportedAddresses.{exported_addresses};
 ghost use Rattle.wl_bind.specs.GlobalSpace.{DataOf, made_global_part, address_part, got_mem_part, got_func_part, globals_of, object_globals};
-ghost use Rattle.wl_plan.specs.steps.Globals.{AreSources, IsStarted, AddsMade, AddsPart, IsPartFault, is_linker_global, made_parts, own_global_part};
-ghost use Rattle.wl_plan.specs.Globals.{IsConstant, word_of_made, global_in, ArePlannedGlobals, IsGlobalFault};
+ghost use Rattle.wl_plan.specs.steps.Globals.{AreSources, AddsMade, AddsPart, IsPartFault, is_linker_global, own_global_part};
+ghost use Rattle.wl_plan.specs.Globals.{global_in, ArePlannedGlobals, IsGlobalFault};
 
 use crate::global_starts::{GlobalSources, Start};
 use crate::layout::PlannedGlobal;
@@ -19,7 +17,7 @@ use wl_bytes::push_sleb;
 use wl_linking::{File, LinkError};
 use wl_lists::ItemList;
 use wl_module::{GlobalType, OutputGlobal, ValType};
-use wl_output::{GlobalOrigin, MadeGlobal};
+use wl_output::GlobalOrigin;
 use wl_symbols::{WasmGcUnit, WasmLinkerSymbol};
 
 // ---- constants
@@ -27,68 +25,28 @@ use wl_symbols::{WasmGcUnit, WasmLinkerSymbol};
 /// The opcode of `i32.const`.
 const I32_CONST: u8 = 0x41;
 
-/// The expression of a number.
-fn constant<'a>(alloc: Global, number: u32) -> Result<CowSlice<'a, u8>, AllocError>
-    ensures value { IfOk result (λ body. IsConstant number (cow_slice_items body)) }
-    ensures owned { IfOk result (λ body. is_owned body ≡ true) }
-{
-    let mut body = Vec::new(alloc);
-    body.push(I32_CONST)?;
-    push_sleb(&mut body, number.cast_signed() as i64)?;
-    Ok(CowSlice::Owned(body))
-}
-
 // ---- the globals, part by part
 
-/// What a thing of the linker's is reported as.
-fn word_of(made: WasmLinkerSymbol) -> MadeGlobal
-    ensures { result ≡ word_of_made made }
-{
-    match made {
-        WasmLinkerSymbol::MemoryBase => MadeGlobal::MemoryBase,
-        WasmLinkerSymbol::TableBase => MadeGlobal::TableBase,
-        WasmLinkerSymbol::StackPointer => MadeGlobal::StackPointer,
-        WasmLinkerSymbol::TlsBase => MadeGlobal::TlsBase,
-        WasmLinkerSymbol::TlsSize => MadeGlobal::TlsSize,
-        WasmLinkerSymbol::TlsAlign => MadeGlobal::TlsAlign,
-        WasmLinkerSymbol::DataEnd
-        | WasmLinkerSymbol::GlobalBase
-        | WasmLinkerSymbol::HeapBase
-        | WasmLinkerSymbol::HeapEnd
-        | WasmLinkerSymbol::WasmFirstPageEnd
-        | WasmLinkerSymbol::DsoHandle
-        | WasmLinkerSymbol::CallCtors
-        | WasmLinkerSymbol::InitTls => MadeGlobal::Address,
-    }
-}
-
-/// A global that starts so.
-fn started_global<'a>(alloc: Global, start: Start) -> Result<OutputGlobal<'a>, AllocError>
-    ensures { IfOk result (IsStarted start) }
-{
-    let init_expr_body = constant(alloc, start.number)?;
-    Ok(OutputGlobal {
-        ty: GlobalType {
-            content_type: ValType::I32,
-            mutable: start.mutable,
-        },
-        init_expr_body,
-    })
-}
-
-/// Adds a global that the linker makes.
+/// Adds a global that the linker makes, which starts so.
 fn push_made<'a>(
     alloc: Global,
     globals: &mut Vec<PlannedGlobal<'a>>,
-    made: MadeGlobal,
     start: Start,
 ) -> Result<(), AllocError>
-    ensures { OnOk result (AddsMade made start globals.old.items globals.new.items) }
+    ensures { OnOk result (AddsMade start globals.old.items globals.new.items) }
 {
-    let global = started_global(alloc, start)?;
+    let mut body = Vec::new(alloc);
+    body.push(I32_CONST)?;
+    push_sleb(&mut body, start.number.cast_signed() as i64)?;
     globals.push(PlannedGlobal {
-        global,
-        origin: GlobalOrigin::Made(made),
+        global: OutputGlobal {
+            ty: GlobalType {
+                content_type: ValType::I32,
+                mutable: start.mutable,
+            },
+            init_expr_body: CowSlice::Owned(body),
+        },
+        origin: GlobalOrigin::Made(start.made),
     })?;
     Ok(())
 }
@@ -111,7 +69,7 @@ fn push_named<'a>(
     for made in names {
         if sources.bindings.indices.index(*made).is_some() {
             let start = sources.made_start(*made)?;
-            push_made(alloc, globals, word_of(*made), start)?;
+            push_made(alloc, globals, start)?;
         }
     }
     Ok(())
@@ -143,7 +101,7 @@ fn push_addresses<'a>(
 {
     for made in addresses {
         let start = sources.address_start(*made)?;
-        push_made(alloc, globals, MadeGlobal::Address, start)?;
+        push_made(alloc, globals, start)?;
     }
     Ok(())
 }
@@ -162,7 +120,7 @@ fn push_got_mem<'a>(
 {
     for place in 0..sources.mem_count() {
         let start = sources.got_mem_start(place)?;
-        push_made(alloc, globals, MadeGlobal::GotMem, start)?;
+        push_made(alloc, globals, start)?;
     }
     Ok(())
 }
@@ -181,7 +139,7 @@ fn push_got_func<'a>(
 {
     for place in 0..sources.func_count() {
         let start = sources.got_func_start(place)?;
-        push_made(alloc, globals, MadeGlobal::GotFunc, start)?;
+        push_made(alloc, globals, start)?;
     }
     Ok(())
 }
@@ -200,7 +158,7 @@ fn push_data<'a>(
 {
     for datum in exported {
         let start = sources.data_start(*datum)?;
-        push_made(alloc, globals, MadeGlobal::Data, start)?;
+        push_made(alloc, globals, start)?;
     }
     Ok(())
 }
@@ -273,29 +231,6 @@ fn push_objects<'a>(
 
 // ---- all of them
 
-/// Adds all globals that aren't imported.
-fn push_all<'a>(
-    alloc: Global,
-    globals: &mut Vec<PlannedGlobal<'a>>,
-    sources: &GlobalSources<'_, '_, '_, 'a>,
-) -> Result<(), LinkError>
-    requires { AreSources sources.now }
-    ensures ok { OnOk result (AddsPart sources.now
-        (made_parts sources.now.book.now.input.now
-        ++ object_globals sources.now.book.now.input.now) globals.old.items globals.new.items) }
-    ensures err { IfErr result (Refuses (IsPartFault sources.now
-        (made_parts sources.now.book.now.input.now))) }
-{
-    push_named(alloc, globals, sources, &LINKER_GLOBALS)?;
-    push_addresses(alloc, globals, sources, sources.addresses())?;
-    push_got_mem(alloc, globals, sources)?;
-    push_got_func(alloc, globals, sources)?;
-    push_data(alloc, globals, sources, sources.dynamic())?;
-    push_data(alloc, globals, sources, sources.forced())?;
-    push_objects(alloc, globals, sources)?;
-    Ok(())
-}
-
 /// How many globals the linker makes at most, beside those that have an address of a symbol.
 const MADE_GLOBALS: usize = 14;
 
@@ -320,6 +255,12 @@ pub(crate) fn planned_globals<'a>(
     let entries = sources.mem_count().saturating_add(sources.func_count());
     let room = entries.saturating_add(MADE_GLOBALS);
     let mut globals = Vec::with_capacity(alloc, room)?;
-    push_all(alloc, &mut globals, sources)?;
+    push_named(alloc, &mut globals, sources, &LINKER_GLOBALS)?;
+    push_addresses(alloc, &mut globals, sources, sources.addresses())?;
+    push_got_mem(alloc, &mut globals, sources)?;
+    push_got_func(alloc, &mut globals, sources)?;
+    push_data(alloc, &mut globals, sources, sources.dynamic())?;
+    push_data(alloc, &mut globals, sources, sources.forced())?;
+    push_objects(alloc, &mut globals, sources)?;
     Ok(ItemList::new(globals))
 }

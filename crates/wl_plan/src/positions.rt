@@ -41,50 +41,52 @@ fn goes_on(run: &[Relocated], relocated: &Relocated) -> bool
     }
 }
 
-/// Where these fields stand as the object has them.
-fn own_positions(alloc: Global, relocations: &[Relocated]) -> Result<Vec<u32>, AllocError>
-    ensures { IfOk result (λ positions.
-        positions.items ≡ map (λ (r : KeptRelocation). r.site.position) relocations.now) }
+/// Puts where these fields stand as the object has them in the place of what the list held.
+fn set_positions(fields: &mut Vec<u32>, run: &[Relocated]) -> Result<(), AllocError>
+    ensures { OnOk result
+        (fields.new.items ≡ map (λ (r : KeptRelocation). r.site.position) run.now) }
 {
-    let mut positions = Vec::with_capacity(alloc, relocations.len())?;
-    for relocated in relocations {
-        positions.push(relocated.site.position)?;
+    fields.clear();
+    for relocated in run {
+        fields.push(relocated.site.position)?;
     }
-    Ok(positions)
+    Ok(())
 }
 
-/// Where these fields of a body stand in what the output has, and the body there.
+/// The body there, where these fields of a body are in it. The list gets where they stand in what
+/// the output has.
 fn moved_in<'a>(
     alloc: Global,
     renumbering: &Renumbering<'_, '_, 'a>,
     site: (usize, u32),
     body: &WasmFunctionBody<'a>,
     run: &[Relocated],
-) -> Result<(Vec<u32>, WasmFunctionBody<'a>), LinkError>
+    fields: &mut Vec<u32>,
+) -> Result<WasmFunctionBody<'a>, LinkError>
     requires renumbering { IsRenumbering renumbering.now }
     requires here { body_in renumbering.now.input.now site.0 site.1 ≡ Some body.now }
     requires kept { keeps renumbering.now.input.now site.0 (DefinedFunction site.1) ≡ true }
     requires there { AllByRecursion (IsThere renumbering.now.input.now site.0 body.now) run.now }
-    ensures positions { IfOk result (λ moved.
-        AllZip (IsMovedIn renumbering.now.input.now renumbering.now.placing.now) run.now
-        moved.0.items) }
-    ensures body { IfOk result (λ moved.
-        IsBodyIn renumbering.now.input.now renumbering.now.placing.now site.0 site.1 moved.1) }
+    ensures positions { OnOk result
+        (AllZip (IsMovedIn renumbering.now.input.now renumbering.now.placing.now) run.now
+        fields.new.items) }
+    ensures body { IfOk result
+        (IsBodyIn renumbering.now.input.now renumbering.now.placing.now site.0 site.1) }
     ensures err { IfErr result (λ e. e ≡ OutOfMemory) }
 {
-    let mut positions = own_positions(alloc, run)?;
-    let body = rewrite(alloc, renumbering, site, body, &mut positions)?;
-    Ok((positions, body))
+    set_positions(fields, run)?;
+    rewrite(alloc, renumbering, site, body, fields)
 }
 
-/// Where these fields of a body of the object stand in what the output has, and the body there.
+/// The same of a body of an object.
 fn moved_file<'a>(
     alloc: Global,
     renumbering: &Renumbering<'_, '_, 'a>,
     file: &File<'a>,
     first: Relocated,
     run: &[Relocated],
-) -> Result<(Vec<u32>, WasmFunctionBody<'a>), LinkError>
+    fields: &mut Vec<u32>,
+) -> Result<WasmFunctionBody<'a>, LinkError>
     requires renumbering { IsRenumbering renumbering.now }
     requires kept { AreKept renumbering.now.input.now run.now }
     requires at { slice_get run.now 0 ≡ Some first }
@@ -93,45 +95,46 @@ fn moved_file<'a>(
     requires here { slice_get renumbering.now.input.now.link.objects first.object
         ≡ Some file.now }
     requires unit { first.site.unit < length file.now.bodies }
-    ensures positions { IfOk result (λ moved.
-        AllZip (IsMovedIn renumbering.now.input.now renumbering.now.placing.now) run.now
-        moved.0.items) }
-    ensures body { IfOk result (λ moved.
-        IsBodyIn renumbering.now.input.now renumbering.now.placing.now first.object
-        first.site.unit moved.1) }
+    ensures positions { OnOk result
+        (AllZip (IsMovedIn renumbering.now.input.now renumbering.now.placing.now) run.now
+        fields.new.items) }
+    ensures body { IfOk result
+        (IsBodyIn renumbering.now.input.now renumbering.now.placing.now first.object
+        first.site.unit) }
     ensures err { IfErr result (λ e. e ≡ OutOfMemory) }
 {
     whole_objects();
     let site = (first.object, first.site.unit);
     let body = &file.bodies()[first.site.unit as usize];
-    moved_in(alloc, renumbering, site, body, run)
+    moved_in(alloc, renumbering, site, body, run, fields)
 }
 
-/// Where these fields of one body stand in what the output has, and the body there.
+/// The same of one body, that of the first of the fields.
 fn moved_code<'a>(
     alloc: Global,
     renumbering: &Renumbering<'_, '_, 'a>,
     first: Relocated,
     run: &[Relocated],
-) -> Result<(Vec<u32>, WasmFunctionBody<'a>), LinkError>
+    fields: &mut Vec<u32>,
+) -> Result<WasmFunctionBody<'a>, LinkError>
     requires renumbering { IsRenumbering renumbering.now }
     requires kept { AreKept renumbering.now.input.now run.now }
     requires at { slice_get run.now 0 ≡ Some first }
     requires place { first.place ≡ Code }
     requires one { AreOfOneBody run.now }
     requires within { first.object < length renumbering.now.input.now.link.objects }
-    ensures positions { IfOk result (λ moved.
-        AllZip (IsMovedIn renumbering.now.input.now renumbering.now.placing.now) run.now
-        moved.0.items) }
-    ensures body { IfOk result (λ moved.
-        IsBodyIn renumbering.now.input.now renumbering.now.placing.now first.object
-        first.site.unit moved.1) }
+    ensures positions { OnOk result
+        (AllZip (IsMovedIn renumbering.now.input.now renumbering.now.placing.now) run.now
+        fields.new.items) }
+    ensures body { IfOk result
+        (IsBodyIn renumbering.now.input.now renumbering.now.placing.now first.object
+        first.site.unit) }
     ensures err { IfErr result (λ e. e ≡ OutOfMemory) }
 {
     whole_objects();
     let files = renumbering.input.files().as_slice();
     let file = &files[first.object];
-    moved_file(alloc, renumbering, file, first, run)
+    moved_file(alloc, renumbering, file, first, run, fields)
 }
 
 /// The field stands where it stood, and so do the others of its body: the body numbers no segments.
@@ -160,7 +163,7 @@ pub(crate) struct MovedFields<'a> {
 
 impl<'a> MovedFields<'a> {
     /// Adds where these fields of one body stand in what the output has, and that body. There may be
-    /// none.
+    /// none. What the other list holds doesn't count.
     ///
     /// # Errors
     /// Want of memory alone: kept bodies are decoded, and what they number is kept.
@@ -169,6 +172,7 @@ impl<'a> MovedFields<'a> {
         alloc: Global,
         renumbering: &Renumbering<'_, '_, 'a>,
         run: &[Relocated],
+        fields: &mut Vec<u32>,
     ) -> Result<(), LinkError>
         requires renumbering { IsRenumbering renumbering.now }
         requires bodies { AreRewritten renumbering.now.input.now renumbering.now.placing.now
@@ -187,8 +191,8 @@ impl<'a> MovedFields<'a> {
             return Ok(());
         }
         let first = run[0];
-        let (mut positions, body) = moved_code(alloc, renumbering, first, run)?;
-        self.positions.append(&mut positions)?;
+        let body = moved_code(alloc, renumbering, first, run, fields)?;
+        self.positions.append(fields)?;
         self.bodies.push(RewrittenBody {
             object: first.object,
             function: first.site.unit,
@@ -220,16 +224,18 @@ fn walk_fields<'a>(
     };
     // The fields of one body that numbers segments, as far as they have come.
     let mut run = Vec::new(alloc);
+    // Where they stand: one list for all bodies.
+    let mut fields = Vec::new(alloc);
     for relocated in kept_relocations(input) {
         if !goes_on(run.as_slice(), &relocated) {
-            moved.push_run(alloc, renumbering, run.as_slice())?;
+            moved.push_run(alloc, renumbering, run.as_slice(), &mut fields)?;
             run.clear();
         }
         if !run.is_empty() || !stays(input, &relocated) {
             run.push(relocated)?;
         }
     }
-    moved.push_run(alloc, renumbering, run.as_slice())?;
+    moved.push_run(alloc, renumbering, run.as_slice(), &mut fields)?;
     moved.bodies.reverse();
     Ok(moved)
 }

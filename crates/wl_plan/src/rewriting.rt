@@ -1,9 +1,7 @@
 //! The bodies of objects that number segments, as the output has them: with its numbers, and with
 //! the fields in them where they stand then.
 
-ghost use Rattle.std.specs.Prelude.{◌≡◌, ◌≤◌, ◌<◌, ◌||◌, ◌++◌, ◌∷◌, [], List, length, true, if◌then◌else◌, Some, All, Contains, IfOk, IfErr, IfSome, OnOk, IsTrue};
-ghost use Rattle.std.specs.Cow.{cow_slice_items};
-ghost use Rattle.wl_module.specs.Slices.{is_owned};
+ghost use Rattle.std.specs.Prelude.{◌≡◌, ◌≤◌, ◌<◌, ◌++◌, ◌∷◌, [], List, length, true, Some, All, Contains, IfOk, IfErr, IfSome, OnOk, IsTrue};
 ghost use Rattle.wl_linking.specs.declared.error.LinkError.TheVariants.{OutOfMemory};
 ghost use Rattle.wl_symbols.specs.Input.{keeps};
 ghost use Rattle.wl_symbols.specs.declared.units.WasmGcUnit.TheVariants.{DefinedFunction};
@@ -13,8 +11,7 @@ ghost use Rattle.wl_plan.specs.BodySteps.{AreMovedIn, IsRenumbering, IsTakenFrom
 ghost use Rattle.wl_plan.specs.declared.rewriting.RewrittenBody.{RewrittenBody as Rewritten};
 
 use crate::parsing::link_error;
-use std::alloc::{AllocError, Global};
-use std::borrow::CowSlice;
+use std::alloc::Global;
 use wl_linking::{LinkError, parts_of_objects_stand};
 use wl_lists::ItemList;
 use wl_module::{WasmFunctionBody, copy_bytes};
@@ -48,24 +45,6 @@ impl<'r, 'i, 'a> Renumbering<'r, 'i, 'a> {
 
 // ---- one body
 
-/// The bytes of a body that was rewritten, or wasn't.
-fn new_bytes<'a>(
-    alloc: Global,
-    bytes: &CowSlice<'a, u8>,
-    copy: CowSlice<'a, u8>,
-    changed: bool,
-) -> Result<CowSlice<'a, u8>, AllocError>
-    ensures bytes { IfOk result (λ b. cow_slice_items b
-        ≡ (if changed then cow_slice_items copy.entry else cow_slice_items bytes.now)) }
-    ensures owned { IfOk result (λ b. is_owned b ≡ (is_owned bytes.now || changed)) }
-{
-    if changed {
-        Ok(CowSlice::Owned(copy.into_owned(alloc)?))
-    } else {
-        copy_bytes(alloc, bytes)
-    }
-}
-
 /// The body of that function of an object, which is kept, with the numbers that segments have in the
 /// output; fields of it, which are places in it, move along.
 ///
@@ -92,16 +71,15 @@ pub(crate) fn rewrite<'a>(
     live_units_are_closed();
     parts_of_objects_stand();
     let (object, _) = site;
-    let mut copy = copy_bytes(alloc, &body.bytes)?;
-    let changed = match remap_body_data_indices(alloc, &mut copy, renumbering.row(object), fields) {
-        Ok(changed) => changed,
-        Err(error) => return Err(link_error(object, error)),
-    };
-    Ok(WasmFunctionBody {
-        bytes: new_bytes(alloc, &body.bytes, copy, changed)?,
-        code_offset: body.code_offset,
-        object_index: object,
-    })
+    let mut bytes = copy_bytes(alloc, &body.bytes)?;
+    match remap_body_data_indices(alloc, &mut bytes, renumbering.row(object), fields) {
+        Ok(_) => Ok(WasmFunctionBody {
+            bytes,
+            code_offset: body.code_offset,
+            object_index: object,
+        }),
+        Err(error) => Err(link_error(object, error)),
+    }
 }
 
 // ---- bodies that were rewritten with their fields

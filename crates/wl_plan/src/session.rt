@@ -15,7 +15,7 @@ ghost use Rattle.wl_plan.specs.declared.layout.LinkPlan.{LinkPlan as SpecPlan};
 
 use crate::laws::link_plan_or_fault;
 use crate::layout::LinkPlan;
-use crate::link::{objects_are_whole, plan_known};
+use crate::link::{known_link, objects_are_whole, plan_known};
 use crate::parsing::link_error;
 use std::alloc::Global;
 use std::marker::Model;
@@ -135,7 +135,8 @@ impl<'a> Session<'a> {
         let files = self.kept.files();
         objects_are_whole(files);
         let symbols = self.kept.names().table(alloc, files, self.args)?;
-        plan_known(alloc, files, &symbols, self.kept.facts(), self.args)
+        let known = known_link(alloc, files, &symbols, self.kept.facts(), self.args)?;
+        plan_known(alloc, files, &symbols, known, self.args)
     }
 }
 

@@ -8,7 +8,7 @@ ghost use Rattle.wl_sections.specs.Outcomes.{is_discarded, section_outcome};
 use wl_linking::{LINKING_SECTION_NAME, RELOC_SECTION_PREFIX, TARGET_FEATURES_SECTION_NAME};
 
 /// What becomes of a section of an object.
-#[derive(Clone, Copy, Debug, PartialEq, Eq)]
+#[derive(Clone, Copy, PartialEq, Eq)]
 pub enum SectionRuleOutcome {
     /// It has no copy in the output: the linker writes one of its own, or none.
     Discard,

@@ -8,7 +8,7 @@ use crate::segment::SegmentType;
 use wl_linking::TARGET_FEATURES_SECTION_NAME;
 
 /// A section of the output, or what stands before all of them (core specification, "Modules").
-#[derive(Clone, Copy, Debug, PartialEq, Eq)]
+#[derive(Clone, Copy, PartialEq, Eq)]
 pub enum OutputSection {
     /// The magic bytes and the version.
     FileHeader,

@@ -8,7 +8,7 @@ use crate::output_section::OutputSection;
 use std::fmt;
 
 /// What a part of the output file is.
-#[derive(Clone, Copy, Debug, PartialEq, Eq)]
+#[derive(Clone, Copy, PartialEq, Eq)]
 pub enum SegmentType {
     /// The magic bytes and the version.
     Header,
@@ -32,7 +32,7 @@ impl SegmentType {
 }
 
 /// The definition of a segment.
-#[derive(Clone, Copy, Debug, PartialEq, Eq)]
+#[derive(Clone, Copy, PartialEq, Eq)]
 pub struct ProgramSegmentDef {
     /// What it is.
     pub segment_type: SegmentType,

@@ -1,7 +1,7 @@
 //! What bodies copy and set. Places and lengths are counted in bytes.
 
 /// A passive segment and where its bytes are copied to.
-#[derive(Clone, Copy, Debug, PartialEq, Eq)]
+#[derive(Clone, Copy, PartialEq, Eq)]
 pub struct PassiveSegmentCopy {
     /// The number of the segment in the output.
     pub segment_index: u32,
@@ -12,7 +12,7 @@ pub struct PassiveSegmentCopy {
 }
 
 /// A pointer in a thread's block to another place of the block.
-#[derive(Clone, Copy, Debug, PartialEq, Eq)]
+#[derive(Clone, Copy, PartialEq, Eq)]
 pub struct TlsPointerFixup {
     /// The place in the block where the pointer stands.
     pub dest: u32,
@@ -21,7 +21,7 @@ pub struct TlsPointerFixup {
 }
 
 /// A global that holds an address in a thread's block.
-#[derive(Clone, Copy, Debug, PartialEq, Eq)]
+#[derive(Clone, Copy, PartialEq, Eq)]
 pub struct TlsGotFixup {
     /// The index of the global in the output.
     pub global: u32,

@@ -3,7 +3,7 @@
 use std::alloc::AllocError;
 
 /// Why the words aren't a command line. Words are numbered from 0.
-#[derive(Clone, Copy, Debug, PartialEq, Eq)]
+#[derive(Clone, Copy, PartialEq, Eq)]
 pub enum ArgError {
     /// Memory ran out.
     OutOfMemory,

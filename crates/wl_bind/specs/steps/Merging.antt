@@ -38,16 +38,13 @@ pub record AreMarked (count : ℕ) (passes : ℕ → Bool) (marks : List Bool) :
 
 -- ---- what is marked
 
--- the type of a function of an object, where the function is kept
-abbrev pub function_type : Input → ℕ → ℕ → ℕ → Option ℕ
-function_type input object k ty =
-    if keeps input object (DefinedFunction k) then Some ty else None
-
--- those of these functions, the first of which has that number
+-- the types of these functions of an object, the first of which has that number, where the functions
+-- are kept
 abbrev pub function_types : Input → ℕ → ℕ → List ℕ → List (Option ℕ)
 function_types input object k [] = []
 function_types input object k (ty ∷ types) =
-    function_type input object k ty ∷ function_types input object (k + 1) types
+    (if keeps input object (DefinedFunction k) then Some ty else None)
+    ∷ function_types input object (k + 1) types
 
 -- the type of a function slot, where the slot is left to the host
 abbrev pub host_type : Input → ImportSlot → Option ℕ

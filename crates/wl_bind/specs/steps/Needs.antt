@@ -1,5 +1,5 @@
 -- How it is found what the linker is asked for.
-use Rattle.std.specs.Prelude.{◌||◌, Bool, true, false}
+use Rattle.std.specs.Prelude.{Bool, true, false, ◌++◌}
 use Rattle.std.specs.List.{list_any}
 use Rattle.wl_symbols.specs.declared.linker_symbol.WasmLinkerSymbol.{WasmLinkerSymbol}
 use Rattle.wl_symbols.specs.declared.linker_symbol.WasmLinkerSymbol.TheVariants as made
@@ -22,7 +22,7 @@ leads_to m (GotFuncSlot place) = false
 -- a slot of the object is resolved to that thing
 abbrev pub row_leads_to : WasmLinkerSymbol → ObjectImportResolutions → Bool
 row_leads_to m row =
-    list_any (leads_to m) row.function_resolutions || list_any (leads_to m) row.global_resolutions
+    list_any (leads_to m) (row.function_resolutions ++ row.global_resolutions)
 
 -- it is made, whatever is to be exported
 abbrev pub is_asked_for : LinkerImportAbsorption → WasmLinkerSymbol → Bool

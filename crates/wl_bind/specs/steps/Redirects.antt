@@ -28,16 +28,12 @@ row_place rows f =
 abbrev pub at_index : ℕ → LinkedSymbol → LocalFunction
 at_index object s = record { object = object; index = s.index }
 
--- the function that the symbol of those numbers defines, where it defines one
-abbrev pub defined_by : List Object → ℕ → ℕ → Option LocalFunction
-defined_by objects object number =
+-- the function that an object defines, where this is its definition
+abbrev pub definition_function : List Object → Definition → Option LocalFunction
+definition_function objects (Symbol object number) =
     option_and_then
     (λ (s : LinkedSymbol). if is_defined_function s then Some (at_index object s) else None)
     (symbol_in objects object number)
-
--- the function that an object defines, where this is its definition
-abbrev pub definition_function : List Object → Definition → Option LocalFunction
-definition_function objects (Symbol object number) = defined_by objects object number
 definition_function objects (Made m) = None
 
 -- the function of an object that a function symbol leads to

@@ -1,8 +1,7 @@
 -- How globals of the output come to be.
-use Rattle.std.specs.Prelude.{◌≡◌, ℕ, ◌∷◌, ◌++◌, Bool, true, false, List, [], if◌then◌else◌, Contains, Result, Ok, Err, unwrap_or, slice_get}
+use Rattle.std.specs.Prelude.{◌≡◌, ℕ, ◌∷◌, ◌++◌, Bool, true, false, List, [], if◌then◌else◌, Contains, Result, Ok, Err}
 use Rattle.std.specs.List.{AllZip}
 use Rattle.std.specs.Option.{option_map_or}
-use Rattle.wl_module.specs.Globals.{DefinedGlobal}
 use Rattle.wl_linking.specs.Steps.{Clear}
 use Rattle.wl_linking.specs.declared.error.LinkError.{LinkError}
 use Rattle.wl_symbols.specs.declared.entry.Definition.{Definition}
@@ -12,20 +11,17 @@ use Rattle.wl_symbols.specs.declared.units.WasmGcUnit.TheVariants.{DefinedGlobal
 use Rattle.wl_bind.specs.GlobalSpace.{GlobalEntry, GlobalOf, made_global_part, address_part, got_mem_part, got_func_part, dynamic_part, forced_part}
 use Rattle.wl_symbols.specs.Input.{Input, keeps}
 use Rattle.wl_bind.specs.Sameness.{same_definition}
-use Rattle.wl_bind.specs.Scan.{got_mem_of, got_func}
-use Rattle.wl_bind.specs.declared.binding.FunctionTarget.{FunctionTarget}
+use Rattle.wl_bind.specs.Scan.{got_mem_of}
 use Rattle.wl_bind.specs.declared.binding.GlobalTarget.TheVariants.{Defined}
 use Rattle.wl_symbols.specs.declared.relocated.Relocated.{Relocated}
 use Rattle.wl_places.specs.AddressSteps.{IsBook}
 use Rattle.wl_places.specs.Addresses.{IsAddressTooHigh}
 use Rattle.wl_plan.specs.steps.Bindings.{AreBindings}
-use Rattle.wl_plan.specs.Globals.{IsConstant, i32_global, start_of_global, may_change, IsPlannedGlobal}
+use Rattle.wl_plan.specs.Globals.{IsConstant, i32_global, start_of_global, may_change, origin_of_global, IsPlannedGlobal}
 use Rattle.wl_places.specs.IndexedMaps.{AreWholeMaps}
-use Rattle.wl_plan.specs.Table.{slot_of}
 use Rattle.wl_plan.specs.declared.global_starts.GlobalSources.{GlobalSources}
 use Rattle.wl_plan.specs.declared.global_starts.Start.{Start}
 use Rattle.wl_output.specs.declared.entities.GlobalOrigin.TheVariants as origin
-use Rattle.wl_output.specs.declared.entities.MadeGlobal.{MadeGlobal}
 use Rattle.wl_plan.specs.declared.layout.PlannedGlobal.{PlannedGlobal}
 
 -- ---- sources
@@ -43,7 +39,8 @@ pub record AreSources (s : GlobalSources) : Type 0 where
 abbrev pub AnswersStart : GlobalSources → GlobalEntry → Result Start LinkError → Type 0
 AnswersStart s entry (Ok start) =
     (start_of_global s.book.now.input.now s.book.now.placing.now entry ≡ Ok start.number)
-    × (may_change s.book.now.input.now s.book.now.placing.now entry ≡ start.mutable)
+    × ((may_change s.book.now.input.now s.book.now.placing.now entry ≡ start.mutable)
+    × (origin_of_global entry ≡ origin.Made start.made))
 AnswersStart s entry (Err e) =
     start_of_global s.book.now.input.now s.book.now.placing.now entry ≡ Err e
 
@@ -51,26 +48,16 @@ AnswersStart s entry (Err e) =
 abbrev pub asks_for_entry : Input → Definition → Relocated → Bool
 asks_for_entry input d r = option_map_or (same_definition d) (got_mem_of input r) false
 
--- the slot of the function of that place in the GOT list of functions, 0 where it has none
-abbrev pub func_slot : Input → ℕ → ℕ
-func_slot input place =
-    option_map_or (λ (p : Definition × FunctionTarget). unwrap_or (slot_of input p.1) 0)
-    (slice_get (got_func input) place) 0
-
 -- ---- lists that grow
 
--- the global starts so
-pub record IsStarted (start : Start) (global : DefinedGlobal) : Type 0 where
-  pub ty : global.ty ≡ i32_global start.mutable
-  pub body : IsConstant start.number global.body
-  pub owned : global.owned ≡ true
-
--- the list grows by a global that the linker makes
-pub record AddsMade (made : MadeGlobal) (start : Start) (old new : List PlannedGlobal)
-    : Type 0 where
-  pub global : DefinedGlobal
-  pub started : IsStarted start global
-  pub grown : new ≡ old ++ record { global = global; origin = origin.Made made } ∷ []
+-- the list grows by a global that the linker makes, which starts so
+pub record AddsMade (start : Start) (old new : List PlannedGlobal) : Type 0 where
+  pub body : List ℕ
+  pub constant : IsConstant start.number body
+  pub grown : new ≡ old ++ record {
+    global = record { ty = i32_global start.mutable; body = body; owned = true };
+    origin = origin.Made start.made;
+  } ∷ []
 
 -- the list grows by globals that are these entries
 pub record AddsPart (s : GlobalSources) (part : List GlobalEntry) (old new : List PlannedGlobal)

@@ -1,9 +1,9 @@
-use Rattle.std.proofs.Common.{◌<◌, rules, map, length}
+use Rattle.std.proofs.Common.{◌<◌, ◌∙◌, rules, length}
 use Rattle.wl_custom.specs.declared.symbols.WasmSymbolKind.TheVariants.{Func}
 use Rattle.wl_bind.specs.FunctionSymbols.{kept_binding, function_bindings}
 use Rattle.wl_bind.specs.Resolutions.{function_resolution}
 use Rattle.wl_bind.specs.Shared.{function_imports, import_place, import_places}
-use Rattle.wl_bind.specs.SlotRows.{slot_rows, function_part}
+use Rattle.wl_bind.specs.SlotRows.{slot_rows}
 use Rattle.wl_bind.proofs.RowLaws.{row_pushed}
 use Rattle.wl_bind.proofs.function_slots.bind_rows.Goals as goal
 
@@ -13,16 +13,16 @@ loop-object-preserved c =
     let objects = input.link.objects in
     let k = c.loop-object.object in
     let lt : k < length objects = search rules in
-    let row = c.in_ok-bind_row.field-0 in
+    let row = c.in_ok-row.row in
     let old = c.loop-object.rows in
-    let new = c.push.new.self in
+    let new = c.push-in-loop-object.new.self in
     let told = c.loop-object.invariant in
     record {
-      targets = row_pushed (kept_binding input) Func objects k row.targets.items old.targets.items new.targets.items (function_bindings input) lt
-          c.in_ok-bind_row.ensures.targets c.in_ok-push.ensures.targets told.targets;
-      resolutions = row_pushed (function_resolution input) Func objects k row.resolutions.items (map function_part old.resolutions.items)
-          (map function_part new.resolutions.items) (slot_rows (function_resolution input) Func 0 objects) lt
-          c.in_ok-bind_row.ensures.resolutions c.in_ok-push.ensures.resolutions told.resolutions;
-      places = row_pushed (import_place input Func (function_imports input)) Func objects k row.places.items old.places.items new.places.items
-          (import_places input Func (function_imports input)) lt c.in_ok-bind_row.ensures.places c.in_ok-push.ensures.places told.places;
+      targets = row_pushed (kept_binding input) Func objects k c.new.result c.loop-object.targets.items c.push.new.self.items (function_bindings input) lt
+          (c.new.ensures ∙ c.in_ok-row.ensures.targets) c.in_ok-push.ensures.items told.targets;
+      resolutions = row_pushed (function_resolution input) Func objects k row.slots.resolutions.items old.resolutions.items new.resolutions.items
+          (slot_rows (function_resolution input) Func 0 objects) lt
+          c.in_ok-row.ensures.resolutions c.in_ok-push-2.ensures.resolutions told.resolutions;
+      places = row_pushed (import_place input Func (function_imports input)) Func objects k row.slots.places.items old.places.items new.places.items
+          (import_places input Func (function_imports input)) lt c.in_ok-row.ensures.places c.in_ok-push-2.ensures.places told.places;
     }

@@ -43,7 +43,7 @@ pub returns-then-not-is_kept_slot-clause-target : goal.returns-then-not-is_kept_
 returns-then-not-is_kept_slot-clause-target c = rw (← c.if-not-is_kept_slot.ensures) refl
 
 pub returns-then-not-is_kept_slot-clause-resolution : goal.returns-then-not-is_kept_slot-clause-resolution
-returns-then-not-is_kept_slot-clause-resolution c = rw (← c.if-not-is_kept_slot.ensures) refl
+returns-then-not-is_kept_slot-clause-resolution c = rw (← c.if-not-is_kept_slot.ensures) c.without_import.ensures.resolution
 
 pub returns-then-not-is_kept_slot-clause-place : goal.returns-then-not-is_kept_slot-clause-place
-returns-then-not-is_kept_slot-clause-place c = rw (← c.if-not-is_kept_slot.ensures) refl
+returns-then-not-is_kept_slot-clause-place c = rw (← c.if-not-is_kept_slot.ensures) c.without_import.ensures.place

@@ -1,11 +1,11 @@
-use Rattle.std.proofs.Common.{◌≡◌, ◌∙◌, ap, rules, map, sym, Some, slice_get}
+use Rattle.std.proofs.Common.{◌≡◌, ◌∙◌, ap, rules, sym, Some, slice_get}
 use Rattle.std.proofs.lemmas.Option.{slice_get-get_or}
 use Rattle.wl_custom.specs.declared.symbols.WasmSymbolKind.TheVariants.{Global}
 use Rattle.wl_symbols.specs.ImportSlots.{ImportSlot, import_slots}
+use Rattle.wl_lists.proofs.Places.{mapped_more}
 use Rattle.wl_bind.specs.Resolutions.{global_resolution}
 use Rattle.wl_bind.specs.Shared.{import_place}
 use Rattle.wl_bind.proofs.HostLaws.{placed}
-use Rattle.wl_bind.proofs.RowLaws.{entry_pushed, entries_all}
 use Rattle.wl_bind.proofs.global_slots.bind_row.Goals as goal
 
 pub bound_slot-requires-clause-kind : goal.bound_slot-requires-clause-kind
@@ -28,24 +28,8 @@ loop-slot-preserved c =
     let lt = c.loop-slot-test.true in
     let told = c.loop-slot.invariant in
     record {
-      resolutions = entry_pushed (global_resolution input) slots k slot c.bound_slot.result.resolution old.resolutions.items new.resolutions.items
-          (map (global_resolution input) slots) lt c.slot-item.is c.bound_slot.ensures.resolution c.in_ok-push.ensures.resolutions told.resolutions;
-      places = entry_pushed (import_place input Global c.args.hosts.now) slots k slot c.bound_slot.result.place old.places.items new.places.items
-          (map (import_place input Global c.args.hosts.now) slots) lt c.slot-item.is c.bound_slot.ensures.place c.in_ok-push.ensures.places told.places;
+      resolutions = mapped_more (global_resolution input) slots k slot old.resolutions.items new.resolutions.items c.bound_slot.result.resolution lt c.slot-item.is
+          c.bound_slot.ensures.resolution c.in_ok-push.ensures.resolutions told.resolutions;
+      places = mapped_more (import_place input Global c.args.hosts.now) slots k slot old.places.items new.places.items c.bound_slot.result.place lt c.slot-item.is
+          c.bound_slot.ensures.place c.in_ok-push.ensures.places told.places;
     }
-
-pub returns-clause-resolutions : goal.returns-clause-resolutions
-returns-clause-resolutions c =
-    let slots = c.deref-slot-items.result.now in
-    let own = import_slots c.args.input.now.link.objects c.args.object Global in
-    let list : slots ≡ own = search rules in
-    entries_all (global_resolution c.args.input.now) slots own c.loop-slot.slot-index c.loop-slot.row.resolutions.items
-    c.loop-slot-test.false list c.loop-slot.invariant.resolutions
-
-pub returns-clause-places : goal.returns-clause-places
-returns-clause-places c =
-    let slots = c.deref-slot-items.result.now in
-    let own = import_slots c.args.input.now.link.objects c.args.object Global in
-    let list : slots ≡ own = search rules in
-    entries_all (import_place c.args.input.now Global c.args.hosts.now) slots own c.loop-slot.slot-index c.loop-slot.row.places.items
-    c.loop-slot-test.false list c.loop-slot.invariant.places

@@ -4,11 +4,11 @@ use Rattle.wl_ops.proofs.rewriting.moved.Goals as goal
 
 pub returns-then-count-eq0 : goal.returns-then-count-eq0
 returns-then-count-eq0 c =
-    sym (none_tells c.args.shifts.now c.args.field c.args.field nowhere (λ k lt. c.shifts_before-count.ensures.point.1 k nowhere (omega (arith, c.if-count-eq0.true)) lt))
+    sym (none_tells c.args.shifts.now c.args.field c.args.field nowhere (λ k lt. c.requires.point.1 k nowhere (omega (arith, c.if-count-eq0.true)) lt))
 
 pub returns : goal.returns
 returns c =
-    let count : ℕ = c.shifts_before-count.result in
+    let count : ℕ = c.args.count in
     let some : 0 < count = omega (arith, c.if-count-eq0.false) in
-    sym (last_tells c.args.shifts.now (count - 1) c.args.field c.args.field nowhere (omega (arith, some, c.shifts_before-count.ensures.bound))
-    (λ k le. c.shifts_before-count.ensures.point.0 k nowhere (omega arith) (omega (arith, le, some))) (λ k lt less. c.shifts_before-count.ensures.point.1 k nowhere (omega (arith, lt, some)) less))
+    sym (last_tells c.args.shifts.now (count - 1) c.args.field c.args.field nowhere (omega (arith, some, c.requires.bound))
+    (λ k le. c.requires.point.0 k nowhere (omega arith) (omega (arith, le, some))) (λ k lt less. c.requires.point.1 k nowhere (omega (arith, lt, some)) less))

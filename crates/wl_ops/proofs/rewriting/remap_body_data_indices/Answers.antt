@@ -1,8 +1,10 @@
 use Rattle.std.proofs.Common.{◌≡◌, ℕ, List, eqb, false, refl, sym, subst, length, ◌∙◌, arith, vec_len}
+use Rattle.std.proofs.Math.Bool.{or-true}
 use Rattle.std.proofs.lemmas.Bool.{eqb-true}
 use Rattle.std.proofs.lemmas.List.{nil_from_length}
 use Rattle.std.specs.Cow.{cow_slice_items}
 use Rattle.std.proofs.lemmas.Result.{err_from_is_err_and}
+use Rattle.wl_module.specs.Slices.{is_owned}
 use Rattle.wl_ops.specs.declared.op.DataIndexImm.{DataIndexImm}
 use Rattle.wl_ops.specs.Numbers.{AreTold}
 use Rattle.wl_ops.specs.Rewriting.{new_index, Rewrites}
@@ -75,3 +77,6 @@ returns-clause-keeps c =
     let told = rw c.as_slice.ensures.value at c.in_ok-numbers.ensures.reads.sound in
     let r = rw (c.deref.ensures.value, c.as_slice-2.ensures.value) at c.in_ok-rewritten.ensures in
     λ ns h. keeps (new_index c.args.indices.now) ns x c.in_ok-rewritten.rewritten.bytes.items h (subst (λ (ks : List DataIndexImm). Rewrites (new_index c.args.indices.now) 0 ks x c.in_ok-rewritten.rewritten.bytes.items) (sym (one_list x ns c.in_ok-numbers.numbers.items h told.0)) r.0)
+
+pub returns-clause-owned : goal.returns-clause-owned
+returns-clause-owned c = sym (or-true (is_owned c.args.body.now))

@@ -1,8 +1,6 @@
-use Rattle.std.proofs.Common.{refl}
 use Rattle.std.proofs.lemmas.Result.{err_from_is_err_and}
 use Rattle.wl_bind.specs.ExportedAddresses.{exported_addresses}
 use Rattle.wl_bind.specs.GlobalSpace.{AddressOf, address_part}
-use Rattle.wl_output.specs.declared.entities.MadeGlobal.TheVariants as word
 use Rattle.wl_linking.proofs.StepLaws.{refuses_memory}
 use Rattle.wl_plan.specs.steps.Globals.{IsPartFault}
 use Rattle.wl_plan.proofs.GlobalParts.{adds_made, adds_none, adds_more, adds_all, refuses_one, refuses_start, mapped_added, mapped_refused}
@@ -16,7 +14,7 @@ loop-made-preserved c =
     let s = c.args.sources.now in
     adds_more s AddressOf c.args.addresses.now c.loop-made.made-index _
     c.loop-made-test.true c.loop-made.invariant
-    (adds_made s (AddressOf _) word.Address c.in_ok-start.start _ _ refl (λ m x. x)
+    (adds_made s (AddressOf _) c.in_ok-start.start _ _ (λ m x. x)
     c.in_ok-start.ensures c.in_ok-push_made.ensures)
 
 pub returns-in_err-start-clause-err : goal.returns-in_err-start-clause-err

@@ -1,7 +1,6 @@
-use Rattle.std.proofs.Common.{map, refl}
+use Rattle.std.proofs.Common.{map}
 use Rattle.std.proofs.lemmas.Result.{err_from_is_err_and}
 use Rattle.wl_bind.specs.GlobalSpace.{DataOf}
-use Rattle.wl_output.specs.declared.entities.MadeGlobal.TheVariants as word
 use Rattle.wl_linking.proofs.StepLaws.{refuses_memory}
 use Rattle.wl_plan.specs.steps.Globals.{IsPartFault}
 use Rattle.wl_plan.proofs.GlobalParts.{adds_made, adds_none, adds_more, adds_all, refuses_one, refuses_start}
@@ -15,7 +14,7 @@ loop-datum-preserved c =
     let s = c.args.sources.now in
     adds_more s DataOf c.args.exported.now c.loop-datum.datum-index _
     c.loop-datum-test.true c.loop-datum.invariant
-    (adds_made s (DataOf _) word.Data c.in_ok-start.start _ _ refl (λ m x. x)
+    (adds_made s (DataOf _) c.in_ok-start.start _ _ (λ m x. x)
     c.in_ok-start.ensures c.in_ok-push_made.ensures)
 
 pub returns-in_err-start-clause-err : goal.returns-in_err-start-clause-err

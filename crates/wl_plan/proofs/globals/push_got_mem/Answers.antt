@@ -1,9 +1,8 @@
-use Rattle.std.proofs.Common.{ℕ, length, refl, arith}
+use Rattle.std.proofs.Common.{ℕ, length, arith}
 use Rattle.std.proofs.lemmas.Result.{err_from_is_err_and}
 use Rattle.wl_bind.specs.GlobalSpace.{GlobalEntry, GlobalOf, got_mem_part}
 use Rattle.wl_bind.specs.Scan.{got_mem}
 use Rattle.wl_bind.specs.declared.binding.GlobalTarget.TheVariants.{GotMem}
-use Rattle.wl_output.specs.declared.entities.MadeGlobal.TheVariants as word
 use Rattle.wl_linking.proofs.StepLaws.{refuses_memory}
 use Rattle.wl_plan.specs.steps.Globals.{IsPartFault}
 use Rattle.wl_plan.proofs.GlobalParts.{adds_made, adds_none, adds_upto, adds_same, refuses_start, refuses_upto}
@@ -17,8 +16,7 @@ loop-place-preserved c =
     let s = c.args.sources.now in
     let entry : ℕ → GlobalEntry = λ (k : ℕ). GlobalOf (GotMem k) in
     adds_upto s entry c.loop-place.place c.loop-place.invariant
-    (adds_made s (GlobalOf (GotMem c.loop-place.place)) word.GotMem c.in_ok-start.start _ _ refl
-    (λ m x. x) c.in_ok-start.ensures c.in_ok-push_made.ensures)
+    (adds_made s (GlobalOf (GotMem c.loop-place.place)) c.in_ok-start.start _ _ (λ m x. x) c.in_ok-start.ensures c.in_ok-push_made.ensures)
 
 pub returns-in_err-start-clause-err : goal.returns-in_err-start-clause-err
 returns-in_err-start-clause-err c =

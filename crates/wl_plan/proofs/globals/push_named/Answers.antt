@@ -21,10 +21,10 @@ loop-made-preserved c =
       | then-is_some+in_ok-start+in_ok-push_made w ↦
           rw w.globals-is
           (adds_flat s (made_global_part input) names i _ c.loop-made-test.true c.loop-made.invariant
-          (adds_if_made s _ w.word_of.result w.in_ok-start.start _ _
+          (adds_if_made s _ w.in_ok-start.start _ _
           (made_by_index input _ c.index.result (kind_at names i _ c.loop-made-test.true c.requires.kinds)
           index (sym c.is_some.ensures ∙ w.if-is_some.true))
-          w.word_of.ensures w.in_ok-start.ensures w.in_ok-push_made.ensures))
+          w.in_ok-start.ensures w.in_ok-push_made.ensures))
       | else-is_some w ↦
           rw w.globals-is
           (adds_flat s (made_global_part input) names i _ c.loop-made-test.true c.loop-made.invariant

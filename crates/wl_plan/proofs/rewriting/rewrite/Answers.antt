@@ -2,6 +2,7 @@ use Rattle.std.proofs.Common.{◌≡◌, ◌∙◌, ◌≤◌, ℕ, List, length
 use Rattle.std.specs.List.{All}
 use Rattle.std.specs.Cow.{cow_slice_items}
 use Rattle.wl_module.specs.Bodies.{Body}
+use Rattle.wl_module.specs.Slices.{is_owned}
 use Rattle.wl_bytes.specs.Outcome.{HasCause}
 use Rattle.wl_ops.specs.Rewriting.{new_index, RemapFault}
 use Rattle.wl_plan.proofs.BodyLaws.{HasSoundBody, object_is_there, no_remap_fault, told_memory, renumbered_is, fields_moved}
@@ -18,12 +19,12 @@ row-requires-clause-within c =
 pub remap_body_data_indices-requires-clause-fields :
     goal.remap_body_data_indices-requires-clause-fields
 remap_body_data_indices-requires-clause-fields c =
-    let same : cow_slice_items c.in_ok-copy.copy ≡ c.args.body.now.bytes =
-    c.in_ok-copy.ensures.bytes ∙ ap (λ (b : Body). b.bytes) c.body.view_is in
+    let same : cow_slice_items c.in_ok-bytes.bytes ≡ c.args.body.now.bytes =
+    c.in_ok-bytes.ensures.bytes ∙ ap (λ (b : Body). b.bytes) c.body.view_is in
     subst (λ (t : List ℕ). All (λ p. p ≤ length t) c.args.fields.now) (sym same) c.requires.fields
 
-pub returns-in-Err-clause-err : goal.returns-in-Err-clause-err
-returns-in-Err-clause-err c =
+pub returns-clause-err : goal.returns-clause-err
+returns-clause-err c =
     let input = c.args.renumbering.now.input.now in
     let body : Body = c.args.body.now in
     let numbers = c.row.result.now in
@@ -33,8 +34,8 @@ returns-in-Err-clause-err c =
       here = c.requires.here;
       is_kept = c.requires.kept;
     } in
-    let same : cow_slice_items c.in_ok-copy.copy ≡ body.bytes =
-    c.in_ok-copy.ensures.bytes ∙ ap (λ (b : Body). b.bytes) c.body.view_is in
+    let same : cow_slice_items c.in_ok-bytes.bytes ≡ body.bytes =
+    c.in_ok-bytes.ensures.bytes ∙ ap (λ (b : Body). b.bytes) c.body.view_is in
     let fault = subst (λ (t : List ℕ). HasCause (λ e. RemapFault (new_index numbers) e t) c.in-Err.error) same
     c.in-Err.ensures.remaps.fault in
     c.link_error.ensures
@@ -43,22 +44,23 @@ returns-in-Err-clause-err c =
     (no_remap_fault c.live_units_are_closed.ensures.segment input c.args.renumbering.now.placing.now
     c.args.site.0 body numbers h c.row.ensures)
 
-pub returns-clause-ok : goal.returns-clause-ok
-returns-clause-ok c =
+pub returns-in-Ok-clause-ok : goal.returns-in-Ok-clause-ok
+returns-in-Ok-clause-ok c =
     let body : Body = c.args.body.now in
     let here = ap (λ (b : Body). b.bytes) c.body.view_is in
-    let same : cow_slice_items c.in_ok-copy.copy ≡ body.bytes = c.in_ok-copy.ensures.bytes ∙ here in
-    let bytes = rw here at c.in_ok-new_bytes.ensures.bytes in
-    let owned = rw (ap (λ (b : Body). b.owned) c.body.view_is) at c.in_ok-new_bytes.ensures.owned in
+    let same : cow_slice_items c.in_ok-bytes.bytes ≡ body.bytes = c.in_ok-bytes.ensures.bytes ∙ here in
+    let own : is_owned c.in_ok-bytes.bytes ≡ body.owned =
+    c.in_ok-bytes.ensures.owned ∙ ap (λ (b : Body). b.owned) c.body.view_is in
+    let owned = rw own at c.in-Ok.ensures.owned in
     renumbered_is c.args.renumbering.now.input.now c.args.renumbering.now.placing.now c.args.site.0
-    c.args.site.1 body _ c.row.result.now _ _ _ _ c.in-Ok.changed c.requires.here c.row.ensures same
-    c.in-Ok.ensures.remaps.sound bytes owned (ap (λ (b : Body). b.code_offset) c.body.view_is) refl
+    c.args.site.1 body _ c.row.result.now _ _ _ _ _ c.requires.here c.row.ensures same
+    c.in-Ok.ensures.remaps.sound refl owned (ap (λ (b : Body). b.code_offset) c.body.view_is) refl
 
-pub returns-clause-moved : goal.returns-clause-moved
-returns-clause-moved c =
+pub returns-in-Ok-clause-moved : goal.returns-in-Ok-clause-moved
+returns-in-Ok-clause-moved c =
     let body : Body = c.args.body.now in
-    let same : cow_slice_items c.in_ok-copy.copy ≡ body.bytes =
-    c.in_ok-copy.ensures.bytes ∙ ap (λ (b : Body). b.bytes) c.body.view_is in
+    let same : cow_slice_items c.in_ok-bytes.bytes ≡ body.bytes =
+    c.in_ok-bytes.ensures.bytes ∙ ap (λ (b : Body). b.bytes) c.body.view_is in
     fields_moved c.args.renumbering.now.input.now c.args.renumbering.now.placing.now c.args.site.0
-    c.row.result.now _ _ _ _ body.bytes c.in-Ok.changed c.row.ensures same
+    c.row.result.now _ _ _ _ body.bytes _ c.row.ensures same
     c.in-Ok.ensures.remaps.sound

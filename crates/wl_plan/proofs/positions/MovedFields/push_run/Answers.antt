@@ -30,4 +30,4 @@ pub returns-clause-bodies : goal.returns-clause-bodies
 returns-clause-bodies c =
     one_more_rewritten c.args.renumbering.now.input.now c.args.renumbering.now.placing.now
     c.args.self.now.bodies.items c.push.new.self.items _ c.requires.bodies
-    c.in_ok-positions.ensures.body c.in_ok-push.ensures.items
+    c.in_ok-body.ensures.body c.in_ok-push.ensures.items

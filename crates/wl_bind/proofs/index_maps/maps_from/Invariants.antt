@@ -1,9 +1,0 @@
-use Rattle.std.proofs.Common.{take}
-use Rattle.wl_bind.specs.IndexMaps.{IsIndexMap}
-use Rattle.wl_bind.specs.Parts.{AreRows}
-use Rattle.wl_bind.proofs.index_maps.maps_from.Given as goal
-
-abbrev pub invariant-loop-object : goal.invariant-loop-object
-invariant-loop-object l =
-    AreRows (IsIndexMap l.sources.numbering.now.input.now) 0
-    (take l.object l.sources.numbering.now.input.now.link.objects) l.maps

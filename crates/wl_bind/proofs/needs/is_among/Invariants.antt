@@ -1,9 +1,0 @@
-use Rattle.std.proofs.Common.{◌≡◌, drop, bytes_eq}
-use Rattle.std.specs.List.{list_any}
-use Rattle.wl_words.specs.Texts.{texts}
-use Rattle.wl_bind.proofs.needs.is_among.Given as goal
-
-abbrev pub invariant-loop-other : goal.invariant-loop-other
-invariant-loop-other l =
-    list_any (bytes_eq l.name) (texts l.names)
-    ≡ list_any (bytes_eq l.name) (texts (drop l.other-index l.names))

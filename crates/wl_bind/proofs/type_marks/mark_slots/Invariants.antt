@@ -1,8 +1,0 @@
-use Rattle.std.proofs.Common.{◌≡◌, drop, map}
-use Rattle.wl_bind.specs.steps.Merging.{mark_all, host_type}
-use Rattle.wl_bind.proofs.type_marks.mark_slots.Given as goal
-
-abbrev pub invariant-loop-slot : goal.invariant-loop-slot
-invariant-loop-slot l =
-    mark_all l.marks.items (map (host_type l.input) (drop l.slot-index l.slots))
-    ≡ mark_all l.fn.marks.items (map (host_type l.input) l.slots)

@@ -1,7 +1,0 @@
-use Rattle.std.proofs.Common.{◌≡◌, map, take}
-use Rattle.wl_plan.proofs.PositionLaws.{position_of}
-use Rattle.wl_plan.proofs.positions.own_positions.Given as goal
-
-abbrev pub invariant-loop-relocated : goal.invariant-loop-relocated
-invariant-loop-relocated l =
-    l.positions.items ≡ map position_of (take l.relocated-index l.relocations)
