@@ -44,9 +44,11 @@ def copy_repository(to, crates):
 
 
 def function_at(path, text, place):
-    """The end of the name by which `rt check` knows the function at that place of a file of src/."""
+    """The end of the name by which `rt check` knows the function at that place of a file of src/, if one begins before it."""
     heads = re.finditer(r"^( *)(?:pub(?:\(\w+\))? )?fn (\w+)", text[:place], re.M)
-    head = max(heads, key=lambda found: found.start())
+    head = max(heads, key=lambda found: found.start(), default=None)
+    if head is None:
+        return None
     if head[1]:
         # A method is known by the module of its type, which may be another file.
         impls = re.finditer(r"^impl(?:<.*?>)? (?:(\w+)(?:<.*>)? for )?(\w+)", text[: head.start()], re.M)
@@ -69,7 +71,7 @@ def apply(edit, folder):
         elif word == "new":
             text = path.read_text(encoding="utf-8")
             name = function_at(path.relative_to(folder), text, text.index(old))
-            functions += [] if name in functions else [name]
+            functions += [] if name is None or name in functions else [name]
             path.write_text(text.replace(old, rest), encoding="utf-8")
     return before, functions
 
