@@ -226,6 +226,14 @@ impl<'a> WasmSymbol<'a> {
             ..self
         }
     }
+
+    /// Puts it under a name, as [`with_name`](WasmSymbol::with_name) does.
+    pub fn set_name(&mut self, name: &'a str, name_range: (u32, u32))
+        ensures { self.new ≡ with_name self.old name.now name_range }
+    {
+        self.name = name;
+        self.name_range = name_range;
+    }
 }
 
 /// The kind of that number.

@@ -1,7 +1,7 @@
 -- The laws of the names of imports.
-use Rattle.std.proofs.Common.{◌≡◌, ◌≢◌, ℕ, zero, suc, ◌+◌, ◌<◌, ◌≤◌, true, false, List, [], ◌∷◌, ◌++◌, length, set, Option, Some, None, refl, sym, ap, subst, ◌∙◌, arith, inl, inr, length-set}
+use Rattle.std.proofs.Common.{◌≡◌, ◌≢◌, ℕ, zero, suc, ◌+◌, ◌<◌, ◌≤◌, true, false, List, [], ◌∷◌, ◌++◌, length, map, set, take, drop, Option, Some, None, refl, sym, ap, subst, ◌∙◌, arith, inl, inr, length-set}
 use Rattle.std.specs.List.{repeat, slice_get}
-use Rattle.std.proofs.lemmas.Option.{slice_get_within}
+use Rattle.std.proofs.lemmas.Option.{same_Some, slice_get_within}
 use Rattle.std.proofs.lemmas.Bool.{cases_lt, cases_eq}
 use Rattle.std.proofs.lemmas.Slice.Eq.{bytes_eq-Decides}
 use Rattle.wl_custom.specs.declared.symbols.WasmSymbolKind.{WasmSymbolKind}
@@ -30,6 +30,31 @@ get_set_other (y ∷ xs) (suc i) (suc j) x other = get_set_other xs i j x (λ e.
 pub repeat_more : {X : Type 0} (x : X) (n : ℕ) → repeat n (x ∷ []) ++ x ∷ [] ≡ repeat (n + 1) (x ∷ [])
 repeat_more x zero = refl
 repeat_more x (suc n) = let e : suc n + 1 ≡ suc (n + 1) = omega arith in rw (e, repeat_more x n) refl
+
+-- where the first i things are changed, as many are there as before
+pub changed_length : {X : Type 0} (f : X → X) (xs : List X) (i : ℕ)
+    → length (map f (take i xs) ++ drop i xs) ≡ length xs
+changed_length f [] zero = refl
+changed_length f [] (suc i) = refl
+changed_length f (y ∷ xs) zero = refl
+changed_length f (y ∷ xs) (suc i) = ap suc (changed_length f xs i)
+
+-- and the next one isn't changed yet
+pub unchanged_at : {X : Type 0} (f : X → X) (xs : List X) (i : ℕ)
+    → slice_get (map f (take i xs) ++ drop i xs) i ≡ slice_get xs i
+unchanged_at f [] zero = refl
+unchanged_at f [] (suc i) = refl
+unchanged_at f (y ∷ xs) zero = refl
+unchanged_at f (y ∷ xs) (suc i) = unchanged_at f xs i
+
+-- one more is changed
+pub changed_more : {X : Type 0} (f : X → X) (xs : List X) (i : ℕ) (x : X) → slice_get xs i ≡ Some x
+    → set (map f (take i xs) ++ drop i xs) i (f x) ≡ map f (take (i + 1) xs) ++ drop (i + 1) xs
+changed_more f [] i x e = absurd cc
+changed_more f (y ∷ xs) zero x e = let same = same_Some y x e in rw same refl
+changed_more f (y ∷ xs) (suc i) x e =
+    let n : suc i + 1 ≡ suc (i + 1) = omega arith in
+    rw n (ap (λ zs. f y ∷ zs) (changed_more f xs i x e))
 
 -- ---- the names that symbols give
 
@@ -205,3 +230,65 @@ pub known_by_range : (kind : WasmSymbolKind) (count : ℕ) (symbols : List Symbo
 known_by_range kind count symbols i names s known named here know at slot is range =
     let t = know.told s.index slot (at ∙ ap (λ (o : Option Slot). Some o) is) in
     sym t.same ∙ named t.place i t.symbol s t.here here (t.range ∙ range)
+
+-- ---- symbols that stand for imports in ascending order
+
+-- the first i symbols of a kind stand for imports in ascending order, all below that one
+pub record Ascends (kind : WasmSymbolKind) (symbols : List Symbol) (i behind : ℕ) : Type 0 where
+  pub below : (j : ℕ) (s : Symbol) → j < i → slice_get symbols j ≡ Some s → claims kind s ≡ true
+      → s.index < behind
+  pub apart : (j k : ℕ) (s t : Symbol) → j < k → k < i → slice_get symbols j ≡ Some s
+      → slice_get symbols k ≡ Some t → claims kind s ≡ true → claims kind t ≡ true
+      → s.index < t.index
+
+-- before the first symbol
+pub ascend_none : (kind : WasmSymbolKind) (symbols : List Symbol) → Ascends kind symbols 0 0
+ascend_none kind symbols = record {
+  below = λ j s lt. absurd (omega arith);
+  apart = λ j k s t jk lt. absurd (omega arith);
+}
+
+-- a symbol that stands for none
+pub ascend_more : (kind : WasmSymbolKind) (symbols : List Symbol) (i behind : ℕ) (s : Symbol)
+    → slice_get symbols i ≡ Some s → (claims kind s ≡ true → ⊥) → Ascends kind symbols i behind
+    → Ascends kind symbols (i + 1) behind
+ascend_more kind symbols i behind s here none a = record {
+  below = λ j t lt at. first_or_last symbols i j s t (λ u. claims kind u ≡ true → u.index < behind) lt here at
+      (λ old claim. a.below j t old at claim)
+      (λ claim. absurd (none claim));
+  apart = λ j k t u jk lt at there one. first_or_last symbols i k s u (λ v. claims kind v ≡ true → t.index < v.index) lt here there
+      (λ old claim. a.apart j k t u jk old at there one claim)
+      (λ claim. absurd (none claim));
+}
+
+-- a symbol that stands for a later import
+pub ascend_claimed : (kind : WasmSymbolKind) (symbols : List Symbol) (i behind : ℕ) (s : Symbol)
+    → slice_get symbols i ≡ Some s → behind ≤ s.index → Ascends kind symbols i behind
+    → Ascends kind symbols (i + 1) (s.index + 1)
+ascend_claimed kind symbols i behind s here later a = record {
+  below = λ j t lt at. first_or_last symbols i j s t (λ u. claims kind u ≡ true → u.index < s.index + 1) lt here at
+      (λ old claim. let b = a.below j t old at claim in omega arith)
+      (λ claim. omega arith);
+  apart = λ j k t u jk lt at there one. first_or_last symbols i k s u (λ v. claims kind v ≡ true → t.index < v.index) lt here there
+      (λ old claim. a.apart j k t u jk old at there one claim)
+      (λ claim. let b = a.below j t (omega arith) at one in omega arith);
+}
+
+-- then each import has one name
+pub ascend_one : (kind : WasmSymbolKind) (symbols : List Symbol) (i behind count : ℕ) → length symbols ≤ i → Ascends kind symbols i behind
+    → HasOneName kind count symbols
+ascend_one kind symbols n behind count le a i j s t at there shares =
+    let lt = slice_get_within symbols i s at in
+    let lt' = slice_get_within symbols j t there in
+    let slot = shares.slot in
+    elim (cases_lt i j) [
+      | inl before ↦ absurd (let x = a.apart i j s t before (omega arith) at there shares.one shares.other in omega arith)
+      | inr behind ↦ elim (cases_lt j i) [
+        | inl after ↦ absurd (let x = a.apart j i t s after (omega arith) there at shares.other shares.one in omega arith)
+        | inr same ↦
+            let one : j ≡ i = omega arith in
+            let there' : slice_get symbols i ≡ Some t = subst (λ (k : ℕ). slice_get symbols k ≡ Some t) one there in
+            let e : s ≡ t = cc in
+            ap (λ (x : Symbol). x.name) e
+      ]
+    ]

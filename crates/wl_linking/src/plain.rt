@@ -16,8 +16,9 @@ pub(crate) fn plain_imports<'a>(
 ) -> Result<ItemList<Import<'a>>, AllocError>
     ensures { IfOk result (λ imports. imports ≡ plain_imports placed.entry) }
 {
-    let mut imports = Vec::new(alloc);
-    for placed in placed.into_vec() {
+    let placed = placed.into_vec();
+    let mut imports = Vec::with_capacity(alloc, placed.len())?;
+    for placed in placed {
         imports.push(placed.import)?;
     }
     Ok(ItemList::new(imports))
@@ -30,7 +31,7 @@ pub(crate) fn segment_memories_of(
 ) -> Result<ItemList<Option<u32>>, AllocError>
     ensures { IfOk result (λ memories. memories ≡ segment_memories_of segments.now) }
 {
-    let mut memories = Vec::new(alloc);
+    let mut memories = Vec::with_capacity(alloc, segments.len())?;
     for segment in segments {
         memories.push(segment.memory_index)?;
     }
@@ -44,8 +45,9 @@ pub(crate) fn plain_segments<'a>(
 ) -> Result<ItemList<WasmDataSegment<'a>>, AllocError>
     ensures { IfOk result (λ segments. segments ≡ plain_segments targeted.entry) }
 {
-    let mut segments = Vec::new(alloc);
-    for targeted in targeted.into_vec() {
+    let targeted = targeted.into_vec();
+    let mut segments = Vec::with_capacity(alloc, targeted.len())?;
+    for targeted in targeted {
         segments.push(targeted.segment)?;
     }
     Ok(ItemList::new(segments))

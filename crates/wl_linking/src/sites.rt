@@ -55,7 +55,7 @@ fn body_pieces<'a>(
 ) -> Result<Vec<Piece<'a>>, AllocError>
     ensures { IfOk result (λ pieces. pieces.items ≡ map body_piece bodies.now) }
 {
-    let mut pieces = Vec::new(alloc);
+    let mut pieces = Vec::with_capacity(alloc, bodies.len())?;
     for body in bodies {
         pieces.push(Piece {
             place: body.code_offset,
@@ -85,7 +85,7 @@ fn segment_pieces<'a>(
     requires { AllByRecursion IsSpanned segments.now }
     ensures { IfOk result (λ pieces. pieces.items ≡ map segment_piece segments.now) }
 {
-    let mut pieces = Vec::new(alloc);
+    let mut pieces = Vec::with_capacity(alloc, segments.len())?;
     for segment in segments {
         pieces.push(segment_piece(segment))?;
     }
@@ -196,7 +196,7 @@ fn find_sites(
     ensures { MatchResult result (AreSites pieces.now relocations.now)
         (HasCause (FieldFault pieces.now relocations.now)) }
 {
-    let mut sites = Vec::new(alloc);
+    let mut sites = Vec::with_capacity(alloc, relocations.len())?;
     let mut unit = 0;
     for relocation in relocations {
         let form = relocation.ty.field_form();

@@ -1,7 +1,7 @@
 //! The names of imports, which symbols refer to by slots: numbers among the imports of a kind
 //! (object file linking, version 2, "Symbol Table Subsection").
 
-ghost use Rattle.std.specs.Prelude.{◌≡◌, ◌≤◌, ◌+◌, [], ◌∷◌, ◌++◌, length, map, Option, Some, None, slice_get, OnOk, IfOk, MatchBool, MatchResult};
+ghost use Rattle.std.specs.Prelude.{◌≡◌, ◌≤◌, ◌+◌, [], ◌∷◌, ◌++◌, ℕ, length, map, Option, Some, None, slice_get, OnOk, IfOk, IsTrue, MatchBool, MatchResult};
 ghost use Rattle.wl_bytes.specs.declared.reader.TheConstants.{MAX_LEN};
 ghost use Rattle.std.specs.List.{repeat, AllByRecursion};
 ghost use Rattle.wl_linking.specs.Slots.{Slot, slot_of, slots_of, with_slot, with_import_name, claims, HasOneName, HasTwoNames, AgreeOnNames, SlotFault};
@@ -83,34 +83,33 @@ pub(crate) fn slots_of<'a>(
     Ok(ItemList::new(slots))
 }
 
-/// The same symbol with the name of its slot.
-fn with_slot<'a>(symbol: WasmSymbol<'a>, slots: &[SlotName<'a>]) -> WasmSymbol<'a>
-    ensures { result ≡ with_slot symbol.entry (slice_get slots.now symbol.entry.index) }
+/// Gives a symbol the name of its slot, if there is one.
+fn name_by_slot<'a>(symbol: &mut WasmSymbol<'a>, slots: &[SlotName<'a>])
+    ensures { symbol.new ≡ with_slot symbol.old (slice_get slots.now symbol.old.index) }
 {
-    match slots.get(symbol.index as usize) {
-        None => symbol,
-        Some(slot) => symbol.with_name(slot.name, slot.range),
+    if let Some(slot) = slots.get(symbol.index as usize) {
+        symbol.set_name(slot.name, slot.range);
     }
 }
 
-/// The same symbol, with the name of its import where it is to take that.
-fn with_import_name<'a>(
+/// Gives a symbol the name of its import, where it is to take that.
+fn name_by_import<'a>(
     functions: &[SlotName<'a>],
     globals: &[SlotName<'a>],
-    symbol: WasmSymbol<'a>,
-) -> WasmSymbol<'a>
-    ensures { result ≡ with_import_name functions.now globals.now symbol.entry }
+    symbol: &mut WasmSymbol<'a>,
+)
+    ensures { symbol.new ≡ with_import_name functions.now globals.now symbol.old }
 {
     if !symbol.is_undefined() || symbol.has_name() {
-        return symbol;
+        return;
     }
     match symbol.kind {
-        WasmSymbolKind::Func => with_slot(symbol, functions),
-        WasmSymbolKind::Global => with_slot(symbol, globals),
+        WasmSymbolKind::Func => name_by_slot(symbol, functions),
+        WasmSymbolKind::Global => name_by_slot(symbol, globals),
         WasmSymbolKind::Data
         | WasmSymbolKind::Section
         | WasmSymbolKind::Event
-        | WasmSymbolKind::Table => symbol,
+        | WasmSymbolKind::Table => {}
     }
 }
 
@@ -124,10 +123,12 @@ pub(crate) fn name_symbols<'a>(
     ensures { let named = with_import_name functions.now globals.now in
         OnOk result (symbols.new ≡ map named symbols.old) }
 {
-    for symbol in mem::replace(symbols, ItemList::empty(alloc)).into_vec() {
-        symbols.push(with_import_name(functions, globals, symbol))?;
+    let mut list = mem::replace(symbols, ItemList::empty(alloc)).into_vec();
+    for i in 0..list.len() {
+        name_by_import(functions, globals, &mut list[i]);
     }
-    Ok(())
+    // In place of no symbols none of them is moved.
+    symbols.append(ItemList::new(list))
 }
 
 /// Whether a symbol stands for an import of that kind, with a name to compare.
@@ -165,7 +166,7 @@ impl<'a> Model for KnownName<'a> {
 fn no_names<'a>(alloc: Global, count: usize) -> Result<Vec<KnownName<'a>>, AllocError>
     ensures { IfOk result (λ v. v.items ≡ repeat count (None ∷ [])) }
 {
-    let mut names = Vec::new(alloc);
+    let mut names = Vec::with_capacity(alloc, count)?;
     for _ in 0..count {
         names.push(KnownName {
             name: None,
@@ -207,6 +208,23 @@ fn agrees<'a>(names: &mut Vec<KnownName<'a>>, symbol: &WasmSymbol<'a>) -> bool
     agrees
 }
 
+/// Whether the symbols of a kind stand for imports in ascending order, no two of them for the same.
+fn ascend_by_slot(kind: WasmSymbolKind, symbols: &[WasmSymbol<'_>]) -> bool
+    ensures { IsTrue result → (count : ℕ) → HasOneName kind count symbols.now }
+{
+    let mut behind: usize = 0;
+    for symbol in symbols {
+        if claims(kind, symbol) {
+            let slot = symbol.index as usize;
+            if slot < behind {
+                return false;
+            }
+            behind = slot + 1;
+        }
+    }
+    true
+}
+
 /// Whether the symbols of each of so many imports of that kind have one name.
 fn have_one_name(
     alloc: Global,
@@ -218,6 +236,10 @@ fn have_one_name(
     ensures { IfOk result (λ b. MatchBool b (HasOneName kind count symbols.now)
         (HasTwoNames kind count symbols.now)) }
 {
+    // Nearly always so, and then no names need be taken down.
+    if ascend_by_slot(kind, symbols) {
+        return Ok(true);
+    }
     let mut names = no_names(alloc, count)?;
     for symbol in symbols {
         if claims(kind, symbol) && !agrees(&mut names, symbol) {

@@ -37,23 +37,28 @@ pub(crate) struct UnitFault {
 /// segments bodies number, and why units can't be kept. Clauses see it as `Facts`.
 #[derive(Drop)]
 pub struct ObjectFacts {
-    uses: ItemList<SymbolUse>,
-    slots: ItemList<SymbolUse>,
+    // by relocations in units, and then as import slots
+    used: ItemList<SymbolUse>,
+    // how many of them by relocations
+    split: usize,
     segments: ItemList<SegmentUse>,
     faults: ItemList<UnitFault>,
 }
 
 impl Model for ObjectFacts {
     ghost use Rattle.wl_live.specs.Facts.{Facts};
+    ghost use Rattle.std.specs.Prelude.{◌≤◌, length, take, drop};
 
     ghost Value = { Facts };
 
     ghost view = { λ f. record {
-      uses = f.uses;
-      slots = f.slots;
+      uses = take f.split f.used;
+      slots = drop f.split f.used;
       segments = f.segments;
       faults = f.faults;
     } };
+
+    ghost invariant = { λ f. f.split ≤ length f.used };
 }
 
 impl ObjectFacts {
@@ -61,14 +66,14 @@ impl ObjectFacts {
     pub(crate) fn uses(&self) -> &[SymbolUse]
         ensures { result.now ≡ self.now.uses }
     {
-        self.uses.as_slice()
+        self.used.as_slice().split_at(self.split).0
     }
 
     /// Which symbols import slots have.
     pub(crate) fn slots(&self) -> &[SymbolUse]
         ensures { result.now ≡ self.now.slots }
     {
-        self.slots.as_slice()
+        self.used.as_slice().split_at(self.split).1
     }
 
     /// Which segments bodies number.
@@ -122,14 +127,17 @@ fn push_uses(
     Ok(())
 }
 
-/// Which symbols the relocations of an object name, code before data.
+/// Which symbols the relocations of an object name, code before data, with room for those that its
+/// import slots have.
 fn collect_uses(alloc: Global, file: &File<'_>) -> Result<Vec<SymbolUse>, AllocError>
     ensures { IfOk result (λ v. v.items ≡ uses_of file.now) }
 {
     file.stands_for_an_object();
     whole_objects();
     let (code, data) = (file.code_relocations(), file.data_relocations());
-    let mut list = Vec::with_capacity(alloc, code.len().saturating_add(data.len()))?;
+    let count = code.len().saturating_add(data.len());
+    let room = count.saturating_add(file.imports().len());
+    let mut list = Vec::with_capacity(alloc, room)?;
     let functions = WasmGcUnit::DefinedFunction(0);
     push_uses(&mut list, functions, code, file.code_sites())?;
     let segments = WasmGcUnit::DataSegment(0);
@@ -167,18 +175,17 @@ fn push_slot(
     Ok(())
 }
 
-/// Which symbols the import slots of an object have.
-fn collect_slots(alloc: Global, file: &File<'_>) -> Result<Vec<SymbolUse>, AllocError>
-    ensures { IfOk result (λ v. v.items ≡ slot_uses file.now) }
+/// Adds which symbols the import slots of an object have.
+fn push_slots(list: &mut Vec<SymbolUse>, file: &File<'_>) -> Result<(), AllocError>
+    ensures { OnOk result (list.new.items ≡ list.old.items ++ slot_uses file.now) }
 {
     file.stands_for_an_object();
     let counts = counts_of(file);
-    let mut list = Vec::new(alloc);
     let listed = file.symbols();
     for (i, symbol) in listed.iter().enumerate() {
-        push_slot(&mut list, counts, i as u32, symbol)?;
+        push_slot(list, counts, i as u32, symbol)?;
     }
-    Ok(list)
+    Ok(())
 }
 
 /// What an object says of its units.
@@ -188,12 +195,13 @@ fn collect_slots(alloc: Global, file: &File<'_>) -> Result<Vec<SymbolUse>, Alloc
 pub fn facts(alloc: Global, file: &File<'_>) -> Result<ObjectFacts, AllocError>
     ensures { IfOk result (AreFacts file.now) }
 {
-    let uses = collect_uses(alloc, file)?;
-    let slots = collect_slots(alloc, file)?;
+    let mut used = collect_uses(alloc, file)?;
+    let split = used.len();
+    push_slots(&mut used, file)?;
     let BodyFacts { segments, faults } = collect_faults(alloc, file)?;
     Ok(ObjectFacts {
-        uses: ItemList::new(uses),
-        slots: ItemList::new(slots),
+        used: ItemList::new(used),
+        split,
         segments: ItemList::new(segments),
         faults: ItemList::new(faults),
     })
@@ -206,7 +214,7 @@ pub fn facts(alloc: Global, file: &File<'_>) -> Result<ObjectFacts, AllocError>
 pub fn all_facts(alloc: Global, files: &FileList<'_>) -> Result<Vec<ObjectFacts>, AllocError>
     ensures { IfOk result (λ v. AreAllFacts files.now v.items) }
 {
-    let mut list = Vec::new(alloc);
+    let mut list = Vec::with_capacity(alloc, files.len())?;
     for file in files.as_slice() {
         list.push(facts(alloc, file)?)?;
     }

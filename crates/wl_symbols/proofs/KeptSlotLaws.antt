@@ -26,3 +26,17 @@ kept_more test kind objects k kept new all lt is so =
     let step : filter test (slots_from kind k (drop k objects)) ≡ here ++ rest =
     ap (filter test) (slots_more kind objects k lt) ∙ filter-append test (import_slots objects k kind) (slots_from kind (k + 1) (drop (k + 1) objects)) in
     ap (λ (t : List ImportSlot). t ++ rest) is ∙ append_assoc kept here rest ∙ (ap (λ (t : List ImportSlot). kept ++ t) (sym step) ∙ so)
+
+-- and by two tests, one after the other
+pub left_more : (test later : ImportSlot → Bool) (kind : WasmSymbolKind) (objects : List Object) (k : ℕ) (left new all : List ImportSlot) → k < length objects
+    → new ≡ left ++ filter later (filter test (import_slots objects k kind)) → left ++ filter later (filter test (slots_from kind k (drop k objects))) ≡ all
+    → new ++ filter later (filter test (slots_from kind (k + 1) (drop (k + 1) objects))) ≡ all
+left_more test later kind objects k left new all lt is so =
+    let here : List ImportSlot = filter later (filter test (import_slots objects k kind)) in
+    let rest : List ImportSlot = filter later (filter test (slots_from kind (k + 1) (drop (k + 1) objects))) in
+    let both : List ImportSlot → List ImportSlot = λ (t : List ImportSlot). filter later (filter test t) in
+    let step : filter later (filter test (slots_from kind k (drop k objects))) ≡ here ++ rest =
+    ap both (slots_more kind objects k lt)
+    ∙ (ap (filter later) (filter-append test (import_slots objects k kind) (slots_from kind (k + 1) (drop (k + 1) objects)))
+    ∙ filter-append later (filter test (import_slots objects k kind)) (filter test (slots_from kind (k + 1) (drop (k + 1) objects)))) in
+    ap (λ (t : List ImportSlot). t ++ rest) is ∙ append_assoc left here rest ∙ (ap (λ (t : List ImportSlot). left ++ t) (sym step) ∙ so)

@@ -79,7 +79,14 @@ pub fn left_slots<'i, 'a>(
 ) -> Result<Vec<ImportSlot<'i, 'a>>, AllocError>
     ensures { IfOk result (λ v. v.items ≡ left_slots input.now kind) }
 {
-    let mut slots = kept_slots(alloc, input, kind)?;
-    retain_left(input, &mut slots);
-    Ok(slots)
+    let mut left = Vec::new(alloc);
+    let mut slots = Vec::new(alloc);
+    for object in 0..input.files().len() {
+        fill_slots(alloc, input.symbols(), object, kind, &mut slots)?;
+        retain_kept(input, &mut slots);
+        // Few are left, and so few are moved.
+        retain_left(input, &mut slots);
+        left.append(&mut slots)?;
+    }
+    Ok(left)
 }
