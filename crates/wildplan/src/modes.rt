@@ -20,10 +20,11 @@ use crate::replacing::session_after;
 use crate::running::run_text;
 use crate::summary::summary;
 use std::alloc::{AllocError, Global};
+use std::mem;
 use wl_linking::{FileList, LinkError};
 use wl_lists::Text;
 use wl_live::collect_live;
-use wl_plan::{LinkPlan, listing, parse_objects, plan_files, plans_have_listings};
+use wl_plan::{LinkPlan, ObjectList, listing, parse_objects, plan_files, plans_have_listings};
 use wl_symbols::SymbolTable;
 use wl_why::why_text;
 use wl_words::{Mode, ValuePlace, WasmArgs};
@@ -95,6 +96,31 @@ fn mode_text(
     }
 }
 
+/// How many bytes objects have whose memory is given back before the listing is made, for the
+/// listing is large then too.
+const LARGE: usize = 1 << 20;
+
+/// How many bytes objects have. It says what to do with memory, and nothing else rests on it.
+fn byte_count(objects: &ObjectList) -> usize {
+    let mut count: usize = 0;
+    for object in 0..objects.len() {
+        if let Some(bytes) = objects.get(object) {
+            count = count.saturating_add(bytes.len());
+        }
+    }
+    count
+}
+
+/// Gives back the memory of what objects hold, where that is much. Where it is little, the end of
+/// the program gives it back, and faster.
+fn release(files: FileList<'_>, objects: &ObjectList) {
+    if byte_count(objects) >= LARGE {
+        drop(files);
+    } else {
+        mem::forget(files);
+    }
+}
+
 /// What is written of the plan of objects, none of which is replaced.
 fn objects_text(
     alloc: Global,
@@ -111,9 +137,12 @@ fn objects_text(
     let plan = plan_files(alloc, &files, args)?;
     match args.mode {
         Mode::Listing => {
-            // The listing is large, and needs nothing of the objects, which are large too.
-            drop(files);
-            Ok(listing(alloc, &plan)?)
+            // The listing needs nothing of the objects.
+            release(files, &inputs.objects);
+            let text = listing(alloc, &plan)?;
+            // The program ends soon, and gives all back at once.
+            mem::forget(plan);
+            Ok(text)
         }
         Mode::Generate(_) | Mode::Why | Mode::Map | Mode::Check(_) | Mode::Run(_) => mode_text(
             alloc,

@@ -13,11 +13,11 @@ returns-in_err-plan-clause-err c =
     let p = err_from_is_err_and c.from_residual-in_err-plan.result c.from_residual-in_err-plan.ensures.1 in
     rw (p.1, p.2) (plan_refused c.args.args.now c.args.inputs.now c.in_ok-files.files c.in_err-plan.field-0.0 c.requires c.in_ok-files.ensures.ok c.in_err-plan.ensures.err)
 
-pub returns-in_ok-listing-in-Listing-clause-ok : goal.returns-in_ok-listing-in-Listing-clause-ok
-returns-in_ok-listing-in-Listing-clause-ok c =
+pub returns-in_ok-text-in-Listing-clause-ok : goal.returns-in_ok-text-in-Listing-clause-ok
+returns-in_ok-text-in-Listing-clause-ok c =
     objects_answer (texts c.args.words.now) c.args.args.now c.args.inputs.now c.in_ok-files.files c.in_ok-plan.plan
-    c.in_ok-listing-in-Listing.field-0.items c.requires c.in_ok-files.ensures.ok c.in_ok-plan.ensures.ok
-    (rw c.in-Listing.is c.in_ok-listing-in-Listing.ensures.text)
+    c.in_ok-text-in-Listing.text.items c.requires c.in_ok-files.ensures.ok c.in_ok-plan.ensures.ok
+    (rw c.in-Listing.is c.in_ok-text-in-Listing.ensures.text)
 
 pub returns-in-Generate : goal.returns-in-Generate
 returns-in-Generate c = record {
