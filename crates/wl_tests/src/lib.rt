@@ -5,6 +5,8 @@
 #![tactic(auto)]
 
 #[cfg(test)]
+mod bindings;
+#[cfg(test)]
 mod bytes;
 #[cfg(test)]
 mod check;
