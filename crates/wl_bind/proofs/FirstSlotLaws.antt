@@ -5,7 +5,7 @@ use Rattle.std.proofs.lemmas.Bool.{ltb-true, not-true, and_parts}
 use Rattle.wl_linking.specs.Object.{Object}
 use Rattle.wl_custom.specs.declared.symbols.WasmSymbolKind.{WasmSymbolKind}
 use Rattle.wl_custom.specs.declared.symbols.WasmSymbolKind.TheVariants.{Func}
-use Rattle.wl_symbols.specs.LinkerNames.{row_of, matches_kind}
+use Rattle.wl_symbols.specs.LinkerNames.{kind_of, matches_kind}
 use Rattle.wl_symbols.specs.Live.{IsLiveOf}
 use Rattle.wl_symbols.specs.Units.{units_of, units_at, no_units, exists, unit_number}
 use Rattle.wl_symbols.specs.declared.units.LinkUnit.{LinkUnit}
@@ -229,7 +229,7 @@ named_is_there laws input live object k o t at (slot.Defined i j) is =
     (kept_function laws.slots input.link input.live live object k o t i j at.here at.at at.is_at
     (kept_at input object Func k t at.is_at ∙ at.kept) is)
 named_is_there laws input live object k o t at (slot.Made m) is = record {
-  kind = is_function (row_of m).kind
+  kind = is_function (kind_of m)
       (subst (λ (kind : WasmSymbolKind). matches_kind kind m ≡ true) at.is_at.kind_is
       (bound_of_kind laws.slots input.link t m is));
   made = bound_is_made_function laws input t m at.listed (named_binds input t (slot.Made m) is);

@@ -7,7 +7,7 @@ use Rattle.std.proofs.lemmas.Option.{slice_get_within}
 use Rattle.wl_linking.specs.Object.{Object}
 use Rattle.wl_custom.specs.declared.symbols.WasmSymbolKind.{WasmSymbolKind}
 use Rattle.wl_custom.specs.declared.symbols.WasmSymbolKind.TheVariants.{Global}
-use Rattle.wl_symbols.specs.LinkerNames.{row_of, matches_kind}
+use Rattle.wl_symbols.specs.LinkerNames.{kind_of, matches_kind}
 use Rattle.wl_symbols.specs.declared.linker_symbol.WasmLinkerSymbol.{WasmLinkerSymbol}
 use Rattle.wl_symbols.specs.declared.linker_symbol.WasmLinkerSymbol.TheVariants.{MemoryBase, TableBase, StackPointer, TlsBase, TlsSize, TlsAlign}
 use Rattle.wl_symbols.specs.Live.{is_live, live_below, ordinal_of, IsLiveOf}
@@ -89,7 +89,7 @@ made_leads laws n t m kept bound of_kind =
     record {
       has = tt;
       stands = λ index made.
-          subst (λ (kind : WasmSymbolKind). StandsAt n.input.now m kind index) (is_global (row_of m).kind of_kind)
+          subst (λ (kind : WasmSymbolKind). StandsAt n.input.now m kind index) (is_global (kind_of m) of_kind)
           (made (bound_is_made_global laws.binding n.input.now t m kept bound));
     }
 

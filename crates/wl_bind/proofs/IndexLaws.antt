@@ -9,16 +9,16 @@ use Rattle.std.proofs.lemmas.Option.{slice_get-get_or}
 use Rattle.std.proofs.lemmas.Slice.Eq.{bytes_eq-Decides}
 use Rattle.indexmap.specs.IndexSet.{insert_all}
 use Rattle.wl_index.specs.declared.index.TheConstants.{MAX_ENTRIES}
-use Rattle.wl_custom.specs.Symbols.{is_data}
 use Rattle.wl_linking.specs.Steps.{Refuses}
 use Rattle.wl_linking.specs.declared.error.LinkError.{LinkError}
 use Rattle.wl_linking.specs.declared.error.LinkError.TheVariants as fault
-use Rattle.wl_custom.specs.declared.symbols.WasmSymbolKind.{WasmSymbolKind}
-use Rattle.wl_custom.specs.declared.symbols.WasmSymbolKind.TheVariants as kind
-use Rattle.wl_symbols.specs.LinkerNames.{row_of, name_of}
+use Rattle.wl_symbols.specs.LinkerNames.{sort_of, name_of}
+use Rattle.wl_symbols.specs.LinkerRows.{kind_of_sort}
 use Rattle.wl_words.specs.declared.args.WasmArgs.{WasmArgs}
 use Rattle.wl_symbols.specs.declared.linker_symbol.WasmLinkerSymbol.{WasmLinkerSymbol}
 use Rattle.wl_symbols.specs.declared.linker_symbol.WasmLinkerSymbol.TheVariants as made
+use Rattle.wl_symbols.specs.declared.made_sort.MadeSort.{MadeSort}
+use Rattle.wl_symbols.specs.declared.made_sort.MadeSort.TheVariants.{Data}
 use Rattle.wl_symbols.specs.Input.{Input}
 use Rattle.wl_bind.specs.ExportedAddresses.{data_named, exported_addresses}
 use Rattle.wl_bind.specs.FunctionSpace.{function_parts, object_functions}
@@ -154,37 +154,13 @@ any_named name (n ∷ names) h = elim (cases_Bool (bytes_eq name n)) [
   | inr f ↦ inr (any_named name names (rw f at h))
 ]
 
-data_by_name : (m : WasmLinkerSymbol) → is_data (row_of m).kind ≡ true → data_named (name_of m) ≡ Some m
+data_by_name : (m : WasmLinkerSymbol) → sort_of m ≡ Data → data_named (name_of m) ≡ Some m
 data_by_name made.DataEnd e = refl
-data_by_name made.GlobalBase e = refl
-data_by_name made.HeapBase e = refl
-data_by_name made.HeapEnd e = refl
-data_by_name made.WasmFirstPageEnd e = refl
-data_by_name made.DsoHandle e = refl
-data_by_name made.MemoryBase e = absurd cc
-data_by_name made.TableBase e = absurd cc
-data_by_name made.StackPointer e = absurd cc
-data_by_name made.TlsBase e = absurd cc
-data_by_name made.TlsSize e = absurd cc
-data_by_name made.TlsAlign e = absurd cc
-data_by_name made.CallCtors e = absurd cc
-data_by_name made.InitTls e = absurd cc
+data_by_name _ e = cc
 
-forced_is_made : (input : Input) (m : WasmLinkerSymbol) → is_data (row_of m).kind ≡ true → is_made input m ≡ is_forced input m
+forced_is_made : (input : Input) (m : WasmLinkerSymbol) → sort_of m ≡ Data → is_made input m ≡ is_forced input m
 forced_is_made input made.DataEnd e = refl
-forced_is_made input made.GlobalBase e = refl
-forced_is_made input made.HeapBase e = refl
-forced_is_made input made.HeapEnd e = refl
-forced_is_made input made.WasmFirstPageEnd e = refl
-forced_is_made input made.DsoHandle e = refl
-forced_is_made input made.MemoryBase e = absurd cc
-forced_is_made input made.TableBase e = absurd cc
-forced_is_made input made.StackPointer e = absurd cc
-forced_is_made input made.TlsBase e = absurd cc
-forced_is_made input made.TlsSize e = absurd cc
-forced_is_made input made.TlsAlign e = absurd cc
-forced_is_made input made.CallCtors e = absurd cc
-forced_is_made input made.InitTls e = absurd cc
+forced_is_made input _ e = cc
 
 placed_one : {X : Type 0} (p : X → Bool) (xs : List X) (x : X) → IsIn xs x → p x ≡ true → position p xs ≡ None → ⊥
 placed_one p xs x h t none =
@@ -193,7 +169,7 @@ placed_one p xs x h t none =
     absurd cc
 
 -- where the address of data has no place, its name isn't to be exported
-not_listed : (args : WasmArgs) (m : WasmLinkerSymbol) → is_data (row_of m).kind ≡ true
+not_listed : (args : WasmArgs) (m : WasmLinkerSymbol) → sort_of m ≡ Data
     → position (λ a. same_made a m) (exported_addresses args) ≡ None
     → (list_any (bytes_eq (name_of m)) args.export_symbols ≡ true) ⊎ (list_any (bytes_eq (name_of m)) args.export_symbols ≡ false)
     → list_any (bytes_eq (name_of m)) args.export_symbols ≡ false
@@ -206,30 +182,21 @@ not_listed args m is_data_of none (inl t) =
 
 -- the address of data has no index where its place isn't found
 pub address_absent : (input : Input) (i : LinkerDefinedIndices) (m : WasmLinkerSymbol) → AreMadeIndices input i
-    → is_data (row_of m).kind ≡ true → position (λ a. same_made a m) i.exported.addresses ≡ None
+    → sort_of m ≡ Data → position (λ a. same_made a m) i.exported.addresses ≡ None
     → is_made input m ≡ false
 address_absent input i m are is none =
     let none' = ap (λ (list : List WasmLinkerSymbol). position (λ a. same_made a m) list) (sym are.exported.addresses) ∙ none in
     forced_is_made input m is
     ∙ not_listed input.link.args m is none' (cases_Bool (list_any (bytes_eq (name_of m)) input.link.args.export_symbols))
 
-stands_as : (input : Input) (m : WasmLinkerSymbol) (k : WasmSymbolKind) (place : ℕ) → is_data k ≡ true
-    → slice_get (global_space input) place ≡ Some (AddressOf m) → StandsAt input m k place
-stands_as input m kind.Func place is at = absurd cc
-stands_as input m kind.Data place is at = at
-stands_as input m kind.Global place is at = absurd cc
-stands_as input m kind.Section place is at = absurd cc
-stands_as input m kind.Event place is at = absurd cc
-stands_as input m kind.Table place is at = absurd cc
-
-found_as : (input : Input) (m : WasmLinkerSymbol) (index : Option ℕ) → is_data (row_of m).kind ≡ true
+found_as : (input : Input) (m : WasmLinkerSymbol) (index : Option ℕ) → sort_of m ≡ Data
     → MatchOption index ⊥ (λ place. slice_get (global_space input) place ≡ Some (AddressOf m)) → IsMadeIndex input m index
 found_as input m None is at = absurd at
-found_as input m (Some place) is at = stands_as input m (row_of m).kind place is at
+found_as input m (Some place) is at = subst (λ (s : MadeSort). StandsAt input m (kind_of_sort s) place) (sym is) at
 
 -- the address of data is the start of its part plus its place
 pub address_there : (input : Input) (i : LinkerDefinedIndices) (m : WasmLinkerSymbol) (place : ℕ) (index : Option ℕ)
-    → AreMadeIndices input i → is_data (row_of m).kind ≡ true
+    → AreMadeIndices input i → sort_of m ≡ Data
     → position (λ a. same_made a m) i.exported.addresses ≡ Some place → index ≡ entry_of i.globals 7 place
     → IsMadeIndex input m index
 address_there input i m place index are is at entry =

@@ -11,9 +11,9 @@ use Rattle.wl_linking.specs.declared.error.LinkError.{LinkError}
 use Rattle.wl_linking.specs.declared.error.LinkError.TheVariants.{WrongKind}
 use Rattle.wl_custom.specs.declared.infos.WasmInitFunc.{WasmInitFunc}
 use Rattle.wl_symbols.specs.Entries.{symbol_in}
-use Rattle.wl_symbols.specs.LinkerNames.{row_of, is_exported_as_data}
+use Rattle.wl_symbols.specs.LinkerNames.{kind_of, is_exported_as_data}
 use Rattle.wl_symbols.specs.declared.linker_symbol.WasmLinkerSymbol.{WasmLinkerSymbol}
-use Rattle.wl_symbols.specs.declared.linker_symbol.WasmLinkerSymbol.TheVariants.{DataEnd, GlobalBase, HeapBase, HeapEnd, WasmFirstPageEnd, DsoHandle, MemoryBase, TableBase, StackPointer, TlsBase, TlsSize, TlsAlign, CallCtors, InitTls}
+use Rattle.wl_symbols.specs.declared.linker_symbol.WasmLinkerSymbol.TheVariants.{DataEnd}
 use Rattle.wl_symbols.specs.Input.{Input}
 use Rattle.wl_bind.specs.Kinds.{is_wrong_use, is_wrong_init, IsWrongUse, IsWrongInit, IsWrongKind}
 use Rattle.wl_bind.specs.steps.Kinds.{is_wrong_relocation, is_wrong_at, init_place, wrong_init_from}
@@ -25,21 +25,9 @@ use Rattle.wl_bind.proofs.FindLaws.{find_some, find_none, or_none, or_some, map_
 
 -- ---- what the linker makes
 
-pub exported_with_memory : (made : WasmLinkerSymbol) → is_exported_as_data true made ≡ is_data (row_of made).kind
+pub exported_with_memory : (made : WasmLinkerSymbol) → is_exported_as_data true made ≡ is_data (kind_of made)
 exported_with_memory DataEnd = refl
-exported_with_memory GlobalBase = refl
-exported_with_memory HeapBase = refl
-exported_with_memory HeapEnd = refl
-exported_with_memory WasmFirstPageEnd = refl
-exported_with_memory DsoHandle = refl
-exported_with_memory MemoryBase = refl
-exported_with_memory TableBase = refl
-exported_with_memory StackPointer = refl
-exported_with_memory TlsBase = refl
-exported_with_memory TlsSize = refl
-exported_with_memory TlsAlign = refl
-exported_with_memory CallCtors = refl
-exported_with_memory InitTls = refl
+exported_with_memory _ = refl
 
 -- ---- relocations
 

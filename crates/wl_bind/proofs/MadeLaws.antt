@@ -254,18 +254,7 @@ function_made : (input : Input) (m : WasmLinkerSymbol) → matches_kind Func m �
 function_made input made.CallCtors k x b = or_left _ _ (or_right _ _ b)
 function_made input made.InitTls k x b = third_asks input.link.args.shared_memory (keeps_data input)
     (is_bound input made.TlsSize) (is_bound input made.TlsAlign) (is_bound input made.InitTls) x b
-function_made input made.DataEnd k x b = absurd cc
-function_made input made.GlobalBase k x b = absurd cc
-function_made input made.HeapBase k x b = absurd cc
-function_made input made.HeapEnd k x b = absurd cc
-function_made input made.WasmFirstPageEnd k x b = absurd cc
-function_made input made.DsoHandle k x b = absurd cc
-function_made input made.MemoryBase k x b = absurd cc
-function_made input made.TableBase k x b = absurd cc
-function_made input made.StackPointer k x b = absurd cc
-function_made input made.TlsBase k x b = absurd cc
-function_made input made.TlsSize k x b = absurd cc
-function_made input made.TlsAlign k x b = absurd cc
+function_made input _ k x b = absurd cc
 
 global_made : (input : Input) (m : WasmLinkerSymbol) → matches_kind Global m ≡ true
     → exists_under input.link.args m ≡ true → is_bound input m ≡ true → is_made input m ≡ true
@@ -277,14 +266,7 @@ global_made input made.TlsSize k x b = first_asks input.link.args.shared_memory 
     (is_bound input made.TlsSize) (is_bound input made.TlsAlign) (is_bound input made.InitTls) x b
 global_made input made.TlsAlign k x b = second_asks input.link.args.shared_memory (keeps_data input)
     (is_bound input made.TlsSize) (is_bound input made.TlsAlign) (is_bound input made.InitTls) x b
-global_made input made.DataEnd k x b = absurd cc
-global_made input made.GlobalBase k x b = absurd cc
-global_made input made.HeapBase k x b = absurd cc
-global_made input made.HeapEnd k x b = absurd cc
-global_made input made.WasmFirstPageEnd k x b = absurd cc
-global_made input made.DsoHandle k x b = absurd cc
-global_made input made.CallCtors k x b = absurd cc
-global_made input made.InitTls k x b = absurd cc
+global_made input _ k x b = absurd cc
 
 -- what a kept function slot is bound to of the linker's exists
 pub bound_is_made_function : BindingLaws → (input : Input) (t : ImportSlot) (m : WasmLinkerSymbol)

@@ -13,7 +13,7 @@ use Rattle.wl_symbols.specs.LinkerNames.{name_of}
 use Rattle.wl_symbols.specs.declared.entry.Definition.{Definition}
 use Rattle.wl_symbols.specs.declared.entry.Definition.TheVariants.{Symbol, Made}
 use Rattle.wl_symbols.specs.declared.linker_symbol.WasmLinkerSymbol.{WasmLinkerSymbol}
-use Rattle.wl_symbols.specs.declared.linker_symbol.WasmLinkerSymbol.TheVariants.{DataEnd, GlobalBase, HeapBase, HeapEnd, WasmFirstPageEnd, DsoHandle, MemoryBase, TableBase, StackPointer, TlsBase, TlsSize, TlsAlign, CallCtors, InitTls}
+use Rattle.wl_symbols.specs.declared.linker_symbol.WasmLinkerSymbol.TheVariants.{DataEnd}
 use Rattle.wl_symbols.specs.Input.{Input}
 use Rattle.wl_bind.specs.Scan.{definition_name}
 use Rattle.wl_bind.specs.GlobalBinding.{is_called}
@@ -47,19 +47,7 @@ joined f None None None g = refl
 -- nothing that the linker makes has an empty name
 made_is_named : (m : WasmLinkerSymbol) → bytes_eq (name_of m) [] ≡ false
 made_is_named DataEnd = refl
-made_is_named GlobalBase = refl
-made_is_named HeapBase = refl
-made_is_named HeapEnd = refl
-made_is_named WasmFirstPageEnd = refl
-made_is_named DsoHandle = refl
-made_is_named MemoryBase = refl
-made_is_named TableBase = refl
-made_is_named StackPointer = refl
-made_is_named TlsBase = refl
-made_is_named TlsSize = refl
-made_is_named TlsAlign = refl
-made_is_named CallCtors = refl
-made_is_named InitTls = refl
+made_is_named _ = refl
 
 -- an entry of an empty name has no name
 filled : (x : ℕ) (name : List ℕ) → (length (x ∷ name) == 0) ≡ false

@@ -8,8 +8,11 @@ use Rattle.wl_module.specs.declared.imports.ImportEntity.TheVariants as entity
 use Rattle.wl_linking.specs.Object.{Object}
 use Rattle.wl_custom.specs.Symbols.{Symbol, is_undefined}
 use Rattle.wl_custom.specs.declared.symbols.WasmSymbolKind.TheVariants.{Func}
+use Rattle.wl_symbols.specs.LinkerNames.{sort_of}
 use Rattle.wl_symbols.specs.declared.linker_symbol.WasmLinkerSymbol.{WasmLinkerSymbol}
-use Rattle.wl_symbols.specs.declared.linker_symbol.WasmLinkerSymbol.TheVariants.{CallCtors, InitTls}
+use Rattle.wl_symbols.specs.declared.made_sort.MadeSort.{MadeSort}
+use Rattle.wl_symbols.specs.declared.made_sort.MadeSort.TheVariants.{Function, Global, Data}
+use Rattle.wl_symbols.specs.declared.made_sort.NamedFunction.TheVariants.{CallCtors, InitTls}
 use Rattle.wl_symbols.specs.ImportSlots.{ImportSlot, import_slots}
 use Rattle.wl_symbols.specs.SlotTargets.{own_number}
 use Rattle.std.specs.List.{filter_map}
@@ -43,10 +46,15 @@ slot_type objects t = option_and_then (type_in objects t.object) (type_number t.
 
 -- the type of a function that the linker makes: one that calls the constructors takes nothing, one
 -- that fills the data of a thread takes its address
+abbrev pub type_of_sort : MadeSort → Option FunctionType
+type_of_sort (Function CallCtors) = Some (record { params = []; results = [] })
+type_of_sort (Function InitTls) = Some (record { params = I32 ∷ []; results = [] })
+type_of_sort (Global g) = None
+type_of_sort Data = None
+
+-- the type of what the linker makes under a name, where that is a function
 abbrev pub type_of_made : WasmLinkerSymbol → Option FunctionType
-type_of_made CallCtors = Some (record { params = []; results = [] })
-type_of_made InitTls = Some (record { params = I32 ∷ []; results = [] })
-type_of_made _ = None
+type_of_made m = type_of_sort (sort_of m)
 
 -- the type of what is no import: a function that an object defines or that the linker makes
 abbrev pub target_type : List Object → FunctionTarget → Option FunctionType

@@ -9,7 +9,7 @@ use Rattle.wl_linking.specs.declared.error.LinkError.{LinkError}
 use Rattle.wl_linking.specs.declared.error.LinkError.TheVariants.{WrongKind}
 use Rattle.wl_custom.specs.declared.infos.WasmInitFunc.{WasmInitFunc}
 use Rattle.wl_symbols.specs.Entries.{symbol_in}
-use Rattle.wl_symbols.specs.LinkerNames.{row_of}
+use Rattle.wl_symbols.specs.LinkerNames.{kind_of}
 use Rattle.wl_symbols.specs.declared.entry.Definition.{Definition}
 use Rattle.wl_symbols.specs.declared.entry.Definition.TheVariants.{Symbol, Made}
 use Rattle.wl_symbols.specs.Input.{Input}
@@ -27,7 +27,7 @@ is_no_data input (Symbol object number) =
     option_map_or
     (λ (s : LinkedSymbol). is_defined s && not (is_data s.kind))
     (symbol_in input.link.objects object number) false
-is_no_data input (Made m) = not (is_data (row_of m).kind)
+is_no_data input (Made m) = not (is_data (kind_of m))
 
 -- the relocation doesn't take that symbol: one of another kind, or data that is defined as
 -- something else

@@ -2,7 +2,7 @@
 use Rattle.std.specs.Prelude.{◌≡◌, ℕ, false, Some, slice_get, MatchOption, Option}
 use Rattle.wl_custom.specs.declared.symbols.WasmSymbolKind.{WasmSymbolKind}
 use Rattle.wl_custom.specs.declared.symbols.WasmSymbolKind.TheVariants.{Func, Data, Global, Section, Event, Table}
-use Rattle.wl_symbols.specs.LinkerNames.{row_of}
+use Rattle.wl_symbols.specs.LinkerNames.{kind_of}
 use Rattle.wl_symbols.specs.declared.linker_symbol.WasmLinkerSymbol.{WasmLinkerSymbol}
 use Rattle.wl_symbols.specs.Input.{Input}
 use Rattle.wl_bind.specs.Made.{linker_needs, is_made}
@@ -43,4 +43,4 @@ StandsAt input m Table place = ⊥
 -- its index where the output has it
 abbrev pub IsMadeIndex : Input → WasmLinkerSymbol → Option ℕ → Type 0
 IsMadeIndex input m index =
-    MatchOption index (is_made input m ≡ false) (StandsAt input m (row_of m).kind)
+    MatchOption index (is_made input m ≡ false) (StandsAt input m (kind_of m))

@@ -12,7 +12,7 @@ use Rattle.wl_custom.specs.declared.symbols.WasmSymbolKind.{WasmSymbolKind}
 use Rattle.wl_custom.specs.declared.symbols.WasmSymbolKind.TheVariants.{Func, Data, Global, Section, Event, Table}
 use Rattle.wl_symbols.specs.Live.{IsLiveOf}
 use Rattle.wl_symbols.specs.declared.units.WasmGcUnit.TheVariants.{DefinedFunction}
-use Rattle.wl_symbols.specs.LinkerNames.{row_of}
+use Rattle.wl_symbols.specs.LinkerNames.{kind_of}
 use Rattle.wl_symbols.specs.declared.linker_symbol.WasmLinkerSymbol.{WasmLinkerSymbol}
 use Rattle.wl_symbols.specs.ImportSlots.{ImportSlot, import_slots}
 use Rattle.wl_symbols.specs.Input.{Input, keeps}
@@ -80,7 +80,7 @@ pub record IsKeptFunction (input : Input) (object function : ℕ) : Type 0 where
 
 -- the linker makes the function
 pub record IsMadeFunction (input : Input) (m : WasmLinkerSymbol) : Type 0 where
-  pub kind : (row_of m).kind ≡ Func
+  pub kind : kind_of m ≡ Func
   pub made : is_made input m ≡ true
 
 -- the output has the function; an import of the host and a stub are what their first slot is bound

@@ -1,8 +1,8 @@
 //! The indices of what the linker makes, and where the parts of the spaces begin.
 
-ghost use Rattle.std.specs.Prelude.{◌≡◌, if◌then◌else◌, true, false, IfOk, IfErr, MatchOption, Some, slice_get, length, position};
-ghost use Rattle.wl_custom.specs.Symbols.{is_data};
-ghost use Rattle.wl_symbols.specs.LinkerNames.{row_of};
+ghost use Rattle.std.specs.Prelude.{◌≡◌, if◌then◌else◌, false, IfOk, IfErr, MatchOption, Some, slice_get, length, position};
+ghost use Rattle.wl_symbols.specs.LinkerNames.{sort_of};
+ghost use Rattle.wl_symbols.specs.declared.made_sort.MadeSort.TheVariants.{Data};
 ghost use Rattle.wl_symbols.specs.Input.{Input as Linked};
 ghost use Rattle.wl_bind.specs.FunctionBinding.{link_stubs};
 ghost use Rattle.wl_bind.specs.FunctionTypes.{stub_types};
@@ -27,7 +27,7 @@ use crate::shared::SharedUnresolvedImports;
 use std::alloc::Global;
 use wl_linking::{LinkError, whole_objects};
 use wl_module::FuncType;
-use wl_symbols::{LinkInput, WasmLinkerSymbol};
+use wl_symbols::{LinkInput, MadeSort, NamedFunction, NamedGlobal, WasmLinkerSymbol};
 
 /// The parts of the function space that come before the objects' functions, in order.
 #[derive(Clone, Copy)]
@@ -256,7 +256,7 @@ impl LinkerDefinedIndices {
     /// The index of an address of the linker's that is exported.
     fn address(&self, made: WasmLinkerSymbol) -> Option<u32>
         ensures { (input : Linked) → AreMadeIndices input self.now
-            → is_data (row_of made).kind ≡ true → IsMadeIndex input made result }
+            → sort_of made ≡ Data → IsMadeIndex input made result }
     {
         let place = place_of(self.exported.addresses.as_slice(), made)?;
         self.globals.entry_at(GlobalPart::Addresses as usize, place)
@@ -267,23 +267,32 @@ impl LinkerDefinedIndices {
     pub fn index(&self, made: WasmLinkerSymbol) -> Option<u32>
         ensures { (input : Linked) → AreMadeIndices input self.now → IsMadeIndex input made result }
     {
-        match made {
-            WasmLinkerSymbol::CallCtors => self.functions.single(FunctionPart::CallCtors as usize),
-            WasmLinkerSymbol::InitTls => self.functions.single(FunctionPart::InitTls as usize),
-            WasmLinkerSymbol::MemoryBase => self.globals.single(GlobalPart::MemoryBase as usize),
-            WasmLinkerSymbol::TableBase => self.globals.single(GlobalPart::TableBase as usize),
-            WasmLinkerSymbol::StackPointer => {
+        match made.sort() {
+            MadeSort::Function(NamedFunction::CallCtors) => {
+                self.functions.single(FunctionPart::CallCtors as usize)
+            }
+            MadeSort::Function(NamedFunction::InitTls) => {
+                self.functions.single(FunctionPart::InitTls as usize)
+            }
+            MadeSort::Global(NamedGlobal::MemoryBase) => {
+                self.globals.single(GlobalPart::MemoryBase as usize)
+            }
+            MadeSort::Global(NamedGlobal::TableBase) => {
+                self.globals.single(GlobalPart::TableBase as usize)
+            }
+            MadeSort::Global(NamedGlobal::StackPointer) => {
                 self.globals.single(GlobalPart::StackPointer as usize)
             }
-            WasmLinkerSymbol::TlsBase => self.globals.single(GlobalPart::TlsBase as usize),
-            WasmLinkerSymbol::TlsSize => self.globals.single(GlobalPart::TlsSize as usize),
-            WasmLinkerSymbol::TlsAlign => self.globals.single(GlobalPart::TlsAlign as usize),
-            WasmLinkerSymbol::DataEnd
-            | WasmLinkerSymbol::GlobalBase
-            | WasmLinkerSymbol::HeapBase
-            | WasmLinkerSymbol::HeapEnd
-            | WasmLinkerSymbol::WasmFirstPageEnd
-            | WasmLinkerSymbol::DsoHandle => self.address(made),
+            MadeSort::Global(NamedGlobal::TlsBase) => {
+                self.globals.single(GlobalPart::TlsBase as usize)
+            }
+            MadeSort::Global(NamedGlobal::TlsSize) => {
+                self.globals.single(GlobalPart::TlsSize as usize)
+            }
+            MadeSort::Global(NamedGlobal::TlsAlign) => {
+                self.globals.single(GlobalPart::TlsAlign as usize)
+            }
+            MadeSort::Data => self.address(made),
         }
     }
 

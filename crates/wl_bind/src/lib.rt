@@ -73,7 +73,7 @@ pub use got::{GotFunc, GotMem, TableFunctions};
 pub use indices::LinkerDefinedIndices;
 pub use laws::{same_targets_are_one, stubs_have_no_slot, table_functions_stand_once};
 pub use merging::{MergedTypes, merge_live_output_types};
-pub use needs::{LinkerImportAbsorption, has_init_functions};
+pub use needs::{LinkerImportAbsorption, has_init_functions, is_made};
 pub use reference_laws::{
     entries_have_types, references_are_kept, table_functions_are_kept, types_have_indices,
 };

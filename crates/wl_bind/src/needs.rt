@@ -16,7 +16,7 @@ use crate::thread_segments::thread_data;
 use std::alloc::{AllocError, Global};
 use wl_linking::File;
 use wl_module::{DataKind, WasmDataSegment};
-use wl_symbols::{LinkInput, WasmGcUnit, WasmLinkerSymbol};
+use wl_symbols::{LinkInput, MadeSort, NamedFunction, NamedGlobal, WasmGcUnit, WasmLinkerSymbol};
 
 /// Which of the things that the linker can make kept slots and kept relocations ask for, functions
 /// that run at the start, and blocks of threads. What is made for an export alone isn't among them.
@@ -56,27 +56,22 @@ fn is_forced(input: &LinkInput<'_, '_>, made: WasmLinkerSymbol) -> bool
 fn is_asked_for(needs: LinkerImportAbsorption, made: WasmLinkerSymbol) -> bool
     ensures { result ≡ is_asked_for needs made }
 {
-    match made {
-        WasmLinkerSymbol::MemoryBase => needs.needs_memory_base,
-        WasmLinkerSymbol::TableBase => needs.needs_table_base,
-        WasmLinkerSymbol::StackPointer => true,
-        WasmLinkerSymbol::TlsBase => needs.needs_tls_base,
-        WasmLinkerSymbol::TlsSize => needs.needs_tls_size,
-        WasmLinkerSymbol::TlsAlign => needs.needs_tls_align,
-        WasmLinkerSymbol::CallCtors => needs.needs_ctors,
-        WasmLinkerSymbol::InitTls => needs.needs_init_tls,
-        WasmLinkerSymbol::DataEnd
-        | WasmLinkerSymbol::GlobalBase
-        | WasmLinkerSymbol::HeapBase
-        | WasmLinkerSymbol::HeapEnd
-        | WasmLinkerSymbol::WasmFirstPageEnd
-        | WasmLinkerSymbol::DsoHandle => false,
+    match made.sort() {
+        MadeSort::Function(NamedFunction::CallCtors) => needs.needs_ctors,
+        MadeSort::Function(NamedFunction::InitTls) => needs.needs_init_tls,
+        MadeSort::Global(NamedGlobal::MemoryBase) => needs.needs_memory_base,
+        MadeSort::Global(NamedGlobal::TableBase) => needs.needs_table_base,
+        MadeSort::Global(NamedGlobal::StackPointer) => true,
+        MadeSort::Global(NamedGlobal::TlsBase) => needs.needs_tls_base,
+        MadeSort::Global(NamedGlobal::TlsSize) => needs.needs_tls_size,
+        MadeSort::Global(NamedGlobal::TlsAlign) => needs.needs_tls_align,
+        MadeSort::Data => false,
     }
 }
 
 /// Whether the output has what the linker makes under a name: what is asked for, and what is to be
 /// exported where that is enough.
-pub(crate) fn is_made(
+pub fn is_made(
     input: &LinkInput<'_, '_>,
     needs: LinkerImportAbsorption,
     made: WasmLinkerSymbol,

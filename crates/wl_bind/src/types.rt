@@ -16,7 +16,7 @@ use std::marker::Model;
 use wl_linking::{File, FileList, WasmSymbol, WasmSymbolKind};
 use wl_lists::ItemList;
 use wl_module::{FuncType, ImportEntity, ValType};
-use wl_symbols::{ImportSlot, WasmLinkerSymbol, own_number};
+use wl_symbols::{ImportSlot, MadeSort, NamedFunction, WasmLinkerSymbol, own_number};
 
 /// The type of that number of the object of that number.
 pub(crate) fn type_in<'f>(
@@ -200,25 +200,14 @@ fn is_other_made(declared: &FuncType, made: WasmLinkerSymbol) -> bool
     ensures { result ≡ option_map_or
         (λ actual. not (same_type declared.now actual)) (type_of_made made) false }
 {
-    match made {
-        WasmLinkerSymbol::CallCtors => {
+    match made.sort() {
+        MadeSort::Function(NamedFunction::CallCtors) => {
             !are_none(declared.params()) || !are_none(declared.results())
         }
-        WasmLinkerSymbol::InitTls => {
+        MadeSort::Function(NamedFunction::InitTls) => {
             !are_one_word(declared.params()) || !are_none(declared.results())
         }
-        WasmLinkerSymbol::DataEnd
-        | WasmLinkerSymbol::GlobalBase
-        | WasmLinkerSymbol::HeapBase
-        | WasmLinkerSymbol::HeapEnd
-        | WasmLinkerSymbol::WasmFirstPageEnd
-        | WasmLinkerSymbol::DsoHandle
-        | WasmLinkerSymbol::MemoryBase
-        | WasmLinkerSymbol::TableBase
-        | WasmLinkerSymbol::StackPointer
-        | WasmLinkerSymbol::TlsBase
-        | WasmLinkerSymbol::TlsSize
-        | WasmLinkerSymbol::TlsAlign => false,
+        MadeSort::Global(_) | MadeSort::Data => false,
     }
 }
 

@@ -1,8 +1,9 @@
--- Words that stand for one of a few things: each is read again, which computes, case by case.
+-- Words that stand for one of a few things: each is read again, which computes, case by case; a clause
+-- of `_` is checked for each case that none before it takes.
 use Rattle.std.proofs.Common.{◌≡◌, ℕ, false, List, ◌++◌, Some, refl}
 use Rattle.wl_module.specs.Types.{value_types}
 use Rattle.wl_module.specs.declared.types.ValType.{ValType}
-use Rattle.wl_module.specs.declared.types.ValType.TheVariants.{I32, I64, F32, F64, V128, FuncRef, ExternRef}
+use Rattle.wl_module.specs.declared.types.ValType.TheVariants.{I32}
 use Rattle.wl_module.specs.declared.imports.ExternalKind.{ExternalKind}
 use Rattle.wl_module.specs.declared.imports.ExternalKind.TheVariants as external
 use Rattle.wl_custom.specs.RelocationTypes.{type_name, relocation_types}
@@ -18,9 +19,9 @@ use Rattle.wl_check.specs.declared.kinds.OriginKind.TheVariants as origin_kind
 use Rattle.wl_check.specs.declared.kinds.StateKind.{StateKind}
 use Rattle.wl_check.specs.declared.kinds.StateKind.TheVariants as state_kind
 use Rattle.wl_check.specs.declared.line.MadeFunction.{MadeFunction}
-use Rattle.wl_check.specs.declared.line.MadeFunction.TheVariants.{CallCtors, InitTls, InitMemory}
+use Rattle.wl_check.specs.declared.line.MadeFunction.TheVariants.{CallCtors}
 use Rattle.wl_output.specs.declared.entities.MadeGlobal.{MadeGlobal}
-use Rattle.wl_output.specs.declared.entities.MadeGlobal.TheVariants.{MemoryBase, TableBase, StackPointer, TlsBase, TlsSize, TlsAlign, Address, GotMem, GotFunc, Data}
+use Rattle.wl_output.specs.declared.entities.MadeGlobal.TheVariants.{MemoryBase}
 use Rattle.wl_symbols.specs.declared.relocated.FixupPlace.{FixupPlace}
 use Rattle.wl_symbols.specs.declared.relocated.FixupPlace.TheVariants as place
 use Rattle.wl_check.specs.Texts.{made_function_name, made_global_name, place_name}
@@ -35,21 +36,11 @@ IsRead word cases x = (rest : List ℕ) → case_at word cases (word x ++ rest) 
 value_read : (t : ValType) → IsRead value_type_name value_types t
 unfolding case_at strip
 value_read I32 rest = refl
-value_read I64 rest = refl
-value_read F32 rest = refl
-value_read F64 rest = refl
-value_read V128 rest = refl
-value_read FuncRef rest = refl
-value_read ExternRef rest = refl
+value_read _ rest = refl
 
 value_inside : (t : ValType) → IsInside (value_type_name t)
 value_inside I32 rest = refl
-value_inside I64 rest = refl
-value_inside F32 rest = refl
-value_inside F64 rest = refl
-value_inside V128 rest = refl
-value_inside FuncRef rest = refl
-value_inside ExternRef rest = refl
+value_inside _ rest = refl
 
 pub value_type_code : IsCode false value_type_name (λ (t : ValType). Unit {0}) (case_at value_type_name value_types)
 value_type_code = case_code value_type_name value_types (λ t rest. value_read t rest) (λ t. value_inside t)
@@ -57,15 +48,11 @@ value_type_code = case_code value_type_name value_types (λ t rest. value_read t
 export_read : (k : ExternalKind) → IsRead kind_name export_kinds k
 unfolding case_at strip
 export_read external.Func rest = refl
-export_read external.Table rest = refl
-export_read external.Memory rest = refl
-export_read external.Global rest = refl
+export_read _ rest = refl
 
 export_inside : (k : ExternalKind) → IsInside (kind_name k)
 export_inside external.Func rest = refl
-export_inside external.Table rest = refl
-export_inside external.Memory rest = refl
-export_inside external.Global rest = refl
+export_inside _ rest = refl
 
 pub export_kind_code : IsCode false kind_name (λ (k : ExternalKind). Unit {0}) (case_at kind_name export_kinds)
 export_kind_code = case_code kind_name export_kinds (λ k rest. export_read k rest) (λ k. export_inside k)
@@ -73,35 +60,11 @@ export_kind_code = case_code kind_name export_kinds (λ k rest. export_read k re
 reloc_read : (t : RelocationType) → IsRead type_name relocation_types t
 unfolding case_at strip
 reloc_read type.FunctionIndexLeb rest = refl
-reloc_read type.TableIndexSleb rest = refl
-reloc_read type.TableIndexI32 rest = refl
-reloc_read type.MemoryAddrLeb rest = refl
-reloc_read type.MemoryAddrSleb rest = refl
-reloc_read type.MemoryAddrI32 rest = refl
-reloc_read type.TypeIndexLeb rest = refl
-reloc_read type.GlobalIndexLeb rest = refl
-reloc_read type.MemoryAddrRelSleb rest = refl
-reloc_read type.TableIndexRelSleb rest = refl
-reloc_read type.GlobalIndexI32 rest = refl
-reloc_read type.TableNumberLeb rest = refl
-reloc_read type.MemoryAddrTlsSleb rest = refl
-reloc_read type.FunctionIndexI32 rest = refl
+reloc_read _ rest = refl
 
 reloc_inside : (t : RelocationType) → IsInside (type_name t)
 reloc_inside type.FunctionIndexLeb rest = refl
-reloc_inside type.TableIndexSleb rest = refl
-reloc_inside type.TableIndexI32 rest = refl
-reloc_inside type.MemoryAddrLeb rest = refl
-reloc_inside type.MemoryAddrSleb rest = refl
-reloc_inside type.MemoryAddrI32 rest = refl
-reloc_inside type.TypeIndexLeb rest = refl
-reloc_inside type.GlobalIndexLeb rest = refl
-reloc_inside type.MemoryAddrRelSleb rest = refl
-reloc_inside type.TableIndexRelSleb rest = refl
-reloc_inside type.GlobalIndexI32 rest = refl
-reloc_inside type.TableNumberLeb rest = refl
-reloc_inside type.MemoryAddrTlsSleb rest = refl
-reloc_inside type.FunctionIndexI32 rest = refl
+reloc_inside _ rest = refl
 
 pub relocation_type_code : IsCode false type_name (λ (t : RelocationType). Unit {0}) (case_at type_name relocation_types)
 relocation_type_code = case_code type_name relocation_types (λ t rest. reloc_read t rest) (λ t. reloc_inside t)
@@ -109,13 +72,11 @@ relocation_type_code = case_code type_name relocation_types (λ t rest. reloc_re
 made_function_read : (m : MadeFunction) → IsRead made_function_name made_functions m
 unfolding case_at strip
 made_function_read CallCtors rest = refl
-made_function_read InitTls rest = refl
-made_function_read InitMemory rest = refl
+made_function_read _ rest = refl
 
 made_function_inside : (m : MadeFunction) → IsInside (made_function_name m)
 made_function_inside CallCtors rest = refl
-made_function_inside InitTls rest = refl
-made_function_inside InitMemory rest = refl
+made_function_inside _ rest = refl
 
 pub made_function_code : IsCode false made_function_name (λ (m : MadeFunction). Unit {0}) (case_at made_function_name made_functions)
 made_function_code = case_code made_function_name made_functions (λ m rest. made_function_read m rest) (λ m. made_function_inside m)
@@ -123,27 +84,11 @@ made_function_code = case_code made_function_name made_functions (λ m rest. mad
 made_global_read : (m : MadeGlobal) → IsRead made_global_name made_globals m
 unfolding case_at strip
 made_global_read MemoryBase rest = refl
-made_global_read TableBase rest = refl
-made_global_read StackPointer rest = refl
-made_global_read TlsBase rest = refl
-made_global_read TlsSize rest = refl
-made_global_read TlsAlign rest = refl
-made_global_read Address rest = refl
-made_global_read GotMem rest = refl
-made_global_read GotFunc rest = refl
-made_global_read Data rest = refl
+made_global_read _ rest = refl
 
 made_global_inside : (m : MadeGlobal) → IsInside (made_global_name m)
 made_global_inside MemoryBase rest = refl
-made_global_inside TableBase rest = refl
-made_global_inside StackPointer rest = refl
-made_global_inside TlsBase rest = refl
-made_global_inside TlsSize rest = refl
-made_global_inside TlsAlign rest = refl
-made_global_inside Address rest = refl
-made_global_inside GotMem rest = refl
-made_global_inside GotFunc rest = refl
-made_global_inside Data rest = refl
+made_global_inside _ rest = refl
 
 pub made_global_code : IsCode false made_global_name (λ (m : MadeGlobal). Unit {0}) (case_at made_global_name made_globals)
 made_global_code = case_code made_global_name made_globals (λ m rest. made_global_read m rest) (λ m. made_global_inside m)
@@ -151,11 +96,11 @@ made_global_code = case_code made_global_name made_globals (λ m rest. made_glob
 place_read : (p : FixupPlace) → IsRead place_name places p
 unfolding case_at strip
 place_read place.Code rest = refl
-place_read place.Segment rest = refl
+place_read _ rest = refl
 
 place_inside : (p : FixupPlace) → IsInside (place_name p)
 place_inside place.Code rest = refl
-place_inside place.Segment rest = refl
+place_inside _ rest = refl
 
 pub place_code : IsCode false place_name (λ (p : FixupPlace). Unit {0}) (case_at place_name places)
 place_code = case_code place_name places (λ p rest. place_read p rest) (λ p. place_inside p)
@@ -165,15 +110,11 @@ place_code = case_code place_name places (λ p rest. place_read p rest) (λ p. p
 source_read : (k : SourceKind) → IsRead source_word source_kinds k
 unfolding case_at strip
 source_read source_kind.Object rest = refl
-source_read source_kind.Made rest = refl
-source_read source_kind.Stub rest = refl
-source_read source_kind.Wrap rest = refl
+source_read _ rest = refl
 
 source_inside : (k : SourceKind) → IsInside (source_word k)
 source_inside source_kind.Object rest = refl
-source_inside source_kind.Made rest = refl
-source_inside source_kind.Stub rest = refl
-source_inside source_kind.Wrap rest = refl
+source_inside _ rest = refl
 
 pub source_words : IsCode false source_word (λ (k : SourceKind). Unit {0}) (case_at source_word source_kinds)
 source_words = case_code source_word source_kinds (λ k rest. source_read k rest) (λ k. source_inside k)
@@ -181,11 +122,11 @@ source_words = case_code source_word source_kinds (λ k rest. source_read k rest
 origin_read : (k : OriginKind) → IsRead origin_word origin_kinds k
 unfolding case_at strip
 origin_read origin_kind.Object rest = refl
-origin_read origin_kind.Made rest = refl
+origin_read _ rest = refl
 
 origin_inside : (k : OriginKind) → IsInside (origin_word k)
 origin_inside origin_kind.Object rest = refl
-origin_inside origin_kind.Made rest = refl
+origin_inside _ rest = refl
 
 pub origin_words : IsCode false origin_word (λ (k : OriginKind). Unit {0}) (case_at origin_word origin_kinds)
 origin_words = case_code origin_word origin_kinds (λ k rest. origin_read k rest) (λ k. origin_inside k)
@@ -193,15 +134,11 @@ origin_words = case_code origin_word origin_kinds (λ k rest. origin_read k rest
 state_read : (k : StateKind) → IsRead state_word state_kinds k
 unfolding case_at strip
 state_read state_kind.Active rest = refl
-state_read state_kind.Shared rest = refl
-state_read state_kind.Tls rest = refl
-state_read state_kind.Passive rest = refl
+state_read _ rest = refl
 
 state_inside : (k : StateKind) → IsInside (state_word k)
 state_inside state_kind.Active rest = refl
-state_inside state_kind.Shared rest = refl
-state_inside state_kind.Tls rest = refl
-state_inside state_kind.Passive rest = refl
+state_inside _ rest = refl
 
 pub state_words : IsCode false state_word (λ (k : StateKind). Unit {0}) (case_at state_word state_kinds)
 state_words = case_code state_word state_kinds (λ k rest. state_read k rest) (λ k. state_inside k)
@@ -209,43 +146,11 @@ state_words = case_code state_word state_kinds (λ k rest. state_read k rest) (�
 line_read : (k : LineKind) → IsRead line_word line_kinds k
 unfolding case_at strip
 line_read kind.Version rest = refl
-line_read kind.OutputType rest = refl
-line_read kind.ImportFunction rest = refl
-line_read kind.ImportGlobal rest = refl
-line_read kind.ImportMemory rest = refl
-line_read kind.Function rest = refl
-line_read kind.Body rest = refl
-line_read kind.Global rest = refl
-line_read kind.Memory rest = refl
-line_read kind.Table rest = refl
-line_read kind.Slot rest = refl
-line_read kind.Segment rest = refl
-line_read kind.Export rest = refl
-line_read kind.Start rest = refl
-line_read kind.Fix rest = refl
-line_read kind.Feature rest = refl
-line_read kind.Debug rest = refl
-line_read kind.End rest = refl
+line_read _ rest = refl
 
 line_inside : (k : LineKind) → IsInside (line_word k)
 line_inside kind.Version rest = refl
-line_inside kind.OutputType rest = refl
-line_inside kind.ImportFunction rest = refl
-line_inside kind.ImportGlobal rest = refl
-line_inside kind.ImportMemory rest = refl
-line_inside kind.Function rest = refl
-line_inside kind.Body rest = refl
-line_inside kind.Global rest = refl
-line_inside kind.Memory rest = refl
-line_inside kind.Table rest = refl
-line_inside kind.Slot rest = refl
-line_inside kind.Segment rest = refl
-line_inside kind.Export rest = refl
-line_inside kind.Start rest = refl
-line_inside kind.Fix rest = refl
-line_inside kind.Feature rest = refl
-line_inside kind.Debug rest = refl
-line_inside kind.End rest = refl
+line_inside _ rest = refl
 
 pub line_words : IsCode false line_word (λ (k : LineKind). Unit {0}) (case_at line_word line_kinds)
 line_words = case_code line_word line_kinds (λ k rest. line_read k rest) (λ k. line_inside k)

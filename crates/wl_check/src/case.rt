@@ -87,22 +87,7 @@ impl Case for RelocationType {
     }
 
     fn all() -> &'static [RelocationType] {
-        &[
-            RelocationType::FunctionIndexLeb,
-            RelocationType::TableIndexSleb,
-            RelocationType::TableIndexI32,
-            RelocationType::MemoryAddrLeb,
-            RelocationType::MemoryAddrSleb,
-            RelocationType::MemoryAddrI32,
-            RelocationType::TypeIndexLeb,
-            RelocationType::GlobalIndexLeb,
-            RelocationType::MemoryAddrRelSleb,
-            RelocationType::TableIndexRelSleb,
-            RelocationType::GlobalIndexI32,
-            RelocationType::TableNumberLeb,
-            RelocationType::MemoryAddrTlsSleb,
-            RelocationType::FunctionIndexI32,
-        ]
+        RelocationType::all_types()
     }
 }
 

@@ -2,7 +2,7 @@
 //! each column is a `match`.
 
 ghost use Rattle.std.specs.Prelude.{◌≡◌};
-ghost use Rattle.wl_custom.specs.RelocationTypes.{field_form, taking_of, may_stand_in_data, relocation_type_of, names_a_type, has_addend, takes_kind, is_global_index, is_table_index, is_table_relative, is_table_number, is_memory_relative, is_absolute, type_name};
+ghost use Rattle.wl_custom.specs.RelocationTypes.{field_form, taking_of, may_stand_in_data, relocation_types, relocation_type_of, names_a_type, has_addend, takes_kind, is_global_index, is_table_index, is_table_relative, is_table_number, is_memory_relative, is_absolute, type_name};
 
 use crate::symbols::WasmSymbolKind;
 use crate::takings::{AddressBase, Taking};
@@ -55,6 +55,28 @@ pub enum FieldForm {
 pub(crate) const LAST_TYPE: u8 = 26;
 
 impl RelocationType {
+    /// All of them that there is a rule for, each once.
+    pub fn all_types() -> &'static [RelocationType]
+        ensures { result.now ≡ relocation_types }
+    {
+        &[
+            Self::FunctionIndexLeb,
+            Self::TableIndexSleb,
+            Self::TableIndexI32,
+            Self::MemoryAddrLeb,
+            Self::MemoryAddrSleb,
+            Self::MemoryAddrI32,
+            Self::TypeIndexLeb,
+            Self::GlobalIndexLeb,
+            Self::MemoryAddrRelSleb,
+            Self::TableIndexRelSleb,
+            Self::GlobalIndexI32,
+            Self::TableNumberLeb,
+            Self::MemoryAddrTlsSleb,
+            Self::FunctionIndexI32,
+        ]
+    }
+
     /// How its field holds the value.
     pub fn field_form(self) -> FieldForm
         ensures { result ≡ field_form self }

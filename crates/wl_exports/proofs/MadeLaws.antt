@@ -8,7 +8,7 @@ use Rattle.std.proofs.lemmas.Option.{same_Some}
 use Rattle.wl_linking.specs.Object.{Object}
 use Rattle.wl_custom.specs.declared.symbols.WasmSymbolKind.{WasmSymbolKind}
 use Rattle.wl_custom.specs.declared.symbols.WasmSymbolKind.TheVariants as symbol
-use Rattle.wl_symbols.specs.LinkerNames.{row_of, name_of, all_made, symbol_named, is_exported_as_data}
+use Rattle.wl_symbols.specs.LinkerNames.{kind_of, name_of, all_made, symbol_named, is_exported_as_data}
 use Rattle.wl_symbols.specs.declared.linker_symbol.WasmLinkerSymbol.{WasmLinkerSymbol}
 use Rattle.wl_symbols.specs.declared.linker_symbol.WasmLinkerSymbol.TheVariants as linker
 use Rattle.wl_symbols.specs.ImportSlots.{ImportSlot}
@@ -121,19 +121,7 @@ found_passes {X} p (y ∷ xs) x e = elim (cases_Bool (p y)) [
 data_made : (input : Input) (m : WasmLinkerSymbol) → is_exported_as_data true m ≡ true → is_forced input m ≡ true
     → is_made input m ≡ true
 data_made input linker.DataEnd is forced = forced
-data_made input linker.GlobalBase is forced = forced
-data_made input linker.HeapBase is forced = forced
-data_made input linker.HeapEnd is forced = forced
-data_made input linker.WasmFirstPageEnd is forced = forced
-data_made input linker.DsoHandle is forced = forced
-data_made input linker.MemoryBase is forced = absurd cc
-data_made input linker.TableBase is forced = absurd cc
-data_made input linker.StackPointer is forced = absurd cc
-data_made input linker.TlsBase is forced = absurd cc
-data_made input linker.TlsSize is forced = absurd cc
-data_made input linker.TlsAlign is forced = absurd cc
-data_made input linker.CallCtors is forced = absurd cc
-data_made input linker.InitTls is forced = absurd cc
+data_made input _ is forced = cc
 
 if_is : (b : Bool) (k m : WasmLinkerSymbol) → (if b then Some k else None) ≡ Some m → (b ≡ true) × (k ≡ m)
 if_is true k m e = (refl, same_Some k m e)
@@ -241,13 +229,13 @@ made_entry input m name = if is_made input m then Some (export_of name (made_ent
 pub made_plain : (input : Input) (m : WasmLinkerSymbol) (name : List ℕ) (i : ℕ) → IsMadeIndex input m (Some i)
     → IsPlainIf input (made_entry input m name) (Some (record { name = name; kind = kind_of_made m; index = i }))
 made_plain input m name i at =
-    let made = stands_made input m (row_of m).kind i at in
-    rw made (stands_plain input m (row_of m).kind name i at)
+    let made = stands_made input m (kind_of m) i at in
+    rw made (stands_plain input m (kind_of m) name i at)
 
 pub made_tells : (input : Input) (m : WasmLinkerSymbol) (index : Option ℕ) → IsMadeIndex input m index
     → is_some index ≡ is_made input m
 made_tells input m None is = sym is
-made_tells input m (Some i) is = sym (stands_made input m (row_of m).kind i is)
+made_tells input m (Some i) is = sym (stands_made input m (kind_of m) i is)
 
 pub made_name : (input : Input) (name : List ℕ) (m : WasmLinkerSymbol) → symbol_named name ≡ Some m
     → is_made_name input name ≡ is_made input m

@@ -12,7 +12,7 @@ use Rattle.wl_custom.specs.Symbols.{Symbol as LinkedSymbol, is_data, has_name, i
 use Rattle.wl_custom.specs.declared.symbols.WasmSymbolKind.{WasmSymbolKind}
 use Rattle.wl_custom.specs.declared.symbols.WasmSymbolKind.TheVariants as symbol
 use Rattle.wl_words.specs.Args.{export_name}
-use Rattle.wl_symbols.specs.LinkerNames.{row_of, name_of, symbol_named}
+use Rattle.wl_symbols.specs.LinkerNames.{kind_of, name_of, symbol_named}
 use Rattle.wl_symbols.specs.Names.{named}
 use Rattle.wl_symbols.specs.declared.entry.Definition.{Definition}
 use Rattle.wl_symbols.specs.declared.entry.Definition.TheVariants.{Symbol, Made as MadeName}
@@ -123,7 +123,7 @@ made_of_kind m _ = OfGlobal (AddressOf m)
 
 -- what the linker makes
 abbrev pub made_entity : WasmLinkerSymbol → Entity
-made_entity m = made_of_kind m (row_of m).kind
+made_entity m = made_of_kind m (kind_of m)
 
 -- what the linker makes under a name, where the output has it
 abbrev pub made_under : Input → List ℕ → Option Entity

@@ -3,6 +3,7 @@
 ghost use Rattle.std.specs.Prelude.{◌≡◌, bytes_eq, OnOk, if◌then◌else◌, Some, None};
 ghost use Rattle.std.specs.List.{list_any};
 ghost use Rattle.std.specs.Option.{option_map};
+ghost use Rattle.wl_symbols.specs.LinkerNames.{name_of};
 ghost use Rattle.wl_bind.specs.ExportedData.{is_made_name};
 ghost use Rattle.wl_bind.specs.Made.{is_made};
 ghost use Rattle.wl_exports.specs.Exports.{export_of, made_entity, made_under, thread_exports, made_exports, stack_pointer_export};
@@ -16,36 +17,14 @@ use wl_features::TARGET_FEATURE_MUTABLE_GLOBALS;
 use wl_module::{ExternalKind, OutputExport};
 use wl_symbols::WasmLinkerSymbol;
 
-/// The name of the stack pointer.
-const STACK_POINTER: &str = "__stack_pointer";
-
-/// The name of the size of the block of each thread.
-const TLS_SIZE: &str = "__tls_size";
-
-/// The name of the alignment of the block of each thread.
-const TLS_ALIGN: &str = "__tls_align";
-
-/// The name of what fills the block of a thread.
-pub(crate) const INIT_TLS: &str = "__wasm_init_tls";
-
 /// Whether what the linker makes under a name is exported as a function; all else is a global.
 fn kind_of(made: WasmLinkerSymbol) -> ExternalKind
     ensures { result ≡ kind_of_made made }
 {
-    match made {
-        WasmLinkerSymbol::CallCtors | WasmLinkerSymbol::InitTls => ExternalKind::Func,
-        WasmLinkerSymbol::DataEnd
-        | WasmLinkerSymbol::GlobalBase
-        | WasmLinkerSymbol::HeapBase
-        | WasmLinkerSymbol::HeapEnd
-        | WasmLinkerSymbol::WasmFirstPageEnd
-        | WasmLinkerSymbol::DsoHandle
-        | WasmLinkerSymbol::MemoryBase
-        | WasmLinkerSymbol::TableBase
-        | WasmLinkerSymbol::StackPointer
-        | WasmLinkerSymbol::TlsBase
-        | WasmLinkerSymbol::TlsSize
-        | WasmLinkerSymbol::TlsAlign => ExternalKind::Global,
+    if made.kind().is_function() {
+        ExternalKind::Func
+    } else {
+        ExternalKind::Global
     }
 }
 
@@ -66,6 +45,19 @@ fn export_made<'a>(
         kind: kind_of(made),
         index,
     })
+}
+
+/// The export of what the linker makes, under its own name, where the output has it.
+fn export_named<'a>(
+    sources: &ExportSources<'_, '_, 'a>,
+    made: WasmLinkerSymbol,
+) -> Option<OutputExport<'a>>
+    requires { AreSources sources.now }
+    ensures { IsPlainIf sources.now.input.now
+        (if is_made sources.now.input.now made
+        then Some (export_of (name_of made) (made_entity made)) else None) result }
+{
+    export_made(sources, made, made.text())
 }
 
 /// Whether the output has something that the linker makes under the name.
@@ -102,18 +94,9 @@ pub(crate) fn push_thread<'a>(
     ensures { OnOk result (AddsExports sources.now.input.now
         (thread_exports sources.now.input.now) exports.old.items exports.new.items) }
 {
-    push_some(
-        exports,
-        export_made(sources, WasmLinkerSymbol::TlsSize, TLS_SIZE),
-    )?;
-    push_some(
-        exports,
-        export_made(sources, WasmLinkerSymbol::TlsAlign, TLS_ALIGN),
-    )?;
-    push_some(
-        exports,
-        export_made(sources, WasmLinkerSymbol::InitTls, INIT_TLS),
-    )
+    push_some(exports, export_named(sources, WasmLinkerSymbol::TlsSize))?;
+    push_some(exports, export_named(sources, WasmLinkerSymbol::TlsAlign))?;
+    push_some(exports, export_named(sources, WasmLinkerSymbol::InitTls))
 }
 
 /// Adds the exports whose names are asked for and that the linker makes.
@@ -160,6 +143,6 @@ pub(crate) fn push_stack_pointer<'a>(
     }
     push_some(
         exports,
-        export_made(sources, WasmLinkerSymbol::StackPointer, STACK_POINTER),
+        export_named(sources, WasmLinkerSymbol::StackPointer),
     )
 }

@@ -13,17 +13,13 @@ ghost use Rattle.wl_exports.specs.steps.Wrappers.{with_export, with_wrapper};
 ghost use Rattle.wl_exports.specs.Wrapped.{AreOutputExports, AreWrappers};
 ghost use Rattle.wl_exports.specs.Wrappers.{is_ctors_name, calls_ctors, wraps, can_wrap, is_own_function, wrapped};
 
-use crate::made::INIT_TLS;
 use std::alloc::{AllocError, Global};
 use std::marker::Model;
 use wl_bind::has_init_functions;
 use wl_linking::File;
 use wl_lists::ItemList;
 use wl_module::{ExternalKind, Import, ImportEntity, OutputExport};
-use wl_symbols::LinkInput;
-
-/// The name of what calls the constructors.
-const CALL_CTORS: &str = "__wasm_call_ctors";
+use wl_symbols::{LinkInput, WasmLinkerSymbol};
 
 /// A wrapper. Clauses see it as a `WrapperEntry`.
 #[derive(Drop)]
@@ -48,7 +44,7 @@ impl<'a> Model for Wrapper<'a> {
 fn is_ctors_name(name: &str) -> bool
     ensures { result ≡ is_ctors_name name.now }
 {
-    name == CALL_CTORS
+    name == WasmLinkerSymbol::CallCtors.text()
 }
 
 /// Whether it is the import of a function that calls the constructors.
@@ -121,7 +117,7 @@ fn can_wrap(export: &OutputExport<'_>, hosts: usize) -> bool
         → IsPlainExport input e export.now → result ≡ can_wrap e }
 {
     let is_own = is_own(export, hosts);
-    is_own && INIT_TLS != export.name
+    is_own && WasmLinkerSymbol::InitTls.text() != export.name
 }
 
 // ---- wrapping

@@ -11,7 +11,7 @@ use Rattle.wl_module.specs.Types.{FunctionType}
 use Rattle.wl_linking.specs.Object.{Object}
 use Rattle.wl_custom.specs.Symbols.{Symbol}
 use Rattle.wl_custom.specs.declared.symbols.WasmSymbolKind.{WasmSymbolKind}
-use Rattle.wl_symbols.specs.LinkerNames.{row_of}
+use Rattle.wl_symbols.specs.LinkerNames.{kind_of}
 use Rattle.wl_custom.specs.declared.symbols.WasmSymbolKind.TheVariants.{Func}
 use Rattle.wl_symbols.specs.declared.units.WasmGcUnit.TheVariants.{DefinedFunction}
 use Rattle.wl_symbols.specs.declared.linker_symbol.WasmLinkerSymbol.{WasmLinkerSymbol}
@@ -251,7 +251,7 @@ pub record IsMadeHere (input : Input) (part : List FunctionEntry) (entry : Funct
 
 pub made_here : (input : Input) (m : WasmLinkerSymbol) (index : Option ℕ) (ty : FunctionType)
     → ((entry : FunctionEntry) → Contains (function_space input) entry → HasOutputType input entry)
-    → (row_of m).kind ≡ Func → type_of_made m ≡ Some ty → IsMadeIndex input m index
+    → kind_of m ≡ Func → type_of_made m ≡ Some ty → IsMadeIndex input m index
     → is_some index ≡ true → IsMadeHere input (made_function_part input m) (FunctionOf (Made m)) ty
 made_here input m None ty types kind typed is some = absurd cc
 made_here input m (Some i) ty types kind typed is some =

@@ -1,34 +1,26 @@
 -- How the list of globals grows, part by part.
-use Rattle.std.proofs.Common.{◌≡◌, ◌∙◌, ℕ, zero, suc, ◌+◌, ◌<◌, ◌≤◌, ◌++◌, Bool, true, false, List, [], ◌∷◌, length, map, take, get_or, refl, sym, ap, subst, inl, inr, arith, Option, Some, None, is_some, Ok, Err, Contains, flat_map, append_assoc, append-nil, slice_get, if◌then◌else◌}
-use Rattle.std.specs.List.{AllZip, AllByRecursion, range_with_len, filter, list_all}
+use Rattle.std.proofs.Common.{◌≡◌, ◌∙◌, ℕ, zero, suc, ◌+◌, ◌<◌, ◌≤◌, ◌++◌, Bool, true, false, List, [], ◌∷◌, length, map, take, get_or, refl, sym, ap, subst, inl, inr, arith, Some, Ok, Err, Contains, flat_map, append_assoc, append-nil, slice_get, if◌then◌else◌}
+use Rattle.std.specs.List.{AllZip, range_with_len, filter}
 use Rattle.std.proofs.lemmas.Bool.{cases_Bool}
 use Rattle.std.proofs.lemmas.List.{map_more, take_more, take_all, map-append}
 use Rattle.std.proofs.lemmas.List.Concat.{flat_map-append}
 use Rattle.std.proofs.lemmas.List.Elements.{Contains-append_left, Contains-append_right, filter-append}
-use Rattle.std.proofs.lemmas.Option.{same_Some, slice_get-get_or}
 use Rattle.std.proofs.lemmas.List.FromFn.{map-range_with_len_more, length-map-range_with_len, get_or-map-range_with_len}
 use Rattle.wl_module.specs.Globals.{DefinedGlobal}
 use Rattle.wl_linking.specs.Object.{Object}
 use Rattle.wl_linking.specs.Steps.{Clear, Refuses}
 use Rattle.wl_linking.specs.declared.error.LinkError.{LinkError}
-use Rattle.wl_symbols.specs.LinkerNames.{row_of}
 use Rattle.wl_symbols.specs.declared.linker_symbol.WasmLinkerSymbol.{WasmLinkerSymbol}
 use Rattle.wl_symbols.specs.declared.linker_symbol.WasmLinkerSymbol.TheVariants as linker
+use Rattle.wl_symbols.specs.declared.made_sort.NamedGlobal.{NamedGlobal}
+use Rattle.wl_symbols.specs.declared.made_sort.NamedGlobal.TheVariants as named
 use Rattle.wl_symbols.specs.declared.units.WasmGcUnit.TheVariants.{DefinedGlobal as OwnGlobal}
-use Rattle.wl_symbols.specs.ImportSlots.{ImportSlot}
-use Rattle.wl_symbols.specs.Left.{first_imports}
-use Rattle.wl_bind.specs.ExportedAddresses.{exported_addresses}
-use Rattle.wl_bind.specs.ExportedData.{dynamic_data, forced_data}
-use Rattle.wl_bind.specs.GlobalBinding.{host_globals}
 use Rattle.wl_bind.specs.Made.{is_made}
-use Rattle.wl_bind.specs.MadeIndices.{IsMadeIndex, StandsAt}
 use Rattle.wl_bind.specs.Parts.{by_object}
-use Rattle.wl_bind.specs.Scan.{got_mem, got_func}
-use Rattle.wl_bind.specs.declared.exported.DataSymbol.{DataSymbol}
-use Rattle.wl_bind.specs.GlobalSpace.{GlobalEntry, GlobalOf, AddressOf, DataOf, globals_of, kept_globals, made_global_part, address_part, got_mem_part, got_func_part, dynamic_part, forced_part, host_global_part, object_globals, global_space}
+use Rattle.wl_bind.specs.GlobalSpace.{GlobalEntry, GlobalOf, AddressOf, DataOf, globals_of, made_global_part, address_part, got_mem_part, got_func_part, dynamic_part, forced_part, host_global_part, object_globals}
 use Rattle.wl_symbols.specs.Input.{Input, keeps}
 use Rattle.wl_bind.specs.declared.binding.GlobalTarget.TheVariants.{Defined, Made, GotMem, GotFunc, Host}
-use Rattle.wl_plan.specs.steps.Globals.{AnswersStart, AddsMade, AddsPart, IsPartFault, is_linker_global, linker_parts, made_parts, own_global_part}
+use Rattle.wl_plan.specs.steps.Globals.{AnswersStart, AddsMade, AddsPart, IsPartFault, named_part, linker_parts, made_parts, own_global_part}
 use Rattle.wl_plan.specs.Globals.{start_of_global, i32_global, IsMadeGlobal, IsGlobalOf, IsPlannedGlobal, own_globals, ArePlannedGlobals, IsGlobalFault}
 use Rattle.wl_plan.specs.declared.global_starts.GlobalSources.{GlobalSources}
 use Rattle.wl_plan.specs.declared.global_starts.Start.{Start}
@@ -37,7 +29,6 @@ use Rattle.wl_plan.specs.declared.layout.PlannedGlobal.{PlannedGlobal}
 use Rattle.wl_places.specs.declared.placing.Placing.{Placing}
 use Rattle.wl_lists.proofs.Beside.{zip_joined}
 use Rattle.wl_lists.proofs.In.{Contains-map}
-use Rattle.wl_lists.proofs.Places.{test_at}
 use Rattle.wl_lists.proofs.Rows.{by_object_more}
 use Rattle.wl_plan.proofs.ListLaws.{drop_front}
 
@@ -307,12 +298,12 @@ module _ (s : GlobalSources) where
       subst (λ (k : ℕ). AddsPart s (map f (range_with_len 0 k)) a b) is h
 
 -- the globals that the linker makes under names, in order
-abbrev pub six_names : List WasmLinkerSymbol
+abbrev pub six_names : List NamedGlobal
 six_names =
-    linker.MemoryBase ∷ linker.TableBase ∷ linker.StackPointer ∷ linker.TlsBase ∷ linker.TlsSize
-    ∷ linker.TlsAlign ∷ []
+    named.MemoryBase ∷ named.TableBase ∷ named.StackPointer ∷ named.TlsBase ∷ named.TlsSize
+    ∷ named.TlsAlign ∷ []
 
-pub six_are : (input : Input) → flat_map (made_global_part input) six_names ≡ linker_parts input
+pub six_are : (input : Input) → flat_map (named_part input) six_names ≡ linker_parts input
 six_are input = simp (append-nil)
 
 -- ---- all of them
@@ -342,7 +333,7 @@ own_globals_are input =
     ∙ ap (λ (l : List GlobalEntry). l ++ object_globals input) (regroup a b c d e f g h i j k)
 
 pub planned : (s : GlobalSources) {a b c d e f g h : List PlannedGlobal} → a ≡ []
-    → AddsPart s (flat_map (made_global_part s.book.now.input.now) six_names) a b
+    → AddsPart s (flat_map (named_part s.book.now.input.now) six_names) a b
     → AddsPart s (address_part s.book.now.input.now) b c
     → AddsPart s (got_mem_part s.book.now.input.now) c d
     → AddsPart s (got_func_part s.book.now.input.now) d e
@@ -408,128 +399,6 @@ planned_clear input g globals h = record {
 
 -- ---- what the output has under a name
 
--- where the entry is the thing of that name, the output has it
-abbrev IsMadeIf : Input → WasmLinkerSymbol → GlobalEntry → Type 0
-IsMadeIf input m entry = entry ≡ GlobalOf (Made m) → is_made input m ≡ true
-
--- so it is of all of these
-record AreMadeIf (input : Input) (m : WasmLinkerSymbol) (xs : List GlobalEntry) : Type 0 where
-  each : AllByRecursion (IsMadeIf input m) xs
-
-holds_at : (input : Input) (m : WasmLinkerSymbol) (xs : List GlobalEntry) (k : ℕ) (x : GlobalEntry)
-    → AllByRecursion (IsMadeIf input m) xs → slice_get xs k ≡ Some x → IsMadeIf input m x
-holds_at input m [] k x h at = absurd cc
-holds_at input m (y ∷ xs) zero x h at =
-    subst (λ (z : GlobalEntry). IsMadeIf input m z) (same_Some y x at) h.0
-holds_at input m (y ∷ xs) (suc k) x h at = holds_at input m xs k x h.1 at
-
-both_hold : (input : Input) (m : WasmLinkerSymbol) (xs ys : List GlobalEntry)
-    → AllByRecursion (IsMadeIf input m) xs → AllByRecursion (IsMadeIf input m) ys
-    → AllByRecursion (IsMadeIf input m) (xs ++ ys)
-both_hold input m [] ys h k = k
-both_hold input m (x ∷ xs) ys h k = (h.0, both_hold input m xs ys h.1 k)
-
-join_made : {input : Input} {m : WasmLinkerSymbol} {xs ys : List GlobalEntry}
-    → AreMadeIf input m xs → AreMadeIf input m ys → AreMadeIf input m (xs ++ ys)
-join_made {input} {m} {xs} {ys} h k = record { each = both_hold input m xs ys h.each k.each }
-
-none_made : (input : Input) (m : WasmLinkerSymbol) → AreMadeIf input m []
-none_made input m = record { each = tt }
-
-map_holds : {X : Type 0} (input : Input) (m : WasmLinkerSymbol) (f : X → GlobalEntry) (xs : List X)
-    → ((x : X) → f x ≡ GlobalOf (Made m) → ⊥) → AllByRecursion (IsMadeIf input m) (map f xs)
-map_holds input m f [] other = tt
-map_holds input m f (x ∷ xs) other =
-    ((λ is. absurd (other x is)), map_holds input m f xs other)
-
-map_made : {X : Type 0} (input : Input) (m : WasmLinkerSymbol) (f : X → GlobalEntry) (xs : List X)
-    → ((x : X) → f x ≡ GlobalOf (Made m) → ⊥) → AreMadeIf input m (map f xs)
-map_made input m f xs other = record { each = map_holds input m f xs other }
-
-same_made_name : (input : Input) (n m : WasmLinkerSymbol) → GlobalOf (Made n) ≡ GlobalOf (Made m)
-    → is_made input n ≡ true → is_made input m ≡ true
-same_made_name input n m is made =
-    let same : n ≡ m = cc in subst (λ (x : WasmLinkerSymbol). is_made input x ≡ true) same made
-
-one_made : (input : Input) (n m : WasmLinkerSymbol) (there : Bool) → is_made input n ≡ there
-    → AllByRecursion (IsMadeIf input m) (if there then GlobalOf (Made n) ∷ [] else [])
-one_made input n m true made = ((λ is. same_made_name input n m is made), tt)
-one_made input n m false made = tt
-
-part_made : (input : Input) (m n : WasmLinkerSymbol) → AreMadeIf input m (made_global_part input n)
-part_made input m n = record { each = one_made input n m (is_made input n) refl }
-
-not_host : (m : WasmLinkerSymbol) (object slot : ℕ)
-    → GlobalOf (Host object slot) ≡ GlobalOf (Made m) → ⊥
-not_host m object slot is = cc
-
-not_mem : (m : WasmLinkerSymbol) (k : ℕ) → GlobalOf (GotMem k) ≡ GlobalOf (Made m) → ⊥
-not_mem m k is = cc
-
-not_func : (m : WasmLinkerSymbol) (k : ℕ) → GlobalOf (GotFunc k) ≡ GlobalOf (Made m) → ⊥
-not_func m k is = cc
-
-not_own : (m : WasmLinkerSymbol) (object k : ℕ)
-    → GlobalOf (Defined object k) ≡ GlobalOf (Made m) → ⊥
-not_own m object k is = cc
-
-not_address : (m n : WasmLinkerSymbol) → AddressOf n ≡ GlobalOf (Made m) → ⊥
-not_address m n is = cc
-
-not_data : (m : WasmLinkerSymbol) (d : DataSymbol) → DataOf d ≡ GlobalOf (Made m) → ⊥
-not_data m d is = cc
-
-objects_made : (input : Input) (m : WasmLinkerSymbol) (n : ℕ) (os : List Object)
-    → AreMadeIf input m (by_object (globals_of input) n os)
-objects_made input m n [] = none_made input m
-objects_made input m n (o ∷ os) =
-    join_made (map_made input m (λ (k : ℕ). GlobalOf (Defined n k)) (kept_globals input n o)
-    (not_own m n)) (objects_made input m (n + 1) os)
-
-space_made : (input : Input) (m : WasmLinkerSymbol) → AreMadeIf input m (global_space input)
-space_made input m =
-    join_made
-    (join_made (map_made input m (λ (t : ImportSlot). GlobalOf (Host t.object t.number))
-    (first_imports (host_globals input)) (λ t. not_host m t.object t.number))
-    (join_made (part_made input m linker.MemoryBase)
-    (join_made (part_made input m linker.TableBase)
-    (join_made (part_made input m linker.StackPointer)
-    (join_made (part_made input m linker.TlsBase)
-    (join_made (part_made input m linker.TlsSize)
-    (join_made (part_made input m linker.TlsAlign)
-    (join_made (map_made input m AddressOf (exported_addresses input.link.args) (not_address m))
-    (join_made (map_made input m (λ (k : ℕ). GlobalOf (GotMem k))
-    (range_with_len 0 (length (got_mem input))) (not_mem m))
-    (join_made (map_made input m (λ (k : ℕ). GlobalOf (GotFunc k))
-    (range_with_len 0 (length (got_func input))) (not_func m))
-    (join_made (map_made input m DataOf (dynamic_data input) (not_data m))
-    (join_made (map_made input m DataOf (forced_data input) (not_data m))
-    (none_made input m)))))))))))))
-    (objects_made input m 0 input.link.objects)
-
-pub stands_made : (input : Input) (m : WasmLinkerSymbol) (i : ℕ)
-    → slice_get (global_space input) i ≡ Some (GlobalOf (Made m)) → is_made input m ≡ true
-stands_made input m i at =
-    holds_at input m (global_space input) i (GlobalOf (Made m)) (space_made input m).each at refl
-
--- what stands at its index is made
-pub made_there : (input : Input) (m : WasmLinkerSymbol) (i : ℕ) → is_linker_global m ≡ true
-    → StandsAt input m (row_of m).kind i → is_made input m ≡ true
-made_there input linker.MemoryBase i so at = stands_made input linker.MemoryBase i at
-made_there input linker.TableBase i so at = stands_made input linker.TableBase i at
-made_there input linker.StackPointer i so at = stands_made input linker.StackPointer i at
-made_there input linker.TlsBase i so at = stands_made input linker.TlsBase i at
-made_there input linker.TlsSize i so at = stands_made input linker.TlsSize i at
-made_there input linker.TlsAlign i so at = stands_made input linker.TlsAlign i at
-made_there input linker.DataEnd i so at = absurd cc
-made_there input linker.GlobalBase i so at = absurd cc
-made_there input linker.HeapBase i so at = absurd cc
-made_there input linker.HeapEnd i so at = absurd cc
-made_there input linker.WasmFirstPageEnd i so at = absurd cc
-made_there input linker.DsoHandle i so at = absurd cc
-made_there input linker.CallCtors i so at = absurd cc
-made_there input linker.InitTls i so at = absurd cc
-
 part_if : (there : Bool) (entry : GlobalEntry) → there ≡ true
     → (if there then entry ∷ [] else []) ≡ entry ∷ []
 part_if true entry is = refl
@@ -547,24 +416,6 @@ made_part input m is = part_if (is_made input m) (GlobalOf (Made m)) is
 pub no_part : (input : Input) (m : WasmLinkerSymbol) → is_made input m ≡ false
     → made_global_part input m ≡ []
 no_part input m is = part_unless (is_made input m) (GlobalOf (Made m)) is
-
--- each of these is one
-pub kind_at : (names : List WasmLinkerSymbol) (i : ℕ) (d : WasmLinkerSymbol) → i < length names
-    → list_all is_linker_global names ≡ true → is_linker_global (get_or names i d) ≡ true
-kind_at names i d lt all =
-    test_at is_linker_global names i (get_or names i d) all (slice_get-get_or names i d lt)
-
--- by its index the output has it, or not
-pub made_by_index : (input : Input) (m : WasmLinkerSymbol) (index : Option ℕ)
-    → is_linker_global m ≡ true → IsMadeIndex input m index → is_some index ≡ true
-    → is_made input m ≡ true
-made_by_index input m None so is some = absurd cc
-made_by_index input m (Some i) so is some = made_there input m i so is
-
-pub unmade_by_index : (input : Input) (m : WasmLinkerSymbol) (index : Option ℕ)
-    → IsMadeIndex input m index → is_some index ≡ false → is_made input m ≡ false
-unmade_by_index input m None is none = is
-unmade_by_index input m (Some i) is none = absurd cc
 
 -- so the list grows by that global, or by nothing
 pub adds_if_made : (s : GlobalSources) (m : WasmLinkerSymbol) (start : Start)

@@ -7,7 +7,7 @@ use Rattle.wl_symbols.specs.Input.{Input}
 use Rattle.wl_symbols.specs.Link.{Link}
 use Rattle.wl_symbols.specs.LinkerNames.{name_of}
 use Rattle.wl_symbols.specs.declared.linker_symbol.WasmLinkerSymbol.{WasmLinkerSymbol}
-use Rattle.wl_symbols.specs.declared.linker_symbol.WasmLinkerSymbol.TheVariants.{DataEnd, GlobalBase, HeapBase, HeapEnd, WasmFirstPageEnd, DsoHandle, MemoryBase, TableBase, StackPointer, TlsBase, TlsSize, TlsAlign, CallCtors, InitTls}
+use Rattle.wl_symbols.specs.declared.linker_symbol.WasmLinkerSymbol.TheVariants.{CallCtors, InitTls}
 use Rattle.wl_bind.specs.EntryTypes.{type_of_entry}
 use Rattle.wl_bind.specs.FunctionSpace.{FunctionEntry}
 use Rattle.wl_bind.specs.FunctionTypes.{type_of_made}
@@ -24,20 +24,9 @@ use Rattle.wl_plan.proofs.RunningLaws.{linker_entry, not_linker}
 
 -- a name that stands for a function is listed: each other has no type
 named_by_type : (m : WasmLinkerSymbol) (t : FunctionType) → type_of_made m ≡ Some t → made_function_name (made_function m) ≡ name_of m
-named_by_type DataEnd t e = absurd cc
-named_by_type GlobalBase t e = absurd cc
-named_by_type HeapBase t e = absurd cc
-named_by_type HeapEnd t e = absurd cc
-named_by_type WasmFirstPageEnd t e = absurd cc
-named_by_type DsoHandle t e = absurd cc
-named_by_type MemoryBase t e = absurd cc
-named_by_type TableBase t e = absurd cc
-named_by_type StackPointer t e = absurd cc
-named_by_type TlsBase t e = absurd cc
-named_by_type TlsSize t e = absurd cc
-named_by_type TlsAlign t e = absurd cc
 named_by_type CallCtors t e = refl
 named_by_type InitTls t e = refl
+named_by_type _ t e = absurd cc
 
 pub listed_by_name : (link : Link) (plan : LinkPlan) (f : PlannedFunction) (m : WasmLinkerSymbol) → IsPlanOf link plan
     → Contains plan.layout.function_type_indices f → f.origin ≡ OfLinker m → made_function_name (made_function m) ≡ name_of m

@@ -10,7 +10,6 @@ use Rattle.wl_custom.specs.RelocationTypes.{field_form, has_addend}
 use Rattle.wl_custom.specs.declared.relocation_type.FieldForm.{FieldForm}
 use Rattle.wl_custom.specs.declared.relocation_type.FieldForm.TheVariants.{PaddedUnsigned, PaddedSigned, Word}
 use Rattle.wl_custom.specs.declared.relocation_type.RelocationType.{RelocationType}
-use Rattle.wl_custom.specs.declared.relocation_type.RelocationType.TheVariants as type
 use Rattle.wl_linking.specs.Fitting.{IsWhole, data_pieces}
 use Rattle.wl_linking.specs.Object.{Object}
 use Rattle.wl_linking.specs.Sites.{IsSite, PieceOf, segment_piece, field_len, has_form, is_padded}
@@ -19,9 +18,8 @@ use Rattle.wl_data.specs.Segments.{KeptData, SegmentLayout}
 use Rattle.wl_data.specs.declared.options.DataOptions.{DataOptions}
 use Rattle.wl_index.specs.declared.data_address.WasmDataAddress.{WasmDataAddress}
 use Rattle.wl_index.specs.declared.data_address.WasmDataAddress.TheVariants.{Missing, Placed, Passive, TlsOffset}
-use Rattle.wl_reloc.specs.Addresses.{deferred_at, deferred_value}
+use Rattle.wl_reloc.specs.Addresses.{stored_by_thread, deferred_at, deferred_value}
 use Rattle.wl_reloc.specs.declared.error.RelocError.{RelocError}
-use Rattle.wl_reloc.specs.declared.error.RelocError.TheVariants as reloc
 use Rattle.wl_synth.specs.Memory.{ShareNoByte}
 use Rattle.wl_synth.specs.ThreadLocal.{AreWordsApart}
 use Rattle.wl_synth.specs.declared.parts.TlsPointerFixup.{TlsPointerFixup}
@@ -246,26 +244,16 @@ in_row n (r ∷ rows) (suc object) row k l e at =
 
 -- ---- what a pointer says
 
-no_offset : (b : Bool) (z : ℤ) → ◌≡◌ {A = Result (Option ℤ) RelocError}
-    (if b then Err reloc.Unsupported else Ok None) (Ok (Some z)) → ⊥
-no_offset true z e = absurd cc
-no_offset false z e = absurd cc
+-- only four bytes are set when a thread starts
+set_by_thread : (addend : Bool) (form : FieldForm) (y z : ℤ)
+    → (if addend then stored_by_thread form y else Ok None) ≡ Ok (Some z) → field_len form ≡ 4
+set_by_thread false form y z e = absurd cc
+set_by_thread true PaddedUnsigned y z e = absurd cc
+set_by_thread true PaddedSigned y z e = absurd cc
+set_by_thread true Word y z e = refl
 
 four_bytes : (ty : RelocationType) (y z : ℤ) → deferred_value ty y ≡ Ok (Some z) → field_len (field_form ty) ≡ 4
-four_bytes type.FunctionIndexLeb y z e = absurd (no_offset (has_addend type.FunctionIndexLeb) z e)
-four_bytes type.FunctionIndexI32 y z e = refl
-four_bytes type.TableIndexSleb y z e = absurd (no_offset (has_addend type.TableIndexSleb) z e)
-four_bytes type.TableIndexI32 y z e = refl
-four_bytes type.TableIndexRelSleb y z e = absurd (no_offset (has_addend type.TableIndexRelSleb) z e)
-four_bytes type.TypeIndexLeb y z e = absurd (no_offset (has_addend type.TypeIndexLeb) z e)
-four_bytes type.GlobalIndexLeb y z e = absurd (no_offset (has_addend type.GlobalIndexLeb) z e)
-four_bytes type.GlobalIndexI32 y z e = refl
-four_bytes type.TableNumberLeb y z e = absurd (no_offset (has_addend type.TableNumberLeb) z e)
-four_bytes type.MemoryAddrLeb y z e = absurd (no_offset (has_addend type.MemoryAddrLeb) z e)
-four_bytes type.MemoryAddrSleb y z e = absurd (no_offset (has_addend type.MemoryAddrSleb) z e)
-four_bytes type.MemoryAddrI32 y z e = refl
-four_bytes type.MemoryAddrRelSleb y z e = absurd (no_offset (has_addend type.MemoryAddrRelSleb) z e)
-four_bytes type.MemoryAddrTlsSleb y z e = absurd (no_offset (has_addend type.MemoryAddrTlsSleb) z e)
+four_bytes ty y z e = set_by_thread (has_addend ty) (field_form ty) y z e
 
 word_there : (ty : RelocationType) (addend : ℤ) (a : WasmDataAddress) (z : ℤ)
     → deferred_at ty addend (Some a) ≡ Ok (Some z) → field_len (field_form ty) ≡ 4

@@ -432,18 +432,7 @@ made_in_space input made.CallCtors is =
 made_in_space input made.InitTls is =
     tls_stands input (FunctionOf (Made made.InitTls))
     (if_in (is_made input made.InitTls) (FunctionOf (Made made.InitTls)) is.made)
-made_in_space input made.DataEnd is = let k = is.kind in absurd cc
-made_in_space input made.GlobalBase is = let k = is.kind in absurd cc
-made_in_space input made.HeapBase is = let k = is.kind in absurd cc
-made_in_space input made.HeapEnd is = let k = is.kind in absurd cc
-made_in_space input made.WasmFirstPageEnd is = let k = is.kind in absurd cc
-made_in_space input made.DsoHandle is = let k = is.kind in absurd cc
-made_in_space input made.MemoryBase is = let k = is.kind in absurd cc
-made_in_space input made.TableBase is = let k = is.kind in absurd cc
-made_in_space input made.StackPointer is = let k = is.kind in absurd cc
-made_in_space input made.TlsBase is = let k = is.kind in absurd cc
-made_in_space input made.TlsSize is = let k = is.kind in absurd cc
-made_in_space input made.TlsAlign is = let k = is.kind in absurd cc
+made_in_space input _ is = let k = is.kind in absurd cc
 
 -- what the output has and is apart stub stands in the space
 in_space : (input : Input) (target : FunctionTarget) → IsInOutput input target

@@ -4,7 +4,7 @@ ghost use Rattle.std.specs.Prelude.{◌≡◌, ◌<◌, ◌++◌, length, Some, 
 ghost use Rattle.std.specs.Option.{option_to_list};
 ghost use Rattle.wl_custom.specs.declared.symbols.WasmSymbolKind.TheVariants.{Func};
 ghost use Rattle.wl_symbols.specs.Input.{Input};
-ghost use Rattle.wl_symbols.specs.LinkerNames.{row_of};
+ghost use Rattle.wl_symbols.specs.LinkerNames.{kind_of};
 ghost use Rattle.wl_bind.specs.FunctionSpace.{made_function_part, init_memory_part, stub_part, functions_of, object_functions};
 ghost use Rattle.wl_bind.specs.FunctionTypes.{type_of_made};
 ghost use Rattle.wl_bind.specs.IndexMaps.{AreIndexMaps};
@@ -56,7 +56,7 @@ fn made_function<'a>(
     made: WasmLinkerSymbol,
     ty: &FuncType,
 ) -> Option<OutputFunction<'a>>
-    requires function { (row_of made).kind ≡ Func }
+    requires function { kind_of made ≡ Func }
     requires typed { type_of_made made ≡ Some ty.now }
     ensures { (input : Input) → AreBindings input bindings.now
         → IsAllOf input (made_function_part input made) result }

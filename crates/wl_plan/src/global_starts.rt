@@ -1,6 +1,7 @@
 //! What the globals of the output start with.
 
 ghost use Rattle.std.specs.Prelude.{◌≡◌, IfOk, OnErr, Contains, length, slice_get};
+ghost use Rattle.wl_symbols.specs.LinkerNames.{named_global};
 ghost use Rattle.wl_bind.specs.ExportedAddresses.{exported_addresses};
 ghost use Rattle.wl_bind.specs.ExportedData.{dynamic_data, forced_data};
 ghost use Rattle.wl_bind.specs.GlobalSpace.{GlobalOf, AddressOf, DataOf};
@@ -20,7 +21,7 @@ use wl_index::{LINKER_MEMORY_BASE, LINKER_TABLE_BASE, WasmDataAddress, WasmObjec
 use wl_linking::LinkError;
 use wl_output::MadeGlobal;
 use wl_places::{AddressBook, linker_address};
-use wl_symbols::{Definition, LinkInput, WasmLinkerSymbol, kept_relocations};
+use wl_symbols::{Definition, LinkInput, NamedGlobal, WasmLinkerSymbol, kept_relocations};
 
 // ---- numbers
 
@@ -235,40 +236,30 @@ impl<'g, 'b, 'i, 'a> GlobalSources<'g, 'b, 'i, 'a> {
         })
     }
 
-    /// What a thing that the linker makes under a name starts with.
-    pub(crate) fn made_start(&self, made: WasmLinkerSymbol) -> Result<Start, LinkError>
+    /// What a global that the linker makes under a name starts with.
+    pub(crate) fn made_start(&self, named: NamedGlobal) -> Result<Start, LinkError>
         requires { AreSources self.now }
-        ensures { AnswersStart self.now (GlobalOf (global.Made made)) result }
+        ensures { AnswersStart self.now (GlobalOf (global.Made (named_global named))) result }
     {
         let needs = self.bindings.indices.needs();
         let placing = self.book.placing;
-        let (made, mutable, number) = match made {
-            WasmLinkerSymbol::MemoryBase if needs.needs_memory_base => {
+        let (made, mutable, number) = match named {
+            NamedGlobal::MemoryBase if needs.needs_memory_base => {
                 (MadeGlobal::MemoryBase, false, LINKER_MEMORY_BASE)
             }
-            WasmLinkerSymbol::MemoryBase => (MadeGlobal::MemoryBase, false, 0),
-            WasmLinkerSymbol::TableBase => (MadeGlobal::TableBase, false, LINKER_TABLE_BASE),
-            WasmLinkerSymbol::StackPointer => {
-                (MadeGlobal::StackPointer, true, placing.stack_pointer)
-            }
-            WasmLinkerSymbol::TlsBase if needs.needs_tls_size => (MadeGlobal::TlsBase, true, 0),
-            WasmLinkerSymbol::TlsBase => (MadeGlobal::TlsBase, false, placing.places.tls_base),
-            WasmLinkerSymbol::TlsSize => {
+            NamedGlobal::MemoryBase => (MadeGlobal::MemoryBase, false, 0),
+            NamedGlobal::TableBase => (MadeGlobal::TableBase, false, LINKER_TABLE_BASE),
+            NamedGlobal::StackPointer => (MadeGlobal::StackPointer, true, placing.stack_pointer),
+            NamedGlobal::TlsBase if needs.needs_tls_size => (MadeGlobal::TlsBase, true, 0),
+            NamedGlobal::TlsBase => (MadeGlobal::TlsBase, false, placing.places.tls_base),
+            NamedGlobal::TlsSize => {
                 let size = constant_or_range(placing.places.tls_size)?;
                 (MadeGlobal::TlsSize, false, size)
             }
-            WasmLinkerSymbol::TlsAlign => {
+            NamedGlobal::TlsAlign => {
                 let align = constant_or_range(placing.places.tls_align)?;
                 (MadeGlobal::TlsAlign, false, align)
             }
-            WasmLinkerSymbol::DataEnd
-            | WasmLinkerSymbol::GlobalBase
-            | WasmLinkerSymbol::HeapBase
-            | WasmLinkerSymbol::HeapEnd
-            | WasmLinkerSymbol::WasmFirstPageEnd
-            | WasmLinkerSymbol::DsoHandle
-            | WasmLinkerSymbol::CallCtors
-            | WasmLinkerSymbol::InitTls => (MadeGlobal::Address, false, 0),
         };
         Ok(Start {
             made,

@@ -1,24 +1,24 @@
 //! The globals of the output that aren't imported, each with what it starts with.
 
-ghost use Rattle.std.specs.Prelude.{◌≡◌, map, true, Some, IfOk, OnOk, IfErr, slice_get};
-ghost use Rattle.std.specs.List.{flat_map, list_all};
+ghost use Rattle.std.specs.Prelude.{◌≡◌, map, Some, IfOk, OnOk, IfErr, slice_get};
+ghost use Rattle.std.specs.List.{flat_map};
 ghost use Rattle.wl_linking.specs.Steps.{Clear, Refuses};
 ghost use Rattle.wl_bind.specs.ExportedAddresses.{exported_addresses};
-ghost use Rattle.wl_bind.specs.GlobalSpace.{DataOf, made_global_part, address_part, got_mem_part, got_func_part, globals_of, object_globals};
-ghost use Rattle.wl_plan.specs.steps.Globals.{AreSources, AddsMade, AddsPart, IsPartFault, is_linker_global, own_global_part};
+ghost use Rattle.wl_bind.specs.GlobalSpace.{DataOf, address_part, got_mem_part, got_func_part, globals_of, object_globals};
+ghost use Rattle.wl_plan.specs.steps.Globals.{AreSources, AddsMade, AddsPart, IsPartFault, named_part, own_global_part};
 ghost use Rattle.wl_plan.specs.Globals.{global_in, ArePlannedGlobals, IsGlobalFault};
 
 use crate::global_starts::{GlobalSources, Start};
 use crate::layout::PlannedGlobal;
 use std::alloc::{AllocError, Global};
 use std::borrow::CowSlice;
-use wl_bind::DataSymbol;
+use wl_bind::{DataSymbol, is_made};
 use wl_bytes::push_sleb;
 use wl_linking::{File, LinkError};
 use wl_lists::ItemList;
 use wl_module::{GlobalType, OutputGlobal, ValType};
 use wl_output::GlobalOrigin;
-use wl_symbols::{WasmGcUnit, WasmLinkerSymbol};
+use wl_symbols::{NamedGlobal, WasmGcUnit, WasmLinkerSymbol};
 
 // ---- constants
 
@@ -56,19 +56,19 @@ fn push_named<'a>(
     alloc: Global,
     globals: &mut Vec<PlannedGlobal<'a>>,
     sources: &GlobalSources<'_, '_, '_, 'a>,
-    names: &[WasmLinkerSymbol],
+    names: &[NamedGlobal],
 ) -> Result<(), LinkError>
-    requires sources { AreSources sources.now }
-    requires kinds { list_all is_linker_global names.now ≡ true }
+    requires { AreSources sources.now }
     ensures ok { OnOk result (AddsPart sources.now
-        (flat_map (made_global_part sources.now.book.now.input.now) names.now)
+        (flat_map (named_part sources.now.book.now.input.now) names.now)
         globals.old.items globals.new.items) }
     ensures err { IfErr result (Refuses (IsPartFault sources.now
-        (flat_map (made_global_part sources.now.book.now.input.now) names.now))) }
+        (flat_map (named_part sources.now.book.now.input.now) names.now))) }
 {
-    for made in names {
-        if sources.bindings.indices.index(*made).is_some() {
-            let start = sources.made_start(*made)?;
+    let needs = sources.bindings.indices.needs();
+    for named in names {
+        if is_made(sources.book.input, needs, named.made()) {
+            let start = sources.made_start(*named)?;
             push_made(alloc, globals, start)?;
         }
     }
@@ -76,13 +76,13 @@ fn push_named<'a>(
 }
 
 /// The globals that the linker makes under names of their own, in order.
-const LINKER_GLOBALS: [WasmLinkerSymbol; 6] = [
-    WasmLinkerSymbol::MemoryBase,
-    WasmLinkerSymbol::TableBase,
-    WasmLinkerSymbol::StackPointer,
-    WasmLinkerSymbol::TlsBase,
-    WasmLinkerSymbol::TlsSize,
-    WasmLinkerSymbol::TlsAlign,
+const LINKER_GLOBALS: [NamedGlobal; 6] = [
+    NamedGlobal::MemoryBase,
+    NamedGlobal::TableBase,
+    NamedGlobal::StackPointer,
+    NamedGlobal::TlsBase,
+    NamedGlobal::TlsSize,
+    NamedGlobal::TlsAlign,
 ];
 
 /// Adds the exported addresses of the linker's.

@@ -1,31 +1,24 @@
 -- The linker's names, each of which is that of one.
-use Rattle.std.proofs.Common.{◌≡◌, ℕ, Bool, true, List, [], ◌∷◌, refl, sym, inl, inr, Option, Some, None, find}
+use Rattle.std.proofs.Common.{◌≡◌, ℕ, Bool, true, List, [], ◌∷◌, refl, inl, inr, Option, Some, None, find}
 use Rattle.std.specs.Option.{option_and_then}
 use Rattle.std.specs.Str.{bytes_eq}
 use Rattle.std.proofs.lemmas.Slice.Eq.{bytes_eq-Decides}
 use Rattle.std.proofs.lemmas.Bool.{cases_Bool}
-use Rattle.wl_symbols.specs.LinkerNames.{name_of, exists_under, all_made, symbol_named, if_exists, made_of}
+use Rattle.wl_symbols.specs.LinkerNames.{name_of, sort_of, IsOfSort, exists_under, all_made, symbol_named, if_exists, made_of}
 use Rattle.wl_symbols.specs.Names.{IsMade}
 use Rattle.wl_words.specs.declared.args.WasmArgs.{WasmArgs}
 use Rattle.wl_symbols.specs.declared.linker_symbol.WasmLinkerSymbol.{WasmLinkerSymbol}
-use Rattle.wl_symbols.specs.declared.linker_symbol.WasmLinkerSymbol.TheVariants.{DataEnd, GlobalBase, HeapBase, HeapEnd, WasmFirstPageEnd, DsoHandle, MemoryBase, TableBase, StackPointer, TlsBase, TlsSize, TlsAlign, CallCtors, InitTls}
+use Rattle.wl_symbols.specs.declared.linker_symbol.WasmLinkerSymbol.TheVariants.{DataEnd}
+
+-- each is that of a function, of a global, or of data
+pub by_sort : (m : WasmLinkerSymbol) → IsOfSort m (sort_of m)
+by_sort DataEnd = refl
+by_sort _ = refl
 
 -- each is the one of its name
 pub parse_name : (m : WasmLinkerSymbol) → symbol_named (name_of m) ≡ Some m
 parse_name DataEnd = refl
-parse_name GlobalBase = refl
-parse_name HeapBase = refl
-parse_name HeapEnd = refl
-parse_name WasmFirstPageEnd = refl
-parse_name DsoHandle = refl
-parse_name MemoryBase = refl
-parse_name TableBase = refl
-parse_name StackPointer = refl
-parse_name TlsBase = refl
-parse_name TlsSize = refl
-parse_name TlsAlign = refl
-parse_name CallCtors = refl
-parse_name InitTls = refl
+parse_name _ = refl
 
 find_passes : (p : WasmLinkerSymbol → Bool) (xs : List WasmLinkerSymbol) (m : WasmLinkerSymbol) → find p xs ≡ Some m → p m ≡ true
 find_passes p [] m e = absurd cc
@@ -36,45 +29,6 @@ find_passes p (x ∷ xs) m e = elim (cases_Bool (p x)) [
 
 pub named_is : (name : List ℕ) (m : WasmLinkerSymbol) → symbol_named name ≡ Some m → name_of m ≡ name
 named_is name m e = (bytes_eq-Decides (name_of m) name).0 (find_passes (λ made. bytes_eq (name_of made) name) all_made m e)
-
--- a name that differs from each of them is no one's
-module _ (name : List ℕ)
-    (no_data_end : name ≡ name_of DataEnd → ⊥)
-    (no_global_base : name ≡ name_of GlobalBase → ⊥)
-    (no_heap_base : name ≡ name_of HeapBase → ⊥)
-    (no_heap_end : name ≡ name_of HeapEnd → ⊥)
-    (no_wasm_first_page_end : name ≡ name_of WasmFirstPageEnd → ⊥)
-    (no_dso_handle : name ≡ name_of DsoHandle → ⊥)
-    (no_memory_base : name ≡ name_of MemoryBase → ⊥)
-    (no_table_base : name ≡ name_of TableBase → ⊥)
-    (no_stack_pointer : name ≡ name_of StackPointer → ⊥)
-    (no_tls_base : name ≡ name_of TlsBase → ⊥)
-    (no_tls_size : name ≡ name_of TlsSize → ⊥)
-    (no_tls_align : name ≡ name_of TlsAlign → ⊥)
-    (no_call_ctors : name ≡ name_of CallCtors → ⊥)
-    (no_init_tls : name ≡ name_of InitTls → ⊥) where
-  differs : (m : WasmLinkerSymbol) → name ≡ name_of m → ⊥
-  differs DataEnd = no_data_end
-  differs GlobalBase = no_global_base
-  differs HeapBase = no_heap_base
-  differs HeapEnd = no_heap_end
-  differs WasmFirstPageEnd = no_wasm_first_page_end
-  differs DsoHandle = no_dso_handle
-  differs MemoryBase = no_memory_base
-  differs TableBase = no_table_base
-  differs StackPointer = no_stack_pointer
-  differs TlsBase = no_tls_base
-  differs TlsSize = no_tls_size
-  differs TlsAlign = no_tls_align
-  differs CallCtors = no_call_ctors
-  differs InitTls = no_init_tls
-
-  none_from : (found : Option WasmLinkerSymbol) → symbol_named name ≡ found → None ≡ found
-  none_from None e = refl
-  none_from (Some m) e = absurd (differs m (sym (named_is name m e)))
-
-  pub none_named : None ≡ symbol_named name
-  none_named = none_from (symbol_named name) refl
 
 exists_is : (args : WasmArgs) (m n : WasmLinkerSymbol) → if_exists args m ≡ Some n → (m ≡ n) × (exists_under args m ≡ true)
 exists_is args m n e = elim (cases_Bool (exists_under args m)) [

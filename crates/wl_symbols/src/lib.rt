@@ -16,6 +16,7 @@ mod adding;
 mod definitions;
 mod entry;
 mod linker_symbol;
+mod made_sort;
 mod names;
 mod table;
 
@@ -61,6 +62,7 @@ pub use kept_laws::{
 pub use left::{DividedSlots, HostImport, HostImports, Stubs, divide_slots, host_imports};
 pub use linker_symbol::WasmLinkerSymbol;
 pub use live_set::LiveSet;
+pub use made_sort::{MadeSort, NamedFunction, NamedGlobal};
 pub use name_laws::{made_names_differ, name_by_cases, names_or_repeat};
 pub use relocated::{FixupPlace, KeptRelocations, Relocated, kept_of_object, kept_relocations};
 pub use slot_laws::{

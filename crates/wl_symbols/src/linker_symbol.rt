@@ -1,10 +1,11 @@
 //! The names that the linker makes.
 
 ghost use Rattle.std.specs.Prelude.{◌≡◌, IfOk, IfErr, OnErr};
-ghost use Rattle.wl_symbols.specs.LinkerNames.{row_of, name_of, symbol_named, exists_under, made_of, materializes_on_export, is_exported_as_data, is_imported_as, matches_kind};
+ghost use Rattle.wl_symbols.specs.LinkerNames.{row_of, name_of, sort_of, kind_of, IsOfSort, all_made, symbol_named, exists_under, made_of, materializes_on_export, is_exported_as_data, is_imported_as, matches_kind};
 ghost use Rattle.wl_symbols.specs.LinkerAddresses.{data_places, address_of, IsTooHigh};
 ghost use Rattle.wl_linking.specs.declared.error.Quantity.TheVariants.{Address};
 
+use crate::made_sort::{MadeSort, NamedFunction, NamedGlobal};
 use std::marker::Model;
 use wl_index::heap_start;
 use wl_linking::{LinkError, Quantity, WasmSymbolKind};
@@ -24,7 +25,7 @@ pub(crate) enum MadeUnder {
 #[derive(Drop)]
 pub(crate) struct LinkerRow {
     name: &'static str,
-    kind: WasmSymbolKind,
+    sort: MadeSort,
     under: MadeUnder,
 }
 
@@ -33,14 +34,14 @@ impl Model for LinkerRow {
 
     ghost Value = { Row };
 
-    ghost view = { λ r. record { name = r.name.now; kind = r.kind; under = r.under } };
+    ghost view = { λ r. record { name = r.name.now; sort = r.sort; under = r.under } };
 }
 
 /// A row of the table.
-fn row(name: &'static str, kind: WasmSymbolKind, under: MadeUnder) -> LinkerRow
-    ensures { result ≡ record { name = name.now; kind = kind; under = under } }
+fn row(name: &'static str, sort: MadeSort, under: MadeUnder) -> LinkerRow
+    ensures { result ≡ record { name = name.now; sort = sort; under = under } }
 {
-    LinkerRow { name, kind, under }
+    LinkerRow { name, sort, under }
 }
 
 /// A name that the linker makes, where no object defines it.
@@ -89,8 +90,8 @@ impl WasmLinkerSymbol {
     fn row(self) -> LinkerRow
         ensures { result ≡ row_of self }
     {
+        use MadeSort::{Data, Function, Global};
         use MadeUnder::{AnyOptions, SharedMemory};
-        use WasmSymbolKind::{Data, Func, Global};
         match self {
             Self::DataEnd => row("__data_end", Data, AnyOptions),
             Self::GlobalBase => row("__global_base", Data, AnyOptions),
@@ -98,22 +99,79 @@ impl WasmLinkerSymbol {
             Self::HeapEnd => row("__heap_end", Data, AnyOptions),
             Self::WasmFirstPageEnd => row("__wasm_first_page_end", Data, AnyOptions),
             Self::DsoHandle => row("__dso_handle", Data, AnyOptions),
-            Self::MemoryBase => row("__memory_base", Global, AnyOptions),
-            Self::TableBase => row("__table_base", Global, AnyOptions),
-            Self::StackPointer => row("__stack_pointer", Global, AnyOptions),
-            Self::TlsBase => row("__tls_base", Global, AnyOptions),
-            Self::TlsSize => row("__tls_size", Global, SharedMemory),
-            Self::TlsAlign => row("__tls_align", Global, SharedMemory),
-            Self::CallCtors => row("__wasm_call_ctors", Func, AnyOptions),
-            Self::InitTls => row("__wasm_init_tls", Func, SharedMemory),
+            Self::MemoryBase => row("__memory_base", Global(NamedGlobal::MemoryBase), AnyOptions),
+            Self::TableBase => row("__table_base", Global(NamedGlobal::TableBase), AnyOptions),
+            Self::StackPointer => row(
+                "__stack_pointer",
+                Global(NamedGlobal::StackPointer),
+                AnyOptions,
+            ),
+            Self::TlsBase => row("__tls_base", Global(NamedGlobal::TlsBase), AnyOptions),
+            Self::TlsSize => row("__tls_size", Global(NamedGlobal::TlsSize), SharedMemory),
+            Self::TlsAlign => row("__tls_align", Global(NamedGlobal::TlsAlign), SharedMemory),
+            Self::CallCtors => row(
+                "__wasm_call_ctors",
+                Function(NamedFunction::CallCtors),
+                AnyOptions,
+            ),
+            Self::InitTls => row(
+                "__wasm_init_tls",
+                Function(NamedFunction::InitTls),
+                SharedMemory,
+            ),
         }
+    }
+
+    /// All of them.
+    fn all() -> &'static [Self]
+        ensures { result.now ≡ all_made }
+    {
+        &[
+            Self::DataEnd,
+            Self::GlobalBase,
+            Self::HeapBase,
+            Self::HeapEnd,
+            Self::WasmFirstPageEnd,
+            Self::DsoHandle,
+            Self::MemoryBase,
+            Self::TableBase,
+            Self::StackPointer,
+            Self::TlsBase,
+            Self::TlsSize,
+            Self::TlsAlign,
+            Self::CallCtors,
+            Self::InitTls,
+        ]
+    }
+
+    /// Its name, as text.
+    pub fn text(self) -> &'static str
+        ensures { result.now ≡ name_of self }
+    {
+        self.row().name
     }
 
     /// Its name.
     pub fn name(self) -> &'static [u8]
         ensures { result.now ≡ name_of self }
     {
-        self.row().name.as_bytes()
+        self.text().as_bytes()
+    }
+
+    /// What it stands for.
+    #[tactic(auto, using(crate::proofs::MadeLaws::by_sort))]
+    pub fn sort(self) -> MadeSort
+        ensures is { result ≡ sort_of self }
+        ensures named { IsOfSort self result }
+    {
+        self.row().sort
+    }
+
+    /// Of which kind symbols of its name are.
+    pub fn kind(self) -> WasmSymbolKind
+        ensures { result ≡ kind_of self }
+    {
+        self.sort().kind()
     }
 
     /// The one of that name, whether it exists or not.
@@ -124,23 +182,8 @@ impl WasmLinkerSymbol {
         let [b'_', b'_', ..] = name.as_bytes() else {
             return None;
         };
-        match name {
-            "__data_end" => Some(Self::DataEnd),
-            "__global_base" => Some(Self::GlobalBase),
-            "__heap_base" => Some(Self::HeapBase),
-            "__heap_end" => Some(Self::HeapEnd),
-            "__wasm_first_page_end" => Some(Self::WasmFirstPageEnd),
-            "__dso_handle" => Some(Self::DsoHandle),
-            "__memory_base" => Some(Self::MemoryBase),
-            "__table_base" => Some(Self::TableBase),
-            "__stack_pointer" => Some(Self::StackPointer),
-            "__tls_base" => Some(Self::TlsBase),
-            "__tls_size" => Some(Self::TlsSize),
-            "__tls_align" => Some(Self::TlsAlign),
-            "__wasm_call_ctors" => Some(Self::CallCtors),
-            "__wasm_init_tls" => Some(Self::InitTls),
-            _ => None,
-        }
+        let mut all = Self::all().iter().copied();
+        all.find(|made| made.text() == name)
     }
 
     /// Whether the linker makes it under these options, where something asks for it.
@@ -175,14 +218,14 @@ impl WasmLinkerSymbol {
     pub fn exported_as_data_global(self, has_memory: bool) -> bool
         ensures { result ≡ is_exported_as_data has_memory self }
     {
-        self.row().kind.is_data() && (has_memory || self != Self::HeapEnd)
+        self.kind().is_data() && (has_memory || self != Self::HeapEnd)
     }
 
     /// Whether an import of that kind can be bound to it.
     pub fn matches_import_kind(self, kind: WasmSymbolKind) -> bool
         ensures { result ≡ matches_kind kind self }
     {
-        is_imported_as(kind, self.row().kind)
+        is_imported_as(kind, self.kind())
     }
 
     /// The address of a data name, by where the data begins and ends, the bytes of the stack, the

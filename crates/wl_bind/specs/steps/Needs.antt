@@ -1,8 +1,12 @@
 -- How it is found what the linker is asked for.
 use Rattle.std.specs.Prelude.{Bool, true, false, ◌++◌}
 use Rattle.std.specs.List.{list_any}
+use Rattle.wl_symbols.specs.LinkerNames.{sort_of}
 use Rattle.wl_symbols.specs.declared.linker_symbol.WasmLinkerSymbol.{WasmLinkerSymbol}
-use Rattle.wl_symbols.specs.declared.linker_symbol.WasmLinkerSymbol.TheVariants as made
+use Rattle.wl_symbols.specs.declared.made_sort.MadeSort.{MadeSort}
+use Rattle.wl_symbols.specs.declared.made_sort.MadeSort.TheVariants.{Function, Global, Data}
+use Rattle.wl_symbols.specs.declared.made_sort.NamedFunction.TheVariants as function
+use Rattle.wl_symbols.specs.declared.made_sort.NamedGlobal.TheVariants as global
 use Rattle.wl_bind.specs.Sameness.{same_made}
 use Rattle.wl_bind.specs.declared.needs.LinkerImportAbsorption.{LinkerImportAbsorption}
 use Rattle.wl_bind.specs.declared.resolution.ImportResolution.{ImportResolution}
@@ -24,14 +28,18 @@ abbrev pub row_leads_to : WasmLinkerSymbol → ObjectImportResolutions → Bool
 row_leads_to m row =
     list_any (leads_to m) (row.function_resolutions ++ row.global_resolutions)
 
--- it is made, whatever is to be exported
+-- a thing of that sort is made, whatever is to be exported
+abbrev pub is_sort_asked_for : LinkerImportAbsorption → MadeSort → Bool
+is_sort_asked_for needs (Function function.CallCtors) = needs.needs_ctors
+is_sort_asked_for needs (Function function.InitTls) = needs.needs_init_tls
+is_sort_asked_for needs (Global global.MemoryBase) = needs.needs_memory_base
+is_sort_asked_for needs (Global global.TableBase) = needs.needs_table_base
+is_sort_asked_for needs (Global global.StackPointer) = true
+is_sort_asked_for needs (Global global.TlsBase) = needs.needs_tls_base
+is_sort_asked_for needs (Global global.TlsSize) = needs.needs_tls_size
+is_sort_asked_for needs (Global global.TlsAlign) = needs.needs_tls_align
+is_sort_asked_for needs Data = false
+
+-- the thing is
 abbrev pub is_asked_for : LinkerImportAbsorption → WasmLinkerSymbol → Bool
-is_asked_for needs made.MemoryBase = needs.needs_memory_base
-is_asked_for needs made.TableBase = needs.needs_table_base
-is_asked_for needs made.StackPointer = true
-is_asked_for needs made.TlsBase = needs.needs_tls_base
-is_asked_for needs made.TlsSize = needs.needs_tls_size
-is_asked_for needs made.TlsAlign = needs.needs_tls_align
-is_asked_for needs made.CallCtors = needs.needs_ctors
-is_asked_for needs made.InitTls = needs.needs_init_tls
-is_asked_for needs m = false
+is_asked_for needs m = is_sort_asked_for needs (sort_of m)

@@ -6,7 +6,7 @@ use Rattle.wl_linking.specs.Fitting.{IsWhole}
 use Rattle.wl_linking.specs.Object.{Object}
 use Rattle.wl_custom.specs.declared.symbols.WasmSymbolKind.{WasmSymbolKind}
 use Rattle.wl_custom.specs.declared.symbols.WasmSymbolKind.TheVariants.{Func, Data, Global, Section, Event, Table}
-use Rattle.wl_symbols.specs.LinkerNames.{row_of}
+use Rattle.wl_symbols.specs.LinkerNames.{kind_of}
 use Rattle.wl_symbols.specs.declared.linker_symbol.WasmLinkerSymbol.{WasmLinkerSymbol}
 use Rattle.wl_symbols.specs.Live.{IsLiveOf, ordinal_of}
 use Rattle.wl_symbols.specs.declared.units.WasmGcUnit.{WasmGcUnit}
@@ -98,7 +98,7 @@ HasIndex n host (GotFuncSlot place) = HasEntry n.indices.now.globals 9 place
 
 -- what the linker makes stands there, if the output has it
 abbrev pub IsIndexOfMade : Input → WasmLinkerSymbol → ℕ → Type 0
-IsIndexOfMade input m index = is_made input m ≡ true → StandsAt input m (row_of m).kind index
+IsIndexOfMade input m index = is_made input m ≡ true → StandsAt input m (kind_of m) index
 
 -- the index of what a slot is resolved to, for which the host's import has that place
 abbrev pub IsResolvedIndex : Numbering → Option ℕ → ImportResolution → ℕ → Type 0

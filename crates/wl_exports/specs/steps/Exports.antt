@@ -13,7 +13,7 @@ use Rattle.wl_custom.specs.declared.symbols.WasmSymbolKind.{WasmSymbolKind}
 use Rattle.wl_custom.specs.declared.symbols.WasmSymbolKind.TheVariants as symbol
 use Rattle.wl_index.specs.declared.index.TheConstants.{WASM_DEAD_INDEX}
 use Rattle.wl_words.specs.Args.{export_name}
-use Rattle.wl_symbols.specs.LinkerNames.{row_of}
+use Rattle.wl_symbols.specs.LinkerNames.{kind_of}
 use Rattle.wl_symbols.specs.Link.{Link}
 use Rattle.wl_symbols.specs.declared.linker_symbol.WasmLinkerSymbol.{WasmLinkerSymbol}
 use Rattle.wl_features.specs.Taken.{taken_names}
@@ -67,7 +67,7 @@ kind_of_symbol _ = external.Global
 
 -- as what the linker's things are exported
 abbrev pub kind_of_made : WasmLinkerSymbol → ExternalKind
-kind_of_made m = kind_of_symbol (row_of m).kind
+kind_of_made m = kind_of_symbol (kind_of m)
 
 -- globals that may change are used
 abbrev pub uses_mutable_globals : Link → Bool

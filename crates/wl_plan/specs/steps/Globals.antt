@@ -5,8 +5,9 @@ use Rattle.std.specs.Option.{option_map_or}
 use Rattle.wl_linking.specs.Steps.{Clear}
 use Rattle.wl_linking.specs.declared.error.LinkError.{LinkError}
 use Rattle.wl_symbols.specs.declared.entry.Definition.{Definition}
-use Rattle.wl_symbols.specs.declared.linker_symbol.WasmLinkerSymbol.{WasmLinkerSymbol}
+use Rattle.wl_symbols.specs.LinkerNames.{named_global}
 use Rattle.wl_symbols.specs.declared.linker_symbol.WasmLinkerSymbol.TheVariants as linker
+use Rattle.wl_symbols.specs.declared.made_sort.NamedGlobal.{NamedGlobal}
 use Rattle.wl_symbols.specs.declared.units.WasmGcUnit.TheVariants.{DefinedGlobal as OwnGlobal}
 use Rattle.wl_bind.specs.GlobalSpace.{GlobalEntry, GlobalOf, made_global_part, address_part, got_mem_part, got_func_part, dynamic_part, forced_part}
 use Rattle.wl_symbols.specs.Input.{Input, keeps}
@@ -74,15 +75,9 @@ pub record IsPartFault (s : GlobalSources) (part : List GlobalEntry) (e : LinkEr
 
 -- ---- parts
 
--- it is a global that the linker makes under a name
-abbrev pub is_linker_global : WasmLinkerSymbol → Bool
-is_linker_global linker.MemoryBase = true
-is_linker_global linker.TableBase = true
-is_linker_global linker.StackPointer = true
-is_linker_global linker.TlsBase = true
-is_linker_global linker.TlsSize = true
-is_linker_global linker.TlsAlign = true
-is_linker_global m = false
+-- the global of that name, where the output has it
+abbrev pub named_part : Input → NamedGlobal → List GlobalEntry
+named_part input named = made_global_part input (named_global named)
 
 -- those that the output has
 abbrev pub linker_parts : Input → List GlobalEntry

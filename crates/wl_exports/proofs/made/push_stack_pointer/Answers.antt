@@ -20,4 +20,4 @@ returns c =
     ok_then c.push_some.result (AddsExports input (option_to_list one) old new)
     (AddsExports input (stack_pointer_export input) old new)
     (λ a. stack_one input old new used a)
-    (c.push_some.ensures input one c.export_made.ensures)
+    (c.push_some.ensures input one c.export_named.ensures)

@@ -18,10 +18,10 @@ returns c =
     let size = made_entry input linker.TlsSize (name_of linker.TlsSize) in
     let align = made_entry input linker.TlsAlign (name_of linker.TlsAlign) in
     let init = made_entry input linker.InitTls (name_of linker.InitTls) in
-    let a : AddsExports input (option_to_list size) old one = c.in_ok-push_some.ensures input size c.export_made.ensures in
+    let a : AddsExports input (option_to_list size) old one = c.in_ok-push_some.ensures input size c.export_named.ensures in
     let b : AddsExports input (option_to_list align) one two =
-    c.in_ok-push_some-2.ensures input align c.export_made-2.ensures in
+    c.in_ok-push_some-2.ensures input align c.export_named-2.ensures in
     ok_then c.push_some-3.result (AddsExports input (option_to_list init) two new)
     (AddsExports input (thread_exports input) old new)
     (λ d. thread_three input old one two new a b d)
-    (c.push_some-3.ensures input init c.export_made-3.ensures)
+    (c.push_some-3.ensures input init c.export_named-3.ensures)
