@@ -9,7 +9,7 @@ use Rattle.wl_linking.specs.Object.{Object}
 use Rattle.wl_linking.specs.Spaces.{count_imports, is_of_kind}
 use Rattle.wl_custom.specs.Symbols.{Symbol as LinkedSymbol, is_undefined}
 use Rattle.wl_custom.specs.declared.symbols.WasmSymbolKind.{WasmSymbolKind}
-use Rattle.wl_custom.specs.declared.symbols.WasmSymbolKind.TheVariants.{Func, Data, Global, Section, Event, Table}
+use Rattle.wl_custom.specs.declared.symbols.WasmSymbolKind.TheVariants.{Func, Global}
 use Rattle.wl_symbols.specs.Link.{Link}
 use Rattle.wl_symbols.specs.Entries.{symbol_in}
 use Rattle.wl_symbols.specs.LinkerNames.{is_imported_as, matches_kind}
@@ -84,9 +84,7 @@ record StandsOn (kind : WasmSymbolKind) (number : ℕ) (o : Object) (symbol : �
 
 on_parts : (a b c : Bool) → (a && b && c) ≡ true → (a ≡ true) × (b ≡ true) × (c ≡ true)
 on_parts true true true h = (refl, refl, refl)
-on_parts true true false h = absurd cc
-on_parts true false c h = absurd cc
-on_parts false b c h = absurd cc
+on_parts _ _ _ h = absurd cc
 
 stands_on : (kind : WasmSymbolKind) (number : ℕ) (o : Object) (symbol : ℕ) → Contains (symbols_on kind number o.symbols) symbol
     → StandsOn kind number o symbol
@@ -128,19 +126,11 @@ below a b lt = elim (cases_Bool (nat_lt a b)) [
 
 pub is_function : (kind : WasmSymbolKind) → is_imported_as Func kind ≡ true → kind ≡ Func
 is_function Func e = refl
-is_function Data e = absurd cc
-is_function Global e = absurd cc
-is_function Section e = absurd cc
-is_function Event e = absurd cc
-is_function Table e = absurd cc
+is_function _ e = absurd cc
 
 pub is_global : (kind : WasmSymbolKind) → is_imported_as Global kind ≡ true → kind ≡ Global
-is_global Func e = absurd cc
-is_global Data e = absurd cc
 is_global Global e = refl
-is_global Section e = absurd cc
-is_global Event e = absurd cc
-is_global Table e = absurd cc
+is_global _ e = absurd cc
 
 -- the units of slots of a kind, and of definitions of that kind
 pub record AreUnits (kind : WasmSymbolKind) (slot_unit own : ℕ → WasmGcUnit) : Type 0 where
@@ -233,7 +223,7 @@ bound_of_kind laws link t m is = elim (bound_to laws link t (slot.Made m) is).1 
 ]
 
 -- what an object defines, and a kept slot of a kind is bound to, is kept
-kept_definition : SlotLaws → (link : Link) (live : Live) → IsLiveOf link live
+pub kept_definition : SlotLaws → (link : Link) (live : Live) → IsLiveOf link live
     → (kind : WasmSymbolKind) (slot_unit own : ℕ → WasmGcUnit)
     → AreUnits kind slot_unit own → (object k : ℕ) (o : Object) (t : ImportSlot) (i j : ℕ) → slice_get link.objects object ≡ Some o
     → slice_get (object_slots object kind o) k ≡ Some t → IsAt object kind k t
@@ -272,19 +262,3 @@ kept_definition laws link live of kind slot_unit own units object k o t i j here
       leads = other_is link object d.undefined on.s (Symbol i d.symbol) found stands
           ∙ definition_is link i d.symbol d.o d.s (own j) d.object_is d.symbol_is so (units.defined d.o d.s j defines number);
     })
-
-pub kept_function : SlotLaws → (link : Link) (live : Live) → IsLiveOf link live
-    → (object k : ℕ) (o : Object) (t : ImportSlot) (i j : ℕ)
-    → slice_get link.objects object ≡ Some o → slice_get (object_slots object Func o) k ≡ Some t → IsAt object Func k t
-    → is_live live (record { object = object; unit = FunctionImport k }) ≡ true → slot_target link t ≡ Some (slot.Defined i j)
-    → is_live live (record { object = i; unit = DefinedFunction j }) ≡ true
-kept_function laws link live of =
-    kept_definition laws link live of Func FunctionImport DefinedFunction function_units
-
-pub kept_global : SlotLaws → (link : Link) (live : Live) → IsLiveOf link live
-    → (object k : ℕ) (o : Object) (t : ImportSlot) (i j : ℕ)
-    → slice_get link.objects object ≡ Some o → slice_get (object_slots object Global o) k ≡ Some t → IsAt object Global k t
-    → is_live live (record { object = object; unit = GlobalImport k }) ≡ true → slot_target link t ≡ Some (slot.Defined i j)
-    → is_live live (record { object = i; unit = DefinedGlobal j }) ≡ true
-kept_global laws link live of =
-    kept_definition laws link live of Global GlobalImport DefinedGlobal global_units

@@ -1,14 +1,12 @@
 -- The first slot whose type isn't that of the first of its import.
-use Rattle.std.proofs.Common.{◌≡◌, ℕ, suc, ◌+◌, ◌<◌, Bool, true, false, not, List, [], ◌∷◌, ◌++◌, refl, sym, ap, subst, arith, if◌then◌else◌, ◌≤◌, lt-ltb, le-ltb, length-append, ◌∙◌, inl, inr, Option, Some, None, Contains, find, map, drop, drop-cons, add-one, append-nil, append_assoc, length, get_or, slice_get, position}
+use Rattle.std.proofs.Common.{◌≡◌, ℕ, ◌+◌, ◌<◌, Bool, true, false, not, List, [], ◌∷◌, ◌++◌, refl, sym, ap, subst, if◌then◌else◌, ◌∙◌, inl, inr, Option, Some, None, find, map, drop, append-nil, append_assoc, length, get_or, position}
 use Rattle.std.specs.Cmp.{IsEquivalence}
-use Rattle.std.specs.List.{list_any, position_or_len}
-use Rattle.std.specs.Option.{option_and_then, option_or}
+use Rattle.std.specs.Option.{option_or}
 use Rattle.std.specs.Cmp.Lexicographic.{nat_list_eq_equiv}
-use Rattle.std.proofs.lemmas.Bool.{cases_Bool, cases_lt}
+use Rattle.std.proofs.lemmas.Bool.{cases_Bool}
 use Rattle.std.proofs.lemmas.Cmp.{on_equiv, and_equiv, nat_eq_equiv}
-use Rattle.std.proofs.lemmas.List.Elements.{Contains-push_cases}
 use Rattle.std.proofs.lemmas.List.Folds.{find-append}
-use Rattle.std.proofs.lemmas.Option.{same_Some, slice_get_within}
+use Rattle.std.proofs.lemmas.Option.{same_Some}
 use Rattle.indexmap.specs.IndexSet.{insert_key, insert_all}
 use Rattle.wl_module.specs.SameType.{types_equiv}
 use Rattle.wl_module.specs.Types.{FunctionType, value_type_code}
@@ -22,10 +20,12 @@ use Rattle.wl_bind.specs.ConflictSteps.{SlotPair, slot_at, conflicting, with_fir
 use Rattle.wl_bind.specs.declared.conflicts.SlotImports.{SlotImports}
 use Rattle.wl_bind.specs.declared.conflicts.SlotImports.TheVariants.{Stubs, Hosts}
 use Rattle.wl_bind.specs.FunctionTypes.{slot_type}
-use Rattle.wl_lists.proofs.Found.{position_map}
-use Rattle.wl_lists.proofs.In.{Contains-none}
+use Rattle.wl_lists.proofs.Found.{position_map, any_of}
+use Rattle.wl_lists.proofs.In.{list_in}
 use Rattle.wl_bind.proofs.FindLaws.{find_some, or_none, or_some}
-use Rattle.wl_bind.proofs.ListLaws.{find_in_front, none_found}
+use Rattle.wl_bind.proofs.ListLaws.{find_in_front, none_found, drop_here}
+use Rattle.wl_bind.proofs.ListedLaws.{finds_itself}
+use Rattle.wl_bind.proofs.LeftLaws.{at_position}
 
 -- ---- slots of one import, and types that are the same
 
@@ -59,41 +59,10 @@ find_agree p q h (x ∷ xs) = rw (h x, find_agree p q h xs) refl
 find_behind : {X : Type 0} (test : X → Bool) (xs more : List X) → find test xs ≡ None → find test (xs ++ more) ≡ find test more
 find_behind test xs more e = find-append test xs more ∙ ap (λ o. option_or o (find test more)) e
 
-at_first : {X : Type 0} (test : X → Bool) (xs more : List X) → slice_get xs (position_or_len test (xs ++ more)) ≡ find test xs
-at_first test [] more = refl
-at_first test (x ∷ xs) more = elim (cases_Bool (test x)) [
-  | inl t ↦ rw t refl
-  | inr f ↦
-      let n = position_or_len test (xs ++ more) in
-      let next : 1 + n ≡ suc n = omega arith in
-      rw f (ap (slice_get (x ∷ xs)) next ∙ at_first test xs more)
-]
-
-none_behind : {X : Type 0} (xs : List X) (n : ℕ) (o : Option X) → slice_get xs n ≡ o → length xs ≤ n → o ≡ None
-none_behind xs n None e le = refl
-none_behind xs n (Some x) e le = let lt = slice_get_within xs n x e in absurd (omega (arith, lt, le))
-
--- what stands at the place of the first that passes, in a list that goes on
-at_position : {X : Type 0} (test : X → Bool) (xs more : List X) → option_and_then (slice_get xs) (position test (xs ++ more)) ≡ find test xs
-at_position test xs more = elim (cases_lt (position_or_len test (xs ++ more)) (length (xs ++ more))) [
-  | inl less ↦ rw (lt-ltb (position_or_len test (xs ++ more)) (length (xs ++ more)) less) (at_first test xs more)
-  | inr most ↦
-      let len = length-append xs more in
-      let le : length xs ≤ position_or_len test (xs ++ more) = omega (arith, most, len) in
-      rw (le-ltb (position_or_len test (xs ++ more)) (length (xs ++ more)) most) (sym (none_behind xs (position_or_len test (xs ++ more)) (find test xs) (at_first test xs more) le))
-]
-
 -- ---- first occurrences
 
-any_found : {X : Type 0} (test : X → Bool) (xs : List X) (x : X) → find test xs ≡ Some x → list_any test xs ≡ true
-any_found test [] x e = absurd (cc)
-any_found test (y ∷ xs) x e = elim (cases_Bool (test y)) [
-  | inl t ↦ rw t refl
-  | inr f ↦ rw f (any_found test xs x (rw f at e))
-]
-
 insert_there : (same : ImportSlot → ImportSlot → Bool) (firsts : List ImportSlot) (t f : ImportSlot) → find (same t) firsts ≡ Some f → insert_key same firsts t ≡ firsts
-insert_there same firsts t f e = rw (any_found (same t) firsts f e) refl
+insert_there same firsts t f e = let h = find_some (same t) firsts f e in rw (any_of (same t) firsts f h.0 h.1) refl
 
 insert_new : (same : ImportSlot → ImportSlot → Bool) (firsts : List ImportSlot) (t : ImportSlot) → find (same t) firsts ≡ None → insert_key same firsts t ≡ firsts ++ t ∷ []
 insert_new same firsts t e = rw (none_found (same t) firsts e) refl
@@ -118,26 +87,8 @@ grown same firsts (t ∷ slots) =
     let rest = grown same (insert_key same firsts t) slots in
     (one.0 ++ rest.0, rest.1 ∙ (ap (λ (l : List ImportSlot). l ++ rest.0) one.1 ∙ append_assoc firsts one.0 rest.0))
 
--- what is there is the first of its import
-abbrev IsOnce : (ImportSlot → ImportSlot → Bool) → List ImportSlot → Type 0
-IsOnce same firsts = (z : ImportSlot) → Contains firsts z → find (same z) firsts ≡ Some z
-
 find_last : (same : ImportSlot → ImportSlot → Bool) → IsEquivalence same → (firsts : List ImportSlot) (t : ImportSlot) → find (same t) firsts ≡ None → find (same t) (firsts ++ t ∷ []) ≡ Some t
 find_last same laws firsts t e = find_behind (same t) firsts (t ∷ []) e ∙ rw (laws.refl t) refl
-
-once_by : (same : ImportSlot → ImportSlot → Bool) → IsEquivalence same → (firsts : List ImportSlot) (t : ImportSlot) (o : Option ImportSlot) → find (same t) firsts ≡ o → IsOnce same firsts → IsOnce same (with_first firsts o t)
-once_by same laws firsts t (Some f) e once = once
-once_by same laws firsts t None e once = λ z m. elim (Contains-push_cases firsts t z m) [
-  | inl before ↦ find_in_front (same z) firsts (t ∷ []) z (once z before)
-  | inr last ↦ subst (λ x. find (same x) (firsts ++ t ∷ []) ≡ Some x) last
-      (find_last same laws firsts t e)
-]
-
-once_all : (same : ImportSlot → ImportSlot → Bool) → IsEquivalence same → (firsts slots : List ImportSlot) → IsOnce same firsts → IsOnce same (insert_all same firsts slots)
-once_all same laws firsts [] once = once
-once_all same laws firsts (t ∷ slots) once =
-    once_all same laws (insert_key same firsts t) slots
-    (subst (λ (l : List ImportSlot). IsOnce same l) (sym (insert_first same firsts t)) (once_by same laws firsts t (find (same t) firsts) refl once))
 
 -- ---- one slot
 
@@ -223,8 +174,8 @@ pair_found objects same laws firsts (t ∷ slots) p e =
 clear_by : (objects : List Object) (same : ImportSlot → ImportSlot → Bool) → IsEquivalence same → (slots : List ImportSlot) → conflict_from objects same [] slots ≡ None → Clear (IsConflict objects same slots)
 clear_by objects same laws slots none = record {
   none = λ e h.
-      let once = once_all same laws [] slots (λ z m. absurd (Contains-none z m)) in
-      let nothing = none_differs objects same laws [] slots h.first none (once h.first h.is_first) in
+      let itself = finds_itself same laws.refl slots h.first (list_in (insert_all same [] slots) h.first h.is_first) in
+      let nothing = none_differs objects same laws [] slots h.first none itself in
       let second = h.is_second in
       let apart : None ≡ Some h.second = sym nothing ∙ second in
       absurd (cc);
@@ -289,9 +240,7 @@ first_among objects (Hosts hosts) slots firsts rest t are met = host_first slots
 -- the next slot is one of those to come
 pub met_next : (objects : List Object) (same : ImportSlot → ImportSlot → Bool) (slots firsts : List ImportSlot) (k : ℕ) (t : ImportSlot) → k < length slots → t ≡ get_or slots k t
     → Met objects same slots firsts (drop k slots) → Met objects same slots firsts (t ∷ drop (k + 1) slots)
-met_next objects same slots firsts k t lt at met =
-    let split : drop k slots ≡ t ∷ drop (k + 1) slots = rw (add-one, drop-cons slots k t lt, ← at) refl in
-    subst (λ (l : List ImportSlot). Met objects same slots firsts l) split met
+met_next objects same slots firsts k t lt at met = subst (λ (l : List ImportSlot). Met objects same slots firsts l) (drop_here slots k t lt at) met
 
 -- a slot has no conflict
 pub met_more : (objects : List Object) (same : ImportSlot → ImportSlot → Bool) (slots firsts rest new : List ImportSlot) (t : ImportSlot) (first : Option ImportSlot)

@@ -18,13 +18,13 @@ use Rattle.wl_symbols.specs.Left.{HostImport, first_imports, first_slot}
 use Rattle.wl_bind.specs.EntryTypes.{type_of_slot, type_of_entry, HasOutputType, HasTypeIndex}
 use Rattle.wl_bind.specs.BindingSteps.{slot_numbers, number_at}
 use Rattle.wl_bind.specs.FunctionBinding.{link_stubs, host_functions, binds_function}
-use Rattle.wl_bind.specs.FunctionSpace.{FunctionEntry, FunctionOf, InitMemory, host_function_part, made_function_part, init_memory_part, stub_part, kept_functions, functions_of, object_functions, function_parts, function_space}
+use Rattle.wl_bind.specs.FunctionSpace.{FunctionEntry, FunctionOf, InitMemory, kept_functions, function_space}
 use Rattle.wl_bind.specs.FunctionTypes.{type_in, type_number, slot_type, type_of_made, stub_types}
 use Rattle.wl_symbols.specs.Input.{Input, keeps}
 use Rattle.wl_symbols.specs.KeptSlots.{is_kept_slot}
 use Rattle.wl_bind.specs.Made.{is_made, has_init_memory}
 use Rattle.wl_bind.specs.OutputTypes.{is_type_of_function, is_type_of_host, names_type, is_live_type, local_types, live_types, made_type, init_memory_type, made_types, output_types, AreTypeIndices}
-use Rattle.wl_bind.specs.Parts.{joined, by_object, IsIndexOf}
+use Rattle.wl_bind.specs.Parts.{by_object, IsIndexOf}
 use Rattle.wl_bind.specs.References.{IsSettled}
 use Rattle.wl_symbols.specs.Relocations.{object_relocations}
 use Rattle.wl_bind.specs.Shared.{function_imports}
@@ -32,30 +32,19 @@ use Rattle.wl_bind.specs.Undefined.{is_host_function, is_host_slot}
 use Rattle.wl_bind.specs.declared.binding.FunctionTarget.TheVariants.{Defined, Made, Host, Stub}
 use Rattle.wl_lists.proofs.Beside.{zip_right}
 use Rattle.wl_lists.proofs.Found.{any_in, and_then_some}
-use Rattle.wl_lists.proofs.In.{in_back, in_front, list_in, in_list, IsIn, in_at, in_split, in_filter, Came, in_map, in_if}
+use Rattle.wl_lists.proofs.In.{in_back, in_front, list_in, in_list, IsIn, in_at, in_filter, Came, in_map}
 use Rattle.wl_lists.proofs.Places.{all_at, test_at, there_is}
-use Rattle.wl_lists.proofs.Rows.{Given, given_by}
+use Rattle.wl_lists.proofs.Rows.{object_in}
 use Rattle.wl_bind.proofs.FirstSlotLaws.{LeftSlot, IsFirst, stub_itself, host_itself}
 use Rattle.wl_bind.proofs.ListLaws.{made_of_one}
 use Rattle.wl_bind.proofs.ListedLaws.{still_in}
 use Rattle.wl_bind.proofs.ReferenceLaws.{live_there}
+use Rattle.wl_bind.proofs.FunctionCases.{all_functions}
 use Rattle.wl_bind.proofs.SameLaws.{eqb_self}
 use Rattle.wl_bind.proofs.StubTypeLaws.{slot_typed}
 use Rattle.wl_bind.proofs.TypeLaws.{slot_numbered}
 
 -- ---- lists
-
--- what an object gives is among what all give
-given_in : {X : Type 0} (f : ℕ → Object → List X) (n : ℕ) (objects : List Object) (k m : ℕ) (o : Object) (x : X) → m ≡ n + k
-    → slice_get objects k ≡ Some o → IsIn (f m o) x → IsIn (by_object f n objects) x
-given_in f n [] k m o x is at h = absurd cc
-given_in {X} f n (p ∷ objects) zero m o x is at h =
-    let same : o ≡ p = cc in
-    let here : m ≡ n = omega (arith, is) in
-    in_front (f n p) (by_object f (n + 1) objects) x
-    (subst (λ (q : Object). IsIn (f n q) x) same (subst (λ (i : ℕ). IsIn (f i o) x) here h))
-given_in f n (p ∷ objects) (suc k) m o x is at h =
-    in_back (f n p) (by_object f (n + 1) objects) x (given_in f (n + 1) objects k m o x (omega (arith, is)) at h)
 
 range_below : (a n z : ℕ) → IsIn (range_with_len a n) z → z < a + n
 range_below a zero z h = absurd h
@@ -88,7 +77,7 @@ live_in_output one input i o number ty here at live =
     (in_at list number (Some ty) (live_there input i o number ty at live)) refl in
     in_output one input ty
     (in_front (by_object (live_types input) 0 input.link.objects) (made_types input) ty
-    (given_in (live_types input) 0 input.link.objects i i o ty (omega arith) here there))
+    (object_in (live_types input) 0 i i input.link.objects o ty (omega arith) here there))
 
 made_in_output : AreOne → (input : Input) (ty : FunctionType) → IsIn (made_types input) ty → Contains (output_types input) ty
 made_in_output one input ty h =
@@ -251,61 +240,13 @@ defined_typed one fitting input settled i o k here h =
     let l : OwnLive input i o k = own_live fitting input settled i o k here h in
     record { ty = l.ty; has = own_has input i o k here l; one = live_in_output one input i o l.number l.ty here l.at l.live }
 
-own_typed : AreOne → AreFitting → (input : Input) → IsSettled input → (entry : FunctionEntry) → IsIn (object_functions input) entry
-    → HasOutputType input entry
-own_typed one fitting input settled entry h =
-    let g : Given (functions_of input) 0 input.link.objects entry = given_by (functions_of input) 0 input.link.objects entry h in
-    let same : 0 + g.place ≡ g.place = omega arith in
-    let there : IsIn (functions_of input g.place g.object) entry =
-    subst (λ (n : ℕ). IsIn (functions_of input n g.object) entry) same g.there in
-    let c : Came (λ k. FunctionOf (Defined g.place k)) (kept_functions input g.place g.object) entry =
-    in_map (λ k. FunctionOf (Defined g.place k)) (kept_functions input g.place g.object) entry there in
-    subst (λ (e : FunctionEntry). HasOutputType input e) c.to
-    (defined_typed one fitting input settled g.place g.object c.from g.at c.there)
-
 -- ---- all functions
-
-front_typed : AreOne → AreFitting → (input : Input) → IsSettled input → (entry : FunctionEntry)
-    → IsIn (joined (function_parts input)) entry → HasOutputType input entry
-front_typed one fitting input settled entry h =
-    let P : FunctionEntry → Type 0 = λ (e : FunctionEntry). HasOutputType input e in
-    let behind_memory : List FunctionEntry = stub_part input ++ [] in
-    let behind_tls : List FunctionEntry = init_memory_part input ++ behind_memory in
-    let behind_ctors : List FunctionEntry = made_function_part input InitTls ++ behind_tls in
-    let behind_hosts : List FunctionEntry = made_function_part input CallCtors ++ behind_ctors in
-    elim (in_split (host_function_part input) behind_hosts entry h) [
-      | inl host ↦
-          (let c : Came (λ (t : ImportSlot). FunctionOf (Host t.object t.number)) (first_imports (host_functions input)) entry =
-          in_map (λ (t : ImportSlot). FunctionOf (Host t.object t.number)) (first_imports (host_functions input)) entry host in
-          subst P c.to (host_typed one fitting input settled c.from c.there))
-      | inr rest ↦ elim (in_split (made_function_part input CallCtors) behind_ctors entry rest) [
-        | inl ctors ↦ (let s = in_if (is_made input CallCtors) (FunctionOf (Made CallCtors)) entry ctors in
-            subst P s.1 (ctors_typed one input s.0))
-        | inr rest ↦ elim (in_split (made_function_part input InitTls) behind_tls entry rest) [
-          | inl tls ↦ (let s = in_if (is_made input InitTls) (FunctionOf (Made InitTls)) entry tls in
-              subst P s.1 (tls_typed one input s.0))
-          | inr rest ↦ elim (in_split (init_memory_part input) behind_memory entry rest) [
-            | inl memory ↦ (let s = in_if (has_init_memory input) InitMemory entry memory in
-                subst P s.1 (memory_typed one input s.0))
-            | inr rest ↦ elim (in_split (stub_part input) [] entry rest) [
-              | inl stub ↦
-                  (let c : Came (λ (t : ImportSlot). FunctionOf (Stub t.object t.number)) (link_stubs input) entry =
-                  in_map (λ (t : ImportSlot). FunctionOf (Stub t.object t.number)) (link_stubs input) entry stub in
-                  subst P c.to (stub_typed one fitting input settled c.from c.there))
-              | inr none ↦ absurd none
-            ]
-          ]
-        ]
-      ]
-    ]
 
 pub entry_typed : AreOne → AreFitting → (input : Input) (entry : FunctionEntry) → IsSettled input
     → Contains (function_space input) entry → HasOutputType input entry
 entry_typed one fitting input entry settled listed =
-    elim (in_split (joined (function_parts input)) (object_functions input) entry (list_in (function_space input) entry listed)) [
-      | inl front ↦ front_typed one fitting input settled entry front
-      | inr own ↦ own_typed one fitting input settled entry own
-    ]
+    all_functions input (λ e. HasOutputType input e) (host_typed one fitting input settled) (ctors_typed one input) (tls_typed one input)
+    (memory_typed one input) (stub_typed one fitting input settled) (defined_typed one fitting input settled) entry listed
 
 -- ---- by the map of an object
 

@@ -1,76 +1,44 @@
 -- What a kept function slot is bound to is in the output.
-use Rattle.std.proofs.Common.{◌≡◌, ◌∙◌, ◌<◌, not, ℕ, zero, suc, ◌+◌, Bool, true, false, List, [], ◌∷◌, ◌++◌, length, find, refl, sym, ap, subst, arith, inl, inr, Option, Some, None, slice_get, slice_index_or, Contains, nat_lt, unwrap_or}
-use Rattle.std.specs.Option.{option_map_or, is_none}
-use Rattle.std.proofs.lemmas.Bool.{ltb-true, not-true, and_parts}
+use Rattle.std.proofs.Common.{◌≡◌, ◌∙◌, not, ℕ, Bool, true, false, List, [], length, find, sym, ap, subst, inl, inr, Some, None, slice_get, Contains, nat_lt}
+use Rattle.std.specs.Option.{is_none}
+use Rattle.std.proofs.lemmas.Bool.{ltb-true, not-true}
 use Rattle.wl_linking.specs.Object.{Object}
 use Rattle.wl_custom.specs.declared.symbols.WasmSymbolKind.{WasmSymbolKind}
 use Rattle.wl_custom.specs.declared.symbols.WasmSymbolKind.TheVariants.{Func}
 use Rattle.wl_symbols.specs.LinkerNames.{kind_of, matches_kind}
 use Rattle.wl_symbols.specs.Live.{IsLiveOf}
-use Rattle.wl_symbols.specs.Units.{units_of, units_at, no_units, exists, unit_number}
+use Rattle.wl_symbols.specs.Units.{units_of, units_at}
 use Rattle.wl_symbols.specs.declared.units.LinkUnit.{LinkUnit}
 use Rattle.wl_symbols.specs.declared.units.UnitCounts.{UnitCounts}
-use Rattle.wl_symbols.specs.declared.units.WasmGcUnit.TheVariants.{DefinedFunction}
-use Rattle.wl_symbols.specs.ImportSlots.{ImportSlot, object_slots, import_slots}
+use Rattle.wl_symbols.specs.declared.units.WasmGcUnit.TheVariants.{DefinedFunction, FunctionImport}
+use Rattle.wl_symbols.specs.ImportSlots.{ImportSlot, object_slots}
 use Rattle.wl_symbols.specs.Left.{same_field, same_import, is_stub, stub_slots, first_imports}
 use Rattle.wl_symbols.specs.SlotTargets.{slot_target}
 use Rattle.wl_symbols.specs.declared.targets.SlotTarget.{SlotTarget}
 use Rattle.wl_symbols.specs.declared.targets.SlotTarget.TheVariants as slot
-use Rattle.wl_bind.specs.FunctionBinding.{left_functions, link_stubs, host_functions, named_function, by_stub, by_host, binds_function}
+use Rattle.wl_bind.specs.FunctionBinding.{left_functions, link_stubs, host_functions, named_function, binds_function}
 use Rattle.wl_symbols.specs.Input.{Input, keeps}
 use Rattle.wl_symbols.specs.KeptSlots.{slots_from, is_kept_slot, kept_slots}
-use Rattle.wl_bind.specs.Parts.{by_object}
 use Rattle.wl_bind.specs.References.{IsBoundTo, IsKeptFunction, IsInOutput}
 use Rattle.wl_bind.specs.declared.binding.FunctionTarget.{FunctionTarget}
 use Rattle.wl_bind.specs.declared.binding.FunctionTarget.TheVariants as function
 use Rattle.wl_lists.proofs.Firsts.{in_firsts}
 use Rattle.wl_lists.proofs.Found.{cases_option}
-use Rattle.wl_lists.proofs.In.{IsIn, in_filter, Contains-filter as stays, list_in, place_in}
-use Rattle.wl_lists.proofs.Rows.{Given, given_by}
-use Rattle.wl_bind.proofs.ClosedLaws.{counts_at, is_function, bound_of_kind, kept_function}
+use Rattle.wl_lists.proofs.In.{IsIn, in_filter, Contains-filter as stays, list_in}
+use Rattle.wl_bind.proofs.ClosedLaws.{counts_at, is_function, bound_of_kind, function_units, kept_definition}
 use Rattle.wl_bind.proofs.FindLaws.{find_some}
-use Rattle.wl_bind.proofs.HostLaws.{IsAt, placed, kept_at}
-use Rattle.wl_bind.proofs.LeftLaws.{itself, stub_found, no_stub, rules_join, named_binds}
+use Rattle.wl_bind.proofs.HostLaws.{IsAt, kept_at, slot_in, IsSlotIn}
+use Rattle.wl_bind.proofs.LeftLaws.{itself, stub_found, no_stub, named_binds, any_listed, stub_bound, host_bound}
 use Rattle.wl_bind.proofs.ListLaws.{none_found}
 use Rattle.wl_bind.proofs.MadeLaws.{BindingLaws, bound_is_made_function}
-use Rattle.wl_bind.proofs.NumberingLaws.{slots_here}
 use Rattle.wl_bind.proofs.OnceParts.{passes}
 use Rattle.wl_bind.proofs.OneRuleLaws.{own_import}
-use Rattle.wl_bind.proofs.ListedLaws.{finds_itself, is_nothing, same_listed}
+use Rattle.wl_bind.proofs.ListedLaws.{finds_itself, is_nothing}
+use Rattle.wl_lists.proofs.Places.{there_is}
+use Rattle.wl_bind.proofs.NumberingLaws.{live_within}
+use Rattle.wl_bind.proofs.OwnLaws.{live_exists}
 
 -- ---- where a slot stands
-
-slots_by_object : (kind : WasmSymbolKind) (i : ℕ) (objects : List Object)
-    → slots_from kind i objects ≡ by_object (λ (j : ℕ) (o : Object). object_slots j kind o) i objects
-slots_by_object kind i [] = refl
-slots_by_object kind i (o ∷ objects) =
-    ap (λ (ts : List ImportSlot). object_slots i kind o ++ ts) (slots_by_object kind (i + 1) objects)
-
-pub record IsSlotIn (objects : List Object) (kind : WasmSymbolKind) (t : ImportSlot) : Type 0 where
-  pub object : Object
-  pub here : slice_get objects t.object ≡ Some object
-  pub among : IsIn (object_slots t.object kind object) t
-  pub at : slice_get (import_slots objects t.object kind) t.number ≡ Some t
-
-slot_in : (objects : List Object) (kind : WasmSymbolKind) (t : ImportSlot) → IsIn (slots_from kind 0 objects) t → IsSlotIn objects kind t
-slot_in objects kind t h =
-    let f : ℕ → Object → List ImportSlot = λ (j : ℕ) (o : Object). object_slots j kind o in
-    let all : IsIn (by_object f 0 objects) t = subst (λ (ts : List ImportSlot). IsIn ts t) (slots_by_object kind 0 objects) h in
-    let g : Given f 0 objects t = given_by f 0 objects t all in
-    let same : 0 + g.place ≡ g.place = omega arith in
-    let o : Object = g.object in
-    let there : IsIn (object_slots g.place kind o) t = subst (λ (n : ℕ). IsIn (object_slots n kind o) t) same g.there in
-    let found = place_in (object_slots g.place kind o) t there in
-    let at : slice_get (import_slots objects g.place kind) found.0 ≡ Some t =
-    subst (λ (ts : List ImportSlot). slice_get ts found.0 ≡ Some t) (sym (slots_here objects g.place kind o g.at)) found.1 in
-    let is : IsAt g.place kind found.0 t = placed objects g.place kind found.0 t at in
-    record {
-      object = o;
-      here = subst (λ (n : ℕ). slice_get objects n ≡ Some o) (sym is.object_is) g.at;
-      among = subst (λ (n : ℕ). IsIn (object_slots n kind o) t) (sym is.object_is) there;
-      at = subst (λ (n : ℕ). slice_get (import_slots objects t.object kind) n ≡ Some t) (sym is.number_is)
-          (subst (λ (n : ℕ). slice_get (import_slots objects n kind) found.0 ≡ Some t) (sym is.object_is) at);
-    }
 
 -- a function slot that names leave
 pub record LeftSlot (input : Input) (t : ImportSlot) : Type 0 where
@@ -98,27 +66,6 @@ left_slot input t h =
 pub record IsFirst (input : Input) (t : ImportSlot) (target : FunctionTarget) : Type 0 where
   pub left : LeftSlot input t
   pub bound : binds_function input t ≡ target
-
-left_bound : (input : Input) (t : ImportSlot) → slot_target input.link t ≡ None
-    → binds_function input t ≡ unwrap_or (by_stub input t) (by_host input t)
-left_bound input t none =
-    rules_join input t
-    ∙ ap (λ (o : Option SlotTarget). option_map_or named_function o (unwrap_or (by_stub input t) (by_host input t))) none
-
-stub_bound : (input : Input) (t s : ImportSlot) → slot_target input.link t ≡ None
-    → is_stub input.link.objects (left_functions input) t ≡ true → find (same_field t) (link_stubs input) ≡ Some s
-    → binds_function input t ≡ function.Stub s.object s.number
-stub_bound input t s none so is =
-    let stub : by_stub input t ≡ Some (function.Stub s.object s.number) = rw (so, is) refl in
-    left_bound input t none ∙ ap (λ (o : Option FunctionTarget). unwrap_or o (by_host input t)) stub
-
-host_bound : (input : Input) (t s : ImportSlot) → slot_target input.link t ≡ None
-    → is_stub input.link.objects (left_functions input) t ≡ false → find (same_import t) (first_imports (host_functions input)) ≡ Some s
-    → binds_function input t ≡ function.Host s.object s.number
-host_bound input t s none not_so is =
-    let stub : by_stub input t ≡ None = rw not_so refl in
-    let host : by_host input t ≡ function.Host s.object s.number = rw is refl in
-    left_bound input t none ∙ (ap (λ (o : Option FunctionTarget). unwrap_or o (by_host input t)) stub ∙ host)
 
 pub stub_itself : (input : Input) (s : ImportSlot) → IsIn (link_stubs input) s → IsFirst input s (function.Stub s.object s.number)
 stub_itself input s h =
@@ -155,34 +102,21 @@ as_bound input s target first = record {
 
 -- ---- what a kept slot is bound to is in the output
 
-no_counts : (objects : List Object) (i : ℕ) → slice_get objects i ≡ None → units_at (units_of objects) i ≡ no_units
-no_counts [] i none = refl
-no_counts (o ∷ objects) zero none = absurd cc
-no_counts (o ∷ objects) (suc i) none = no_counts objects i none
-
 -- a function that is kept is there
 pub kept_is_there : (input : Input) → IsLiveOf input.link input.live → (i j : ℕ) → keeps input i (DefinedFunction j) ≡ true
     → IsKeptFunction input i j
 kept_is_there input live i j kept =
     let u : LinkUnit = record { object = i; unit = DefinedFunction j } in
-    let there : exists input.live.units u ≡ true =
-    (and_parts (exists input.live.units u) (slice_index_or input.live.marks (unit_number input.live.units u) false) kept).0 in
+    let o = there_is input.link.objects i (live_within input u live kept) in
     let lt : nat_lt j (units_at (units_of input.link.objects) i).functions ≡ true =
-    subst (λ (ns : List UnitCounts). nat_lt j (units_at ns i).functions ≡ true) live.units there in
-    elim (cases_option (slice_get input.link.objects i)) [
-      | inl none ↦
-          (let no : nat_lt j 0 ≡ true =
-          subst (λ (n : UnitCounts). nat_lt j n.functions ≡ true) (no_counts input.link.objects i none) lt in
-          let below : j < 0 = ltb-true j 0 no in
-          absurd (omega (arith, below)))
-      | inr o ↦ record {
-        definer = o.0;
-        here = o.1;
-        within = ltb-true j (length (o.0).functions)
-            (subst (λ (n : UnitCounts). nat_lt j n.functions ≡ true) (counts_at input.link.objects i o.0 o.1) lt);
-        kept = kept;
-      }
-    ]
+    subst (λ (ns : List UnitCounts). nat_lt j (units_at ns i).functions ≡ true) live.units (live_exists input.live u kept) in
+    record {
+      definer = o.0;
+      here = o.1;
+      within = ltb-true j (length (o.0).functions)
+          (subst (λ (n : UnitCounts). nat_lt j n.functions ≡ true) (counts_at input.link.objects i o.0 o.1) lt);
+      kept = kept;
+    }
 
 left_is_there : (input : Input) (t : ImportSlot) → Contains (left_functions input) t → slot_target input.link t ≡ None
     → IsInOutput input (binds_function input t)
@@ -207,7 +141,7 @@ left_is_there input t listed none = elim (cases_option (find (same_field t) (lin
             subst (λ (f : FunctionTarget). IsInOutput input f) (sym (host_bound input t s.0 none not_so s.1))
             (as_bound input s.0 (function.Host (s.0).object (s.0).number) (host_itself input s.0 one)))
         | inl nothing ↦ absurd (let both : true ≡ false =
-            sym (same_listed same_import (host_functions input) t (own_import t) (list_in (host_functions input) t among))
+            sym (any_listed same_import [] (host_functions input) t (own_import t) (list_in (host_functions input) t among))
             ∙ none_found (same_import t) (first_imports (host_functions input)) nothing in cc)
       ])
 ]
@@ -226,7 +160,8 @@ named_is_there : BindingLaws → (input : Input) → IsLiveOf input.link input.l
     → IsInOutput input (named_function named)
 named_is_there laws input live object k o t at (slot.Defined i j) is =
     kept_is_there input live i j
-    (kept_function laws.slots input.link input.live live object k o t i j at.here at.at at.is_at
+    (kept_definition laws.slots input.link input.live live Func FunctionImport DefinedFunction function_units object k o t i j
+    at.here at.at at.is_at
     (kept_at input object Func k t at.is_at ∙ at.kept) is)
 named_is_there laws input live object k o t at (slot.Made m) is = record {
   kind = is_function (kind_of m)

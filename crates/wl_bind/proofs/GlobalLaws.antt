@@ -13,7 +13,7 @@ use Rattle.wl_symbols.specs.SlotTargets.{by_definition, by_symbol_name, by_field
 use Rattle.wl_symbols.specs.declared.targets.SlotTarget.{SlotTarget}
 use Rattle.wl_symbols.specs.declared.targets.SlotTarget.TheVariants as slot
 use Rattle.wl_symbols.specs.Input.{Input, keeps_slot}
-use Rattle.wl_bind.specs.Scan.{GotMemEntry, GotFuncEntry, got_mem, got_func, got_mem_entry, got_func_entry, scan_of}
+use Rattle.wl_bind.specs.Scan.{Named, got_mem, got_func, got_mem_entry, got_func_entry, scan_of}
 use Rattle.wl_bind.specs.GlobalBinding.{named_global, is_called, is_from, by_got, by_host, binds_global, host_globals}
 use Rattle.wl_bind.specs.steps.GlobalSlots.{is_host_by_lists}
 use Rattle.wl_symbols.specs.KeptSlots.{is_kept_slot}
@@ -72,14 +72,14 @@ later_is input t =
     let mem = position (is_called input name) (got_mem input) in
     let func = position (λ (p : Definition × FunctionTarget). is_called input name p.0) (got_func input) in
     one_of input (bytes_eq t.item.origin (codes "GOT.mem")) (bytes_eq t.item.origin (codes "GOT.func"))
-    (option_map_or GotMemSlot (position (λ (e : GotMemEntry). has_that_name name e.name) (map (got_mem_entry input) (got_mem input))) Unresolved)
-    (option_map_or GotFuncSlot (position (λ (e : GotFuncEntry). has_that_name name e.name) (map (got_func_entry input) (got_func input))) Unresolved)
+    (option_map_or GotMemSlot (position (λ (e : Named Definition). has_that_name name e.name) (map (got_mem_entry input) (got_mem input))) Unresolved)
+    (option_map_or GotFuncSlot (position (λ (e : Named (Definition × FunctionTarget)). has_that_name name e.name) (map (got_func_entry input) (got_func input))) Unresolved)
     (option_map global.GotMem mem) (option_map global.GotFunc func) (by_host input t)
     (ap (λ (p : Option ℕ). option_map_or GotMemSlot p Unresolved)
-    (mapped_position (got_mem_entry input) (λ (e : GotMemEntry). has_that_name name e.name) (is_called input name) (called input name) (got_mem input))
+    (mapped_position (got_mem_entry input) (λ (e : Named Definition). has_that_name name e.name) (is_called input name) (called input name) (got_mem input))
     ∙ mem_place input (by_host input t) refl mem)
     (ap (λ (p : Option ℕ). option_map_or GotFuncSlot p Unresolved)
-    (mapped_position (got_func_entry input) (λ (e : GotFuncEntry). has_that_name name e.name)
+    (mapped_position (got_func_entry input) (λ (e : Named (Definition × FunctionTarget)). has_that_name name e.name)
     (λ (p : Definition × FunctionTarget). is_called input name p.0) (λ (p : Definition × FunctionTarget). called input name p.0) (got_func input))
     ∙ func_place input (by_host input t) refl func)
     refl
@@ -128,10 +128,8 @@ unresolved_is : (input : Input) (mem func : Bool) (m f : Option ℕ) (c d : ℕ)
     → is_unresolved (as_global input (unwrap_or (if mem then option_map global.GotMem m else if func then option_map global.GotFunc f else None) (global.Host c d)))
     ≡ is_none (if mem then option_map global.GotMem m else if func then option_map global.GotFunc f else None)
 unresolved_is input true func (Some k) f c d = refl
-unresolved_is input true func None f c d = refl
 unresolved_is input false true m (Some k) c d = refl
-unresolved_is input false true m None c d = refl
-unresolved_is input false false m f c d = refl
+unresolved_is input _ _ _ _ c d = refl
 
 -- the lists leave a slot to the host where the fourth rule gives nothing
 pub left_by_lists : (input : Input) (t : ImportSlot) → is_host_by_lists (scan_of input) t ≡ is_none (by_got input t)

@@ -1,5 +1,5 @@
 -- The globals that kept relocations name are in the output.
-use Rattle.std.proofs.Common.{◌≡◌, ◌∙◌, ◌<◌, ◌==◌, not, ℕ, Bool, true, false, List, length, map, filter_map, position, refl, sym, ap, arith, inl, inr, Option, Some, None, slice_get, Contains, nat_lt, if◌then◌else◌}
+use Rattle.std.proofs.Common.{◌≡◌, ◌∙◌, ◌<◌, ◌==◌, not, ℕ, Bool, true, false, List, length, map, filter_map, position, refl, sym, ap, arith, inl, inr, Option, Some, None, slice_get, Contains, nat_lt, if◌then◌else◌, []}
 use Rattle.std.specs.List.{list_any, range_with_len}
 use Rattle.std.specs.Option.{option_and_then, option_map, option_map_or}
 use Rattle.std.proofs.lemmas.Bool.{cases_Bool, ltb-true, and_from, or_right}
@@ -12,10 +12,10 @@ use Rattle.wl_custom.specs.RelocationTypes.{taking_of, names_a_type, is_global_i
 use Rattle.wl_linking.specs.Spaces.{count_imports, spaces_of, symbol_exists}
 use Rattle.wl_custom.specs.Symbols.{Symbol as LinkedSymbol, is_data, is_undefined, is_function}
 use Rattle.wl_custom.specs.declared.takings.Taking.{Taking}
-use Rattle.wl_custom.specs.declared.takings.Taking.TheVariants.{FunctionIndex, Slot, SlotBehindBase, TypeIndex, GlobalIndex, TableNumber, Address}
+use Rattle.wl_custom.specs.declared.takings.Taking.TheVariants.{GlobalIndex}
 use Rattle.wl_linking.specs.declared.spaces.Counts.{Counts}
 use Rattle.wl_custom.specs.declared.symbols.WasmSymbolKind.{WasmSymbolKind}
-use Rattle.wl_custom.specs.declared.symbols.WasmSymbolKind.TheVariants.{Func, Data, Global, Section, Event, Table}
+use Rattle.wl_custom.specs.declared.symbols.WasmSymbolKind.TheVariants.{Func, Data, Global}
 use Rattle.wl_symbols.specs.LinkerNames.{is_imported_as}
 use Rattle.wl_symbols.specs.declared.entry.Definition.{Definition}
 use Rattle.wl_symbols.specs.declared.units.WasmGcUnit.TheVariants.{DefinedGlobal, GlobalImport}
@@ -38,13 +38,14 @@ use Rattle.wl_lists.proofs.Found.{any_in}
 use Rattle.wl_lists.proofs.In.{list_in}
 use Rattle.wl_lists.proofs.Places.{get_in_front, get_behind, there_is}
 use Rattle.wl_bind.proofs.ClosedLaws.{global_units}
-use Rattle.wl_bind.proofs.HostLaws.{IsAt, placed, kept_at}
+use Rattle.wl_bind.specs.steps.Laws.{LinkLaws}
+use Rattle.wl_bind.proofs.HostLaws.{IsAt, placed, kept_at, slots_here}
 use Rattle.wl_bind.proofs.ListLaws.{made_of_one}
-use Rattle.wl_bind.proofs.NumberingLaws.{slots_here}
 use Rattle.wl_bind.proofs.RedirectLaws.{under, range_at}
 use Rattle.wl_bind.proofs.SameLaws.{eqb_self, definition_self, target_self}
-use Rattle.wl_bind.proofs.ListedLaws.{same_listed, some_place_of}
-use Rattle.wl_bind.proofs.ReferenceLaws.{Laws, Names, as_named, fun_leads, named_unit_kept, names_one, no_type}
+use Rattle.wl_bind.proofs.ListedLaws.{some_place_of}
+use Rattle.wl_bind.proofs.ReferenceLaws.{Names, as_named, fun_leads, named_unit_kept, names_one, no_type}
+use Rattle.wl_bind.proofs.LeftLaws.{any_listed}
 
 -- ---- globals
 
@@ -61,7 +62,7 @@ global_below spaces s kind so there =
 abbrev global_at : Option (Option GlobalEntry) → Option GlobalEntry
 global_at found = option_and_then (λ (x : Option GlobalEntry). x) found
 
-imported_global : Laws → (input : Input) (r : Relocated) → IsSettled input → (n : Names input r) → n.symbol.kind ≡ Global
+imported_global : LinkLaws → (input : Input) (r : Relocated) → IsSettled input → (n : Names input r) → n.symbol.kind ≡ Global
     → is_undefined n.symbol ≡ true → HasGlobal (local_global input r.object n.from.object n.symbol.index)
 imported_global laws input r settled n kind so =
     let o : Object = n.from.object in
@@ -88,7 +89,7 @@ imported_global laws input r settled n kind so =
       is = ap global_at entry ∙ ap (λ (b : Bool). if b then Some (GlobalOf (binds_global input t)) else None) kept;
     }
 
-defined_global : Laws → (input : Input) (r : Relocated) → IsSettled input → (n : Names input r) → n.symbol.kind ≡ Global
+defined_global : LinkLaws → (input : Input) (r : Relocated) → IsSettled input → (n : Names input r) → n.symbol.kind ≡ Global
     → is_undefined n.symbol ≡ false → HasGlobal (local_global input r.object n.from.object n.symbol.index)
 defined_global laws input r settled n kind not_so =
     let o : Object = n.from.object in
@@ -132,7 +133,7 @@ data_global input r listed so n kind =
     let given : got_mem_of input r ≡ Some d =
     ap (λ (b : Bool). if b then Some d else None) (and_from (is_global_index r.relocation.ty) (names_data input r) so of) in
     let any : list_any (same_definition d) (got_mem input) ≡ true =
-    same_listed same_definition (filter_map (got_mem_of input) (relocations input)) d (definition_self d)
+    any_listed same_definition [] (filter_map (got_mem_of input) (relocations input)) d (definition_self d)
     (made_of_one (got_mem_of input) (relocations input) r d (list_in (relocations input) r listed) given) in
     let place = some_place_of (same_definition d) (got_mem input) any in
     record {
@@ -142,7 +143,7 @@ data_global input r listed so n kind =
           ∙ ap (λ (p : Option ℕ). option_map (λ (q : ℕ). GlobalOf (global.GotMem q)) p) place.1;
     }
 
-function_global : Laws → (input : Input) (r : Relocated) → IsSettled input → Contains (relocations input) r
+function_global : LinkLaws → (input : Input) (r : Relocated) → IsSettled input → Contains (relocations input) r
     → is_global_index r.relocation.ty ≡ true → (n : Names input r) → n.symbol.kind ≡ Func
     → HasGlobal (got_func_global input r.object n.from.object r.relocation.index)
 function_global laws input r settled listed so n kind =
@@ -160,7 +161,7 @@ function_global laws input r settled listed so n kind =
     let self : same_pair pair pair ≡ true =
     and_from (same_definition d d) (same_target out.target out.target) (definition_self d) (target_self out.target) in
     let any : list_any (same_pair pair) (got_func input) ≡ true =
-    same_listed same_pair (filter_map (got_func_of input) (relocations input)) pair self
+    any_listed same_pair [] (filter_map (got_func_of input) (relocations input)) pair self
     (made_of_one (got_func_of input) (relocations input) r pair (list_in (relocations input) r listed) given) in
     let place = some_place_of (same_pair pair) (got_func input) any in
     let found : func_place input r.object number ≡ Some place.0 =
@@ -176,33 +177,26 @@ function_global laws input r settled listed so n kind =
 -- what names the number of a global takes one, or data, or a function
 takes_global : (taking : Taking) (kind : WasmSymbolKind) → is_global taking ≡ true → is_taken_of taking kind ≡ true
     → may_be_global kind ≡ true
-takes_global FunctionIndex kind so taken = absurd cc
-takes_global Slot kind so taken = absurd cc
-takes_global SlotBehindBase kind so taken = absurd cc
-takes_global TypeIndex kind so taken = absurd cc
 takes_global GlobalIndex kind so taken = taken
-takes_global TableNumber kind so taken = absurd cc
-takes_global (Address base) kind so taken = absurd cc
+takes_global _ kind so taken = absurd cc
 
-own_global : Laws → (input : Input) (r : Relocated) → IsSettled input → (n : Names input r) → n.symbol.kind ≡ Global
+own_global : LinkLaws → (input : Input) (r : Relocated) → IsSettled input → (n : Names input r) → n.symbol.kind ≡ Global
     → HasGlobal (local_global input r.object n.from.object n.symbol.index)
 own_global laws input r settled n kind = elim (cases_Bool (is_undefined n.symbol)) [
   | inl so ↦ imported_global laws input r settled n kind so
   | inr not_so ↦ defined_global laws input r settled n kind not_so
 ]
 
-stands_for_global : Laws → (input : Input) (r : Relocated) → IsSettled input → Contains (relocations input) r
+stands_for_global : LinkLaws → (input : Input) (r : Relocated) → IsSettled input → Contains (relocations input) r
     → is_global_index r.relocation.ty ≡ true → (n : Names input r) → (kind : WasmSymbolKind) → n.symbol.kind ≡ kind
     → may_be_global kind ≡ true
     → HasGlobal (symbol_global input r n.from.object kind n.symbol.index)
 stands_for_global laws input r settled listed so n Global is one = own_global laws input r settled n is
 stands_for_global laws input r settled listed so n Data is one = data_global input r listed so n is
 stands_for_global laws input r settled listed so n Func is one = function_global laws input r settled listed so n is
-stands_for_global laws input r settled listed so n Section is one = absurd cc
-stands_for_global laws input r settled listed so n Event is one = absurd cc
-stands_for_global laws input r settled listed so n Table is one = absurd cc
+stands_for_global laws input r settled listed so n _ is one = absurd cc
 
-pub global_is_named : Laws → (input : Input) (r : Relocated) → IsSettled input → Contains (relocations input) r
+pub global_is_named : LinkLaws → (input : Input) (r : Relocated) → IsSettled input → Contains (relocations input) r
     → is_global_index r.relocation.ty ≡ true → NamesGlobal input r
 global_is_named laws input r settled listed so =
     let other : names_a_type r.relocation.ty ≡ false =

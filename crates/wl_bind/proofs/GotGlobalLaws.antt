@@ -4,34 +4,34 @@ use Rattle.std.proofs.Math.Bool.{or-false}
 use Rattle.std.specs.List.{list_any, range_with_len}
 use Rattle.std.specs.Option.{IsSome, option_map, option_and_then}
 use Rattle.std.proofs.lemmas.Bool.{eqb-true}
-use Rattle.std.proofs.lemmas.List.{take_more, nil_from_length}
+use Rattle.std.proofs.lemmas.List.{nil_from_length}
 use Rattle.std.proofs.lemmas.List.Folds.{list_any-append}
 use Rattle.std.proofs.lemmas.List.FromFn.{length-map-range_with_len, get_or-map-range_with_len}
 use Rattle.std.proofs.lemmas.Option.{get_or_from_slice_get}
-use Rattle.indexmap.proofs.SetLemmas.{AllZip-push}
 use Rattle.wl_linking.specs.Object.{Object}
 use Rattle.wl_custom.specs.RelocationTypes.{is_global_index}
 use Rattle.wl_symbols.specs.Entries.{symbol_in}
 use Rattle.wl_symbols.specs.Names.{def}
 use Rattle.wl_symbols.specs.declared.entry.Definition.{Definition}
 use Rattle.wl_bind.specs.FunctionSymbols.{fun}
-use Rattle.wl_bind.specs.GlobalSpace.{GlobalOf, global_space, global_parts, got_mem_part, got_func_part}
+use Rattle.wl_bind.specs.GlobalSpace.{GlobalOf, global_space}
 use Rattle.wl_bind.specs.steps.GotGlobals.{marked, func_global_if}
 use Rattle.wl_bind.specs.IndexMaps.{is_global_of, has_global, is_data_symbol, mem_place, got_mem_global, got_mem_globals, func_place, got_func_global, got_func_globals}
 use Rattle.wl_symbols.specs.Input.{Input}
 use Rattle.wl_bind.specs.steps.Numbering.{IsNumbering}
 use Rattle.wl_bind.specs.Parts.{IsPlaceOf, ArePlacesOf, HasEntry}
 use Rattle.wl_bind.specs.Sameness.{same_definition, same_pair}
-use Rattle.wl_bind.specs.Scan.{got_mem, got_func, got_mem_entry, got_func_entry, GotMemEntry, GotFuncEntry}
+use Rattle.wl_bind.specs.Scan.{got_mem, got_func, got_mem_entry, got_func_entry, Named}
 use Rattle.wl_bind.specs.declared.binding.FunctionTarget.{FunctionTarget}
 use Rattle.wl_bind.specs.declared.binding.GlobalTarget.TheVariants.{GotMem, GotFunc}
 use Rattle.wl_bind.specs.declared.numbering.Numbering.{Numbering}
 use Rattle.wl_symbols.specs.declared.relocated.Relocated.{Relocated}
-use Rattle.wl_bind.proofs.GotLaws.{position_map}
+use Rattle.wl_lists.proofs.Found.{position_map}
 use Rattle.wl_bind.proofs.ListLaws.{place_lt}
 use Rattle.wl_bind.proofs.MarkLaws.{one_more}
 use Rattle.wl_lists.proofs.Splits.{splits}
-use Rattle.wl_bind.proofs.SlotIndexLaws.{has_entry}
+use Rattle.wl_bind.proofs.NumberingLaws.{zip_more}
+use Rattle.wl_bind.proofs.GlobalIndexLaws.{has_mem, has_func}
 
 -- ---- marks of symbols
 
@@ -50,21 +50,21 @@ relocation_more n seen r old new is so_far =
 
 -- ---- places in the GOT lists
 
-pub mem_placed : (input : Input) (mems : List GotMemEntry) (d : Definition)
+pub mem_placed : (input : Input) (mems : List (Named Definition)) (d : Definition)
     → mems ≡ map (got_mem_entry input) (got_mem input)
-    → position (λ e. same_definition d e.definition) mems
+    → position (λ e. same_definition d e.key) mems
     ≡ position (same_definition d) (got_mem input)
 mem_placed input mems d are =
-    ap (position (λ (e : GotMemEntry). same_definition d e.definition)) are
-    ∙ position_map (got_mem_entry input) (λ e. same_definition d e.definition) (got_mem input)
+    ap (position (λ (e : Named Definition). same_definition d e.key)) are
+    ∙ position_map (got_mem_entry input) (λ e. same_definition d e.key) (got_mem input)
 
-pub func_placed : (input : Input) (funcs : List GotFuncEntry) (d : Definition)
+pub func_placed : (input : Input) (funcs : List (Named (Definition × FunctionTarget))) (d : Definition)
     (f : FunctionTarget) → funcs ≡ map (got_func_entry input) (got_func input)
-    → position (λ e. same_pair (d, f) (e.definition, e.target)) funcs
+    → position (λ e. same_pair (d, f) e.key) funcs
     ≡ position (same_pair (d, f)) (got_func input)
 func_placed input funcs d f are =
-    ap (position (λ (e : GotFuncEntry). same_pair (d, f) (e.definition, e.target))) are
-    ∙ position_map (got_func_entry input) (λ e. same_pair (d, f) (e.definition, e.target))
+    ap (position (λ (e : Named (Definition × FunctionTarget)). same_pair (d, f) e.key)) are
+    ∙ position_map (got_func_entry input) (λ e. same_pair (d, f) e.key)
     (got_func input)
 
 -- ---- entries of the GOT lists
@@ -78,25 +78,13 @@ then_lt test xs (Some f) p is = place_lt (test f) xs p is
 pub mem_has : (n : Numbering) → IsNumbering n.input.now n → (object number place : ℕ)
     → mem_place n.input.now object number ≡ Some place → HasEntry n.indices.now.globals 8 place
 mem_has n is object number place at =
-    let input : Input = n.input.now in
-    let long : length (got_mem_part input) ≡ length (got_mem input) =
-    length-map-range_with_len (λ k. GlobalOf (GotMem k)) 0 (length (got_mem input)) in
-    let lt : place < length (got_mem input) =
-    place_lt (same_definition (def input.link object number)) (got_mem input) place at in
-    has_entry (global_parts input) n.indices.now.globals 8 9 place (length (got_mem_part input))
-    is.indices.globals refl refl (omega (arith, lt, long))
+    has_mem n is place (place_lt (same_definition (def n.input.now.link object number)) (got_mem n.input.now) place at)
 
 pub func_has : (n : Numbering) → IsNumbering n.input.now n → (object number place : ℕ)
     → func_place n.input.now object number ≡ Some place → HasEntry n.indices.now.globals 9 place
 func_has n is object number place at =
-    let input : Input = n.input.now in
-    let long : length (got_func_part input) ≡ length (got_func input) =
-    length-map-range_with_len (λ k. GlobalOf (GotFunc k)) 0 (length (got_func input)) in
-    let lt : place < length (got_func input) =
-    then_lt (λ (f : FunctionTarget). same_pair (def input.link object number, f)) (got_func input)
-    (fun input object number) place at in
-    has_entry (global_parts input) n.indices.now.globals 9 10 place (length (got_func_part input))
-    is.indices.globals refl refl (omega (arith, lt, long))
+    has_func n is place (then_lt (λ (f : FunctionTarget). same_pair (def n.input.now.link object number, f)) (got_func n.input.now)
+    (fun n.input.now object number) place at)
 
 -- ---- where a GOT list is empty
 
@@ -121,7 +109,7 @@ no_func_place input d None empty = refl
 no_func_place input d (Some f) empty = sym (func_placed input [] d f empty)
 
 -- an empty list has no place, so no symbol has a global
-pub no_func_global : (input : Input) (object number : ℕ) (mark : Bool) (funcs : List GotFuncEntry)
+pub no_func_global : (input : Input) (object number : ℕ) (mark : Bool) (funcs : List (Named (Definition × FunctionTarget)))
     → funcs ≡ map (got_func_entry input) (got_func input) → (length funcs == 0) ≡ true
     → func_global_if input object number mark ≡ None
 no_func_global input object number mark funcs are empty =
@@ -129,7 +117,7 @@ no_func_global input object number mark funcs are empty =
     (no_func_place input (def input.link object number) (fun input object number)
     (sym (nil_from_length funcs (eqb-true (length funcs) 0 empty)) ∙ are))
 
-pub mem_none : (input : Input) (object : ℕ) (o : Object) (mems : List GotMemEntry)
+pub mem_none : (input : Input) (object : ℕ) (o : Object) (mems : List (Named Definition))
     → mems ≡ map (got_mem_entry input) (got_mem input) → (length mems == 0) ≡ true
     → ArePlacesOf (global_space input) (got_mem_globals input object o)
     (replicate (length o.symbols) None)
@@ -141,7 +129,7 @@ mem_none input object o mems are empty =
     (λ p. GlobalOf (GotMem p)) (mem_place input object k)
     (sym (mem_placed input [] (def input.link object k) none)))
 
-pub func_none : (input : Input) (object : ℕ) (o : Object) (funcs : List GotFuncEntry)
+pub func_none : (input : Input) (object : ℕ) (o : Object) (funcs : List (Named (Definition × FunctionTarget)))
     → funcs ≡ map (got_func_entry input) (got_func input) → (length funcs == 0) ≡ true
     → ArePlacesOf (global_space input) (got_func_globals input object o)
     (replicate (length o.symbols) None)
@@ -164,20 +152,6 @@ symbol_there objects object o g i marks here are lt =
     ap (λ (bs : List Bool). length bs) are ∙ length-map-range_with_len g 0 (length o.symbols) in
     rw here (there_at o.symbols i (omega (arith, long, lt)))
 
--- one place more
-place_more : {X : Type 0} (space : List X) (os : List (Option X)) (old new : List (Option ℕ))
-    (i : ℕ) (place : Option ℕ) → i < length os
-    → ((o : Option X) → slice_get os i ≡ Some o → IsPlaceOf space o place)
-    → new ≡ old ++ place ∷ [] → ArePlacesOf space (take i os) old
-    → ArePlacesOf space (take (i + 1) os) new
-place_more {X} space os old new i place lt stands pushed so_far =
-    let s = splits os i lt in
-    let more : take (i + 1) os ≡ take i os ++ s.x ∷ [] =
-    take_more os i s.x lt
-    ∙ ap (λ (o : Option X). take i os ++ o ∷ []) (get_or_from_slice_get os i s.x s.x s.here) in
-    rw (more, pushed)
-    (AllZip-push (IsPlaceOf space) (take i os) old s.x place so_far (stands s.x s.here))
-
 -- the place of what one more symbol gives by its mark
 pub symbol_more : {X : Type 0} (space : List X) (f : ℕ → Bool → Option X) (g : ℕ → Bool)
     (n i : ℕ) (marks : List Bool) (mark : Bool) (old new : List (Option ℕ)) (place : Option ℕ)
@@ -195,7 +169,7 @@ symbol_more {X} space f g n i marks mark old new place are lt stands at pushed s
     let same : 0 + i ≡ i = omega arith in
     let set : mark ≡ g i = at ∙ (ap (λ (bs : List Bool). get_or bs i mark) are
     ∙ get_or-map-range_with_len g 0 n i i mark within same) in
-    place_more space os old new i place (omega (arith, within, all)) (λ o here.
+    zip_more (IsPlaceOf space) os old new i place (omega (arith, within, all)) (λ o here.
     let is : o ≡ h i = sym (get_or_from_slice_get os i o o here)
     ∙ get_or-map-range_with_len h 0 n i i o within same in
     subst (λ (x : Option X). IsPlaceOf space x place)

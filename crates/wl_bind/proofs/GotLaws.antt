@@ -1,5 +1,5 @@
 -- Keys with names: places in lists, and maps of places.
-use Rattle.std.proofs.Common.{◌≡◌, ◌==◌, ◌||◌, ◌⊎◌, ◌+◌, ℕ, suc, Bool, true, false, not, cond, List, [], ◌∷◌, ◌++◌, map, length, position, Option, Some, None, Result, Ok, Err, OnOk, is_some, refl, sym, ap, ◌∙◌, arith, inl, inr, if◌then◌else◌, nat_lt, true≢false, subst}
+use Rattle.std.proofs.Common.{◌≡◌, ◌==◌, ◌||◌, ◌⊎◌, ◌+◌, ◌<◌, ℕ, suc, Bool, true, false, not, cond, List, [], ◌∷◌, ◌++◌, map, length, take, position, slice_get, Option, Some, None, is_some, refl, sym, ap, ◌∙◌, arith, inl, inr, if◌then◌else◌, nat_lt, true≢false, subst}
 use Rattle.std.specs.HashMap.{HashMap, get_by, UpdatesBy}
 use Rattle.std.specs.List.{list_any, position_or_len}
 use Rattle.std.specs.Option.{option_or, option_map}
@@ -9,22 +9,15 @@ use Rattle.std.proofs.lemmas.Grind.{common_steps}
 use Rattle.std.proofs.lemmas.Slice.Eq.{bytes_eq-Decides}
 use Rattle.std.specs.Map.{lookup}
 use Rattle.indexmap.specs.IndexMap.{insert_entry}
-use Rattle.std.proofs.lemmas.List.{length-map, map-append}
+use Rattle.std.proofs.lemmas.List.{length-take-le, map-append, take_more}
+use Rattle.std.proofs.lemmas.Option.{get_or_from_slice_get}
 use Rattle.std.proofs.lemmas.Map.Text.{hash_map_updates_str}
 use denote.Ref.{Bor}
-use Rattle.wl_bind.specs.GotSteps.{is_name, ArePlaces, insert_named, insert_some_named, add_entry, insert_all_as}
+use Rattle.wl_bind.specs.GotSteps.{named, is_name, ArePlaces, add_entry, insert_all_as}
+use Rattle.wl_bind.specs.Scan.{Named}
 use Rattle.indexmap.specs.IndexSet.{insert_key, insert_all}
 
 -- ---- places in lists
-
-module _ {X Y : Type 0} (f : X → Y) (p : Y → Bool) where
-  first_map : (xs : List X) → position_or_len p (map f xs) ≡ position_or_len (λ x. p (f x)) xs
-  first_map [] = refl
-  first_map (x ∷ xs) = ap (λ n. cond (not (p (f x))) (1 + n) 0) (first_map xs)
-
-  -- a place among what f gives is that among the things
-  pub position_map : (xs : List X) → position p (map f xs) ≡ position (λ x. p (f x)) xs
-  position_map xs = rw (length-map xs f, first_map xs) refl
 
 module _ {X : Type 0} (p : X → Bool) where
   next : (b : Bool) (n l : ℕ) → cond (nat_lt (cond (not b) (1 + n) 0) (suc l)) (Some (cond (not b) (1 + n) 0)) None ≡ cond b (Some 0) (option_map suc (cond (nat_lt n l) (Some n) None))
@@ -72,17 +65,21 @@ module _ {K V : Type 0} (eq : K → K → Bool) (k : K) (v : V) where
       by false none h = ap (λ l. e ∷ l) (h none)
 
 module _ {K : Type 0} (eq : K → K → Bool) (k : K) (name : Bor (List ℕ)) (es : List (K × Bor (List ℕ))) where
+  any_named : (xs : List (K × Bor (List ℕ))) → list_any (λ (o : Named K). eq k o.key) (map named xs) ≡ list_any (λ e. eq k e.0) xs
+  any_named [] = refl
+  any_named (x ∷ xs) = ap (λ b. eq k x.0 || b) (any_named xs)
+
   -- a key that is there adds nothing
-  pub named_there : is_some (lookup (eq k) es) ≡ true → es ≡ insert_named eq es k name
-  named_there there = let any = sym (any_lookup eq k name es) ∙ there in rw any refl
+  pub named_there : is_some (lookup (eq k) es) ≡ true → map named es ≡ add_entry eq (map named es) (Some (named (k, name)))
+  named_there there = let any = any_named es ∙ sym (any_lookup eq k name es) ∙ there in rw any refl
 
   -- a new key goes last
-  pub named_last : (new : List (K × Bor (List ℕ))) → new ≡ insert_entry eq es k name → is_some (lookup (eq k) es) ≡ false → new ≡ es ++ (k, name) ∷ []
-  named_last new is absent = is ∙ appended eq k name es (sym (any_lookup eq k name es) ∙ absent)
-
-  -- and so it is added
-  pub named_new : (new : List (K × Bor (List ℕ))) → new ≡ insert_entry eq es k name → is_some (lookup (eq k) es) ≡ false → new ≡ insert_named eq es k name
-  named_new new is absent = let any = sym (any_lookup eq k name es) ∙ absent in named_last new is absent ∙ rw any refl
+  pub named_new : (new : List (K × Bor (List ℕ))) → new ≡ insert_entry eq es k name → is_some (lookup (eq k) es) ≡ false
+      → map named new ≡ add_entry eq (map named es) (Some (named (k, name)))
+  named_new new is absent =
+      let none = sym (any_lookup eq k name es) ∙ absent in
+      let any = any_named es ∙ none in
+      ap (map named) (is ∙ appended eq k name es none) ∙ (map-append named es ((k, name) ∷ []) ∙ rw any refl)
 
 -- ---- places of names
 
@@ -113,50 +110,35 @@ module _ {S : Type 0} (m n : HashMap (Bor (List ℕ)) ℕ S) (name : List ℕ) (
       ]
 
 -- the places after one more key
-pub places_more : {K S : Type 0} (m n : HashMap (Bor (List ℕ)) ℕ S) (es : List (K × Bor (List ℕ))) (k : K) (name : Bor (List ℕ)) → ArePlaces m es
-    → ((wanted : List ℕ) → get_by (λ q. bytes_eq wanted q.now) n ≡ option_or (get_by (λ q. bytes_eq wanted q.now) m) (cond (is_name wanted name.now) (Some (length es)) None))
-    → ArePlaces n (es ++ (k, name) ∷ [])
-places_more m n es k name before after wanted =
-    after wanted ∙ ap (λ r. option_or r (cond (is_name wanted name.now) (Some (length es)) None)) (before wanted)
-    ∙ sym (position_push (λ e. is_name wanted e.1.now) es (k, name))
-
--- ---- facts on success
-
--- what holds anyway
-pub always_ok : {A E P : Type 0} (r : Result A E) → P → OnOk r P
-always_ok (Ok a) p = p
-always_ok (Err e) p = tt
+pub places_more : {K S : Type 0} (m n : HashMap (Bor (List ℕ)) ℕ S) (es : List (K × Bor (List ℕ))) (i : ℕ) (e : K × Bor (List ℕ)) → i < length es
+    → slice_get es i ≡ Some e → ArePlaces m (take i es)
+    → ((wanted : List ℕ) → get_by (λ q. bytes_eq wanted q.now) n ≡ option_or (get_by (λ q. bytes_eq wanted q.now) m) (cond (is_name wanted e.1.now) (Some i) None))
+    → ArePlaces n (take (i + 1) es)
+places_more {K} m n es i e lt here before after wanted =
+    let test = λ (x : K × Bor (List ℕ)). is_name wanted x.1.now in
+    let long : length (take i es) ≡ i = length-take-le i es (omega (arith, lt)) in
+    let more : take (i + 1) es ≡ take i es ++ e ∷ [] = take_more es i e lt ∙ ap (λ x. take i es ++ x ∷ []) (get_or_from_slice_get es i e e here) in
+    after wanted ∙ ap (λ r. option_or r (cond (test e) (Some i) None)) (before wanted)
+    ∙ ap (λ (l : ℕ). option_or (position test (take i es)) (cond (test e) (Some l) None)) (sym long)
+    ∙ sym (ap (position test) more ∙ position_push test (take i es) e)
 
 -- ---- entries of keys
 
-module _ {K E : Type 0} (eq : K → K → Bool) (key : E → K) (entry : K → E) (back : (k : K) → key (entry k) ≡ k) where
-  any_entry : (k : K) (ks : List K) → list_any (λ e. eq k (key e)) (map entry ks) ≡ list_any (eq k) ks
+module _ {K : Type 0} (eq : K → K → Bool) (entry : K → Named K) (back : (k : K) → (entry k).key ≡ k) where
+  any_entry : (k : K) (ks : List K) → list_any (λ (e : Named K). eq k e.key) (map entry ks) ≡ list_any (eq k) ks
   any_entry k [] = refl
   any_entry k (x ∷ ks) = rw (back x, any_entry k ks) refl
 
-  one_as : (k : K) (ks : List K) → add_entry eq key (map entry ks) (Some (entry k)) ≡ map entry (insert_key eq ks k)
-  one_as k ks = rw (back k, any_entry k ks) (by (list_any (eq k) ks))
+  one_as : (k : K) (ks : List K) → add_entry eq (map entry ks) (Some (entry k)) ≡ map entry (insert_key eq ks k)
+  one_as k ks =
+      let any = ap (λ x. list_any (λ (e : Named K). eq x e.key) (map entry ks)) (back k) ∙ any_entry k ks in
+      rw any (by (list_any (eq k) ks))
     where
       by : (b : Bool) → (if b then map entry ks else map entry ks ++ entry k ∷ []) ≡ map entry (if b then ks else ks ++ k ∷ [])
       by true = refl
       by false = sym (map-append entry ks (k ∷ []))
 
   -- the entries of keys are added as the keys are
-  pub all_as : (ks xs : List K) → insert_all_as eq key entry (map entry ks) xs ≡ map entry (insert_all eq ks xs)
+  pub all_as : (ks xs : List K) → insert_all_as eq entry (map entry ks) xs ≡ map entry (insert_all eq ks xs)
   all_as ks [] = refl
-  all_as ks (x ∷ xs) = ap (λ es. insert_all_as eq key entry es xs) (one_as x ks) ∙ all_as (insert_key eq ks x) xs
-
-module _ {K E : Type 0} (eq : K → K → Bool) (key : E → K) (see : K × Bor (List ℕ) → E) (keyed : (e : K × Bor (List ℕ)) → key (see e) ≡ e.0) where
-  seen : (k : K) (es : List (K × Bor (List ℕ))) → list_any (λ e. eq k (key e)) (map see es) ≡ list_any (λ e. eq k e.0) es
-  seen k [] = refl
-  seen k (e ∷ es) = rw (keyed e, seen k es) refl
-
-  -- a key with a name is added as its entry is
-  pub named_entry : (es : List (K × Bor (List ℕ))) (item : Option (K × Bor (List ℕ)))
-      → map see (insert_some_named eq es item) ≡ add_entry eq key (map see es) (option_map see item)
-  named_entry es None = refl
-  named_entry es (Some e) = rw (keyed e, seen e.0 es) (by (list_any (λ o. eq e.0 o.0) es))
-    where
-      by : (b : Bool) → map see (if b then es else es ++ e ∷ []) ≡ (if b then map see es else map see es ++ see e ∷ [])
-      by true = refl
-      by false = map-append see es (e ∷ [])
+  all_as ks (x ∷ xs) = ap (λ es. insert_all_as eq entry es xs) (one_as x ks) ∙ all_as (insert_key eq ks x) xs

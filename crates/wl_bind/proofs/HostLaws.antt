@@ -1,15 +1,15 @@
 -- Slots that are left to the host: those that are kept, and that no rule resolves.
-use Rattle.std.proofs.Common.{◌≡◌, ◌∙◌, ℕ, zero, suc, ◌+◌, ◌&&◌, Bool, true, false, List, [], ◌∷◌, map, Option, Some, None, refl, sym, ap, arith, slice_get, if◌then◌else◌}
+use Rattle.std.proofs.Common.{◌≡◌, ◌∙◌, ℕ, zero, suc, ◌+◌, ◌&&◌, Bool, true, false, List, [], ◌∷◌, map, Option, Some, None, refl, sym, ap, arith, slice_get, if◌then◌else◌, subst, ◌++◌}
 use Rattle.std.specs.Option.{option_map, option_map_or, option_and_then}
 use Rattle.std.proofs.lemmas.Option.{slice_get-map}
 use Rattle.wl_module.specs.Imports.{Imported}
 use Rattle.wl_linking.specs.Object.{Object}
 use Rattle.wl_custom.specs.Symbols.{Symbol as LinkedSymbol}
 use Rattle.wl_custom.specs.declared.symbols.WasmSymbolKind.{WasmSymbolKind}
-use Rattle.wl_custom.specs.declared.symbols.WasmSymbolKind.TheVariants.{Func, Data, Global, Section, Event, Table}
+use Rattle.wl_custom.specs.declared.symbols.WasmSymbolKind.TheVariants.{Func, Global}
 use Rattle.wl_symbols.specs.ImportSlots.{ImportSlot, slot_imports, numbered_slots, object_slots, import_slots}
 use Rattle.wl_symbols.specs.Input.{Input, keeps_slot}
-use Rattle.wl_symbols.specs.KeptSlots.{is_kept_slot}
+use Rattle.wl_symbols.specs.KeptSlots.{is_kept_slot, slots_from}
 use Rattle.wl_bind.specs.FunctionBinding.{binds_function}
 use Rattle.wl_bind.specs.GlobalBinding.{binds_global}
 use Rattle.wl_bind.specs.Resolutions.{as_function, function_resolution, as_global, global_resolution, Resolving, rows_from, by_all_rules, resolutions}
@@ -23,23 +23,21 @@ use Rattle.wl_bind.specs.declared.binding.GlobalTarget.TheVariants as global
 use Rattle.wl_bind.specs.declared.resolution.ImportResolution.{ImportResolution}
 use Rattle.wl_bind.specs.declared.resolution.ImportResolution.TheVariants.{Unresolved}
 use Rattle.wl_bind.specs.declared.resolution.ObjectImportResolutions.{ObjectImportResolutions}
+use Rattle.wl_bind.specs.Parts.{by_object}
+use Rattle.wl_lists.proofs.In.{IsIn, place_in}
+use Rattle.wl_lists.proofs.Rows.{Given, given_by}
 
 -- ---- a slot
 
 -- a function is the host's exactly where it is resolved to nothing
 host_function : (input : Input) (t : ImportSlot) (f : FunctionTarget) → is_unresolved (as_function input t f) ≡ is_host_function f
-host_function input t (function.Defined object number) = refl
-host_function input t (function.Made m) = refl
 host_function input t (function.Host object slot) = refl
-host_function input t (function.Stub object slot) = refl
+host_function input t _ = refl
 
 -- so is a global
 host_global : (input : Input) (g : GlobalTarget) → is_unresolved (as_global input g) ≡ is_host_global g
-host_global input (global.Defined object number) = refl
-host_global input (global.Made m) = refl
-host_global input (global.GotMem place) = refl
-host_global input (global.GotFunc place) = refl
 host_global input (global.Host object slot) = refl
+host_global input _ = refl
 
 -- a slot that is kept
 where_kept : (kept : Bool) (r : ImportResolution) (host : Bool) → is_unresolved r ≡ host
@@ -97,17 +95,56 @@ pub placed : (objects : List Object) (object : ℕ) (kind : WasmSymbolKind) (k :
     → slice_get (import_slots objects object kind) k ≡ Some t → IsAt object kind k t
 placed objects object kind k t here = placed_in object kind (slice_get objects object) k t here
 
+-- the slots of an object that is there
+pub slots_here : (objects : List Object) (object : ℕ) (kind : WasmSymbolKind) (o : Object) → slice_get objects object ≡ Some o
+    → import_slots objects object kind ≡ object_slots object kind o
+slots_here objects object kind o at = rw at refl
+
+-- ---- the slots of all objects
+
+slots_by_object : (kind : WasmSymbolKind) (i : ℕ) (objects : List Object)
+    → slots_from kind i objects ≡ by_object (λ (j : ℕ) (o : Object). object_slots j kind o) i objects
+slots_by_object kind i [] = refl
+slots_by_object kind i (o ∷ objects) =
+    ap (λ (ts : List ImportSlot). object_slots i kind o ++ ts) (slots_by_object kind (i + 1) objects)
+
+pub record IsSlotIn (objects : List Object) (kind : WasmSymbolKind) (t : ImportSlot) : Type 0 where
+  pub object : Object
+  pub here : slice_get objects t.object ≡ Some object
+  pub among : IsIn (object_slots t.object kind object) t
+  pub at : slice_get (import_slots objects t.object kind) t.number ≡ Some t
+
+pub slot_in : (objects : List Object) (kind : WasmSymbolKind) (t : ImportSlot) → IsIn (slots_from kind 0 objects) t → IsSlotIn objects kind t
+slot_in objects kind t h =
+    let f : ℕ → Object → List ImportSlot = λ (j : ℕ) (o : Object). object_slots j kind o in
+    let all : IsIn (by_object f 0 objects) t = subst (λ (ts : List ImportSlot). IsIn ts t) (slots_by_object kind 0 objects) h in
+    let g : Given f 0 objects t = given_by f 0 objects t all in
+    let same : 0 + g.place ≡ g.place = omega arith in
+    let o : Object = g.object in
+    let there : IsIn (object_slots g.place kind o) t = subst (λ (n : ℕ). IsIn (object_slots n kind o) t) same g.there in
+    let found = place_in (object_slots g.place kind o) t there in
+    let at : slice_get (import_slots objects g.place kind) found.0 ≡ Some t =
+    subst (λ (ts : List ImportSlot). slice_get ts found.0 ≡ Some t) (sym (slots_here objects g.place kind o g.at)) found.1 in
+    let is : IsAt g.place kind found.0 t = placed objects g.place kind found.0 t at in
+    record {
+      object = o;
+      here = subst (λ (n : ℕ). slice_get objects n ≡ Some o) (sym is.object_is) g.at;
+      among = subst (λ (n : ℕ). IsIn (object_slots n kind o) t) (sym is.object_is) there;
+      at = subst (λ (n : ℕ). slice_get (import_slots objects t.object kind) n ≡ Some t) (sym is.number_is)
+          (subst (λ (n : ℕ). slice_get (import_slots objects n kind) found.0 ≡ Some t) (sym is.object_is) at);
+    }
+
 -- ---- the rows of all objects
 
 -- the row of an object
-abbrev row_of : Resolving → ℕ → Object → ObjectImportResolutions
+abbrev pub row_of : Resolving → ℕ → Object → ObjectImportResolutions
 row_of by object o = record {
   function_resolutions = map by.functions (object_slots object Func o);
   global_resolutions = map by.globals (object_slots object Global o);
 }
 
 -- each object has one
-row_at : (by : Resolving) (n m : ℕ) (os : List Object) (k : ℕ) → m ≡ n + k
+pub row_at : (by : Resolving) (n m : ℕ) (os : List Object) (k : ℕ) → m ≡ n + k
     → slice_get (rows_from by n os) k ≡ option_map (row_of by m) (slice_get os k)
 row_at by n m [] k is = refl
 row_at by n m (o ∷ os) zero is = let same : n ≡ m = omega (arith, is) in ap (λ (i : ℕ). Some (row_of by i o)) same
@@ -177,10 +214,7 @@ row_says input Global object number =
     ∙ found_global by object number (slice_get objects object))
     ∙ slot_in_row input Global object number (global_resolution input) (host_global_slot input)
     (slice_get (import_slots objects object Global) number) (placed objects object Global number)
-row_says input Data object number = no_host Data input (slice_get (import_slots input.link.objects object Data) number) (λ t. refl)
-row_says input Section object number = no_host Section input (slice_get (import_slots input.link.objects object Section) number) (λ t. refl)
-row_says input Event object number = no_host Event input (slice_get (import_slots input.link.objects object Event) number) (λ t. refl)
-row_says input Table object number = no_host Table input (slice_get (import_slots input.link.objects object Table) number) (λ t. refl)
+row_says input kind object number = no_host kind input (slice_get (import_slots input.link.objects object kind) number) (λ t. refl)
 
 pub told : (input : Input) (rows : List ObjectImportResolutions) (kind : WasmSymbolKind) (object number : ℕ) (found : Option ImportResolution)
     → rows ≡ resolutions input (by_all_rules input) → found ≡ resolution_at rows kind object number

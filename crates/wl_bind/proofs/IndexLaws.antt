@@ -1,13 +1,12 @@
 -- The lengths of the parts of spaces, and the addresses of the linker's that are exported.
-use Rattle.std.proofs.Common.{◌≡◌, ◌∙◌, ◌⊎◌, ℕ, zero, suc, ◌+◌, ◌<◌, ◌≤◌, Bool, true, false, List, [], ◌∷◌, ◌++◌, length, map, refl, sym, ap, subst, arith, inl, inr, Option, Some, None, Result, Ok, Err, IfOk, IfErr, slice_get, get_or, position, filter_map, if◌then◌else◌, MatchOption, length-append}
-use Rattle.std.specs.List.{list_any, range_with_len}
+use Rattle.std.proofs.Common.{◌≡◌, ◌∙◌, ◌⊎◌, ℕ, ◌<◌, ◌≤◌, Bool, true, false, List, [], ◌∷◌, ◌++◌, length, map, refl, sym, ap, subst, arith, inl, inr, Option, Some, None, Result, Ok, Err, IfOk, IfErr, slice_get, get_or, position, filter_map, if◌then◌else◌, MatchOption, length-append}
+use Rattle.std.specs.List.{list_any}
 use Rattle.std.specs.Str.{bytes_eq}
 use Rattle.std.proofs.lemmas.Bool.{cases_Bool}
 use Rattle.std.proofs.lemmas.List.{length-map}
 use Rattle.std.proofs.lemmas.List.Quantifiers.{position-Some}
 use Rattle.std.proofs.lemmas.Option.{slice_get-get_or}
 use Rattle.std.proofs.lemmas.Slice.Eq.{bytes_eq-Decides}
-use Rattle.indexmap.specs.IndexSet.{insert_all}
 use Rattle.wl_index.specs.declared.index.TheConstants.{MAX_ENTRIES}
 use Rattle.wl_linking.specs.Steps.{Refuses}
 use Rattle.wl_linking.specs.declared.error.LinkError.{LinkError}
@@ -35,13 +34,14 @@ use Rattle.wl_bind.specs.declared.parts.PartStarts.{PartStarts}
 use Rattle.wl_types.specs.Types.{IsFull}
 use Rattle.wl_linking.proofs.StepLaws.{refuses_for, refuses_memory}
 use Rattle.wl_lists.proofs.Found.{any_in}
-use Rattle.wl_lists.proofs.In.{in_back, in_front, IsIn}
+use Rattle.wl_lists.proofs.In.{IsIn, list_in}
 use Rattle.wl_lists.proofs.Places.{mapped_at}
 use Rattle.wl_bind.proofs.ListLaws.{made_of_one}
-use Rattle.wl_bind.proofs.ListedLaws.{some_place_of}
+use Rattle.wl_bind.proofs.ListedLaws.{some_place_of, still_in}
 use Rattle.wl_bind.proofs.PlaceLaws.{joined_length}
 use Rattle.wl_bind.proofs.SameLaws.{made_one, made_self}
 use Rattle.wl_bind.proofs.StartLaws.{entry_found}
+use Rattle.indexmap.proofs.CallerLemmas.{Contains-list_any}
 
 -- ---- lengths of parts
 
@@ -51,10 +51,6 @@ length_if false x = refl
 
 pub lengths_mapped : {X Y Z : Type 0} (f : X → Y) (g : X → Z) (xs : List X) → length (map f xs) ≡ length (map g xs)
 lengths_mapped f g xs = length-map xs f ∙ sym (length-map xs g)
-
-pub length_numbered : {X : Type 0} (f : ℕ → X) (a n : ℕ) → length (map f (range_with_len a n)) ≡ n
-length_numbered f a zero = refl
-length_numbered f a (suc n) = ap suc (length_numbered f (a + 1) n)
 
 -- starts by the lengths of parts are those of the parts
 pub starts_ok : {X : Type 0} (r : Result PartStarts LinkError) (parts : List (List X)) (lengths : List ℕ)
@@ -112,47 +108,7 @@ types_refuse input (fault.TooLarge what) full =
     (record { told = ap fault.TooLarge full.0; over = inl full.1 })
 types_refuse input _ full = absurd full
 
--- ---- first occurrences keep each
-
-found_any : {X : Type 0} (same : X → X → Bool) → ((a b : X) → same a b ≡ true → a ≡ b) → (xs : List X) (x : X)
-    → list_any (same x) xs ≡ true → IsIn xs x
-found_any same one [] x h = absurd cc
-found_any same one (y ∷ xs) x h = elim (cases_Bool (same x y)) [
-  | inl t ↦ inl (sym (one x y t))
-  | inr f ↦ inr (found_any same one xs x (rw f at h))
-]
-
-kept_firsts : {X : Type 0} (same : X → X → Bool) → ((a b : X) → same a b ≡ true → a ≡ b) → (seen xs : List X) (z : X)
-    → IsIn seen z ⊎ IsIn xs z → IsIn (insert_all same seen xs) z
-kept_firsts same one seen [] z h = elim h [ inl a ↦ a | inr b ↦ absurd b ]
-kept_firsts {X} same one seen (x ∷ xs) z h = elim (cases_Bool (list_any (same x) seen)) [
-  | inl t ↦ rw t (kept_firsts same one seen xs z (elim h [
-    | inl a ↦ inl a
-    | inr b ↦ elim b [
-      | inl e ↦ inl (subst (λ (y : X). IsIn seen y) e (found_any same one seen x t))
-      | inr r ↦ inr r
-    ]
-  ]))
-  | inr f ↦ rw f (kept_firsts same one (seen ++ x ∷ []) xs z (elim h [
-    | inl a ↦ inl (in_front seen (x ∷ []) z a)
-    | inr b ↦ elim b [
-      | inl e ↦ inl (in_back seen (x ∷ []) z (inl e))
-      | inr r ↦ inr r
-    ]
-  ]))
-]
-
 -- ---- places of exported addresses
-
-same_names : (a b : List ℕ) → bytes_eq a b ≡ true → a ≡ b
-same_names a b e = (bytes_eq-Decides a b).0 e
-
-any_named : (name : List ℕ) (names : List (List ℕ)) → list_any (bytes_eq name) names ≡ true → IsIn names name
-any_named name [] h = absurd cc
-any_named name (n ∷ names) h = elim (cases_Bool (bytes_eq name n)) [
-  | inl t ↦ inl (sym (same_names name n t))
-  | inr f ↦ inr (any_named name names (rw f at h))
-]
 
 data_by_name : (m : WasmLinkerSymbol) → sort_of m ≡ Data → data_named (name_of m) ≡ Some m
 data_by_name made.DataEnd e = refl
@@ -175,14 +131,14 @@ not_listed : (args : WasmArgs) (m : WasmLinkerSymbol) → sort_of m ≡ Data
     → list_any (bytes_eq (name_of m)) args.export_symbols ≡ false
 not_listed args m is_data_of none (inr f) = f
 not_listed args m is_data_of none (inl t) =
-    let named = any_named (name_of m) args.export_symbols t in
-    let among = made_of_one data_named args.export_symbols (name_of m) m named (data_by_name m is_data_of) in
-    let first = kept_firsts same_made made_one [] (filter_map data_named args.export_symbols) m (inr among) in
+    let named = Contains-list_any bytes_eq (λ a b e. (bytes_eq-Decides a b).0 e) args.export_symbols (name_of m) t in
+    let among = made_of_one data_named args.export_symbols (name_of m) m (list_in args.export_symbols (name_of m) named) (data_by_name m is_data_of) in
+    let first = still_in same_made made_one (filter_map data_named args.export_symbols) m (made_self m) among in
     absurd (placed_one (λ a. same_made a m) (exported_addresses args) m first (made_self m) none)
 
 -- the address of data has no index where its place isn't found
 pub address_absent : (input : Input) (i : LinkerDefinedIndices) (m : WasmLinkerSymbol) → AreMadeIndices input i
-    → sort_of m ≡ Data → position (λ a. same_made a m) i.exported.addresses ≡ None
+    → sort_of m ≡ Data → position (λ a. same_made a m) i.exported.addresses.keys ≡ None
     → is_made input m ≡ false
 address_absent input i m are is none =
     let none' = ap (λ (list : List WasmLinkerSymbol). position (λ a. same_made a m) list) (sym are.exported.addresses) ∙ none in
@@ -197,7 +153,7 @@ found_as input m (Some place) is at = subst (λ (s : MadeSort). StandsAt input m
 -- the address of data is the start of its part plus its place
 pub address_there : (input : Input) (i : LinkerDefinedIndices) (m : WasmLinkerSymbol) (place : ℕ) (index : Option ℕ)
     → AreMadeIndices input i → sort_of m ≡ Data
-    → position (λ a. same_made a m) i.exported.addresses ≡ Some place → index ≡ entry_of i.globals 7 place
+    → position (λ a. same_made a m) i.exported.addresses.keys ≡ Some place → index ≡ entry_of i.globals 7 place
     → IsMadeIndex input m index
 address_there input i m place index are is at entry =
     let at' : position (λ a. same_made a m) (exported_addresses input.link.args) ≡ Some place =

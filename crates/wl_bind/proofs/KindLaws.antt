@@ -1,8 +1,7 @@
 -- The first symbol of another kind than its use asks for, where there is one.
-use Rattle.std.proofs.Common.{◌≡◌, ℕ, zero, suc, ◌+◌, true, false, List, [], ◌∷◌, refl, sym, ap, subst, ◌∙◌, inl, inr, arith, Some, None, Contains, find, slice_get}
-use Rattle.std.specs.Option.{option_map}
+use Rattle.std.proofs.Common.{◌≡◌, ℕ, ◌+◌, true, false, List, [], ◌∷◌, refl, sym, ap, subst, ◌∙◌, inl, inr, arith, Some, None, find, slice_get, Bool, Option, map}
+use Rattle.std.specs.Option.{option_map, option_or}
 use Rattle.std.proofs.lemmas.Bool.{cases_Bool, true≢false}
-use Rattle.std.proofs.lemmas.Option.{same_Some}
 use Rattle.wl_linking.specs.Object.{Object}
 use Rattle.wl_custom.specs.RelocationTypes.{names_a_type}
 use Rattle.wl_linking.specs.Steps.{Clear}
@@ -21,7 +20,12 @@ use Rattle.wl_symbols.specs.Relocations.{relocations}
 use Rattle.wl_bind.specs.Scan.{symbol_of}
 use Rattle.wl_symbols.specs.declared.relocated.Relocated.{Relocated}
 use Rattle.wl_lists.proofs.Found.{map_some}
-use Rattle.wl_bind.proofs.FindLaws.{find_some, find_none, or_none, or_some, map_none, map_or_true}
+use Rattle.wl_bind.proofs.FindLaws.{find_some, find_none, map_none, map_or_true}
+use Rattle.std.proofs.lemmas.List.Folds.{find-append}
+use Rattle.wl_bind.specs.Parts.{by_object}
+use Rattle.wl_lists.proofs.In.{in_list, list_in, in_map, map_in}
+use Rattle.wl_lists.proofs.Rows.{given_by, object_in}
+use Rattle.wl_bind.proofs.LeftLaws.{find_mapped}
 
 -- ---- what the linker makes
 
@@ -64,60 +68,32 @@ a_wrong_use input r e =
 
 -- ---- functions that run at the start
 
-none_from : (input : Input) (n : ℕ) (objects : List Object) → wrong_init_from input n objects ≡ None
-    → (k : ℕ) (o : Object) (f : WasmInitFunc) → slice_get objects k ≡ Some o → Contains o.init_funcs f → is_wrong_at input (n + k) f ≡ false
-none_from input n [] none k o f at m = absurd (cc)
-none_from input n (x ∷ objects) none zero o f at m =
-    let both = or_none (option_map (init_place n) (find (is_wrong_at input n) x.init_funcs)) (wrong_init_from input (n + 1) objects) none in
-    let here = find_none (is_wrong_at input n) x.init_funcs (map_none (init_place n) (find (is_wrong_at input n) x.init_funcs) both.0) in
-    let same : o ≡ x = sym (same_Some x o at) in
-    let e : n ≡ n + 0 = omega arith in
-    subst (λ i. is_wrong_at input i f ≡ false) e (here f (subst (λ (y : Object). Contains y.init_funcs f) same m))
-none_from input n (x ∷ objects) none (suc k) o f at m =
-    let both = or_none (option_map (init_place n) (find (is_wrong_at input n) x.init_funcs)) (wrong_init_from input (n + 1) objects) none in
-    let e : n + 1 + k ≡ n + suc k = omega arith in
-    subst (λ i. is_wrong_at input i f ≡ false) e (none_from input (n + 1) objects both.1 k o f at m)
+-- these functions of an object, each with the number of the object
+abbrev pairs : ℕ → Object → List (ℕ × WasmInitFunc)
+pairs object o = map (λ (f : WasmInitFunc). (object, f)) o.init_funcs
 
--- one of these functions whose symbol is wrong
-record FoundInit (input : Input) (n : ℕ) (objects : List Object) (p : ℕ × ℕ) : Type 0 where
-  pub k : ℕ
-  pub o : Object
-  pub at : slice_get objects k ≡ Some o
-  pub f : WasmInitFunc
-  pub one : Contains o.init_funcs f
-  pub wrong : is_wrong_at input (n + k) f ≡ true
-  pub told : p ≡ init_place (n + k) f
+abbrev is_wrong_pair : Input → ℕ × WasmInitFunc → Bool
+is_wrong_pair input p = is_wrong_at input p.0 p.1
 
-some_from : (input : Input) (n : ℕ) (objects : List Object) (p : ℕ × ℕ) → wrong_init_from input n objects ≡ Some p → FoundInit input n objects p
-some_from input n [] p e = absurd (cc)
-some_from input n (x ∷ objects) p e =
-    elim (or_some (option_map (init_place n) (find (is_wrong_at input n) x.init_funcs)) (wrong_init_from input (n + 1) objects) p e) [
-      | inl here ↦
-          let one = map_some (init_place n) (find (is_wrong_at input n) x.init_funcs) p here in
-          let found = find_some (is_wrong_at input n) x.init_funcs one.0 one.1 in
-          let e : n ≡ n + 0 = omega arith in
-          record {
-            k = 0;
-            o = x;
-            at = refl;
-            f = one.0;
-            one = found.0;
-            wrong = subst (λ i. is_wrong_at input i one.0 ≡ true) e found.1;
-            told = subst (λ i. p ≡ init_place i one.0) e (sym one.2);
-          }
-      | inr there ↦
-          let h = some_from input (n + 1) objects p there.1 in
-          let e : n + 1 + h.k ≡ n + suc h.k = omega arith in
-          record {
-            k = suc h.k;
-            o = h.o;
-            at = h.at;
-            f = h.f;
-            one = h.one;
-            wrong = subst (λ i. is_wrong_at input i h.f ≡ true) e h.wrong;
-            told = subst (λ i. p ≡ init_place i h.f) e h.told;
-          }
-    ]
+abbrev pair_place : ℕ × WasmInitFunc → ℕ × ℕ
+pair_place p = init_place p.0 p.1
+
+either_place : (n : ℕ) (f : Option WasmInitFunc) (p : Option (ℕ × WasmInitFunc))
+    → option_or (option_map (init_place n) f) (option_map pair_place p)
+    ≡ option_map pair_place (option_or (option_map (λ (f : WasmInitFunc). (n, f)) f) p)
+either_place n None p = refl
+either_place n (Some f) p = refl
+
+-- the first of all that is wrong
+from_pairs : (input : Input) (n : ℕ) (objects : List Object)
+    → wrong_init_from input n objects ≡ option_map pair_place (find (is_wrong_pair input) (by_object pairs n objects))
+from_pairs input n [] = refl
+from_pairs input n (o ∷ objects) =
+    let rest : Option (ℕ × WasmInitFunc) = find (is_wrong_pair input) (by_object pairs (n + 1) objects) in
+    ap (λ (p : Option (ℕ × ℕ)). option_or (option_map (init_place n) (find (is_wrong_at input n) o.init_funcs)) p) (from_pairs input (n + 1) objects)
+    ∙ either_place n (find (is_wrong_at input n) o.init_funcs) rest
+    ∙ ap (option_map pair_place) (sym (find-append (is_wrong_pair input) (pairs n o) (by_object pairs (n + 1) objects)
+    ∙ ap (λ (p : Option (ℕ × WasmInitFunc)). option_or p rest) (find_mapped (λ (f : WasmInitFunc). (n, f)) (is_wrong_pair input) o.init_funcs)))
 
 -- the symbol of the object that is there
 symbol_here : (objects : List Object) (k n : ℕ) (o : Object) (s : Symbol) → slice_get objects k ≡ Some o → symbol_in objects k n ≡ Some s
@@ -127,30 +103,38 @@ symbol_here objects k n o s here e = rw here at e
 no_wrong_init : (input : Input) → wrong_init_from input 0 input.link.objects ≡ None → Clear (IsWrongInit input)
 no_wrong_init input none = record {
   none = λ e h.
-      let here : symbol_in input.link.objects h.object h.function.symbol_index ≡ Some h.symbol = rw h.here h.names in
+      let objects : List Object = input.link.objects in
+      let pair : ℕ × WasmInitFunc = (h.object, h.function) in
+      let here : symbol_in objects h.object h.function.symbol_index ≡ Some h.symbol = rw h.here h.names in
       let so : is_wrong_at input h.object h.function ≡ true = rw here h.wrong in
-      let same : 0 + h.object ≡ h.object = omega arith in
-      let not_so : is_wrong_at input h.object h.function ≡ false = subst (λ i. is_wrong_at input i h.function ≡ false) same (none_from input 0 input.link.objects none h.object h.o h.function h.here h.one) in
-      true≢false (sym so ∙ not_so);
+      let all = map_none pair_place (find (is_wrong_pair input) (by_object pairs 0 objects)) (sym (from_pairs input 0 objects) ∙ none) in
+      let listed = object_in pairs 0 h.object h.object objects h.o pair (omega arith) h.here
+      (map_in (λ (f : WasmInitFunc). (h.object, f)) (h.o).init_funcs h.function (list_in (h.o).init_funcs h.function h.one)) in
+      true≢false (sym so ∙ find_none (is_wrong_pair input) (by_object pairs 0 objects) all pair (in_list (by_object pairs 0 objects) pair listed));
 }
 
 pub a_wrong_init : (input : Input) (object number : ℕ) → wrong_init_from input 0 input.link.objects ≡ Some (object, number) → IsWrongInit input (WrongKind object number)
 a_wrong_init input object number e =
-    let h = some_from input 0 input.link.objects (object, number) e in
-    let same : 0 + h.k ≡ h.k = omega arith in
-    let so : is_wrong_at input h.k h.f ≡ true = subst (λ i. is_wrong_at input i h.f ≡ true) same h.wrong in
-    let told : (object, number) ≡ init_place h.k h.f = subst (λ i. (object, number) ≡ init_place i h.f) same h.told in
-    let s = map_or_true (is_wrong_init input h.k h.f.symbol_index) (symbol_in input.link.objects h.k h.f.symbol_index) so in
+    let objects : List Object = input.link.objects in
+    let all : List (ℕ × WasmInitFunc) = by_object pairs 0 objects in
+    let p = map_some pair_place (find (is_wrong_pair input) all) (object, number) (sym (from_pairs input 0 objects) ∙ e) in
+    let found = find_some (is_wrong_pair input) all p.0 p.1 in
+    let g = given_by pairs 0 objects p.0 (list_in all p.0 found.0) in
+    let c = in_map (λ (f : WasmInitFunc). (0 + g.place, f)) (g.object).init_funcs p.0 g.there in
+    let same : 0 + g.place ≡ g.place = omega arith in
+    let is : (g.place, c.from) ≡ p.0 = ap (λ (i : ℕ). (i, c.from)) (sym same) ∙ c.to in
+    let so : is_wrong_at input g.place c.from ≡ true = subst (λ (q : ℕ × WasmInitFunc). is_wrong_pair input q ≡ true) (sym is) found.1 in
+    let s = map_or_true (is_wrong_init input g.place c.from.symbol_index) (symbol_in objects g.place c.from.symbol_index) so in
     record {
-      object = h.k;
-      o = h.o;
-      here = h.at;
-      function = h.f;
-      one = h.one;
+      object = g.place;
+      o = g.object;
+      here = g.at;
+      function = c.from;
+      one = in_list (g.object).init_funcs c.from c.there;
       symbol = s.0;
-      names = symbol_here input.link.objects h.k h.f.symbol_index h.o s.0 h.at s.1;
+      names = symbol_here objects g.place c.from.symbol_index g.object s.0 g.at s.1;
       wrong = s.2;
-      told = ap (λ (p : ℕ × ℕ). WrongKind p.0 p.1) told;
+      told = ap (λ (q : ℕ × ℕ). WrongKind q.0 q.1) (sym p.2 ∙ ap pair_place (sym is));
     }
 
 -- ---- both

@@ -19,6 +19,7 @@ pub mod StubLaws
 pub mod TypeLaws
 pub mod UndefinedLaws
 pub mod WalkLaws
+pub mod HostMarkLaws
 pub mod PlaceLaws
 pub mod MarkLaws
 pub mod ExportLaws
@@ -43,3 +44,5 @@ pub mod ReferenceLaws
 pub mod GlobalReferenceLaws
 pub mod EntryTypeLaws
 pub mod ObjectIndexLaws
+pub mod BoundLaws
+pub mod FunctionCases

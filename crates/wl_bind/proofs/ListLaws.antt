@@ -1,13 +1,18 @@
 -- Laws of lists and truth values.
-use Rattle.std.proofs.Common.{◌≡◌, ◌∙◌, ℕ, suc, ◌+◌, ◌<◌, Bool, false, List, [], ◌∷◌, ◌++◌, length, find, position, refl, sym, ap, arith, inl, inr, Option, Some, None, nat_lt, subst, filter_map}
+use Rattle.std.proofs.Common.{◌≡◌, ◌∙◌, ℕ, suc, ◌+◌, ◌<◌, Bool, false, List, [], ◌∷◌, ◌++◌, length, find, position, refl, sym, ap, arith, inl, inr, Option, Some, None, nat_lt, subst, filter_map, true, drop, get_or, drop-cons, add-one}
 use Rattle.std.proofs.lemmas.Bool.{cases_Bool}
 use Rattle.std.proofs.lemmas.List.Folds.{find-append}
-use Rattle.std.specs.List.{list_any, position_or_len, cons_option}
+use Rattle.std.specs.List.{list_any, position_or_len, cons_option, list_all}
 use Rattle.std.specs.Option.{option_or}
-use Rattle.wl_lists.proofs.In.{IsIn}
+use Rattle.wl_lists.proofs.In.{IsIn, place_in}
+use Rattle.wl_lists.proofs.Places.{test_at}
 
 pub next_is : (k : ℕ) → suc k ≡ k + 1
 next_is k = omega arith
+
+-- what is left from a place on, where what stands there is known
+pub drop_here : {X : Type 0} (xs : List X) (k : ℕ) (x : X) → k < length xs → x ≡ get_or xs k x → drop k xs ≡ x ∷ drop (k + 1) xs
+drop_here xs k x lt at = rw (add-one, drop-cons xs k x lt, ← at) refl
 
 pub none_found : {X : Type 0} (test : X → Bool) (xs : List X) → find test xs ≡ None → list_any test xs ≡ false
 none_found test [] none = refl
@@ -40,3 +45,7 @@ made_of_one {X} {Y} f (z ∷ xs) x y (inr r) is = behind_it (f z) (made_of_one f
     behind_it : (o : Option Y) → IsIn (filter_map f xs) y → IsIn (cons_option o (filter_map f xs)) y
     behind_it None h = h
     behind_it (Some w) h = inr h
+
+-- what holds of all holds of each
+pub all_in : {X : Type 0} (test : X → Bool) (xs : List X) (x : X) → list_all test xs ≡ true → IsIn xs x → test x ≡ true
+all_in test xs x all h = let at = place_in xs x h in test_at test xs at.0 x all at.1

@@ -5,9 +5,10 @@ use Rattle.std.specs.Option.{is_none}
 use Rattle.std.proofs.lemmas.Bool.{cases_Bool}
 use Rattle.indexmap.specs.IndexSet.{insert_key, insert_all}
 use Rattle.wl_lists.proofs.Found.{cases_option}
-use Rattle.wl_lists.proofs.In.{in_list, IsIn, in_split}
-use Rattle.wl_bind.proofs.LeftLaws.{no_place, any_at}
+use Rattle.wl_lists.proofs.In.{IsIn, in_split, list_in}
+use Rattle.wl_bind.proofs.LeftLaws.{no_place, any_listed}
 use Rattle.wl_bind.proofs.ListLaws.{find_in_front, none_found}
+use Rattle.indexmap.proofs.CallerLemmas.{Contains-list_any}
 
 -- ---- tests
 
@@ -16,19 +17,6 @@ is_nothing None e = refl
 is_nothing (Some x) e = absurd cc
 
 -- ---- lists
-
-pub record Any {X : Type 0} (test : X → Bool) (xs : List X) : Type 0 where
-  pub x : X
-  pub there : IsIn xs x
-  pub passed : test x ≡ true
-
-any_of : {X : Type 0} (test : X → Bool) (xs : List X) → list_any test xs ≡ true → Any test xs
-any_of test [] any = absurd cc
-any_of test (y ∷ xs) any = elim (cases_Bool (test y)) [
-  | inl so ↦ record { x = y; there = inl refl; passed = so }
-  | inr fails ↦ (let rest = any_of test xs (rw fails at any) in
-      record { x = rest.x; there = inr rest.there; passed = rest.passed })
-]
 
 pub record MadeOf {X Y : Type 0} (f : X → Option Y) (xs : List X) (y : Y) : Type 0 where
   pub x : X
@@ -48,20 +36,13 @@ made_of_some {X} {Y} f (x ∷ xs) y h = by (f x) refl (λ r. made_of_some f xs y
     by (Some z) is rest (inl e) = record { x = x; there = inl refl; is = is ∙ ap Some e }
     by (Some z) is rest (inr r) = later (rest r)
 
--- the first of those that are the same as one of a list
-pub same_listed : {X : Type 0} (same : X → X → Bool) (xs : List X) (x : X) → same x x ≡ true → IsIn xs x
-    → list_any (same x) (insert_all same [] xs) ≡ true
-same_listed same xs x self h =
-    let listed = in_list xs x h in any_at same [] xs x listed.0 listed.1 listed.2 self
-
--- it is that one, where what is the same is one
+-- one of a list is among the first of those that are the same, where what is the same is one
 pub still_in : {X : Type 0} (same : X → X → Bool) → ((a b : X) → same a b ≡ true → a ≡ b) → (xs : List X) (x : X)
     → same x x ≡ true → IsIn xs x → IsIn (insert_all same [] xs) x
-still_in {X} same one xs x self h =
-    let a = any_of (same x) (insert_all same [] xs) (same_listed same xs x self h) in
-    subst (λ (y : X). IsIn (insert_all same [] xs) y) (sym (one x a.x a.passed)) a.there
+still_in same one xs x self h =
+    list_in (insert_all same [] xs) x (Contains-list_any same one (insert_all same [] xs) x (any_listed same [] xs x self h))
 
--- it has a place
+-- what passes has a place
 pub some_place_of : {X : Type 0} (test : X → Bool) (xs : List X) → list_any test xs ≡ true → (k : ℕ) × (position test xs ≡ Some k)
 some_place_of test xs any = elim (cases_option (position test xs)) [
   | inr k ↦ k

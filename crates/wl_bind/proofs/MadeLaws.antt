@@ -1,11 +1,8 @@
 -- What a kept slot is bound to of the linker's exists.
-use Rattle.std.proofs.Common.{◌≡◌, ◌∙◌, ◌&&◌, ◌||◌, ℕ, ◌+◌, Bool, true, false, List, [], ◌∷◌, refl, sym, ap, subst, inl, inr, Option, Some, None, MatchOption, Contains, codes, if◌then◌else◌}
+use Rattle.std.proofs.Common.{◌≡◌, ◌∙◌, ℕ, Bool, true, false, List, refl, sym, ap, subst, inl, inr, Option, Some, None, MatchOption, Contains, codes, if◌then◌else◌}
 use Rattle.std.specs.List.{position}
 use Rattle.std.specs.Option.{option_map, unwrap_or}
-use Rattle.std.proofs.lemmas.Bool.{cases_Bool, or_left, or_right}
-use Rattle.std.proofs.lemmas.List.Elements.{Contains-append_cases}
-use denote.Enum.Bare.{true_same}
-use Rattle.wl_module.specs.Imports.{Imported}
+use Rattle.std.proofs.lemmas.Bool.{cases_Bool, or_left, or_right, and_from}
 use Rattle.wl_linking.specs.Object.{Object}
 use Rattle.wl_custom.specs.Symbols.{Symbol as LinkedSymbol}
 use Rattle.wl_custom.specs.declared.symbols.WasmSymbolKind.{WasmSymbolKind}
@@ -14,12 +11,11 @@ use Rattle.wl_symbols.specs.Entries.{symbol_in, is_private}
 use Rattle.wl_symbols.specs.Link.{Link}
 use Rattle.wl_symbols.specs.LinkerNames.{exists_under, matches_kind}
 use Rattle.wl_symbols.specs.Names.{named, def, StandsFor, IsUnknown}
-use Rattle.wl_symbols.specs.contracts.linker_symbol.WasmLinkerSymbol.{the_type}
 use Rattle.wl_symbols.specs.declared.entry.Definition.{Definition}
 use Rattle.wl_symbols.specs.declared.entry.Definition.TheVariants as definition
 use Rattle.wl_symbols.specs.declared.linker_symbol.WasmLinkerSymbol.{WasmLinkerSymbol}
 use Rattle.wl_symbols.specs.declared.linker_symbol.WasmLinkerSymbol.TheVariants as made
-use Rattle.wl_symbols.specs.ImportSlots.{ImportSlot, slot_at, numbered_slots, slot_imports, object_slots}
+use Rattle.wl_symbols.specs.ImportSlots.{ImportSlot}
 use Rattle.wl_symbols.specs.Left.{same_import, first_like, first_imports}
 use Rattle.wl_symbols.specs.SlotCases.{IsBoundTo}
 use Rattle.wl_symbols.specs.SlotTargets.{slot_target}
@@ -29,18 +25,18 @@ use Rattle.wl_symbols.specs.Input.{Input}
 use Rattle.wl_symbols.specs.KeptSlots.{slots_from, is_kept_slot, kept_slots}
 use Rattle.wl_bind.specs.FunctionBinding.{named_function, binds_function}
 use Rattle.wl_bind.specs.GlobalBinding.{named_global, is_called, is_from, host_globals, binds_global}
-use Rattle.wl_bind.specs.Made.{is_made_function, is_made_global, is_bound, keeps_thread_data, is_made}
-use Rattle.wl_bind.specs.Parts.{any_object}
-use Rattle.wl_bind.specs.Sameness.{same_made}
+use Rattle.wl_bind.specs.Made.{is_made_function, is_made_global, is_bound, is_made}
 use Rattle.wl_bind.specs.Scan.{got_mem, got_func}
 use Rattle.wl_bind.specs.declared.binding.FunctionTarget.{FunctionTarget}
 use Rattle.wl_bind.specs.declared.binding.FunctionTarget.TheVariants as function
 use Rattle.wl_bind.specs.declared.binding.GlobalTarget.TheVariants as global
 use Rattle.wl_lists.proofs.Found.{any_of, cases_option}
-use Rattle.wl_lists.proofs.In.{Contains-none, Contains-cons_cases}
+use Rattle.wl_lists.proofs.In.{in_filter, list_in}
 use Rattle.wl_bind.proofs.ClosedLaws.{SlotLaws}
 use Rattle.wl_bind.proofs.GlobalLaws.{binds}
-use Rattle.wl_bind.proofs.OneRuleLaws.{bound_as, taken_of}
+use Rattle.wl_bind.proofs.OneRuleLaws.{bound_as}
+use Rattle.wl_bind.proofs.HostLaws.{placed, slot_in}
+use Rattle.wl_bind.proofs.SameLaws.{made_self}
 
 -- ---- facts about slots and names
 
@@ -55,31 +51,12 @@ pub record BindingLaws : Type 0 where
 
 -- ---- the kind of a kept slot
 
-numbered_kind : (object : ℕ) (kind : WasmSymbolKind) (symbols : List LinkedSymbol) (n : ℕ)
-    (is : List Imported) (t : ImportSlot)
-    → Contains (numbered_slots object kind symbols n is) t → t.kind ≡ kind
-numbered_kind object kind symbols n [] t listed = absurd (Contains-none t listed)
-numbered_kind object kind symbols n (i ∷ is) t listed =
-    elim (Contains-cons_cases (slot_at object kind symbols n i) t
-    (numbered_slots object kind symbols (n + 1) is) listed) [
-      | inl here ↦ ap (λ (s : ImportSlot). s.kind) (sym here)
-      | inr there ↦ numbered_kind object kind symbols (n + 1) is t there
-    ]
-
-slots_kind : (kind : WasmSymbolKind) (n : ℕ) (os : List Object) (t : ImportSlot)
-    → Contains (slots_from kind n os) t → t.kind ≡ kind
-slots_kind kind n [] t listed = absurd (Contains-none t listed)
-slots_kind kind n (o ∷ os) t listed =
-    elim (Contains-append_cases (object_slots n kind o) (slots_from kind (n + 1) os) t listed) [
-      | inl here ↦ numbered_kind n kind o.symbols 0 (slot_imports kind o.imports) t here
-      | inr there ↦ slots_kind kind (n + 1) os t there
-    ]
-
 kept_kind : (input : Input) (kind : WasmSymbolKind) (t : ImportSlot)
     → Contains (kept_slots input kind) t → t.kind ≡ kind
 kept_kind input kind t listed =
-    slots_kind kind 0 input.link.objects t
-    (taken_of (is_kept_slot input) (slots_from kind 0 input.link.objects) t listed)
+    let objects : List Object = input.link.objects in
+    let s = slot_in objects kind t (in_filter (is_kept_slot input) (slots_from kind 0 objects) t (list_in (kept_slots input kind) t listed)) in
+    (placed objects t.object kind t.number t s.at).kind_is
 
 -- ---- what names bind a slot to
 
@@ -146,14 +123,6 @@ named_by_function : (target : SlotTarget) (m : WasmLinkerSymbol)
 named_by_function (slot.Defined object number) m e = absurd cc
 named_by_function (slot.Made n) m e = let same : n ≡ m = cc in ap (λ k. slot.Made k) same
 
-stub_not : (object number : ℕ) (m : WasmLinkerSymbol)
-    → function.Stub object number ≡ function.Made m → ⊥
-stub_not object number m e = cc
-
-host_not : (object number : ℕ) (m : WasmLinkerSymbol)
-    → function.Host object number ≡ function.Made m → ⊥
-host_not object number m e = cc
-
 function_there : BindingLaws → (input : Input) (t : ImportSlot) (m : WasmLinkerSymbol)
     → Contains (kept_slots input Func) t
     → binds_function input t ≡ function.Made m → IsThere input.link t.kind m
@@ -161,8 +130,8 @@ function_there laws input t m kept is = elim (bound_as input t kept) [
   | inl n ↦ slot_made laws input.link t m
       (n.bound ∙ ap (λ s. Some s) (named_by_function n.named m (sym n.target_is ∙ is)))
   | inr left ↦ elim left [
-    | inl stub ↦ absurd (stub_not stub.first.object stub.first.number m (sym stub.target_is ∙ is))
-    | inr host ↦ absurd (host_not host.first.object host.first.number m (sym host.target_is ∙ is))
+    | inl stub ↦ absurd (let e : function.Stub stub.first.object stub.first.number ≡ function.Made m = sym stub.target_is ∙ is in cc)
+    | inr host ↦ absurd (let e : function.Host host.first.object host.first.number ≡ function.Made m = sym host.target_is ∙ is in cc)
   ]
 ]
 
@@ -179,10 +148,8 @@ left_not : (a b : Bool) (x y : Option ℕ) (object number : ℕ) (m : WasmLinker
     else if b then option_map global.GotFunc y else None)
     (global.Host object number) ≡ global.Made m → ⊥
 left_not true b None y object number m e = cc
-left_not true b (Some k) y object number m e = cc
 left_not false true x None object number m e = cc
-left_not false true x (Some k) object number m e = cc
-left_not false false x y object number m e = cc
+left_not _ _ x y object number m e = cc
 
 global_there : BindingLaws → (input : Input) (t : ImportSlot) (m : WasmLinkerSymbol)
     → binds_global input t ≡ global.Made m → IsThere input.link t.kind m
@@ -201,16 +168,13 @@ global_there laws input t m is = elim (cases_option (slot_target input.link t)) 
 
 -- ---- it is bound
 
-self_same : (m : WasmLinkerSymbol) → same_made m m ≡ true
-self_same m = true_same the_type m m refl
-
 function_bound : (input : Input) (t : ImportSlot) (m : WasmLinkerSymbol)
     → Contains (kept_slots input Func) t
     → binds_function input t ≡ function.Made m → is_bound input m ≡ true
 function_bound input t m kept is =
     or_left _ _ (any_of (λ (s : ImportSlot). is_made_function m (binds_function input s))
     (kept_slots input Func) t kept
-    (ap (is_made_function m) is ∙ self_same m))
+    (ap (is_made_function m) is ∙ made_self m))
 
 global_bound : (input : Input) (t : ImportSlot) (m : WasmLinkerSymbol)
     → Contains (kept_slots input Global) t
@@ -218,42 +182,14 @@ global_bound : (input : Input) (t : ImportSlot) (m : WasmLinkerSymbol)
 global_bound input t m kept is =
     or_right _ _ (any_of (λ (s : ImportSlot). is_made_global m (binds_global input s))
     (kept_slots input Global) t kept
-    (ap (is_made_global m) is ∙ self_same m))
+    (ap (is_made_global m) is ∙ made_self m))
 
 -- ---- it exists
-
-first_asks : (shared a b c d : Bool) → shared ≡ true → b ≡ true
-    → (shared && (a || b || c || d)) ≡ true
-first_asks true true b c d s e = refl
-first_asks true false true c d s e = refl
-first_asks true false false c d s e = absurd cc
-first_asks false a b c d s e = absurd cc
-
-second_asks : (shared a b c d : Bool) → shared ≡ true → c ≡ true
-    → (shared && (a || b || c || d)) ≡ true
-second_asks true true b c d s e = refl
-second_asks true false true c d s e = refl
-second_asks true false false true d s e = refl
-second_asks true false false false d s e = absurd cc
-second_asks false a b c d s e = absurd cc
-
-third_asks : (shared a b c d : Bool) → shared ≡ true → d ≡ true
-    → (shared && (a || b || c || d)) ≡ true
-third_asks true true b c d s e = refl
-third_asks true false true c d s e = refl
-third_asks true false false true d s e = refl
-third_asks true false false false d s e = e
-third_asks false a b c d s e = absurd cc
-
--- data of threads is kept
-abbrev keeps_data : Input → Bool
-keeps_data input = any_object (keeps_thread_data input) 0 input.link.objects
 
 function_made : (input : Input) (m : WasmLinkerSymbol) → matches_kind Func m ≡ true
     → exists_under input.link.args m ≡ true → is_bound input m ≡ true → is_made input m ≡ true
 function_made input made.CallCtors k x b = or_left _ _ (or_right _ _ b)
-function_made input made.InitTls k x b = third_asks input.link.args.shared_memory (keeps_data input)
-    (is_bound input made.TlsSize) (is_bound input made.TlsAlign) (is_bound input made.InitTls) x b
+function_made input made.InitTls k x b = and_from _ _ x (or_right _ _ b)
 function_made input _ k x b = absurd cc
 
 global_made : (input : Input) (m : WasmLinkerSymbol) → matches_kind Global m ≡ true
@@ -262,10 +198,8 @@ global_made input made.MemoryBase k x b = or_left _ _ (or_right _ _ b)
 global_made input made.TableBase k x b = or_left _ _ (or_right _ _ b)
 global_made input made.StackPointer k x b = refl
 global_made input made.TlsBase k x b = or_right _ _ b
-global_made input made.TlsSize k x b = first_asks input.link.args.shared_memory (keeps_data input)
-    (is_bound input made.TlsSize) (is_bound input made.TlsAlign) (is_bound input made.InitTls) x b
-global_made input made.TlsAlign k x b = second_asks input.link.args.shared_memory (keeps_data input)
-    (is_bound input made.TlsSize) (is_bound input made.TlsAlign) (is_bound input made.InitTls) x b
+global_made input made.TlsSize k x b = and_from _ _ x (or_left _ _ (or_left _ _ (or_right _ _ b)))
+global_made input made.TlsAlign k x b = and_from _ _ x (or_left _ _ (or_right _ _ b))
 global_made input _ k x b = absurd cc
 
 -- what a kept function slot is bound to of the linker's exists

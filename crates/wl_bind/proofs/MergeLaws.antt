@@ -1,7 +1,7 @@
 -- Marks on the types of objects, and types that are merged.
-use Rattle.std.proofs.Common.{◌≡◌, ◌∙◌, ◌<◌, ◌≤◌, ◌≢◌, ◌+◌, ◌||◌, ◌&&◌, ℕ, zero, suc, Bool, true, false, ltb, eqb, List, [], ◌∷◌, ◌++◌, map, length, get_or, set, drop, drop-cons, add-one, Option, Some, None, refl, sym, ap, subst, arith, slice_get, append_assoc, append-nil, length-append, inl, inr, if◌then◌else◌, replicate, eq-eqb}
+use Rattle.std.proofs.Common.{◌≡◌, ◌∙◌, ◌<◌, ◌≤◌, ◌≢◌, ◌+◌, ◌||◌, ◌&&◌, ℕ, suc, Bool, true, false, ltb, eqb, List, [], ◌∷◌, ◌++◌, map, length, get_or, set, drop, Option, Some, None, refl, sym, ap, subst, arith, slice_get, append_assoc, append-nil, length-append, inl, inr, if◌then◌else◌, replicate, eq-eqb}
 use Rattle.std.proofs.Math.Bool.{or_assoc, or-false, or-true}
-use Rattle.std.specs.List.{AllByRecursion, list_any, filter, range_with_len}
+use Rattle.std.specs.List.{list_any, filter, range_with_len}
 use Rattle.std.specs.Option.{MatchOption, option_map_or, is_some}
 use Rattle.std.proofs.lemmas.Bool.{cases_Bool, ltb-true, ltb-false, eqb-true, lt-ltb}
 use Rattle.std.proofs.lemmas.List.{get_or-set_same, get_or-set_other, get_or-replicate, length-set, length-replicate, drop_all}
@@ -11,10 +11,9 @@ use Rattle.wl_linking.specs.Object.{Object}
 use Rattle.wl_custom.specs.RelocationTypes.{names_a_type}
 use Rattle.wl_custom.specs.declared.symbols.WasmSymbolKind.TheVariants.{Func}
 use Rattle.wl_symbols.specs.declared.units.WasmGcUnit.TheVariants.{DefinedFunction}
-use Rattle.wl_symbols.specs.ImportSlots.{ImportSlot, object_slots, import_slots}
+use Rattle.wl_symbols.specs.ImportSlots.{object_slots, import_slots}
 use Rattle.wl_symbols.specs.Input.{Input, keeps}
-use Rattle.wl_bind.specs.FunctionBinding.{link_stubs, host_functions}
-use Rattle.wl_bind.specs.FunctionSpace.{FunctionEntry, FunctionOf, InitMemory, kept_functions, functions_of, host_function_part, made_function_part, init_memory_part, stub_part, object_functions, function_space}
+use Rattle.wl_bind.specs.FunctionSpace.{FunctionEntry, FunctionOf, InitMemory, function_space}
 use Rattle.wl_bind.specs.FunctionTypes.{type_number, stub_types}
 use Rattle.wl_bind.specs.Made.{is_made, has_init_memory}
 use Rattle.wl_bind.specs.MadeIndices.{IsMadeIndex}
@@ -27,13 +26,15 @@ use Rattle.wl_linking.specs.declared.error.LinkError.{LinkError}
 use Rattle.wl_linking.specs.declared.error.LinkError.TheVariants.{OutOfMemory, TooLarge}
 use Rattle.wl_bind.specs.steps.Merging.{mark, mark_all, is_marked, AreMarked, function_types, host_type, host_types, named_type, present, merged, entry_if, type_where, made_functions}
 use Rattle.wl_symbols.specs.declared.relocated.Relocated.{Relocated}
-use Rattle.wl_bind.specs.declared.binding.FunctionTarget.TheVariants.{Defined, Made, Host, Stub}
+use Rattle.wl_bind.specs.declared.binding.FunctionTarget.TheVariants.{Made}
 use Rattle.wl_module.specs.declared.types.ValType.TheVariants.{I32}
-use Rattle.wl_symbols.specs.Left.{first_imports}
 use Rattle.wl_symbols.specs.declared.linker_symbol.WasmLinkerSymbol.{WasmLinkerSymbol}
 use Rattle.wl_symbols.specs.declared.linker_symbol.WasmLinkerSymbol.TheVariants.{CallCtors, InitTls}
+use Rattle.wl_lists.proofs.In.{at_is_in}
 use Rattle.wl_lists.proofs.Places.{get_in_front}
+use Rattle.wl_bind.proofs.FunctionCases.{all_functions}
 use Rattle.wl_bind.proofs.SharedLaws.{host_here}
+use Rattle.wl_bind.proofs.ListLaws.{drop_here}
 
 -- ---- marks
 
@@ -321,11 +322,7 @@ types_split : (passes : ℕ → Bool) (types : List FunctionType) (i : ℕ) (ty 
     → i < length types → ty ≡ get_or types i ty
     → types_if passes i (drop i types)
     ≡ entry_if (passes i) ty ∷ types_if passes (i + 1) (drop (i + 1) types)
-types_split passes types i ty lt is =
-    let split : drop i types ≡ ty ∷ drop (i + 1) types =
-    rw (add-one, drop-cons types i ty) (ap (λ (t : FunctionType). t ∷ drop (suc i) types)
-    (sym is)) in
-    ap (types_if passes i) split
+types_split passes types i ty lt is = ap (types_if passes i) (drop_here types i ty lt is)
 
 -- types that pass the same tests are the same
 types_same : (p q : ℕ → Bool) (k : ℕ) (types : List FunctionType) → ((j : ℕ)
@@ -389,9 +386,7 @@ pub record MergingObjects (input : Input) (before : List FunctionType) (i : ℕ)
 module _ (input : Input) (before : List FunctionType) (i : ℕ) (o : Object)
     (lt : i < length input.link.objects) (is : o ≡ get_or input.link.objects i o) where
   split_objects : drop i input.link.objects ≡ o ∷ drop (i + 1) input.link.objects
-  split_objects =
-      let os = input.link.objects in
-      rw (add-one, drop-cons os i o) (ap (λ (x : Object). x ∷ drop (suc i) os) (sym is))
+  split_objects = drop_here input.link.objects i o lt is
 
   behind_front : (old : List FunctionType) → insert_all same_type old (types_behind input i)
       ≡ insert_all same_type (merged old (local_types input i o)) (types_behind input (i + 1))
@@ -481,11 +476,8 @@ module _ (passes : ℕ → Bool) (types : List FunctionType) (i : ℕ) (ty : Fun
       → insert_all same_type merger (drop i types) ≡ insert_all same_type before types
       → IsFull (add_type merger ty) e → IsFull (insert_all same_type before types) e
   listed_full merger e h full =
-      let split : drop i types ≡ ty ∷ drop (i + 1) types =
-      rw (add-one, drop-cons types i ty) (ap (λ (t : FunctionType). t ∷ drop (suc i) types)
-      (sym is)) in
       still_full (add_type merger ty) (drop (i + 1) types) (insert_all same_type before types) e
-      (sym (ap (insert_all same_type merger) split) ∙ h) full
+      (sym (ap (insert_all same_type merger) (drop_here types i ty lt is)) ∙ h) full
 
 pub marked_done : (passes : ℕ
     → Bool) (types : List FunctionType) (i : ℕ) (before merger : List FunctionType)
@@ -499,89 +491,21 @@ marked_done passes types i before merger indices le h =
 
 -- ---- what the linker makes
 
--- something holds of each entry
-abbrev AllOf : (FunctionEntry → Type 0) → List FunctionEntry → Type 0
-AllOf P entries = AllByRecursion P entries
-
-all_join : (P : FunctionEntry → Type 0) (xs ys : List FunctionEntry) → AllOf P xs → AllOf P ys
-    → AllOf P (xs ++ ys)
-all_join P [] ys first rest = rest
-all_join P (x ∷ xs) ys first rest = (first.0, all_join P xs ys first.1 rest)
-
-all_made : {X : Type 0} (P : FunctionEntry → Type 0) (f : X → FunctionEntry) (xs : List X)
-    → ((x : X) → P (f x)) → AllOf P (map f xs)
-all_made P f [] each = tt
-all_made P f (x ∷ xs) each = (each x, all_made P f xs each)
-
-all_objects : (P : FunctionEntry → Type 0) (input : Input) (i : ℕ) (objects : List Object)
-    → ((object k : ℕ) → P (FunctionOf (Defined object k)))
-    → AllOf P (by_object (functions_of input) i objects)
-all_objects P input i [] each = tt
-all_objects P input i (o ∷ objects) each =
-    all_join P (functions_of input i o) (by_object (functions_of input) (i + 1) objects)
-    (all_made P (λ k. FunctionOf (Defined i k)) (kept_functions input i o) (each i))
-    (all_objects P input (i + 1) objects each)
-
-all_at : (P : FunctionEntry → Type 0) (xs : List FunctionEntry) (k : ℕ) (x : FunctionEntry)
-    → AllOf P xs → slice_get xs k ≡ Some x → P x
-all_at P [] k x all here = absurd cc
-all_at P (y ∷ xs) zero x all here = let is : y ≡ x = cc in subst P is all.0
-all_at P (y ∷ xs) (suc k) x all here = all_at P xs k x all.1 here
-
-one_if : (P : FunctionEntry → Type 0) (exists : Bool) (x : FunctionEntry) → (exists ≡ true
-    → P x) → AllOf P (if exists then x ∷ [] else [])
-one_if P true x holds = (holds refl, tt)
-one_if P false x holds = tt
-
--- what holds of the entries of each part holds of each entry
-all_functions : (input : Input) (P : FunctionEntry → Type 0) → ((object slot : ℕ)
-    → P (FunctionOf (Host object slot)))
-    → ((m : WasmLinkerSymbol) → is_made input m ≡ true → P (FunctionOf (Made m)))
-    → (has_init_memory input ≡ true → P InitMemory)
-    → ((object slot : ℕ) → P (FunctionOf (Stub object slot))) → ((object k : ℕ)
-    → P (FunctionOf (Defined object k)))
-    → AllOf P (function_space input)
-all_functions input P host made memory stub own =
-    let hosts = host_function_part input in
-    let ctors = made_function_part input CallCtors in
-    let tls = made_function_part input InitTls in
-    let data_ = init_memory_part input in
-    let stubs = stub_part input in
-    all_join P (hosts ++ (ctors ++ (tls ++ (data_ ++ (stubs ++ []))))) (object_functions input)
-    (all_join P hosts (ctors ++ (tls ++ (data_ ++ (stubs ++ []))))
-    (all_made P (λ (t : ImportSlot). FunctionOf (Host t.object t.number))
-    (first_imports (host_functions input)) (λ t. host t.object t.number))
-    (all_join P ctors (tls ++ (data_ ++ (stubs ++ []))) (one_if P (is_made input CallCtors)
-    (FunctionOf (Made CallCtors)) (made CallCtors))
-    (all_join P tls (data_ ++ (stubs ++ [])) (one_if P (is_made input InitTls)
-    (FunctionOf (Made InitTls)) (made InitTls))
-    (all_join P data_ (stubs ++ []) (one_if P (has_init_memory input) InitMemory memory)
-    (all_join P stubs []
-    (all_made P (λ (t : ImportSlot). FunctionOf (Stub t.object t.number)) (link_stubs input)
-    (λ t. stub t.object t.number)) tt)))))
-    (all_objects P input 0 input.link.objects own)
-
 made_is_made : (input : Input) (m : WasmLinkerSymbol) (place : ℕ)
     → slice_get (function_space input) place ≡ Some (FunctionOf (Made m)) → is_made input m ≡ true
 made_is_made input m place here =
-    all_at (λ (x : FunctionEntry). x ≡ FunctionOf (Made m)
-    → is_made input m ≡ true) (function_space input) place (FunctionOf (Made m))
-    (all_functions input (λ (x : FunctionEntry). x ≡ FunctionOf (Made m) → is_made input m ≡ true)
-    (λ object slot is. absurd cc)
-    (λ n made is. let same : n ≡ m = cc in subst (λ (n : WasmLinkerSymbol). is_made input n
-    ≡ true) same made)
-    (λ memory is. absurd cc) (λ object slot is. absurd cc) (λ object k is. absurd cc))
-    here refl
+    all_functions input (λ (x : FunctionEntry). x ≡ FunctionOf (Made m) → is_made input m ≡ true) (λ t h is. absurd cc)
+    (λ made is. let same : CallCtors ≡ m = cc in subst (λ (n : WasmLinkerSymbol). is_made input n ≡ true) same made)
+    (λ made is. let same : InitTls ≡ m = cc in subst (λ (n : WasmLinkerSymbol). is_made input n ≡ true) same made)
+    (λ memory is. absurd cc) (λ t h is. absurd cc) (λ i o k at h is. absurd cc)
+    (FunctionOf (Made m)) (at_is_in (function_space input) place (FunctionOf (Made m)) here) refl
 
 memory_is_made : (input : Input) (place : ℕ)
     → slice_get (function_space input) place ≡ Some InitMemory → has_init_memory input ≡ true
 memory_is_made input place here =
-    all_at (λ (x : FunctionEntry). x ≡ InitMemory
-    → has_init_memory input ≡ true) (function_space input) place InitMemory
-    (all_functions input (λ (x : FunctionEntry). x ≡ InitMemory → has_init_memory input ≡ true)
-    (λ object slot is. absurd cc) (λ m made is. absurd cc) (λ memory is. memory)
-    (λ object slot is. absurd cc) (λ object k is. absurd cc))
-    here refl
+    all_functions input (λ (x : FunctionEntry). x ≡ InitMemory → has_init_memory input ≡ true) (λ t h is. absurd cc)
+    (λ made is. absurd cc) (λ made is. absurd cc) (λ memory is. memory) (λ t h is. absurd cc) (λ i o k at h is. absurd cc)
+    InitMemory (at_is_in (function_space input) place InitMemory here) refl
 
 -- it has an index exactly where it is made
 ctors_exist : (input : Input) (index : Option ℕ) → IsMadeIndex input CallCtors index

@@ -1,7 +1,7 @@
 -- Symbols that lead to functions of another type.
 use Rattle.std.proofs.Common.{◌≡◌, ◌∙◌, ◌⊎◌, ℕ, zero, suc, ◌+◌, ◌<◌, ◌≤◌, Bool, true, false, not, ◌&&◌, List, [], ◌∷◌, Contains, length, refl, sym, ap, subst, arith, inl, inr, Option, Some, None, find, slice_get, slice_index_or, if◌then◌else◌}
 use Rattle.std.specs.Option.{option_or, option_map, option_map_or, option_and_then}
-use Rattle.std.proofs.lemmas.Bool.{cases_Bool, and_parts, not-true}
+use Rattle.std.proofs.lemmas.Bool.{cases_Bool, and_parts, not-true, cases_lt}
 use Rattle.std.proofs.lemmas.Option.{slice_get_within}
 use Rattle.wl_module.specs.SameType.{types_equiv}
 use Rattle.wl_module.specs.Types.{FunctionType, same_type}
@@ -28,42 +28,32 @@ use Rattle.wl_bind.specs.declared.binding.FunctionTarget.{FunctionTarget}
 use Rattle.wl_bind.specs.declared.binding.FunctionTarget.TheVariants.{Defined}
 use Rattle.wl_symbols.specs.declared.relocated.Relocated.{Relocated}
 use Rattle.wl_lists.proofs.Found.{and_then_some}
-use Rattle.wl_bind.proofs.FindLaws.{find_none, find_some}
+use Rattle.wl_bind.proofs.FindLaws.{find_none, find_some, map_or_true}
 
 -- ---- what differs
-
--- where a test of what may be there holds, something is there and passes
-record There {X : Type 0} (test : X → Bool) (o : Option X) : Type 0 where
-  x : X
-  is : o ≡ Some x
-  so : test x ≡ true
-
-there : {X : Type 0} (test : X → Bool) (o : Option X) → option_map_or test o false ≡ true → There test o
-there test None h = absurd cc
-there test (Some x) h = record { x = x; is = refl; so = h }
 
 -- a symbol that is looked at and leads to another type is a cause
 pub mismatch : (input : Input) (object number : ℕ) (e : LinkError) → IsLookedAt input object number → TellsMismatch input object number e → IsMismatch input e
 mismatch input object number e looked h =
     let leads : Symbol → Bool = λ (s : Symbol). option_map_or (differs input object s) (fun input object number) false in
-    let s = there (λ (s : Symbol). is_function s.kind && leads s) (symbol_in input.link.objects object number) h.so in
-    let f = there (differs input object s.x) (fun input object number) (and_parts (is_function s.x.kind) (leads s.x) s.so).1 in
-    let d = there (λ (t : FunctionType). is_other_type input.link.objects t f.x) (declared_type input.link.objects object s.x) f.so in
-    let a = there (λ (t : FunctionType). not (same_type d.x t)) (target_type input.link.objects f.x) d.so in
+    let s = map_or_true (λ (s : Symbol). is_function s.kind && leads s) (symbol_in input.link.objects object number) h.so in
+    let f = map_or_true (differs input object s.0) (fun input object number) (and_parts (is_function (s.0).kind) (leads s.0) s.2).1 in
+    let d = map_or_true (λ (t : FunctionType). is_other_type input.link.objects t f.0) (declared_type input.link.objects object s.0) f.2 in
+    let a = map_or_true (λ (t : FunctionType). not (same_type d.0 t)) (target_type input.link.objects f.0) d.2 in
     record {
       object = object;
       number = number;
       looked_at = looked;
-      symbol = s.x;
-      is = s.is;
-      function = (and_parts (is_function s.x.kind) (leads s.x) s.so).0;
-      target = f.x;
-      leads = f.is;
-      declared = d.x;
-      declared_is = d.is;
-      actual = a.x;
-      actual_is = a.is;
-      differ = not-true (same_type d.x a.x) a.so;
+      symbol = s.0;
+      is = s.1;
+      function = (and_parts (is_function (s.0).kind) (leads s.0) s.2).0;
+      target = f.0;
+      leads = f.1;
+      declared = d.0;
+      declared_is = d.1;
+      actual = a.0;
+      actual_is = a.1;
+      differ = not-true (same_type d.0 a.0) a.2;
       told = h.told;
     }
 
@@ -122,14 +112,11 @@ own_fits input object number s is defined strong =
 
 -- ---- lists
 
--- a number below the next is below, or the same
-pub below_or_at : (j k : ℕ) → j < k + 1 → (j < k) ⊎ (j ≡ k)
-below_or_at zero zero lt = inr refl
-below_or_at zero (suc k) lt = inl (omega arith)
-below_or_at (suc j) zero lt = absurd (omega (arith, lt))
-below_or_at (suc j) (suc k) lt = elim (below_or_at j k (omega (arith, lt))) [
-  | inl less ↦ inl (omega (arith, less))
-  | inr same ↦ inr (omega (arith, same))
+-- what holds of each number below one, and of that one
+pub one_more : (P : ℕ → Type 0) (n : ℕ) → P n → ((j : ℕ) → j < n → P j) → (j : ℕ) → j < n + 1 → P j
+one_more P n this before j below = elim (cases_lt j n) [
+  | inl less ↦ before j less
+  | inr most ↦ (let same : n ≡ j = omega (arith, most, below) in subst P same this)
 ]
 
 -- what stands at a place within the list stands there whatever else would
@@ -182,28 +169,15 @@ slots_clear input object o here none number on_slot =
     let is : slice_get o.symbols number ≡ Some on_slot.symbol = (let e = on_slot.is in rw here at e) in
     none number (slice_get_within o.symbols number on_slot.symbol is) on_slot
 
--- one more symbol
-pub slot_more : (input : Input) (object k : ℕ) → (OnKeptSlot input object k → is_mismatch input object k ≡ false)
-    → ((j : ℕ) → j < k → OnKeptSlot input object j → is_mismatch input object j ≡ false)
-    → (j : ℕ) → j < k + 1 → OnKeptSlot input object j → is_mismatch input object j ≡ false
-slot_more input object k this before j below on_slot = elim (below_or_at j k below) [
-  | inl less ↦ before j less on_slot
-  | inr same ↦ (let e = this (subst (λ (i : ℕ). OnKeptSlot input object i) same on_slot) in ap (is_mismatch input object) same ∙ e)
-]
-
 -- such a symbol of one of them is a cause
-pub init_told : (input : Input) (object : ℕ) (o : Object) (k : ℕ) (f : WasmInitFunc) (e : LinkError) → slice_get input.link.objects object ≡ Some o
-    → k < length o.init_funcs → f ≡ slice_index_or o.init_funcs k f → TellsMismatch input object f.symbol_index e → IsMismatch input e
-init_told input object o k f e here lt at_f h =
-    mismatch input object f.symbol_index e (inr (inr (record { o = o; here = here; function = f; one = (k, lt, sym at_f); number_is = refl }))) h
-
 pub init_at : (input : Input) (object : ℕ) (o : Object) (k : ℕ) (d : WasmInitFunc) (list : List WasmInitFunc) (e : LinkError) → slice_get input.link.objects object ≡ Some o
     → list ≡ o.init_funcs → k < length list → TellsMismatch input object (slice_index_or list k d).symbol_index e → IsMismatch input e
 init_at input object o k d list e here same lt h =
     let there_is : k < length o.init_funcs = omega (arith, lt, ap length same) in
     let f : WasmInitFunc = slice_index_or o.init_funcs k d in
     let e_is : TellsMismatch input object f.symbol_index e = subst (λ (l : List WasmInitFunc). TellsMismatch input object (slice_index_or l k d).symbol_index e) same h in
-    init_told input object o k f e here there_is (stands_there o.init_funcs k d there_is) e_is
+    mismatch input object f.symbol_index e
+    (inr (inr (record { o = o; here = here; function = f; one = (k, there_is, sym (stands_there o.init_funcs k d there_is)); number_is = refl }))) e_is
 
 -- where none of the functions of an object that run at the start has such a symbol, none is named by them
 pub inits_clear : (input : Input) (object : ℕ) (o : Object) → slice_get input.link.objects object ≡ Some o
@@ -216,14 +190,6 @@ inits_clear input object o here none number named =
     ap (is_mismatch input object) (sym named.number_is) ∙ none one.0 named.function one.1 one.2
 
 -- ---- all objects
-
--- one more object
-pub own_more : (input : Input) (n : ℕ) → AreOwnClear input n → ((j : ℕ) → j < n → AreOwnClear input j)
-    → (j : ℕ) → j < n + 1 → AreOwnClear input j
-own_more input n this before j below = elim (below_or_at j n below) [
-  | inl less ↦ before j less
-  | inr same ↦ subst (λ (i : ℕ). AreOwnClear input i) (sym same) this
-]
 
 -- a symbol that is looked at is one of an object
 own_within : (input : Input) (object number : ℕ) → OnKeptSlot input object number ⊎ NamedByInit input object number
@@ -250,9 +216,6 @@ leads_to_other input e m =
     ∙ (ap (λ (t : Option FunctionType). option_map_or (λ (actual : FunctionType). not (same_type m.declared actual)) t false) m.actual_is
     ∙ ap not m.differ))))
 
-never : false ≡ true → ⊥
-never e = absurd cc
-
 -- where no symbol that is looked at does, there is no cause
 pub all_clear : (input : Input) → ((object number : ℕ) → NamedByRelocation input object number → is_mismatch input object number ≡ false)
     → ((object : ℕ) → AreOwnClear input object) → Clear (IsMismatch input)
@@ -262,7 +225,7 @@ all_clear input relocations own = record {
         | inl named ↦ relocations m.object m.number named
         | inr looked ↦ own m.object m.number looked
       ] in
-      never (sym fits ∙ leads_to_other input e m);
+      let both : false ≡ true = sym fits ∙ leads_to_other input e m in absurd cc;
 }
 
 -- ---- the law

@@ -71,20 +71,13 @@ function_is : (input : Input) (t : ImportSlot) (m : WasmLinkerSymbol) (kept : Bo
     (f : FunctionTarget)
     → leads_to m (if kept then as_function input t f else Unresolved)
     ≡ (kept && is_made_function m f)
-function_is input t m true (function.Defined object number) = refl
 function_is input t m true (function.Made n) = refl
-function_is input t m true (function.Host object number) = refl
-function_is input t m true (function.Stub object number) = refl
-function_is input t m false f = refl
+function_is input t m _ _ = refl
 
 global_is : (input : Input) (m : WasmLinkerSymbol) (kept : Bool) (g : GlobalTarget)
     → leads_to m (if kept then as_global input g else Unresolved) ≡ (kept && is_made_global m g)
-global_is input m true (global.Defined object number) = refl
 global_is input m true (global.Made n) = refl
-global_is input m true (global.GotMem place) = refl
-global_is input m true (global.GotFunc place) = refl
-global_is input m true (global.Host object number) = refl
-global_is input m false g = refl
+global_is input m _ _ = refl
 
 -- ---- the slots of all objects
 
@@ -129,10 +122,8 @@ globals_more input m xs ys =
     ∙ list_any-append test (filter (is_kept_slot input) xs) (filter (is_kept_slot input) ys)
 
 crossed : (a b c d : Bool) → ((a || b) || (c || d)) ≡ ((a || c) || (b || d))
-crossed true b c d = refl
 crossed false true true d = refl
-crossed false true false d = refl
-crossed false false c d = refl
+crossed _ _ _ d = refl
 
 rows_bound : (input : Input) (m : WasmLinkerSymbol) (n : ℕ) (os : List Object)
     → list_any (row_leads_to m) (rows_from (by_all_rules input) n os)

@@ -1,7 +1,7 @@
 -- The indices of what objects define, and of what their slots are resolved to.
-use Rattle.std.proofs.Common.{◌≡◌, ◌∙◌, ◌≤◌, ◌<◌, ◌^◌, ℕ, zero, suc, ◌+◌, true, false, if◌then◌else◌, List, [], ◌∷◌, ◌++◌, length, map, take, get_or, refl, sym, ap, subst, arith, inl, inr, Some, None, slice_get, slice_index_or, Result, Ok, Err, IfErr, length-append}
+use Rattle.std.proofs.Common.{◌≡◌, ◌∙◌, ◌≤◌, ◌<◌, ◌^◌, ℕ, zero, suc, ◌+◌, true, false, if◌then◌else◌, List, [], ◌∷◌, ◌++◌, length, map, take, get_or, refl, sym, ap, subst, arith, inl, inr, Some, None, slice_get, length-append}
 use Rattle.std.specs.List.{AllZip, range_with_len}
-use Rattle.std.proofs.lemmas.Bool.{cases_Bool, and_parts}
+use Rattle.std.proofs.lemmas.Bool.{cases_Bool}
 use Rattle.std.proofs.lemmas.List.{take_more, length-map}
 use Rattle.std.proofs.lemmas.Option.{slice_get_within, get_or_from_slice_get}
 use Rattle.indexmap.proofs.SetLemmas.{AllZip-push}
@@ -11,37 +11,37 @@ use Rattle.wl_linking.specs.declared.error.LinkError.{LinkError}
 use Rattle.wl_custom.specs.declared.symbols.WasmSymbolKind.{WasmSymbolKind}
 use Rattle.wl_custom.specs.declared.symbols.WasmSymbolKind.TheVariants.{Func, Global}
 use Rattle.wl_symbols.specs.Live.{Live, is_live, ordinal_of, live_below, IsLiveOf}
-use Rattle.wl_symbols.specs.Units.{units_of, exists, unit_index, unit_number}
+use Rattle.wl_symbols.specs.Units.{units_of, exists, unit_index}
 use Rattle.wl_symbols.specs.declared.units.LinkUnit.{LinkUnit}
 use Rattle.wl_symbols.specs.declared.units.UnitCounts.{UnitCounts}
 use Rattle.wl_symbols.specs.declared.units.WasmGcUnit.{WasmGcUnit}
-use Rattle.wl_symbols.specs.declared.units.WasmGcUnit.TheVariants.{DefinedFunction, DefinedGlobal, DataSegment, FunctionImport, GlobalImport}
+use Rattle.wl_symbols.specs.declared.units.WasmGcUnit.TheVariants.{DefinedFunction, DefinedGlobal}
 use Rattle.wl_symbols.specs.ImportSlots.{ImportSlot, object_slots, import_slots}
 use Rattle.wl_index.specs.declared.index.TheConstants.{WASM_DEAD_INDEX, MAX_ENTRIES}
 use Rattle.wl_bind.specs.FunctionSpace.{FunctionOf, function_parts, function_space, own_function_entry}
 use Rattle.wl_bind.specs.GlobalSpace.{GlobalOf, global_parts, global_space, own_global_entry}
 use Rattle.wl_symbols.specs.Input.{Input, keeps, keeps_slot}
-use Rattle.wl_bind.specs.MadeIndices.{AreMadeIndices}
 use Rattle.wl_bind.specs.steps.Numbering.{IsNumbering}
-use Rattle.wl_bind.specs.steps.Numbered.{made_end, firsts_of, HasRoom, FitsOwn, own_indices_of, HasIndex, IsResolvedIndex, resolution_of, HaveSlotIndices, IsSlotIndex}
+use Rattle.wl_bind.specs.steps.Numbered.{firsts_of, HasRoom, FitsOwn, own_indices_of, HasIndex, IsResolvedIndex, resolution_of, HaveSlotIndices, IsSlotIndex}
 use Rattle.wl_bind.specs.steps.OwnIndices.{own_unit, kept_own, firsts_from, own_index, kept_count, own_start, space_length}
 use Rattle.wl_bind.specs.Parts.{joined, lengths_of, total, by_object, IsIndexOf, AreIndicesOf, IsOver}
-use Rattle.wl_bind.specs.Resolutions.{Resolving, rows_from, resolutions, by_all_rules}
+use Rattle.wl_bind.specs.Resolutions.{resolutions, by_all_rules}
 use Rattle.wl_bind.specs.Shared.{place_at}
 use Rattle.wl_bind.specs.SpaceFaults.{AreTooMany, IsSpaceOver}
 use Rattle.wl_bind.specs.declared.binding.FunctionTarget.TheVariants as function
 use Rattle.wl_bind.specs.declared.binding.GlobalTarget.TheVariants as global
-use Rattle.wl_bind.specs.declared.indices.LinkerDefinedIndices.{LinkerDefinedIndices}
 use Rattle.wl_bind.specs.declared.numbering.Numbering.{Numbering}
 use Rattle.wl_bind.specs.declared.own_indices.Own.{Own}
 use Rattle.wl_bind.specs.declared.own_indices.Own.TheVariants.{Functions, Globals}
 use Rattle.wl_bind.specs.declared.resolution.ImportResolution.{ImportResolution}
 use Rattle.wl_bind.specs.declared.resolution.ObjectImportResolutions.{ObjectImportResolutions}
-use Rattle.wl_bind.proofs.HostLaws.{IsAt, placed}
+use Rattle.wl_bind.proofs.HostLaws.{IsAt, placed, row_at, row_of}
 use Rattle.wl_bind.proofs.IndexLaws.{over_as}
-use Rattle.wl_bind.proofs.OwnLaws.{own_stands, firsts_length}
+use Rattle.wl_bind.proofs.OwnLaws.{own_stands, firsts_length, live_exists}
 use Rattle.wl_bind.proofs.PlaceLaws.{joined_length}
 use Rattle.wl_lists.proofs.Splits.{splits}
+use Rattle.std.specs.Option.{option_map}
+use Rattle.wl_lists.proofs.Places.{mapped_at}
 
 -- ---- lists, place by place
 
@@ -70,33 +70,21 @@ zip_map R S f (x ∷ xs) [] each zip = zip
 zip_map R S f (x ∷ xs) (y ∷ ys) each zip =
     (each zero x y refl zip.0, zip_map R S f xs ys (λ k z w at r. each (suc k) z w at r) zip.1)
 
--- what is made of what stands at a place
-get_mapped : {X Y : Type 0} (f : X → Y) (xs : List X) (k : ℕ) (x : X) (d : Y) → slice_get xs k ≡ Some x
-    → get_or (map f xs) k d ≡ f x
-get_mapped f [] k x d at = absurd cc
-get_mapped f (y ∷ xs) zero x d at = let e : y ≡ x = cc in ap f e
-get_mapped f (y ∷ xs) (suc k) x d at = get_mapped f xs k x d at
-
 -- ---- what objects define
 
 -- a live unit is one of an object
 within : (objects : List Object) (object : ℕ) (unit : WasmGcUnit)
     → exists (units_of objects) (record { object = object; unit = unit }) ≡ true → object < length objects
 within [] object (DefinedFunction k) is = absurd (grind (arith, is))
-within [] object (DefinedGlobal k) is = absurd (grind (arith, is))
-within [] object (DataSegment k) is = absurd (grind (arith, is))
-within [] object (FunctionImport k) is = absurd (grind (arith, is))
-within [] object (GlobalImport k) is = absurd (grind (arith, is))
+within [] object _ is = absurd (grind (arith, is))
 within (o ∷ objects) zero unit is = omega arith
 within (o ∷ objects) (suc object) unit is = let lt = within objects object unit is in omega (arith, lt)
 
-live_within : (input : Input) (u : LinkUnit) → IsLiveOf input.link input.live → is_live input.live u ≡ true
+pub live_within : (input : Input) (u : LinkUnit) → IsLiveOf input.link input.live → is_live input.live u ≡ true
     → u.object < length input.link.objects
 live_within input u live is =
-    let there : exists input.live.units u ≡ true =
-    (and_parts (exists input.live.units u) (slice_index_or input.live.marks (unit_number input.live.units u) false) is).0 in
     within input.link.objects u.object u.unit
-    (subst (λ (ns : List UnitCounts). exists ns u ≡ true) live.units there)
+    (subst (λ (ns : List UnitCounts). exists ns u ≡ true) live.units (live_exists input.live u is))
 
 -- the ordinal of a live unit
 pub has_ordinal : (live : Live) (u : LinkUnit) → is_live live u ≡ true
@@ -210,7 +198,8 @@ resolved_there : (input : Input) (kind : WasmSymbolKind) (slots : List ImportSlo
     (k : ℕ) (t : ImportSlot) (d : ImportResolution) → row ≡ map (resolution_of input kind) slots
     → slice_get slots k ≡ Some t → get_or row k d ≡ resolution_of input kind t
 resolved_there input kind slots row k t d is at =
-    ap (λ (rs : List ImportResolution). get_or rs k d) is ∙ get_mapped (resolution_of input kind) slots k t d at
+    ap (λ (rs : List ImportResolution). get_or rs k d) is
+    ∙ get_or_from_slice_get (map (resolution_of input kind) slots) k (resolution_of input kind t) d (mapped_at (resolution_of input kind) slots k t at)
 
 -- a slot of that object, kind and number has an index
 abbrev HasAt : Numbering → WasmSymbolKind → WasmSymbolKind → ℕ → ℕ → ImportResolution → Type 0
@@ -265,19 +254,6 @@ is_slot_index n kind object k index row d t is kept dead here =
           (subst (λ (m : ℕ). IsDeadAt n index kind object m) (sym at.number_is) dead));
     }
 
--- the row of an object
-row_in : (by : Resolving) (n m : ℕ) (os : List Object) (k : ℕ) (o : Object) → m ≡ n + k → slice_get os k ≡ Some o
-    → slice_get (rows_from by n os) k ≡ Some (record {
-      function_resolutions = map by.functions (object_slots m Func o);
-      global_resolutions = map by.globals (object_slots m Global o);
-    })
-row_in by n m [] k o is at = absurd cc
-row_in by n m (p ∷ os) zero o is at =
-    let same : n ≡ m = omega (arith, is) in
-    let e : p ≡ o = cc in
-    rw (same, e) refl
-row_in by n m (p ∷ os) (suc k) o is at = row_in by (n + 1) m os k o (omega (arith, is)) at
-
 pub row_there : (input : Input) (rows : List ObjectImportResolutions) (object : ℕ) (o : Object)
     → rows ≡ resolutions input (by_all_rules input) → slice_get input.link.objects object ≡ Some o
     → slice_get rows object ≡ Some (record {
@@ -286,11 +262,8 @@ pub row_there : (input : Input) (rows : List ObjectImportResolutions) (object : 
     })
 row_there input rows object o is at =
     ap (λ (rs : List ObjectImportResolutions). slice_get rs object) is
-    ∙ row_in (by_all_rules input) 0 object input.link.objects object o (omega arith) at
-
-pub slots_here : (objects : List Object) (object : ℕ) (kind : WasmSymbolKind) (o : Object) → slice_get objects object ≡ Some o
-    → import_slots objects object kind ≡ object_slots object kind o
-slots_here objects object kind o at = rw at refl
+    ∙ (row_at (by_all_rules input) 0 object input.link.objects object (omega arith)
+    ∙ ap (option_map (row_of (by_all_rules input) object)) at)
 
 pub slots_long : (n : Numbering) (kind : WasmSymbolKind) (object k : ℕ) (row : List ImportResolution) → k < length row
     → row ≡ map (resolution_of n.input.now kind) (import_slots n.input.now.link.objects object kind)
@@ -321,37 +294,18 @@ entries_length input own entry parts =
     ∙ (ap (λ (m : ℕ). m + length (by_object (λ i o. map (entry i) (kept_own input own i o)) 0 input.link.objects)) (joined_length parts)
     ∙ ap (λ (m : ℕ). total (lengths_of parts) + m) (own_length input own entry 0 input.link.objects))
 
-space_long : (input : Input) (own : Own) → space_length input own ≡ own_start input own + kept_count input own 0 input.link.objects
+pub space_long : (input : Input) (own : Own) → space_length input own ≡ own_start input own + kept_count input own 0 input.link.objects
 space_long input Functions = entries_length input Functions (λ i k. FunctionOf (function.Defined i k)) (function_parts input)
 space_long input Globals = entries_length input Globals (λ i k. GlobalOf (global.Defined i k)) (global_parts input)
-
--- objects' things begin after all that no object defines
-pub made_end_is : (input : Input) (i : LinkerDefinedIndices) → AreMadeIndices input i → (own : Own) → made_end i own ≡ own_start input own
-made_end_is input i made Functions = made.functions.end
-made_end_is input i made Globals = made.globals.end
-
-pub made_end_fits : (input : Input) (i : LinkerDefinedIndices) → AreMadeIndices input i → (own : Own) → made_end i own ≤ MAX_ENTRIES
-made_end_fits input i made Functions = made.functions.room
-made_end_fits input i made Globals = made.globals.room
 
 too_many : (input : Input) (own : Own) → MAX_ENTRIES < space_length input own → AreTooMany input
 too_many input Functions lt = inl lt
 too_many input Globals lt = inr lt
 
-pub if_err : {A E : Type 0} (r : Result A E) (P Q : E → Type 0) → ((e : E) → P e → Q e) → IfErr r P → IfErr r Q
-if_err (Ok x) P Q step err = tt
-if_err (Err e) P Q step err = step e err
-
-pub own_over : (input : Input) (own : Own) (start : ℕ) (e : LinkError) → start ≡ own_start input own
-    → IsOver (start + kept_count input own 0 input.link.objects) e → IsSpaceOver input e
-own_over input own start e is over =
-    let long = space_long input own in
-    over_as input (start + kept_count input own 0 input.link.objects) e
-    (λ lt. too_many input own (omega (arith, lt, is, long))) over
-
-pub own_room : (input : Input) (own : Own) (start : ℕ) → start ≡ own_start input own
-    → start + kept_count input own 0 input.link.objects ≤ MAX_ENTRIES → space_length input own ≤ MAX_ENTRIES
-own_room input own start is room = let long = space_long input own in omega (arith, room, is, long)
+pub own_over : (input : Input) (own : Own) (count : ℕ) (e : LinkError) → count ≤ space_length input own
+    → IsOver count e → IsSpaceOver input e
+own_over input own count e le over =
+    over_as input count e (λ lt. too_many input own (omega (arith, lt, le))) over
 
 -- ---- rows
 

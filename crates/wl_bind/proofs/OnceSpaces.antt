@@ -27,8 +27,8 @@ use Rattle.wl_bind.specs.Scan.{got_mem, got_func}
 use Rattle.wl_bind.specs.Made.{is_made, has_init_memory}
 use Rattle.wl_bind.specs.ExportedAddresses.{data_named, exported_addresses}
 use Rattle.wl_bind.specs.ExportedData.{same_data, is_dynamic_data, dynamic_from, dynamic_in, dynamic_data, is_dynamic, forced_by, forced_data}
-use Rattle.wl_bind.specs.FunctionSpace.{FunctionEntry, FunctionOf, InitMemory, host_function_part, stub_part, kept_functions, object_functions, function_parts, function_space}
-use Rattle.wl_bind.specs.GlobalSpace.{GlobalEntry, GlobalOf, AddressOf, DataOf, host_global_part, address_part, got_mem_part, got_func_part, dynamic_part, forced_part, kept_globals, object_globals, global_parts, global_space}
+use Rattle.wl_bind.specs.FunctionSpace.{FunctionEntry, FunctionOf, InitMemory, kept_functions, object_functions, function_parts, function_space}
+use Rattle.wl_bind.specs.GlobalSpace.{GlobalEntry, GlobalOf, AddressOf, DataOf, address_part, got_mem_part, got_func_part, dynamic_part, forced_part, kept_globals, object_globals, global_parts, global_space}
 use Rattle.wl_bind.specs.OutputTypes.{live_types, made_types, output_types}
 use Rattle.wl_bind.specs.Parts.{joined, by_object, StandOnce}
 use Rattle.wl_bind.specs.Sameness.{same_made}
@@ -64,32 +64,25 @@ distinct-numbered kind i n symbols (x ∷ imports) = (
   distinct-numbered kind i (n + 1) symbols imports,
 )
 
-slots_least : (kind : WasmSymbolKind) (i : ℕ) (objects : List Object) (z : ℕ × ℕ)
-    → IsIn {X = ℕ × ℕ} (map place_of (slots_from kind i objects)) z → i ≤ z.0
-slots_least kind i [] z h = absurd h
-slots_least kind i (o ∷ objects) z h =
-    let both : IsIn {X = ℕ × ℕ} (map place_of (object_slots i kind o) ++ map place_of (slots_from kind (i + 1) objects)) z =
-    subst (λ (ps : List (ℕ × ℕ)). IsIn {X = ℕ × ℕ} ps z) (map-append place_of (object_slots i kind o) (slots_from kind (i + 1) objects)) h in
-    elim (in_split (map place_of (object_slots i kind o)) (map place_of (slots_from kind (i + 1) objects)) z both) [
-      | inl l ↦ (let e : z.0 ≡ i = (numbered_least kind i 0 o.symbols (slot_imports kind o.imports) z l).0 in omega (arith, e))
-      | inr r ↦ (let m : i + 1 ≤ z.0 = slots_least kind (i + 1) objects z r in omega (arith, m))
-    ]
+places_by_object : (kind : WasmSymbolKind) (i : ℕ) (objects : List Object)
+    → map place_of (slots_from kind i objects) ≡ by_object (λ j o. map place_of (object_slots j kind o)) i objects
+places_by_object kind i [] = refl
+places_by_object kind i (o ∷ objects) =
+    map-append place_of (object_slots i kind o) (slots_from kind (i + 1) objects)
+    ∙ ap (λ (ps : List (ℕ × ℕ)). map place_of (object_slots i kind o) ++ ps) (places_by_object kind (i + 1) objects)
 
-distinct-slots : (kind : WasmSymbolKind) (i : ℕ) (objects : List Object)
-    → Distinct {X = ℕ × ℕ} (map place_of (slots_from kind i objects))
-distinct-slots kind i [] = tt
-distinct-slots kind i (o ∷ objects) =
-    subst (λ (ps : List (ℕ × ℕ)). Distinct {X = ℕ × ℕ} ps) (sym (map-append place_of (object_slots i kind o) (slots_from kind (i + 1) objects)))
-    (distinct-append (map place_of (object_slots i kind o)) (map place_of (slots_from kind (i + 1) objects))
-    (distinct-numbered kind i 0 o.symbols (slot_imports kind o.imports)) (distinct-slots kind (i + 1) objects)
-    (λ z l r. let e : z.0 ≡ i = (numbered_least kind i 0 o.symbols (slot_imports kind o.imports) z l).0 in
-    let m : i + 1 ≤ z.0 = slots_least kind (i + 1) objects z r in absurd (omega (arith, e, m))))
+distinct-slots : (kind : WasmSymbolKind) (objects : List Object) → Distinct {X = ℕ × ℕ} (map place_of (slots_from kind 0 objects))
+distinct-slots kind objects =
+    subst (λ (ps : List (ℕ × ℕ)). Distinct {X = ℕ × ℕ} ps) (sym (places_by_object kind 0 objects))
+    (distinct-by_object {X = ℕ × ℕ} (λ p. p.0) (λ j o. map place_of (object_slots j kind o))
+    (λ i o z h. (numbered_least kind i 0 o.symbols (slot_imports kind o.imports) z h).0)
+    (λ i o. distinct-numbered kind i 0 o.symbols (slot_imports kind o.imports)) 0 objects)
 
 distinct-left : (input : Input) (kind : WasmSymbolKind) → Distinct {X = ℕ × ℕ} (map place_of (left_slots input kind))
 distinct-left input kind =
     distinct-map_filter place_of (λ (t : ImportSlot). is_none (slot_target input.link t)) (kept_slots input kind)
     (distinct-map_filter place_of (is_kept_slot input) (slots_from kind 0 input.link.objects)
-    (distinct-slots kind 0 input.link.objects))
+    (distinct-slots kind input.link.objects))
 
 map-place : {Y : Type 0} (f : ℕ × ℕ → Y) (slots : List ImportSlot)
     → map (λ (t : ImportSlot). f (place_of t)) slots ≡ map f (map place_of slots)
@@ -123,47 +116,23 @@ same_host (i, k) (j, l) e = cc
 same_stub : (a b : ℕ × ℕ) → FunctionOf (function.Stub a.0 a.1) ≡ FunctionOf (function.Stub b.0 b.1) → a ≡ b
 same_stub (i, k) (j, l) e = cc
 
-hosts_are_part : (input : Input) → IsPart function_sort 0 (host_function_part input)
-hosts_are_part input =
-    slots_part function_sort 0 (λ p. FunctionOf (function.Host p.0 p.1)) same_host (λ a. refl) _
-    (distinct-firsts place_of same_import (host_functions input)
-    (distinct-map_filter place_of (λ (t : ImportSlot). not (is_stub input.link.objects (left_functions input) t)) (left_functions input)
-    (distinct-left input Func)))
-
-stubs_are_part : (input : Input) → IsPart function_sort 4 (stub_part input)
-stubs_are_part input =
-    slots_part function_sort 4 (λ p. FunctionOf (function.Stub p.0 p.1)) same_stub (λ a. refl) (link_stubs input)
-    (distinct-firsts place_of same_field (stub_slots input.link.objects (left_functions input))
-    (distinct-map_filter place_of (is_stub input.link.objects (left_functions input)) (left_functions input)
-    (distinct-left input Func)))
-
-functions_are_part : (input : Input) → IsPart function_sort 5 (object_functions input)
-functions_are_part input =
-    part_by_object function_sort 5 function_object (λ i k. FunctionOf (function.Defined i k)) (kept_functions input)
+function_parts_are : (input : Input) → AreParts function_sort 0 (function_parts input ++ object_functions input ∷ [])
+function_parts_are input =
+    let stub : ImportSlot → Bool = is_stub input.link.objects (left_functions input) in
+    let own = part_by_object function_sort 5 function_object (λ i k. FunctionOf (function.Defined i k)) (kept_functions input)
     (λ i a b e. cc) (λ i k. refl) (λ i k. refl)
     (λ i o. distinct-filter (λ k. keeps input i (DefinedFunction k)) (range_with_len 0 (length o.functions)) (distinct-range 0 (length o.functions)))
-    input.link.objects
-
-function_parts_are : (input : Input) → AreParts function_sort 0 (function_parts input ++ object_functions input ∷ [])
-function_parts_are input = (
-  hosts_are_part input,
-  (
-    part_if function_sort 1 (is_made input made.CallCtors) (FunctionOf (function.Made made.CallCtors)) refl,
-    (
-      part_if function_sort 2 (is_made input made.InitTls) (FunctionOf (function.Made made.InitTls)) refl,
-      (
-        part_if function_sort 3 (has_init_memory input) InitMemory refl,
-        (
-          stubs_are_part input,
-          (
-            functions_are_part input,
-            tt,
-          ),
-        ),
-      ),
-    ),
-  ),
-)
+    input.link.objects in
+    let stubs = slots_part function_sort 4 (λ p. FunctionOf (function.Stub p.0 p.1)) same_stub (λ a. refl) (link_stubs input)
+    (distinct-firsts place_of same_field (stub_slots input.link.objects (left_functions input))
+    (distinct-map_filter place_of stub (left_functions input) (distinct-left input Func))) in
+    let memory = part_if function_sort 3 (has_init_memory input) InitMemory refl in
+    let tls = part_if function_sort 2 (is_made input made.InitTls) (FunctionOf (function.Made made.InitTls)) refl in
+    let ctors = part_if function_sort 1 (is_made input made.CallCtors) (FunctionOf (function.Made made.CallCtors)) refl in
+    let hosts = slots_part function_sort 0 (λ p. FunctionOf (function.Host p.0 p.1)) same_host (λ a. refl) _
+    (distinct-firsts place_of same_import (host_functions input)
+    (distinct-map_filter place_of (λ (t : ImportSlot). not (stub t)) (left_functions input) (distinct-left input Func))) in
+    (hosts, (ctors, (tls, (memory, (stubs, (own, tt))))))
 
 -- no entry stands twice in the function space
 pub functions_once : (input : Input) → StandOnce (function_space input)
@@ -237,10 +206,6 @@ distinct-dynamic input =
     (λ i o d h. (dynamic_at input i 0 o.symbols d h).object_is)
     (λ i o. distinct-dynamic_from input i 0 o.symbols) 0 input.link.objects)
 
-symbol_found : (objects : List Object) (object number : ℕ) (o : Object) (s : LinkedSymbol) → slice_get objects object ≡ Some o
-    → slice_get o.symbols number ≡ Some s → symbol_in objects object number ≡ Some s
-symbol_found objects object number o s at there = rw at there
-
 dynamic_if : (input : Input) (d : DataSymbol) (b : Bool)
     → IsIn (if b then by_object (dynamic_in input) 0 input.link.objects else []) d
     → (b && option_map_or (is_dynamic_data input d.object d.symbol) (symbol_in input.link.objects d.object d.symbol) false) ≡ true
@@ -250,24 +215,16 @@ dynamic_if input d true h =
     let at = dynamic_at input (0 + g.place) 0 (g.object).symbols d g.there in
     let object_is : g.place ≡ d.object = let e = at.object_is in omega (arith, e) in
     let number : d.symbol - 0 ≡ d.symbol = omega arith in
+    let here : slice_get input.link.objects d.object ≡ Some g.object = subst (λ (n : ℕ). slice_get input.link.objects n ≡ Some g.object) object_is g.at in
     let there : symbol_in input.link.objects d.object d.symbol ≡ Some at.symbol =
-    symbol_found input.link.objects d.object d.symbol g.object at.symbol
-    (subst (λ (n : ℕ). slice_get input.link.objects n ≡ Some g.object) object_is g.at)
-    (subst (λ (n : ℕ). slice_get (g.object).symbols n ≡ Some at.symbol) number at.at) in
+    rw here (subst (λ (n : ℕ). slice_get (g.object).symbols n ≡ Some at.symbol) number at.at) in
     rw there at.exported
-
--- what is exported anyway passes the test for it
-dynamic_told : (input : Input) (d : DataSymbol) → IsIn (dynamic_data input) d → is_dynamic input d ≡ true
-dynamic_told input d h = dynamic_if input d input.link.args.export_dynamic h
 
 forced_told : (input : Input) (d : DataSymbol) → IsIn (forced_data input) d → is_dynamic input d ≡ false
 forced_told input d h =
     not-true (is_dynamic input d)
     (passes (λ (x : DataSymbol). not (is_dynamic input x)) (filter_map (forced_by input) input.link.args.export_symbols) d
     (in_firsts same_data (filter (λ (x : DataSymbol). not (is_dynamic input x)) (filter_map (forced_by input) input.link.args.export_symbols)) d h))
-
-data_self : (d : DataSymbol) → same_data d d ≡ true
-data_self d = pairs_self d.object d.symbol
 
 -- ---- the global space, part by part
 
@@ -295,28 +252,6 @@ global_object _ = 0
 same_global_host : (a b : ℕ × ℕ) → GlobalOf (global.Host a.0 a.1) ≡ GlobalOf (global.Host b.0 b.1) → a ≡ b
 same_global_host (i, k) (j, l) e = cc
 
-global_hosts_are_part : (input : Input) → IsPart (global_sort input) 0 (host_global_part input)
-global_hosts_are_part input =
-    slots_part (global_sort input) 0 (λ p. GlobalOf (global.Host p.0 p.1)) same_global_host (λ a. refl) _
-    (distinct-firsts place_of same_import (host_globals input)
-    (distinct-map_filter place_of (λ (t : ImportSlot). is_none (by_got input t)) (left_globals input)
-    (distinct-left input GlobalKind)))
-
-addresses_are_part : (input : Input) → IsPart (global_sort input) 7 (address_part input)
-addresses_are_part input =
-    part_of (global_sort input) 7 (λ m. AddressOf m) (λ a b e. cc) (λ m. refl) (exported_addresses input.link.args)
-    (distinct-self same_made made_self (filter_map data_named input.link.args.export_symbols))
-
-got_mem_is_part : (input : Input) → IsPart (global_sort input) 8 (got_mem_part input)
-got_mem_is_part input =
-    part_of (global_sort input) 8 (λ k. GlobalOf (global.GotMem k)) (λ a b e. cc) (λ k. refl)
-    (range_with_len 0 (length (got_mem input))) (distinct-range 0 (length (got_mem input)))
-
-got_func_is_part : (input : Input) → IsPart (global_sort input) 9 (got_func_part input)
-got_func_is_part input =
-    part_of (global_sort input) 9 (λ k. GlobalOf (global.GotFunc k)) (λ a b e. cc) (λ k. refl)
-    (range_with_len 0 (length (got_func input))) (distinct-range 0 (length (got_func input)))
-
 data_part : (input : Input) (n : ℕ) (ds : List DataSymbol) → Distinct ds
     → ((d : DataSymbol) → IsIn ds d → global_sort input (DataOf d) ≡ n) → IsPart (global_sort input) n (map DataOf ds)
 data_part input n ds d sorts = record {
@@ -325,69 +260,40 @@ data_part input n ds d sorts = record {
       subst (λ (y : GlobalEntry). global_sort input y ≡ n) c.to (sorts c.from c.there);
 }
 
-dynamic_is_part : (input : Input) → IsPart (global_sort input) 10 (dynamic_part input)
-dynamic_is_part input =
-    data_part input 10 (dynamic_data input) (distinct-dynamic input) (λ d h. rw (dynamic_told input d h) refl)
-
-forced_is_part : (input : Input) → IsPart (global_sort input) 11 (forced_part input)
-forced_is_part input =
-    data_part input 11 (forced_data input)
-    (distinct-self same_data data_self
-    (filter (λ (x : DataSymbol). not (is_dynamic input x)) (filter_map (forced_by input) input.link.args.export_symbols)))
-    (λ d h. rw (forced_told input d h) refl)
-
-globals_are_part : (input : Input) → IsPart (global_sort input) 12 (object_globals input)
-globals_are_part input =
-    part_by_object (global_sort input) 12 global_object (λ i k. GlobalOf (global.Defined i k)) (kept_globals input)
-    (λ i a b e. cc) (λ i k. refl) (λ i k. refl)
-    (λ i o. distinct-filter (λ k. keeps input i (DefinedGlobal k)) (range_with_len 0 (length o.globals)) (distinct-range 0 (length o.globals)))
-    input.link.objects
-
 made_part : (input : Input) (n : ℕ) (m : WasmLinkerSymbol) → made_sort m ≡ n
     → IsPart (global_sort input) n (if is_made input m then GlobalOf (global.Made m) ∷ [] else [])
 made_part input n m e = part_if (global_sort input) n (is_made input m) (GlobalOf (global.Made m)) e
 
 global_parts_are : (input : Input) → AreParts (global_sort input) 0 (global_parts input ++ object_globals input ∷ [])
-global_parts_are input = (
-  global_hosts_are_part input,
-  (
-    made_part input 1 made.MemoryBase refl,
-    (
-      made_part input 2 made.TableBase refl,
-      (
-        made_part input 3 made.StackPointer refl,
-        (
-          made_part input 4 made.TlsBase refl,
-          (
-            made_part input 5 made.TlsSize refl,
-            (
-              made_part input 6 made.TlsAlign refl,
-              (
-                addresses_are_part input,
-                (
-                  got_mem_is_part input,
-                  (
-                    got_func_is_part input,
-                    (
-                      dynamic_is_part input,
-                      (
-                        forced_is_part input,
-                        (
-                          globals_are_part input,
-                          tt,
-                        ),
-                      ),
-                    ),
-                  ),
-                ),
-              ),
-            ),
-          ),
-        ),
-      ),
-    ),
-  ),
-)
+global_parts_are input =
+    let sort : GlobalEntry → ℕ = global_sort input in
+    let own = part_by_object sort 12 global_object (λ i k. GlobalOf (global.Defined i k)) (kept_globals input)
+    (λ i a b e. cc) (λ i k. refl) (λ i k. refl)
+    (λ i o. distinct-filter (λ k. keeps input i (DefinedGlobal k)) (range_with_len 0 (length o.globals)) (distinct-range 0 (length o.globals)))
+    input.link.objects in
+    let forced = data_part input 11 (forced_data input)
+    (distinct-self same_data (λ d. pairs_self d.object d.symbol)
+    (filter (λ (x : DataSymbol). not (is_dynamic input x)) (filter_map (forced_by input) input.link.args.export_symbols)))
+    (λ d h. rw (forced_told input d h) refl) in
+    let dynamic = data_part input 10 (dynamic_data input) (distinct-dynamic input) (λ d h. rw (dynamic_if input d input.link.args.export_dynamic h) refl) in
+    let func = part_of sort 9 (λ k. GlobalOf (global.GotFunc k)) (λ a b e. cc) (λ k. refl)
+    (range_with_len 0 (length (got_func input))) (distinct-range 0 (length (got_func input))) in
+    let mem = part_of sort 8 (λ k. GlobalOf (global.GotMem k)) (λ a b e. cc) (λ k. refl)
+    (range_with_len 0 (length (got_mem input))) (distinct-range 0 (length (got_mem input))) in
+    let addresses = part_of sort 7 (λ m. AddressOf m) (λ a b e. cc) (λ m. refl) (exported_addresses input.link.args)
+    (distinct-self same_made made_self (filter_map data_named input.link.args.export_symbols)) in
+    let behind_made : AreParts sort 7 (address_part input ∷ got_mem_part input ∷ got_func_part input ∷ dynamic_part input ∷ forced_part input
+    ∷ object_globals input ∷ []) = (addresses, (mem, (func, (dynamic, (forced, (own, tt)))))) in
+    let hosts = slots_part sort 0 (λ p. GlobalOf (global.Host p.0 p.1)) same_global_host (λ a. refl) _
+    (distinct-firsts place_of same_import (host_globals input)
+    (distinct-map_filter place_of (λ (t : ImportSlot). is_none (by_got input t)) (left_globals input) (distinct-left input GlobalKind))) in
+    let memory_base = made_part input 1 made.MemoryBase refl in
+    let table_base = made_part input 2 made.TableBase refl in
+    let stack_pointer = made_part input 3 made.StackPointer refl in
+    let tls_base = made_part input 4 made.TlsBase refl in
+    let tls_size = made_part input 5 made.TlsSize refl in
+    let tls_align = made_part input 6 made.TlsAlign refl in
+    (hosts, (memory_base, (table_base, (stack_pointer, (tls_base, (tls_size, (tls_align, behind_made)))))))
 
 -- no entry stands twice in the global space
 pub globals_once : (input : Input) → StandOnce (global_space input)

@@ -1,21 +1,18 @@
 -- What objects define stands in a space at the first index of its object and its ordinal.
-use Rattle.std.proofs.Common.{◌≡◌, ◌∙◌, ℕ, zero, suc, ◌+◌, ◌-◌, ◌<◌, ◌≤◌, Bool, true, false, List, [], ◌∷◌, ◌++◌, map, filter, length, Some, refl, sym, ap, subst, arith, slice_get, slice_index_or, if◌then◌else◌, length-append, append_assoc, nat_lt, inl, inr}
+use Rattle.std.proofs.Common.{◌≡◌, ◌∙◌, ℕ, zero, suc, ◌+◌, ◌-◌, ◌<◌, ◌≤◌, Bool, true, false, List, [], ◌∷◌, ◌++◌, map, filter, length, Some, refl, sym, ap, subst, arith, slice_get, slice_index_or, if◌then◌else◌, length-append, append_assoc, inl, inr}
 use Rattle.std.specs.List.{range_with_len}
 use Rattle.std.proofs.lemmas.Bool.{cases_Bool, ltb-true, and_parts}
 use Rattle.std.proofs.lemmas.List.{length-map}
 use Rattle.std.proofs.lemmas.List.Elements.{filter-append}
 use Rattle.std.proofs.lemmas.Option.{cond_some}
-use Rattle.wl_index.specs.declared.index.TheConstants.{MAX_ENTRIES}
 use Rattle.wl_linking.specs.Object.{Object}
-use Rattle.wl_linking.specs.declared.error.LinkError.{LinkError}
-use Rattle.wl_linking.specs.declared.error.LinkError.TheVariants as fault
 use Rattle.wl_symbols.specs.Live.{Live, is_live, live_below, ordinal_of, IsLiveOf}
 use Rattle.wl_symbols.specs.Units.{counts_of, units_at, has_unit, exists, unit_number, unit_index}
 use Rattle.wl_symbols.specs.declared.units.LinkUnit.{LinkUnit}
 use Rattle.wl_symbols.specs.declared.units.UnitCounts.{UnitCounts}
 use Rattle.wl_symbols.specs.Input.{Input, keeps}
 use Rattle.wl_bind.specs.steps.OwnIndices.{own_unit, own_count, kept_own, kept_count, firsts_from}
-use Rattle.wl_bind.specs.Parts.{by_object, IsOver}
+use Rattle.wl_bind.specs.Parts.{by_object}
 use Rattle.wl_bind.specs.declared.own_indices.Own.{Own}
 use Rattle.wl_bind.specs.declared.own_indices.Own.TheVariants.{Functions, Globals}
 use Rattle.wl_lists.proofs.Places.{get_in_front, mapped_at, get_behind}
@@ -108,7 +105,7 @@ below_own input Functions object number (suc n) =
 below_own input Globals object number (suc n) =
     ap (λ (k : ℕ). k + (if keeps input object (own_unit Globals n) then 1 else 0)) (below_own input Globals object number n)
 
-live_exists : (live : Live) (u : LinkUnit) → is_live live u ≡ true → exists live.units u ≡ true
+pub live_exists : (live : Live) (u : LinkUnit) → is_live live u ≡ true → exists live.units u ≡ true
 live_exists live u e =
     (and_parts (exists live.units u) (slice_index_or live.marks (unit_number live.units u) false) e).0
 
@@ -117,13 +114,10 @@ own_index_is Functions number = refl
 own_index_is Globals number = refl
 
 -- an object that has the unit has so many
-below_lt : (a b : ℕ) → nat_lt a b ≡ true → a < b
-below_lt a b e = ltb-true a b e
-
 own_within : (own : Own) (o : Object) (number : ℕ) → has_unit (counts_of o) (own_unit own number) ≡ true
     → number < own_count own o
-own_within Functions o number e = below_lt number (length o.functions) e
-own_within Globals o number e = below_lt number (length o.globals) e
+own_within Functions o number e = ltb-true number (length o.functions) e
+own_within Globals o number e = ltb-true number (length o.globals) e
 
 -- ---- objects
 
@@ -228,10 +222,3 @@ kept_more input own k next after all o left tail split later so_far =
     let both : next + (length (kept_own input own k o) + kept_count input own (k + 1) tail) ≡ all =
     subst (λ (os : List Object). next + kept_count input own k os ≡ all) split so_far in
     omega (arith, later, both)
-
--- where what is counted so far is too much, so is all of it
-pub still_over : (count all : ℕ) (e : LinkError) → count ≤ all → IsOver count e → IsOver all e
-still_over count all fault.OutOfMemory le over = tt
-still_over count all (fault.TooLarge what) le over =
-    let lt : MAX_ENTRIES < count = over.1 in (over.0, omega (arith, lt, le))
-still_over count all _ le over = absurd over

@@ -13,7 +13,7 @@ use Rattle.wl_linking.specs.Spaces.{count_imports, spaces_of, symbol_exists}
 use Rattle.wl_custom.specs.Symbols.{Symbol as LinkedSymbol, is_undefined, is_weak, is_function}
 use Rattle.wl_linking.specs.declared.spaces.Counts.{Counts}
 use Rattle.wl_custom.specs.declared.symbols.WasmSymbolKind.{WasmSymbolKind}
-use Rattle.wl_custom.specs.declared.symbols.WasmSymbolKind.TheVariants.{Func, Data, Global, Section, Event, Table}
+use Rattle.wl_custom.specs.declared.symbols.WasmSymbolKind.TheVariants.{Func}
 use Rattle.wl_symbols.specs.LinkerNames.{is_imported_as}
 use Rattle.wl_symbols.specs.Names.{def}
 use Rattle.wl_symbols.specs.declared.entry.Definition.{Definition}
@@ -22,30 +22,33 @@ use Rattle.wl_custom.specs.Symbols.{is_defined_function}
 use Rattle.wl_symbols.specs.Live.{IsLiveOf}
 use Rattle.wl_symbols.specs.ImportSlots.{ImportSlot, object_slots, import_slots}
 use Rattle.wl_symbols.specs.Units.{defined_number}
-use Rattle.wl_symbols.specs.SlotTargets.{own_number, is_definition_of, object_target, symbol_target, slot_target}
+use Rattle.wl_symbols.specs.SlotTargets.{own_number, is_definition_of, object_target, symbol_target}
 use Rattle.wl_symbols.specs.declared.targets.SlotTarget.{SlotTarget}
 use Rattle.wl_symbols.specs.declared.targets.SlotTarget.TheVariants as slot
 use Rattle.wl_index.specs.declared.index.TheConstants.{WASM_DEAD_INDEX, MAX_ENTRIES}
-use Rattle.wl_symbols.specs.Left.{same_field, same_import, is_stub, first_imports, first_like}
-use Rattle.wl_bind.specs.FunctionBinding.{named_function, binds_function, by_stub, by_host, left_functions, link_stubs, host_functions}
+use Rattle.wl_bind.specs.FunctionBinding.{named_function, binds_function}
 use Rattle.wl_bind.specs.FunctionSpace.{FunctionEntry, FunctionOf, function_space, function_slot_entry, own_function_entry, local_functions}
 use Rattle.wl_bind.specs.FunctionSymbols.{kept_binding, binding_at, own_function, function_of}
 use Rattle.wl_bind.specs.IndexMaps.{is_kept_target, entry_of, symbol_function, symbol_functions}
-use Rattle.wl_symbols.specs.Input.{Input, keeps_slot}
-use Rattle.wl_symbols.specs.KeptSlots.{is_kept_slot}
+use Rattle.wl_symbols.specs.Input.{Input}
+use Rattle.wl_symbols.specs.KeptSlots.{slots_from, is_kept_slot}
 use Rattle.wl_bind.specs.Parts.{IsIndexOf, AreIndicesOf, IsPlaceOf, ArePlacesOf, AreRows}
 use Rattle.wl_bind.specs.steps.Redirects.{as_place, row_place, at_index, definition_function, leads_to, redirect_of, redirects_of}
 use Rattle.wl_bind.specs.declared.binding.FunctionTarget.{FunctionTarget}
 use Rattle.wl_bind.specs.declared.binding.FunctionTarget.TheVariants as function
 use Rattle.wl_bind.specs.declared.redirects.LocalFunction.{LocalFunction}
-use Rattle.wl_bind.proofs.ClosedLaws.{SlotLaws, kept_function}
-use Rattle.wl_bind.proofs.HostLaws.{IsAt, placed}
-use Rattle.wl_bind.proofs.LeftLaws.{rules_join, named_binds}
-use Rattle.wl_bind.proofs.NumberingLaws.{zip_maps, slots_here}
-use Rattle.wl_lists.proofs.Found.{cases_option}
+use Rattle.wl_bind.specs.References.{IsInOutput}
+use Rattle.wl_bind.specs.steps.Laws.{LinkLaws}
+use Rattle.wl_bind.proofs.FirstSlotLaws.{bound_is_there}
+use Rattle.wl_bind.proofs.RowLaws.{slot_is_one}
+use Rattle.wl_bind.proofs.SlotIndexLaws.{binding_of}
+use Rattle.wl_lists.proofs.In.{Contains-filter as stays, at_is_in}
+use Rattle.wl_bind.proofs.HostLaws.{IsAt, placed, slots_here}
+use Rattle.wl_bind.proofs.NumberingLaws.{zip_maps}
 use Rattle.wl_lists.proofs.Places.{test_at, all_at, get_in_front, get_behind}
 use Rattle.wl_lists.proofs.Rows.{RowOf, row_of_object}
 use Rattle.wl_lists.proofs.Splits.{splits}
+use Rattle.std.proofs.Math.Bool.{and_comm}
 
 -- ---- an index as a place
 
@@ -83,11 +86,7 @@ pub record IsGiven (input : Input) (rows : List (List ℕ)) : Type 0 where
   pub room : length (function_space input) ≤ MAX_ENTRIES
   pub live : IsLiveOf input.link input.live
   pub whole : AllByRecursion IsWhole input.link.objects
-  pub laws : SlotLaws
-  pub fitting : (o : Object) → IsWhole o → IsFitting o
-  pub slots : (object : ℕ) (o : Object) → length (object_slots object Func o) ≡ count_imports external.Func o.imports
-  pub numbers : (kind : WasmSymbolKind) (o : Object) (k : ℕ) (s : LinkedSymbol) → IsWhole o
-      → slice_get o.symbols k ≡ Some s → is_definition_of kind s ≡ true → (n : ℕ) × (own_number kind o s.index ≡ Some n)
+  pub laws : LinkLaws
 
 -- the function leads to the place of its entry
 abbrev Leads : Input → List (List ℕ) → Option FunctionTarget → LocalFunction → Type 0
@@ -151,25 +150,15 @@ defined_leads : (input : Input) (rows : List (List ℕ)) → IsGiven input rows 
     → Leads input rows (Some (function.Defined object n)) (at_index object s)
 defined_leads input rows given object o s n here number =
     place_of_entry input rows given object o (at_index object s) (own_function_entry input object n) refl here
-    (own_entry input object o s.index n (given.slots object o) number)
+    (own_entry input object o s.index n (given.laws.functions object o) number)
 
 -- two tests for the same
 same_kind : (k : WasmSymbolKind) → is_imported_as Func k ≡ is_function k
 same_kind Func = refl
-same_kind Data = refl
-same_kind Global = refl
-same_kind Section = refl
-same_kind Event = refl
-same_kind Table = refl
-
-swapped : (a b : Bool) → (a && b) ≡ (b && a)
-swapped true true = refl
-swapped true false = refl
-swapped false true = refl
-swapped false false = refl
+same_kind _ = refl
 
 same_test : (s : LinkedSymbol) → is_definition_of Func s ≡ is_defined_function s
-same_test s = swapped (not (is_undefined s)) (is_imported_as Func s.kind)
+same_test s = and_comm (not (is_undefined s)) (is_imported_as Func s.kind)
     ∙ ap (λ (b : Bool). b && not (is_undefined s)) (same_kind s.kind)
 
 -- what a symbol defines
@@ -189,43 +178,10 @@ undefined_below spaces s kind so there =
     let lt : nat_lt s.index spaces.imported_functions ≡ true = sym e ∙ there in
     grind (arith, lt)
 
--- what is left to stubs and to the host is there
-left_is_kept : (input : Input) (is_one : Bool) (stub host : ImportSlot)
-    → is_kept_target input (unwrap_or (if is_one then Some (function.Stub stub.object stub.number) else None)
-    (function.Host host.object host.number)) ≡ true
-left_is_kept input true stub host = refl
-left_is_kept input false stub host = refl
-
--- what a kept slot is bound to is kept
-kept_target : SlotLaws → (input : Input) → IsLiveOf input.link input.live
-    → (object k : ℕ) (o : Object) (t : ImportSlot)
-    → slice_get input.link.objects object ≡ Some o → slice_get (object_slots object Func o) k ≡ Some t → IsAt object Func k t
-    → is_kept_slot input t ≡ true → is_kept_target input (binds_function input t) ≡ true
-kept_target laws input live object k o t here at is_at kept =
-    elim (cases_option (slot_target input.link t)) [
-      | inr named ↦ named_is_kept named.0 named.1
-      | inl none ↦
-          (let left : binds_function input t ≡ unwrap_or (by_stub input t) (by_host input t) =
-          rules_join input t ∙ rw none refl in
-          ap (is_kept_target input) left
-          ∙ left_is_kept input (is_stub input.link.objects (left_functions input) t)
-          (first_like same_field (link_stubs input) t)
-          (first_like same_import (first_imports (host_functions input)) t))
-    ]
-  where
-    named_is_kept : (target : SlotTarget) → slot_target input.link t ≡ Some target
-        → is_kept_target input (binds_function input t) ≡ true
-    named_is_kept (slot.Defined i j) named =
-        let live_slot : keeps_slot input Func object k ≡ true =
-        subst (λ (n : ℕ). keeps_slot input Func object n ≡ true) is_at.number_is
-        (subst (λ (n : ℕ). keeps_slot input Func n t.number ≡ true) is_at.object_is
-        (subst (λ (of : WasmSymbolKind). keeps_slot input of t.object t.number ≡ true) is_at.kind_is
-        kept)) in
-        ap (is_kept_target input) (named_binds input t (slot.Defined i j) named)
-        ∙ kept_function laws input.link input.live live object k o t i j here at is_at live_slot
-        named
-    named_is_kept (slot.Made m) named =
-        ap (is_kept_target input) (named_binds input t (slot.Made m) named)
+-- what the output has is kept, where an object defines it
+is_kept : (input : Input) (target : FunctionTarget) → IsInOutput input target → is_kept_target input target ≡ true
+is_kept input (function.Defined i j) there = there.kept
+is_kept input _ there = refl
 
 -- the entry of what a slot is bound to
 entry_is : (input : Input) (kept : Bool) (target : FunctionTarget) → (kept ≡ true → is_kept_target input target ≡ true)
@@ -235,28 +191,25 @@ entry_is input false target there = refl
 
 pub kind_is : (k : WasmSymbolKind) → is_function k ≡ true → k ≡ Func
 kind_is Func e = refl
-kind_is Data e = absurd cc
-kind_is Global e = absurd cc
-kind_is Section e = absurd cc
-kind_is Event e = absurd cc
-kind_is Table e = absurd cc
+kind_is _ e = absurd cc
 
 -- an undefined symbol leads to what its slot is bound to
 import_leads : (input : Input) (rows : List (List ℕ)) → IsGiven input rows → (object k : ℕ) (o : Object) (s : LinkedSymbol)
     → slice_get input.link.objects object ≡ Some o → slice_get o.symbols k ≡ Some s → is_function s.kind ≡ true
     → is_undefined s ≡ true → Leads input rows (binding_at input object s.index) (at_index object s)
 import_leads input rows given object k o s here at of_kind so =
-    let fit : IsFitting o = given.fitting o (all_at IsWhole input.link.objects object o given.whole here) in
+    let fit : IsFitting o = given.laws.fitting o (all_at IsWhole input.link.objects object o given.whole here) in
     let lt : s.index < count_imports external.Func o.imports =
     undefined_below (spaces_of o) s (kind_is s.kind of_kind) so
     (test_at (symbol_exists (spaces_of o)) o.symbols k s fit.names.symbols at) in
-    let count = given.slots object o in
+    let count = given.laws.functions object o in
     let there = splits (object_slots object Func o) s.index (omega (arith, lt, count)) in
     let t : ImportSlot = there.x in
     let same : import_slots input.link.objects object Func ≡ object_slots object Func o =
     slots_here input.link.objects object Func o here in
-    let is_at : IsAt object Func s.index t = placed input.link.objects object Func s.index t
-    (subst (λ (ts : List ImportSlot). slice_get ts s.index ≡ Some t) (sym same) there.here) in
+    let listed : slice_get (import_slots input.link.objects object Func) s.index ≡ Some t =
+    subst (λ (ts : List ImportSlot). slice_get ts s.index ≡ Some t) (sym same) there.here in
+    let is_at : IsAt object Func s.index t = placed input.link.objects object Func s.index t listed in
     let entry : slice_get (local_functions input object o) s.index ≡ Some (function_slot_entry input t) =
     get_in_front (map (function_slot_entry input) (object_slots object Func o))
     (map (own_function_entry input object) (range_with_len 0 (length o.functions))) s.index (function_slot_entry input t)
@@ -268,7 +221,15 @@ import_leads input rows given object k o s here at of_kind so =
     let is : option_and_then (entry_of input) (binding_at input object s.index) ≡ function_slot_entry input t =
     ap (λ (x : Option FunctionTarget). option_and_then (entry_of input) x) bound
     ∙ entry_is input (is_kept_slot input t) (binds_function input t)
-    (λ kept. kept_target given.laws input given.live object s.index o t here there.here is_at kept)
+    (λ kept. is_kept input (binds_function input t)
+    (bound_is_there (binding_of given.laws) input given.live object s.index o t (record {
+      here = here;
+      at = there.here;
+      is_at = is_at;
+      kept = kept;
+      listed = stays (is_kept_slot input) (slots_from Func 0 input.link.objects) t
+          (slot_is_one Func input.link.objects object t (at_is_in (import_slots input.link.objects object Func) s.index t listed)) kept;
+    })))
     in
     subst (λ (e : Option FunctionEntry). IsPlaceOf (function_space input) e (row_place rows (at_index object s))) (sym is)
     (place_of_entry input rows given object o (at_index object s) (function_slot_entry input t) refl here entry)
@@ -286,7 +247,7 @@ symbol_defines : (input : Input) (rows : List (List ℕ)) → IsGiven input rows
     → Defines input rows object o s
 symbol_defines input rows given object k o s here at so =
     let is : is_definition_of Func s ≡ true = same_test s ∙ so in
-    let number = given.numbers Func o k s (all_at IsWhole input.link.objects object o given.whole here) at is in
+    let number = given.laws.numbers Func o k s (all_at IsWhole input.link.objects object o given.whole here) at is in
     record {
       target = slot.Defined object number.0;
       target_is = target_is object o s number.0 is number.1;

@@ -1,6 +1,6 @@
 -- What kept relocations name is in the output: types, symbols and functions.
 use Rattle.std.proofs.Common.{◌≡◌, ◌∙◌, ◌<◌, ◌||◌, ◌&&◌, ◌==◌, not, ℕ, zero, suc, ◌+◌, Bool, true, false, List, [], ◌∷◌, ◌++◌, length, filter_map, refl, sym, ap, subst, arith, inl, inr, Option, Some, None, slice_get, Contains, nat_lt, if◌then◌else◌}
-use Rattle.std.specs.List.{list_any}
+use Rattle.std.specs.List.{list_any, list_all}
 use Rattle.std.specs.Option.{option_and_then, option_map, option_map_or, option_or}
 use Rattle.std.proofs.lemmas.Bool.{cases_Bool, ltb-true, and_from, not-true, and_parts, or_left, or_right}
 use Rattle.wl_module.specs.Types.{FunctionType}
@@ -13,12 +13,11 @@ use Rattle.wl_custom.specs.Symbols.{Symbol as LinkedSymbol, is_data, is_undefine
 use Rattle.wl_linking.specs.declared.error.LinkError.TheVariants.{WrongKind}
 use Rattle.wl_custom.specs.Takings.{is_type, is_slot, is_global}
 use Rattle.wl_custom.specs.declared.takings.Taking.{Taking}
-use Rattle.wl_custom.specs.declared.takings.Taking.TheVariants.{FunctionIndex, Slot, SlotBehindBase, TypeIndex, GlobalIndex, TableNumber, Address}
+use Rattle.wl_custom.specs.declared.takings.Taking.TheVariants.{TypeIndex}
 use Rattle.wl_custom.specs.declared.relocations.WasmRelocation.{WasmRelocation}
 use Rattle.wl_linking.specs.declared.sites.Site.{Site}
 use Rattle.wl_linking.specs.declared.spaces.Counts.{Counts}
-use Rattle.wl_custom.specs.declared.symbols.WasmSymbolKind.{WasmSymbolKind}
-use Rattle.wl_custom.specs.declared.symbols.WasmSymbolKind.TheVariants.{Func, Global}
+use Rattle.wl_custom.specs.declared.symbols.WasmSymbolKind.TheVariants.{Func}
 use Rattle.wl_symbols.specs.Entries.{symbol_in}
 use Rattle.wl_symbols.specs.Link.{Link}
 use Rattle.wl_symbols.specs.LinkerNames.{is_imported_as}
@@ -26,8 +25,8 @@ use Rattle.wl_symbols.specs.Names.{def}
 use Rattle.wl_symbols.specs.declared.entry.Definition.{Definition}
 use Rattle.wl_symbols.specs.declared.entry.Definition.TheVariants.{Symbol, Made as MadeName}
 use Rattle.wl_symbols.specs.DefinedUnits.{unit_at, other_unit, is_replaceable, gives_way}
-use Rattle.wl_symbols.specs.Live.{Live, is_live, IsLiveOf}
-use Rattle.wl_symbols.specs.References.{HasRelocation, RefersBySymbol}
+use Rattle.wl_symbols.specs.Live.{Live, is_live}
+use Rattle.wl_symbols.specs.References.{HasRelocation}
 use Rattle.wl_symbols.specs.Units.{units_of, unit_of, unit_in as unit_by_counts}
 use Rattle.wl_symbols.specs.declared.units.LinkUnit.{LinkUnit}
 use Rattle.wl_symbols.specs.declared.units.UnitCounts.{UnitCounts}
@@ -60,27 +59,15 @@ use Rattle.wl_lists.proofs.In.{IsIn, in_split, Contains-filter as stays, at_is_i
 use Rattle.wl_lists.proofs.Places.{test_at, there_is, all_at}
 use Rattle.wl_lists.proofs.Rows.{Given, given_by}
 use Rattle.wl_bind.proofs.ClosedLaws.{function_units, counts_at, definition_is, other_is}
-use Rattle.wl_bind.proofs.HostLaws.{IsAt, placed, kept_at}
-use Rattle.wl_bind.proofs.MadeLaws.{BindingLaws}
-use Rattle.wl_bind.proofs.NumberingLaws.{slots_here}
+use Rattle.wl_bind.proofs.HostLaws.{IsAt, placed, kept_at, slots_here}
+use Rattle.wl_bind.specs.steps.Laws.{LinkLaws}
+use Rattle.wl_bind.proofs.SlotIndexLaws.{binding_of}
 use Rattle.wl_bind.proofs.RedirectLaws.{target_is, undefined_below, kind_is}
 use Rattle.wl_bind.proofs.RowLaws.{slot_is_one}
 use Rattle.wl_bind.proofs.SameLaws.{eqb_self, target_self, target_one}
 use Rattle.wl_bind.proofs.ListedLaws.{MadeOf, made_of_some, still_in}
 use Rattle.wl_bind.proofs.FirstSlotLaws.{bound_is_there, kept_is_there}
 use Rattle.wl_bind.proofs.ListLaws.{made_of_one}
-
--- ---- facts about objects, names, slots and live sets
-
-pub record Laws : Type 0 where
-  pub fitting : (o : Object) → IsWhole o → IsFitting o
-  pub functions : (object : ℕ) (o : Object) → length (object_slots object Func o) ≡ count_imports external.Func o.imports
-  pub globals : (object : ℕ) (o : Object) → length (object_slots object Global o) ≡ count_imports external.Global o.imports
-  pub numbers : (kind : WasmSymbolKind) (o : Object) (k : ℕ) (s : LinkedSymbol) → IsWhole o
-      → slice_get o.symbols k ≡ Some s → is_definition_of kind s ≡ true → (n : ℕ) × (own_number kind o s.index ≡ Some n)
-  pub closed : (link : Link) (live : Live) (u v : LinkUnit) → IsLiveOf link live → is_live live u ≡ true
-      → RefersBySymbol link u v → is_live live v ≡ true
-  pub binding : BindingLaws
 
 -- ---- where a kept relocation is from
 
@@ -110,8 +97,6 @@ record IsRelocated (live : Live) (place : FixupPlace) (i : ℕ) (rs : List WasmR
 
 relocated_is : (live : Live) (place : FixupPlace) (i : ℕ) (rs : List WasmRelocation) (ss : List Site) (r : Relocated)
     → IsIn (relocated_in live place i rs ss) r → IsRelocated live place i rs ss r
-relocated_is live place i [] ss r h = absurd h
-relocated_is live place i (x ∷ rs) [] r h = absurd h
 relocated_is live place i (x ∷ rs) (s ∷ ss) r h =
     elim (in_split (relocated_if live (relocated_at place i x s)) (relocated_in live place i rs ss) r h) [
       | inl first ↦ (let one = kept_if live (relocated_at place i x s) r first in
@@ -133,6 +118,7 @@ relocated_is live place i (x ∷ rs) (s ∷ ss) r h =
             kept = rest.kept;
           })
     ]
+relocated_is live place i _ _ r h = absurd h
 
 -- its object, and the unit in which its field lies
 pub record IsFrom (input : Input) (r : Relocated) : Type 0 where
@@ -143,29 +129,22 @@ pub record IsFrom (input : Input) (r : Relocated) : Type 0 where
   pub kept : is_live input.live (record { object = r.object; unit = unit_in r.place r.site.unit }) ≡ true
   pub names : IsFitting object → relocation_exists (spaces_of object) r.relocation ≡ true
 
-from_code : (input : Input) (i : ℕ) (o : Object) (r : Relocated) → slice_get input.link.objects i ≡ Some o
-    → IsIn (object_relocations input.live i o) r → IsRelocated input.live Code i o.code_relocations o.code_sites r → IsFrom input r
-from_code input i o r here among is = record {
-  object = o;
-  here = subst (λ (n : ℕ). slice_get input.link.objects n ≡ Some o) (sym is.object_is) here;
-  among = subst (λ (n : ℕ). IsIn (object_relocations input.live n o) r) (sym is.object_is) among;
-  holds = subst (λ (p : FixupPlace). HasRelocation o (unit_in p r.site.unit) r.relocation) (sym is.place_is)
-      (is.k, r.site, is.relocation_at, is.site_at, refl);
-  kept = is.kept;
-  names = λ fit. test_at (relocation_exists (spaces_of o)) o.code_relocations is.k r.relocation fit.names.code is.relocation_at;
-}
-
-from_segment : (input : Input) (i : ℕ) (o : Object) (r : Relocated) → slice_get input.link.objects i ≡ Some o
-    → IsIn (object_relocations input.live i o) r → IsRelocated input.live Segment i o.data_relocations o.data_sites r → IsFrom input r
-from_segment input i o r here among is = record {
-  object = o;
-  here = subst (λ (n : ℕ). slice_get input.link.objects n ≡ Some o) (sym is.object_is) here;
-  among = subst (λ (n : ℕ). IsIn (object_relocations input.live n o) r) (sym is.object_is) among;
-  holds = subst (λ (p : FixupPlace). HasRelocation o (unit_in p r.site.unit) r.relocation) (sym is.place_is)
-      (is.k, r.site, is.relocation_at, is.site_at, refl);
-  kept = is.kept;
-  names = λ fit. test_at (relocation_exists (spaces_of o)) o.data_relocations is.k r.relocation fit.names.data_ is.relocation_at;
-}
+-- relocations of code, or those of segments
+from_part : (input : Input) (place : FixupPlace) (i : ℕ) (o : Object) (rs : List WasmRelocation) (ss : List Site) (r : Relocated)
+    → slice_get input.link.objects i ≡ Some o → IsIn (object_relocations input.live i o) r → IsIn (relocated_in input.live place i rs ss) r
+    → ((k : ℕ) (site : Site) → slice_get rs k ≡ Some r.relocation → slice_get ss k ≡ Some site → HasRelocation o (unit_in place site.unit) r.relocation)
+    → (IsFitting o → list_all (relocation_exists (spaces_of o)) rs ≡ true) → IsFrom input r
+from_part input place i o rs ss r here among h holds exist =
+    let is : IsRelocated input.live place i rs ss r = relocated_is input.live place i rs ss r h in
+    record {
+      object = o;
+      here = subst (λ (n : ℕ). slice_get input.link.objects n ≡ Some o) (sym is.object_is) here;
+      among = subst (λ (n : ℕ). IsIn (object_relocations input.live n o) r) (sym is.object_is) among;
+      holds = subst (λ (p : FixupPlace). HasRelocation o (unit_in p r.site.unit) r.relocation) (sym is.place_is)
+          (holds is.k r.site is.relocation_at is.site_at);
+      kept = is.kept;
+      names = λ fit. test_at (relocation_exists (spaces_of o)) rs is.k r.relocation (exist fit) is.relocation_at;
+    }
 
 is_from : (input : Input) (r : Relocated) → Contains (relocations input) r → IsFrom input r
 is_from input r listed =
@@ -179,9 +158,10 @@ is_from input r listed =
     subst (λ (n : ℕ). IsIn (object_relocations input.live n o) r) same g.there in
     elim (in_split (relocated_in input.live Code g.place o.code_relocations o.code_sites)
     (relocated_in input.live Segment g.place o.data_relocations o.data_sites) r there) [
-      | inl code ↦ from_code input g.place o r g.at there (relocated_is input.live Code g.place o.code_relocations o.code_sites r code)
-      | inr segment ↦ from_segment input g.place o r g.at there
-          (relocated_is input.live Segment g.place o.data_relocations o.data_sites r segment)
+      | inl code ↦ from_part input Code g.place o o.code_relocations o.code_sites r g.at there code
+          (λ k site at here. (k, site, at, here, refl)) (λ fit. fit.names.code)
+      | inr segment ↦ from_part input Segment g.place o o.data_relocations o.data_sites r g.at there segment
+          (λ k site at here. (k, site, at, here, refl)) (λ fit. fit.names.data_)
     ]
 
 -- ---- types
@@ -210,7 +190,7 @@ symbol_below : (spaces : Counts) (r : WasmRelocation) → names_a_type r.ty ≡ 
 symbol_below spaces r so there =
     let lt : nat_lt r.index spaces.symbols ≡ true = rw so at there in ltb-true r.index spaces.symbols lt
 
-pub type_is_named : Laws → (input : Input) (r : Relocated) → IsSettled input → Contains (relocations input) r
+pub type_is_named : LinkLaws → (input : Input) (r : Relocated) → IsSettled input → Contains (relocations input) r
     → names_a_type r.relocation.ty ≡ true → NamesType input r
 type_is_named laws input r settled listed so =
     let from : IsFrom input r = is_from input r listed in
@@ -249,7 +229,7 @@ pub record Names (input : Input) (r : Relocated) : Type 0 where
   pub taken : takes_kind r.relocation.ty symbol.kind ≡ true
   pub thing : symbol_exists (spaces_of from.object) symbol ≡ true
 
-pub names_one : Laws → (input : Input) (r : Relocated) → IsSettled input → Contains (relocations input) r
+pub names_one : LinkLaws → (input : Input) (r : Relocated) → IsSettled input → Contains (relocations input) r
     → names_a_type r.relocation.ty ≡ false → Names input r
 names_one laws input r settled listed other =
     let from : IsFrom input r = is_from input r listed in
@@ -292,7 +272,7 @@ as_named input r n = record {
   taken = n.taken;
 }
 
-pub symbol_is_named : Laws → (input : Input) (r : Relocated) → IsSettled input → Contains (relocations input) r
+pub symbol_is_named : LinkLaws → (input : Input) (r : Relocated) → IsSettled input → Contains (relocations input) r
     → names_a_type r.relocation.ty ≡ false → NamesSymbol input r
 symbol_is_named laws input r settled listed other = as_named input r (names_one laws input r settled listed other)
 
@@ -305,10 +285,10 @@ unit_there objects i o s unit here is =
     ap (λ (n : UnitCounts). option_map at_unit (unit_by_counts n s)) (counts_at objects i o here)
     ∙ ap (λ (u : Option WasmGcUnit). option_map at_unit u) is
 
-pub named_unit_kept : Laws → (input : Input) (r : Relocated) → IsSettled input → (n : Names input r) → (unit : WasmGcUnit)
+pub named_unit_kept : LinkLaws → (input : Input) (r : Relocated) → IsSettled input → (n : Names input r) → (unit : WasmGcUnit)
     → unit_of n.from.object n.symbol ≡ Some unit → keeps input r.object unit ≡ true
 named_unit_kept laws input r settled n unit is =
-    laws.closed input.link input.live (record { object = r.object; unit = unit_in r.place r.site.unit })
+    laws.by_symbol input.link input.live (record { object = r.object; unit = unit_in r.place r.site.unit })
     (record { object = r.object; unit = unit }) settled.kept n.from.kept
     (record {
       object = n.from.object;
@@ -322,12 +302,12 @@ named_unit_kept laws input r settled n unit is =
     })
 
 -- so is that of what stands in its place
-other_unit_kept : Laws → (input : Input) (r : Relocated) → IsSettled input → (n : Names input r) → (v : LinkUnit)
+other_unit_kept : LinkLaws → (input : Input) (r : Relocated) → IsSettled input → (n : Names input r) → (v : LinkUnit)
     → is_replaceable n.symbol ≡ true → other_unit input.link (units_of input.link.objects) r.object r.relocation.index ≡ Some v
     → is_live input.live v ≡ true
 other_unit_kept laws input r settled n v so is =
     let ns : List UnitCounts = units_of input.link.objects in
-    laws.closed input.link input.live (record { object = r.object; unit = unit_in r.place r.site.unit }) v settled.kept n.from.kept
+    laws.by_symbol input.link input.live (record { object = r.object; unit = unit_in r.place r.site.unit }) v settled.kept n.from.kept
     (record {
       object = n.from.object;
       here = n.from.here;
@@ -346,7 +326,7 @@ pub record LeadsOut (input : Input) (found : Option FunctionTarget) : Type 0 whe
   pub leads : found ≡ Some target
   pub there : IsInOutput input target
 
-undefined_leads : Laws → (input : Input) (r : Relocated) → IsSettled input → (n : Names input r) → n.symbol.kind ≡ Func
+undefined_leads : LinkLaws → (input : Input) (r : Relocated) → IsSettled input → (n : Names input r) → n.symbol.kind ≡ Func
     → is_undefined n.symbol ≡ true → LeadsOut input (binding_at input r.object n.symbol.index)
 undefined_leads laws input r settled n kind so =
     let o : Object = n.from.object in
@@ -369,7 +349,7 @@ undefined_leads laws input r settled n kind so =
       target = binds_function input t;
       leads = ap (λ (x : Option ImportSlot). option_and_then (kept_binding input) x) at
           ∙ ap (λ (b : Bool). if b then Some (binds_function input t) else None) kept;
-      there = bound_is_there laws.binding input settled.kept r.object s.index o t (record {
+      there = bound_is_there (binding_of laws) input settled.kept r.object s.index o t (record {
         here = n.from.here;
         at = there.1;
         is_at = is_at;
@@ -379,7 +359,7 @@ undefined_leads laws input r settled n kind so =
       });
     }
 
-own_leads : Laws → (input : Input) (r : Relocated) → IsSettled input → (n : Names input r) → is_definition_of Func n.symbol ≡ true
+own_leads : LinkLaws → (input : Input) (r : Relocated) → IsSettled input → (n : Names input r) → is_definition_of Func n.symbol ≡ true
     → LeadsOut input (own_function r.object n.from.object n.symbol)
 own_leads laws input r settled n defines =
     let o : Object = n.from.object in
@@ -407,8 +387,7 @@ target_of : (i : ℕ) (target : SlotTarget) (b : Bool) (number : Option ℕ)
     → (if b then option_map (λ (n : ℕ). slot.Defined i n) number else None) ≡ Some target
     → (b ≡ true) × ((n : ℕ) × (number ≡ Some n) × (slot.Defined i n ≡ target))
 target_of i target true (Some n) is = (refl, (n, refl, cc))
-target_of i target true None is = absurd cc
-target_of i target false number is = absurd cc
+target_of i target _ _ is = absurd cc
 
 own_of : (link : Link) (i k : ℕ) (target : SlotTarget) → object_target link Func (Symbol i k) ≡ Some target
     → IsOwn link.objects i k target
@@ -437,7 +416,7 @@ not_undefined : (s : LinkedSymbol) → is_definition_of Func s ≡ true → is_u
 not_undefined s so = not-true (is_undefined s) (and_parts (not (is_undefined s)) (is_imported_as Func s.kind) so).0
 
 -- what is defined in place of a weak function is kept
-replacing_kept : Laws → (input : Input) (r : Relocated) → IsSettled input → (n : Names input r) → n.symbol.kind ≡ Func
+replacing_kept : LinkLaws → (input : Input) (r : Relocated) → IsSettled input → (n : Names input r) → n.symbol.kind ≡ Func
     → is_weak n.symbol ≡ true → (i k : ℕ) → def input.link r.object r.relocation.index ≡ Symbol i k → (target : SlotTarget)
     → IsOwn input.link.objects i k target → IsInOutput input (named_function target)
 replacing_kept laws input r settled n kind weak i k stands target own =
@@ -454,7 +433,7 @@ replacing_kept laws input r settled n kind weak i k stands target own =
     (other_unit_kept laws input r settled n (record { object = i; unit = DefinedFunction own.number }) replaceable unit))
 
 -- a weak function leads to what is defined in its place, or to itself
-weak_leads : Laws → (input : Input) (r : Relocated) → IsSettled input → (n : Names input r) → n.symbol.kind ≡ Func
+weak_leads : LinkLaws → (input : Input) (r : Relocated) → IsSettled input → (n : Names input r) → n.symbol.kind ≡ Func
     → is_weak n.symbol ≡ true → LeadsOut input (own_function r.object n.from.object n.symbol)
     → (d : Definition) → def input.link r.object r.relocation.index ≡ d
     → LeadsOut input (option_or (option_map named_function (object_target input.link Func d)) (own_function r.object n.from.object n.symbol))
@@ -471,7 +450,7 @@ weak_leads laws input r settled n kind weak own (Symbol i k) stands =
           })
     ]
 
-defined_leads : Laws → (input : Input) (r : Relocated) → IsSettled input → (n : Names input r) → n.symbol.kind ≡ Func
+defined_leads : LinkLaws → (input : Input) (r : Relocated) → IsSettled input → (n : Names input r) → n.symbol.kind ≡ Func
     → is_undefined n.symbol ≡ false
     → LeadsOut input (if is_weak n.symbol
     then option_or (defined_function input r.object r.relocation.index) (own_function r.object n.from.object n.symbol)
@@ -488,7 +467,7 @@ defined_leads laws input r settled n kind not_so =
       | inr strong ↦ subst (λ (b : Bool). LeadsOut input (if b then other else self)) (sym strong) own
     ]
 
-function_leads : Laws → (input : Input) (r : Relocated) → IsSettled input → (n : Names input r) → n.symbol.kind ≡ Func
+function_leads : LinkLaws → (input : Input) (r : Relocated) → IsSettled input → (n : Names input r) → n.symbol.kind ≡ Func
     → LeadsOut input (function_of input r.object r.relocation.index n.from.object n.symbol)
 function_leads laws input r settled n kind =
     let self : Option FunctionTarget = own_function r.object n.from.object n.symbol in
@@ -522,7 +501,7 @@ names_of_kind : (input : Input) (r : Relocated) → (n : Names input r) → name
 names_of_kind input r n so =
     sym (ap (λ (x : Option LinkedSymbol). option_map_or (λ (s : LinkedSymbol). is_function s.kind) x false) n.found) ∙ so
 
-pub fun_leads : Laws → (input : Input) (r : Relocated) → IsSettled input → (n : Names input r) → is_function n.symbol.kind ≡ true
+pub fun_leads : LinkLaws → (input : Input) (r : Relocated) → IsSettled input → (n : Names input r) → is_function n.symbol.kind ≡ true
     → LeadsOut input (fun input r.object r.relocation.index)
 fun_leads laws input r settled n so =
     let out = function_leads laws input r settled n (kind_is n.symbol.kind so) in
@@ -532,7 +511,7 @@ fun_leads laws input r settled n so =
       there = out.there;
     }
 
-pub function_is_named : Laws → (input : Input) (r : Relocated) → IsSettled input → Contains (relocations input) r
+pub function_is_named : LinkLaws → (input : Input) (r : Relocated) → IsSettled input → Contains (relocations input) r
     → names_a_type r.relocation.ty ≡ false → names_function input r ≡ true → NamesFunction input r
 function_is_named laws input r settled listed other so =
     let n : Names input r = names_one laws input r settled listed other in
@@ -543,13 +522,8 @@ function_is_named laws input r settled listed other so =
 
 -- what names the slot of a function or the number of a global names no type
 pub no_type : (taking : Taking) → (is_slot taking || is_global taking) ≡ true → is_type taking ≡ false
-no_type FunctionIndex so = refl
-no_type Slot so = refl
-no_type SlotBehindBase so = refl
 no_type TypeIndex so = absurd cc
-no_type GlobalIndex so = refl
-no_type TableNumber so = refl
-no_type (Address base) so = refl
+no_type _ so = refl
 
 in_table : (input : Input) (r : Relocated) (target : FunctionTarget) → Contains (relocations input) r
     → (is_table_index r.relocation.ty || is_global_index r.relocation.ty) ≡ true → names_function input r ≡ true
@@ -568,22 +542,16 @@ in_table input r target listed asks of leads no_stub_it =
 pub slot_is_there : (input : Input) (r : Relocated) (target : FunctionTarget) → Contains (relocations input) r
     → (is_table_index r.relocation.ty || is_global_index r.relocation.ty) ≡ true → names_function input r ≡ true
     → fun input r.object r.relocation.index ≡ Some target → HasSlot input target
-slot_is_there input r (function.Defined i j) listed asks of leads = in_table input r (function.Defined i j) listed asks of leads refl
-slot_is_there input r (function.Made m) listed asks of leads = in_table input r (function.Made m) listed asks of leads refl
-slot_is_there input r (function.Host i k) listed asks of leads = in_table input r (function.Host i k) listed asks of leads refl
 slot_is_there input r (function.Stub i k) listed asks of leads = tt
+slot_is_there input r target listed asks of leads = in_table input r target listed asks of leads refl
 
 -- a function of the table is one that a kept relocation asks for
 asked : (a b : Bool) (found : Option FunctionTarget) (target : FunctionTarget)
     → (if a && b then option_and_then unless_stub found else None) ≡ Some target
     → (a ≡ true) × (b ≡ true) × (found ≡ Some target)
-asked true true (Some (function.Defined i j)) target is = (refl, refl, is)
-asked true true (Some (function.Made m)) target is = (refl, refl, is)
-asked true true (Some (function.Host i k)) target is = (refl, refl, is)
 asked true true (Some (function.Stub i k)) target is = absurd cc
-asked true true None target is = absurd cc
-asked true false found target is = absurd cc
-asked false b found target is = absurd cc
+asked true true (Some _) target is = (refl, refl, is)
+asked _ _ _ target is = absurd cc
 
 same_out : (input : Input) (found : Option FunctionTarget) (f target : FunctionTarget) → found ≡ Some f → found ≡ Some target
     → IsInOutput input f → IsInOutput input target
@@ -592,7 +560,7 @@ same_out input found f target one is there =
     let same : f ≡ target = cc in
     subst (λ (g : FunctionTarget). IsInOutput input g) same there
 
-pub table_is_kept : Laws → (input : Input) (target : FunctionTarget) → IsSettled input → Contains (table_functions input) target
+pub table_is_kept : LinkLaws → (input : Input) (target : FunctionTarget) → IsSettled input → Contains (table_functions input) target
     → IsInOutput input target
 table_is_kept laws input target settled listed =
     let list : List FunctionTarget = filter_map (table_function_of input) (relocations input) in

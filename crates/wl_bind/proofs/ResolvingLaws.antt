@@ -37,10 +37,8 @@ mapped_position f p q same xs = rw (at_or_behind f p q same xs, length-map xs f)
 pub joined : {X Y : Type 0} (f : X → Y) (a b c : Option X) (g : Option Y)
     → option_or (option_map f a) (option_or (option_map f b) (option_or (option_map f c) g))
     ≡ option_or (option_map f (option_or a (option_or b c))) g
-joined f (Some x) b c g = refl
-joined f None (Some x) c g = refl
 joined f None None (Some x) g = refl
-joined f None None None g = refl
+joined f _ _ _ g = refl
 
 -- ---- names of definitions
 

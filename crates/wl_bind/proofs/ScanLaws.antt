@@ -1,5 +1,5 @@
 -- What one walk over the kept relocations finds is what each question asks for.
-use Rattle.std.proofs.Common.{◌≡◌, ◌∙◌, ◌∷◌, [], ◌||◌, Bool, true, false, List, Option, Some, None, refl, inl, inr, filter_map, find, fold}
+use Rattle.std.proofs.Common.{◌≡◌, ◌∙◌, ◌∷◌, [], ◌||◌, Bool, false, List, Option, Some, None, refl, inl, inr, filter_map, find, fold, sym}
 use Rattle.std.specs.List.{list_any, cons_option}
 use Rattle.std.specs.Option.{option_or, option_map}
 use Rattle.std.proofs.lemmas.Bool.{cases_Bool}
@@ -7,26 +7,28 @@ use Rattle.indexmap.specs.IndexSet.{insert_all}
 use Rattle.wl_custom.specs.RelocationTypes.{is_memory_relative, is_table_relative}
 use Rattle.wl_linking.specs.declared.error.UndefinedSymbol.{UndefinedSymbol}
 use Rattle.wl_symbols.specs.Input.{Input}
+use Rattle.wl_symbols.specs.declared.entry.Definition.{Definition}
 use Rattle.wl_symbols.specs.Relocations.{relocations}
 use Rattle.wl_symbols.specs.declared.relocated.Relocated.{Relocated}
 use Rattle.wl_bind.specs.BindingSteps.{names_mismatch}
-use Rattle.wl_bind.specs.GotSteps.{mem_key, func_key, insert_some, add_entry, insert_all_as, with_all_mem, with_all_func}
+use Rattle.wl_bind.specs.GotSteps.{insert_some, add_entry, insert_all_as, with_all_mem, with_all_func}
 use Rattle.wl_bind.specs.steps.Kinds.{is_wrong_relocation}
 use Rattle.wl_bind.specs.Sameness.{same_definition, same_pair, same_target}
-use Rattle.wl_bind.specs.Scan.{Scanned, GotMemEntry, GotFuncEntry, got_mem_of, got_mem_entry, got_func_of, got_func_entry, table_function_of, asks_for_table, scan_of}
+use Rattle.wl_bind.specs.Scan.{Scanned, Named, got_mem_of, got_mem_entry, got_func_of, got_func_entry, table_function_of, asks_for_table, scan_of}
 use Rattle.wl_bind.specs.steps.Scanning.{Found, scan_part, nothing_found, first_such, found_at, found_in}
-use Rattle.wl_bind.specs.Undefined.{same_undefined, undefined_data_of, undefined_data}
+use Rattle.wl_bind.specs.Undefined.{same_undefined, undefined_data_of}
 use Rattle.wl_bind.specs.UndefinedSteps.{insert_some as insert_undefined}
 use Rattle.wl_bind.specs.declared.binding.FunctionTarget.{FunctionTarget}
 use Rattle.wl_bind.specs.declared.scan.RelocNeeds.{RelocNeeds}
 use Rattle.wl_bind.proofs.GotLaws.{all_as}
+use Rattle.std.proofs.Math.Bool.{or_assoc, or-false}
 
 -- ---- one more of a list
 
 -- entries with that of a first key, where there is one, before those of other keys
-module _ {K E : Type 0} (eq : K → K → Bool) (key : E → K) (entry : K → E) where
-  first_as : (es : List E) (k : Option K) (ks : List K)
-      → insert_all_as eq key entry (add_entry eq key es (option_map entry k)) ks ≡ insert_all_as eq key entry es (cons_option k ks)
+module _ {K : Type 0} (eq : K → K → Bool) (entry : K → Named K) where
+  first_as : (es : List (Named K)) (k : Option K) (ks : List K)
+      → insert_all_as eq entry (add_entry eq es (option_map entry k)) ks ≡ insert_all_as eq entry es (cons_option k ks)
   first_as es None ks = refl
   first_as es (Some k) ks = refl
 
@@ -41,18 +43,10 @@ first_name : (names : List UndefinedSymbol) (k : Option UndefinedSymbol) (ks : L
 first_name names None ks = refl
 first_name names (Some k) ks = refl
 
-or_assoc : (a b c : Bool) → ((a || b) || c) ≡ (a || (b || c))
-or_assoc true b c = refl
-or_assoc false b c = refl
-
 first_found : (old : Option Relocated) (test : Relocated → Bool) (r : Relocated) (rs : List Relocated)
     → option_or (first_such old (test r) r) (find test rs) ≡ option_or old (find test (r ∷ rs))
 first_found (Some s) test r rs = refl
 first_found None test r rs = elim (cases_Bool (test r)) [ inl y ↦ rw y refl | inr n ↦ rw n refl ]
-
-or_false : (a : Bool) → a ≡ (a || false)
-or_false true = refl
-or_false false = refl
 
 or_none : (r : Option Relocated) → r ≡ option_or r None
 or_none None = refl
@@ -69,7 +63,7 @@ needs_are n m b t memory base table = rw (← memory, ← base, ← table) refl
 same_needs : {a b c d e f : Bool} → a ≡ b → c ≡ d → e ≡ f → the_needs a c e ≡ the_needs b d f
 same_needs x y z = rw (x, y, z) refl
 
-abbrev the_scan : List GotMemEntry → List GotFuncEntry → List FunctionTarget → RelocNeeds → Scanned
+abbrev the_scan : List (Named Definition) → List (Named (Definition × FunctionTarget)) → List FunctionTarget → RelocNeeds → Scanned
 the_scan m f t n = record { got_mem = m; got_func = f; table_functions = t; needs = n }
 
 -- ---- a field each
@@ -78,12 +72,12 @@ module _ (input : Input) where
   mem_from : (rs : List Relocated) (f : Found) → (fold (found_at input) f rs).got_mem ≡ with_all_mem input f.got_mem (filter_map (got_mem_of input) rs)
   mem_from [] f = refl
   mem_from (r ∷ rs) f =
-      mem_from rs (found_at input f r) ∙ first_as same_definition mem_key (got_mem_entry input) f.got_mem (got_mem_of input r) (filter_map (got_mem_of input) rs)
+      mem_from rs (found_at input f r) ∙ first_as same_definition (got_mem_entry input) f.got_mem (got_mem_of input r) (filter_map (got_mem_of input) rs)
 
   func_from : (rs : List Relocated) (f : Found) → (fold (found_at input) f rs).got_func ≡ with_all_func input f.got_func (filter_map (got_func_of input) rs)
   func_from [] f = refl
   func_from (r ∷ rs) f =
-      func_from rs (found_at input f r) ∙ first_as same_pair func_key (got_func_entry input) f.got_func (got_func_of input r) (filter_map (got_func_of input) rs)
+      func_from rs (found_at input f r) ∙ first_as same_pair (got_func_entry input) f.got_func (got_func_of input r) (filter_map (got_func_of input) rs)
 
   table_from : (rs : List Relocated) (f : Found)
       → (fold (found_at input) f rs).table_functions ≡ insert_all same_target f.table_functions (filter_map (table_function_of input) rs)
@@ -91,17 +85,17 @@ module _ (input : Input) where
   table_from (r ∷ rs) f =
       table_from rs (found_at input f r) ∙ first_key same_target f.table_functions (table_function_of input r) (filter_map (table_function_of input) rs)
 
-  undefined_from : (rs : List Relocated) (f : Found)
+  pub undefined_from : (rs : List Relocated) (f : Found)
       → (fold (found_at input) f rs).undefined ≡ insert_all same_undefined f.undefined (filter_map (undefined_data_of input) rs)
   undefined_from [] f = refl
   undefined_from (r ∷ rs) f =
       undefined_from rs (found_at input f r) ∙ first_name f.undefined (undefined_data_of input r) (filter_map (undefined_data_of input) rs)
 
-  wrong_from : (rs : List Relocated) (f : Found) → (fold (found_at input) f rs).wrong ≡ option_or f.wrong (find (is_wrong_relocation input) rs)
+  pub wrong_from : (rs : List Relocated) (f : Found) → (fold (found_at input) f rs).wrong ≡ option_or f.wrong (find (is_wrong_relocation input) rs)
   wrong_from [] f = or_none f.wrong
   wrong_from (r ∷ rs) f = wrong_from rs (found_at input f r) ∙ first_found f.wrong (is_wrong_relocation input) r rs
 
-  mismatch_from : (rs : List Relocated) (f : Found) → (fold (found_at input) f rs).mismatch ≡ option_or f.mismatch (find (names_mismatch input) rs)
+  pub mismatch_from : (rs : List Relocated) (f : Found) → (fold (found_at input) f rs).mismatch ≡ option_or f.mismatch (find (names_mismatch input) rs)
   mismatch_from [] f = or_none f.mismatch
   mismatch_from (r ∷ rs) f = mismatch_from rs (found_at input f r) ∙ first_found f.mismatch (names_mismatch input) r rs
 
@@ -112,7 +106,7 @@ module _ (input : Input) where
 
   needs_from : (rs : List Relocated) (f : Found) → (fold (found_at input) f rs).needs ≡ all_needs f.needs rs
   needs_from [] f = needs_are f.needs (f.needs.memory_base || false) (f.needs.table_base || false) (f.needs.table || false)
-      (or_false f.needs.memory_base) (or_false f.needs.table_base) (or_false f.needs.table)
+      (sym (or-false f.needs.memory_base)) (sym (or-false f.needs.table_base)) (sym (or-false f.needs.table))
   needs_from (r ∷ rs) f =
       needs_from rs (found_at input f r)
       ∙ same_needs (or_assoc f.needs.memory_base (is_memory_relative r.relocation.ty) (list_any (λ (q : Relocated). is_memory_relative q.relocation.ty) rs))
@@ -121,7 +115,7 @@ module _ (input : Input) where
 
 -- ---- all of it
 
-scan_is : {mems ms : List GotMemEntry} {funcs fs : List GotFuncEntry} {table ts : List FunctionTarget} {needs ns : RelocNeeds}
+scan_is : {mems ms : List (Named Definition)} {funcs fs : List (Named (Definition × FunctionTarget))} {table ts : List FunctionTarget} {needs ns : RelocNeeds}
     → mems ≡ ms → funcs ≡ fs → table ≡ ts → needs ≡ ns → the_scan mems funcs table needs ≡ the_scan ms fs ts ns
 scan_is m f t n = rw (m, f, t, n) refl
 
@@ -130,16 +124,6 @@ pub scan_found : (input : Input) → scan_part (found_in input) ≡ scan_of inpu
 scan_found input =
     let all = relocations input in
     scan_is
-    (mem_from input all nothing_found ∙ all_as same_definition mem_key (got_mem_entry input) (λ k. refl) [] (filter_map (got_mem_of input) all))
-    (func_from input all nothing_found ∙ all_as same_pair func_key (got_func_entry input) (λ k. refl) [] (filter_map (got_func_of input) all))
+    (mem_from input all nothing_found ∙ all_as same_definition (got_mem_entry input) (λ k. refl) [] (filter_map (got_mem_of input) all))
+    (func_from input all nothing_found ∙ all_as same_pair (got_func_entry input) (λ k. refl) [] (filter_map (got_func_of input) all))
     (table_from input all nothing_found) (needs_from input all nothing_found)
-
--- the first of them that is refused for each reason, and the undefined data
-pub wrong_found : (input : Input) → (found_in input).wrong ≡ find (is_wrong_relocation input) (relocations input)
-wrong_found input = wrong_from input (relocations input) nothing_found
-
-pub mismatch_found : (input : Input) → (found_in input).mismatch ≡ find (names_mismatch input) (relocations input)
-mismatch_found input = mismatch_from input (relocations input) nothing_found
-
-pub undefined_found : (input : Input) → (found_in input).undefined ≡ undefined_data input
-undefined_found input = undefined_from input (relocations input) nothing_found

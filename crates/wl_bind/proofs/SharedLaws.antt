@@ -21,6 +21,7 @@ use Rattle.wl_bind.specs.Scan.{got_mem, got_func, scan_of}
 use Rattle.wl_symbols.specs.declared.entry.Definition.{Definition}
 use Rattle.wl_bind.specs.Conflicts.{IsConflict, IsHostConflict}
 use Rattle.wl_bind.specs.Undefined.{is_host_function, is_host_global, is_host_slot}
+use Rattle.wl_bind.specs.FunctionSymbols.{function_bindings}
 use Rattle.wl_bind.specs.Bound.{Bound, bound_of}
 use Rattle.wl_bind.specs.FunctionTypes.{stub_types}
 use Rattle.wl_bind.specs.Resolutions.{resolutions, by_all_rules}
@@ -52,9 +53,8 @@ host_function_cases : (target : Option SlotTarget) (stub : Bool) (a b c d : ℕ)
     → is_host_function (unwrap_or (option_or (option_map named_function target) (if stub then Some (function.Stub a b) else None)) (function.Host c d))
     ≡ (is_none target && not stub)
 host_function_cases (Some (slot.Defined object number)) stub a b c d = refl
-host_function_cases (Some (slot.Made m)) stub a b c d = refl
 host_function_cases None true a b c d = refl
-host_function_cases None false a b c d = refl
+host_function_cases _ _ a b c d = refl
 
 -- neither by names nor by the GOT lists
 host_global_cases : (target : Option SlotTarget) (mem func : Bool) (m f : Option ℕ) (c d : ℕ)
@@ -62,12 +62,9 @@ host_global_cases : (target : Option SlotTarget) (mem func : Bool) (m f : Option
     (if mem then option_map global.GotMem m else if func then option_map global.GotFunc f else None)) (global.Host c d))
     ≡ (is_none target && is_none (if mem then option_map global.GotMem m else if func then option_map global.GotFunc f else None))
 host_global_cases (Some (slot.Defined object number)) mem func m f c d = refl
-host_global_cases (Some (slot.Made made)) mem func m f c d = refl
 host_global_cases None true func (Some k) f c d = refl
-host_global_cases None true func None f c d = refl
 host_global_cases None false true m (Some k) c d = refl
-host_global_cases None false true m None c d = refl
-host_global_cases None false false m f c d = refl
+host_global_cases _ _ _ _ _ c d = refl
 
 -- the first slot of a slot's stub, and that of its import
 abbrev stub_of : Input → ImportSlot → ImportSlot
@@ -123,9 +120,9 @@ left_global_placed input hosts t kept none =
     ap (λ (h : Bool). if h then place else None) (left_by_lists input t ∙ sym host)
 
 -- what has the parts of what references are bound to is that
-pub all_bound : (input : Input) (b : Bound) → b.resolutions ≡ resolutions input (by_all_rules input) → b.scan ≡ scan_of input
+pub all_bound : (input : Input) (b : Bound) → b.functions ≡ function_bindings input → b.resolutions ≡ resolutions input (by_all_rules input) → b.scan ≡ scan_of input
     → b.stubs ≡ stub_types input → b.shared ≡ shared_of input → b ≡ bound_of input
-all_bound input b rows scan stubs shared = λ i. record { resolutions = rows i; scan = scan i; stubs = stubs i; shared = shared i }
+all_bound input b functions rows scan stubs shared = λ i. record { functions = functions i; resolutions = rows i; scan = scan i; stubs = stubs i; shared = shared i }
 
 -- ---- conflicts
 

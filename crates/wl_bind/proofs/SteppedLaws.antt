@@ -1,9 +1,9 @@
 -- Two lists side by side, the second stepped place by place.
-use Rattle.std.proofs.Common.{◌≡◌, ◌∙◌, ℕ, zero, suc, ◌+◌, ◌<◌, ◌≤◌, List, [], ◌∷◌, Some, None, length, refl, sym, ap, get_or, drop, drop-cons, slice_get, slice_set, arith}
+use Rattle.std.proofs.Common.{◌≡◌, ◌∙◌, ℕ, zero, suc, ◌+◌, ◌<◌, ◌≤◌, List, [], ◌∷◌, Some, None, length, refl, sym, ap, get_or, drop, slice_get, slice_set, arith}
 use Rattle.std.proofs.lemmas.List.{drop_all}
 use Rattle.std.proofs.lemmas.Option.{slice_get-get_or, same_Some}
 use Rattle.wl_bind.specs.Stepped.{stepped_behind, step_at}
-use Rattle.wl_bind.proofs.ListLaws.{next_is}
+use Rattle.wl_bind.proofs.ListLaws.{next_is, drop_here}
 
 module _ {X Y : Type 0} (step : ℕ → X → Y → Y) where
   -- what is there is stepped
@@ -24,10 +24,9 @@ module _ {X Y : Type 0} (step : ℕ → X → Y → Y) where
   -- one more is stepped
   pub behind_more : (ys : List Y) (place n : ℕ) (x : X) (xs : List X)
       → stepped_behind step place n (x ∷ xs) ys ≡ stepped_behind step (suc place) (n + 1) xs (step_at step place n x ys)
-  behind_more [] zero n x xs = refl
-  behind_more (y ∷ ys) zero n x xs = refl
-  behind_more [] (suc place) n x xs = refl
   behind_more (y ∷ ys) (suc place) n x xs = ap (λ (zs : List Y). y ∷ zs) (behind_more ys place n x xs)
+  behind_more [] zero n x xs = refl
+  behind_more _ _ n x xs = refl
 
   -- all are stepped
   pub behind_end : (ys : List Y) (place n : ℕ) → stepped_behind step place n [] ys ≡ ys
@@ -55,13 +54,10 @@ module _ {X Y : Type 0} (step : ℕ → X → Y → Y) where
   pub turn : (xs : List X) (k : ℕ) (x : X) (ys zs all : List Y) → k < length xs → x ≡ get_or xs k x
       → zs ≡ step_at step k k x ys → left_from k xs ys ≡ all → left_from (k + 1) xs zs ≡ all
   turn xs k x ys zs all lt at new rest =
-      let here : drop k xs ≡ x ∷ drop (k + 1) xs =
-      drop-cons xs k x lt
-      ∙ (ap (λ (w : X). w ∷ drop (suc k) xs) (sym at) ∙ ap (λ (m : ℕ). x ∷ drop m xs) (next_is k)) in
       ap (left_from (k + 1) xs) new
       ∙ (ap (λ (m : ℕ). stepped_behind step m (k + 1) (drop (k + 1) xs) (step_at step k k x ys)) (sym (next_is k))
       ∙ (sym (behind_more ys k k x (drop (k + 1) xs))
-      ∙ (ap (λ (ws : List X). stepped_behind step k k ws ys) (sym here) ∙ rest)))
+      ∙ (ap (λ (ws : List X). stepped_behind step k k ws ys) (sym (drop_here xs k x lt at)) ∙ rest)))
 
   pub last_turn : (xs : List X) (k : ℕ) (ys all : List Y) → length xs ≤ k → left_from k xs ys ≡ all → ys ≡ all
   last_turn xs k ys all le rest =

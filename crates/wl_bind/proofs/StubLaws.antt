@@ -114,10 +114,9 @@ stubbed input functions old new fs were are = rw (are, fs, were) (set_rows input
 
 -- no row follows where one of the lists has ended
 pub none_joined : (functions globals : List (List ImportResolution)) → (length functions ≡ 0) ⊎ (length globals ≡ 0) → joined_rows functions globals ≡ []
-none_joined [] globals ended = refl
-none_joined (fs ∷ functions) [] ended = refl
 none_joined (fs ∷ functions) (gs ∷ globals) (inl none) = absurd (omega (arith, none))
 none_joined (fs ∷ functions) (gs ∷ globals) (inr none) = absurd (omega (arith, none))
+none_joined _ _ ended = refl
 
 -- the rows of function slots and those of global slots, by all rules
 joined_from : (input : Input) (n : ℕ) (os : List Object)

@@ -25,9 +25,7 @@ in_row objects i symbols n (m ∷ imports) k = by_entity m.entity refl k (λ j. 
         → option_and_then (slot_type objects) (slice_get (numbered_slots i Func symbols n (slot_imports Func (m ∷ imports))) k) ≡ option_and_then (type_in objects i) (slice_get (numbers_in (m ∷ imports)) k)
     by_entity (entity.Func t) e zero later same = rw e refl
     by_entity (entity.Func t) e (suc k) later same = rw e (later k)
-    by_entity (entity.Table t) e k later same = rw e same
-    by_entity (entity.Memory t) e k later same = rw e same
-    by_entity (entity.Global t) e k later same = rw e same
+    by_entity _ e k later same = rw e same
 
 row_of : (objects : List Object) (i k : ℕ) → number_at (slot_numbers objects) i k ≡ option_and_then (λ (o : Object). slice_get (numbers_in o.imports) k) (slice_get objects i)
 row_of objects i k =
@@ -58,9 +56,7 @@ number_in_row i symbols n (m ∷ imports) k = by_entity m.entity refl k (λ j. n
         → option_and_then (λ (t : ImportSlot). type_number t.item.entity) (slice_get (numbered_slots i Func symbols n (slot_imports Func (m ∷ imports))) k) ≡ slice_get (numbers_in (m ∷ imports)) k
     by_entity (entity.Func t) e zero later same = rw e refl
     by_entity (entity.Func t) e (suc k) later same = rw e (later k)
-    by_entity (entity.Table t) e k later same = rw e same
-    by_entity (entity.Memory t) e k later same = rw e same
-    by_entity (entity.Global t) e k later same = rw e same
+    by_entity _ e k later same = rw e same
 
 -- the number of the type of the slot of that number of an object
 pub slot_numbered : (objects : List Object) (i k : ℕ)

@@ -21,7 +21,6 @@ use Rattle.wl_bind.specs.declared.binding.FunctionTarget.{FunctionTarget}
 use Rattle.wl_bind.specs.declared.binding.FunctionTarget.TheVariants.{Host, Stub}
 use Rattle.wl_bind.specs.declared.resolution.ImportResolution.{ImportResolution}
 use Rattle.wl_bind.specs.declared.resolution.ImportResolution.TheVariants.{Unresolved, WeakUndefStub}
-use Rattle.wl_bind.specs.declared.signatures.Mismatch.{Mismatch}
 use Rattle.wl_symbols.specs.declared.relocated.Relocated.{Relocated}
 
 -- ---- rows
@@ -117,10 +116,6 @@ is_mismatch input object number =
 abbrev pub names_mismatch : Input → Relocated → Bool
 names_mismatch input r =
     not (names_a_type r.relocation.ty) && is_mismatch input r.object r.relocation.index
-
--- the refusal of such a symbol
-abbrev pub mismatch_error : Mismatch → LinkError
-mismatch_error m = SignatureMismatch m.object m.symbol
 
 -- the refusal names such a symbol
 pub record TellsMismatch (input : Input) (object number : ℕ) (e : LinkError) : Type 0 where

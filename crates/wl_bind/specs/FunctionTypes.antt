@@ -2,6 +2,7 @@
 use Rattle.std.specs.Prelude.{ℕ, List, [], ◌∷◌, Option, Some, None, if◌then◌else◌, slice_get}
 use Rattle.std.specs.Option.{option_and_then}
 use Rattle.wl_module.specs.Types.{FunctionType}
+use Rattle.wl_module.specs.declared.types.ValType.{ValType}
 use Rattle.wl_module.specs.declared.types.ValType.TheVariants.{I32}
 use Rattle.wl_module.specs.declared.imports.ImportEntity.{ImportEntity}
 use Rattle.wl_module.specs.declared.imports.ImportEntity.TheVariants as entity
@@ -12,6 +13,7 @@ use Rattle.wl_symbols.specs.LinkerNames.{sort_of}
 use Rattle.wl_symbols.specs.declared.linker_symbol.WasmLinkerSymbol.{WasmLinkerSymbol}
 use Rattle.wl_symbols.specs.declared.made_sort.MadeSort.{MadeSort}
 use Rattle.wl_symbols.specs.declared.made_sort.MadeSort.TheVariants.{Function, Global, Data}
+use Rattle.wl_symbols.specs.declared.made_sort.NamedFunction.{NamedFunction}
 use Rattle.wl_symbols.specs.declared.made_sort.NamedFunction.TheVariants.{CallCtors, InitTls}
 use Rattle.wl_symbols.specs.ImportSlots.{ImportSlot, import_slots}
 use Rattle.wl_symbols.specs.SlotTargets.{own_number}
@@ -44,11 +46,15 @@ type_number (entity.Global g) = None
 abbrev pub slot_type : List Object → ImportSlot → Option FunctionType
 slot_type objects t = option_and_then (type_in objects t.object) (type_number t.item.entity)
 
--- the type of a function that the linker makes: one that calls the constructors takes nothing, one
+-- what a function that the linker makes takes: one that calls the constructors takes nothing, one
 -- that fills the data of a thread takes its address
+abbrev pub made_params : NamedFunction → List ValType
+made_params CallCtors = []
+made_params InitTls = I32 ∷ []
+
+-- the type of such a function, which has no results
 abbrev pub type_of_sort : MadeSort → Option FunctionType
-type_of_sort (Function CallCtors) = Some (record { params = []; results = [] })
-type_of_sort (Function InitTls) = Some (record { params = I32 ∷ []; results = [] })
+type_of_sort (Function f) = Some (record { params = made_params f; results = [] })
 type_of_sort (Global g) = None
 type_of_sort Data = None
 

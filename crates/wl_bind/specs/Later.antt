@@ -7,9 +7,11 @@ use Rattle.wl_linking.specs.Object.{Object}
 use Rattle.wl_custom.specs.declared.symbols.WasmSymbolKind.TheVariants.{Global}
 use Rattle.wl_symbols.specs.ImportSlots.{slot_imports}
 use Rattle.wl_symbols.specs.Input.{Input, keeps_slot}
+use Rattle.wl_symbols.specs.declared.entry.Definition.{Definition}
 use Rattle.wl_bind.specs.Stepped.{stepped}
 use Rattle.wl_bind.specs.declared.resolution.ObjectImportResolutions.{ObjectImportResolutions}
-use Rattle.wl_bind.specs.Scan.{GotMemEntry, GotFuncEntry, Scanned}
+use Rattle.wl_bind.specs.declared.binding.FunctionTarget.{FunctionTarget}
+use Rattle.wl_bind.specs.Scan.{Named, Scanned}
 use Rattle.wl_bind.specs.declared.resolution.ImportResolution.{ImportResolution}
 use Rattle.wl_bind.specs.declared.resolution.ImportResolution.TheVariants.{Unresolved, ResolvedFunction, ResolvedGlobal, LinkerDefined, WeakUndefStub, GotMemSlot, GotFuncSlot}
 
@@ -22,10 +24,10 @@ abbrev pub later_by_got : Scanned → List ℕ → List ℕ → ImportResolution
 later_by_got scan origin name =
     if bytes_eq origin (codes "GOT.mem")
     then option_map_or GotMemSlot
-    (position (λ (e : GotMemEntry). has_that_name name e.name) scan.got_mem) Unresolved
+    (position (λ (e : Named Definition). has_that_name name e.name) scan.got_mem) Unresolved
     else if bytes_eq origin (codes "GOT.func")
     then option_map_or GotFuncSlot
-    (position (λ (e : GotFuncEntry). has_that_name name e.name) scan.got_func) Unresolved
+    (position (λ (e : Named (Definition × FunctionTarget)). has_that_name name e.name) scan.got_func) Unresolved
     else Unresolved
 
 -- the slot isn't resolved yet

@@ -18,9 +18,9 @@ use Rattle.wl_bind.specs.declared.indices.LinkerDefinedIndices.{LinkerDefinedInd
 
 -- the data that is exported
 pub record AreExported (input : Input) (e : ExportedData) : Type 0 where
-  pub addresses : e.addresses ≡ exported_addresses input.link.args
+  pub addresses : e.addresses.keys ≡ exported_addresses input.link.args
   pub dynamic : e.dynamic ≡ dynamic_data input
-  pub forced : e.forced ≡ forced_data input
+  pub forced : e.forced.keys ≡ forced_data input
 
 -- what is asked for, where the parts of the two spaces begin, and what is exported
 pub record AreMadeIndices (input : Input) (i : LinkerDefinedIndices) : Type 0 where

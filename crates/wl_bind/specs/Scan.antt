@@ -115,28 +115,23 @@ definition_name input (Symbol object number) =
     option_map_or (λ (s : LinkedSymbol). s.name) (symbol_in input.link.objects object number) []
 definition_name input (MadeName m) = name_of m
 
--- an entry of the GOT list of data, with the name of its definition
-pub record GotMemEntry : Type 0 where
-  pub definition : Definition
+-- what a global of the GOT holds, with the name of its definition
+pub record Named (K : Type 0) : Type 0 where
+  pub key : K
   pub name : List ℕ
 
--- an entry of the GOT list of functions, with the name of its definition
-pub record GotFuncEntry : Type 0 where
-  pub definition : Definition
-  pub target : FunctionTarget
-  pub name : List ℕ
+-- an entry of the GOT list of data: a definition
+abbrev pub got_mem_entry : Input → Definition → Named Definition
+got_mem_entry input d = record { key = d; name = definition_name input d }
 
-abbrev pub got_mem_entry : Input → Definition → GotMemEntry
-got_mem_entry input d = record { definition = d; name = definition_name input d }
-
-abbrev pub got_func_entry : Input → Definition × FunctionTarget → GotFuncEntry
-got_func_entry input p =
-    record { definition = p.0; target = p.1; name = definition_name input p.0 }
+-- an entry of the GOT list of functions: a definition, and the function that it leads to
+abbrev pub got_func_entry : Input → Definition × FunctionTarget → Named (Definition × FunctionTarget)
+got_func_entry input p = record { key = p; name = definition_name input p.0 }
 
 -- what a scan reports
 pub record Scanned : Type 0 where
-  pub got_mem : List GotMemEntry
-  pub got_func : List GotFuncEntry
+  pub got_mem : List (Named Definition)
+  pub got_func : List (Named (Definition × FunctionTarget))
   pub table_functions : List FunctionTarget
   pub needs : RelocNeeds
 

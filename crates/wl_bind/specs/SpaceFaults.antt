@@ -7,14 +7,22 @@ use Rattle.wl_linking.specs.Steps.{Step, NoStep}
 use Rattle.wl_index.specs.declared.index.TheConstants.{MAX_ENTRIES}
 use Rattle.wl_symbols.specs.Input.{Input}
 use Rattle.wl_bind.specs.Bound.{bind_steps}
-use Rattle.wl_bind.specs.FunctionSpace.{function_space}
-use Rattle.wl_bind.specs.GlobalSpace.{global_space}
+use Rattle.wl_bind.specs.FunctionSpace.{function_parts, function_space}
+use Rattle.wl_bind.specs.GlobalSpace.{global_parts, global_space}
 use Rattle.wl_bind.specs.OutputTypes.{output_types}
+use Rattle.wl_bind.specs.Parts.{total, lengths_of, IsOver}
 
 -- the function space or the global space has too many entries
 abbrev pub AreTooMany : Input → Type 0
 AreTooMany input =
     (MAX_ENTRIES < length (function_space input)) ⊎ (MAX_ENTRIES < length (global_space input))
+
+-- memory ran out, or the parts before the objects' own functions, or those before their own globals,
+-- have too many entries together
+abbrev pub ArePartsOver : Input → LinkError → Type 0
+ArePartsOver input e =
+    IsOver (total (lengths_of (function_parts input))) e
+    ⊎ IsOver (total (lengths_of (global_parts input))) e
 
 -- memory ran out, or one of the two would have too many
 abbrev pub IsSpaceOver : Input → LinkError → Type 0

@@ -14,6 +14,7 @@ pub mod Needs
 pub mod OwnIndices
 pub mod Numbering
 pub mod Merging
+pub mod Laws
 pub mod Numbered
 pub mod GotGlobals
 pub mod Redirects

@@ -13,6 +13,7 @@ use crate::scanning::scan_with;
 use crate::shared::{SharedUnresolvedImports, check_hosts};
 use crate::slot_rows::join_rows;
 use crate::stubs::stub_types;
+use crate::targets::FunctionBindings;
 use std::alloc::Global;
 use std::marker::Model;
 use wl_linking::LinkError;
@@ -23,6 +24,8 @@ use wl_symbols::LinkInput;
 /// What the references of a link are bound to. Clauses see it as a `Bound`.
 #[derive(Drop)]
 pub struct BoundReferences<'a> {
+    /// The functions that function slots are bound to.
+    pub functions: FunctionBindings,
     /// What the import slots of each object are resolved to.
     pub resolutions: ItemList<ObjectImportResolutions>,
     /// What kept relocations ask for.
@@ -39,6 +42,7 @@ impl<'a> Model for BoundReferences<'a> {
     ghost Value = { Bound };
 
     ghost view = { λ b. record {
+      functions = b.functions;
       resolutions = b.resolutions;
       scan = b.scan;
       stubs = b.stubs;
@@ -72,6 +76,7 @@ pub fn bind_references<'a>(
     report_disallowed_unresolved_imports(alloc, input, &rows)?;
     check_hosts(alloc, input, &functions.hosts, &globals.hosts)?;
     Ok(BoundReferences {
+        functions: functions.bindings,
         resolutions: ItemList::new(rows),
         scan,
         stubs: ItemList::new(stubs),

@@ -43,14 +43,6 @@ pub struct BoundIndices<'a> {
     pub maps: ItemList<WasmObjectIndexMap>,
 }
 
-/// Where the things of a link stand in the output.
-#[derive(Drop)]
-struct IndexedThings {
-    indices: LinkerDefinedIndices,
-    types: MergedTypes,
-    maps: ItemList<WasmObjectIndexMap>,
-}
-
 /// The maps of all objects.
 fn index_maps(
     alloc: Global,
@@ -66,8 +58,7 @@ fn index_maps(
     ensures room { OnOk result (AreTooMany input.now → ⊥) }
     ensures err { IfErr result (IsSpaceOver input.now) }
 {
-    let rows = bound.resolutions.as_slice();
-    let numbering = Numbering::new(alloc, input, rows, &bound.scan, &bound.shared, indices)?;
+    let numbering = Numbering::new(alloc, input, bound, indices)?;
     Ok(index_maps_of(alloc, &numbering, types)?)
 }
 
@@ -76,11 +67,18 @@ fn index_things(
     alloc: Global,
     input: &LinkInput<'_, '_>,
     bound: &BoundReferences<'_>,
-) -> Result<IndexedThings, LinkError>
+) -> Result<
+    (
+        LinkerDefinedIndices,
+        MergedTypes,
+        ItemList<WasmObjectIndexMap>,
+    ),
+    LinkError,
+>
     requires { bound.now ≡ bound_of input.now }
-    ensures indices { IfOk result (λ i. AreMadeIndices input.now i.indices) }
-    ensures types { IfOk result (λ i. IsMerged input.now i.types) }
-    ensures maps { IfOk result (λ i. AreIndexMaps input.now i.maps) }
+    ensures indices { IfOk result (λ i. AreMadeIndices input.now i.0) }
+    ensures types { IfOk result (λ i. IsMerged input.now i.1) }
+    ensures maps { IfOk result (λ i. AreIndexMaps input.now i.2) }
     ensures clear { OnOk result (Clear (IsSpaceTooLarge input.now)) }
     ensures err { IfErr result (Refuses (IsSpaceTooLarge input.now)) }
 {
@@ -96,11 +94,7 @@ fn index_things(
     )?;
     let types = merge_live_output_types(alloc, input, rows, &indices, stubs)?;
     let maps = index_maps(alloc, input, bound, &indices, &types)?;
-    Ok(IndexedThings {
-        indices,
-        types,
-        maps,
-    })
+    Ok((indices, types, maps))
 }
 
 /// Binds the references of a link, and numbers what the output has.
@@ -117,14 +111,14 @@ pub fn build_index_maps<'a>(
     ensures err { IfErr result (Refuses (index_fault input.now)) }
 {
     let bound = bind_references(alloc, input)?;
-    let things = index_things(alloc, input, &bound)?;
+    let (indices, types, maps) = index_things(alloc, input, &bound)?;
     Ok(BoundIndices {
         resolutions: bound.resolutions,
         scan: bound.scan,
         stubs: bound.stubs,
         shared: bound.shared,
-        indices: things.indices,
-        types: things.types,
-        maps: things.maps,
+        indices,
+        types,
+        maps,
     })
 }

@@ -1,32 +1,19 @@
 //! Slots of one import with different types.
 
-ghost use Rattle.std.specs.Prelude.{◌≡◌, [], option_map, IfOk, OnOk, IfErr};
+ghost use Rattle.std.specs.Prelude.{◌≡◌, [], map, option_map, IfOk, OnOk, IfErr};
 ghost use Rattle.indexmap.specs.IndexSet.{insert_all};
 ghost use Rattle.wl_linking.specs.Steps.{Clear, Refuses};
-ghost use Rattle.wl_bind.specs.Conflicts.{same_function_type, global_type, same_global_type, same_slot_type, IsConflict};
-ghost use Rattle.wl_bind.specs.ConflictSteps.{conflict_of, same_slot, place_among, AreImportsOf};
+ghost use Rattle.wl_bind.specs.Conflicts.{global_type, same_slot_type, IsConflict};
+ghost use Rattle.wl_bind.specs.ConflictSteps.{conflict_of, same_slot, slot_at, place_among, AreImportsOf};
 
-use crate::first_slots::FirstSlots;
 use crate::types::slot_type;
 use std::alloc::{AllocError, Global};
 use wl_linking::{FileList, LinkError};
 use wl_lists::Text;
-use wl_module::{FuncType, GlobalType, ImportEntity};
+use wl_module::{GlobalType, ImportEntity};
 use wl_symbols::{HostImports, ImportSlot, LinkInput, Stubs};
 
 // ---- types of slots
-
-/// Whether two types of functions are the same; two that aren't there are.
-fn same_function_type(a: Option<&FuncType>, b: Option<&FuncType>) -> bool
-    ensures { result
-        ≡ same_function_type (option_map (λ t. t.now) a.entry) (option_map (λ t. t.now) b.entry) }
-{
-    match (a, b) {
-        (Some(a), Some(b)) => *a == *b,
-        (Some(_), None) | (None, Some(_)) => false,
-        (None, None) => true,
-    }
-}
 
 /// The type of a global that is imported.
 fn global_type(entity: ImportEntity) -> Option<GlobalType>
@@ -38,24 +25,11 @@ fn global_type(entity: ImportEntity) -> Option<GlobalType>
     }
 }
 
-/// Whether two types of globals are the same: those of the values, and whether these may change.
-/// Two that aren't there are.
-fn same_global_type(a: Option<GlobalType>, b: Option<GlobalType>) -> bool
-    ensures { result ≡ same_global_type a b }
-{
-    match (a, b) {
-        (Some(a), Some(b)) => a.content_type == b.content_type && a.mutable == b.mutable,
-        (Some(_), None) | (None, Some(_)) => false,
-        (None, None) => true,
-    }
-}
-
 /// Whether two slots have the same type, as functions and as globals.
 fn same_slot_type(files: &FileList<'_>, a: &ImportSlot<'_, '_>, b: &ImportSlot<'_, '_>) -> bool
     ensures { result ≡ same_slot_type files.now a.now b.now }
 {
-    same_function_type(slot_type(files, a), slot_type(files, b))
-        && same_global_type(global_type(a.entity()), global_type(b.entity()))
+    slot_type(files, a) == slot_type(files, b) && global_type(a.entity()) == global_type(b.entity())
 }
 
 // ---- all slots
@@ -77,6 +51,16 @@ impl<'h, 'a> SlotImports<'h, 'a> {
             SlotImports::Hosts(hosts) => hosts.place(slot.module(), slot.field()),
         }
     }
+}
+
+/// The slot of that place, if there is one.
+fn slot_at<'s, 'f, 'a>(
+    slots: &[&'s ImportSlot<'f, 'a>],
+    place: Option<usize>,
+) -> Option<&'s ImportSlot<'f, 'a>>
+    ensures { option_map (λ t. t.now) result ≡ slot_at (map (λ t. t.now) slots.now) place }
+{
+    slots.get(place?).copied()
 }
 
 /// The refusal of two slots of one import with different types.
@@ -107,19 +91,19 @@ pub(crate) fn check_types<'s, 'f, 'a>(
     input: &LinkInput<'_, '_>,
     imports: SlotImports<'_, '_>,
     slots: &'s [ImportSlot<'f, 'a>],
-) -> Result<FirstSlots<'s, 'f, 'a>, LinkError>
+) -> Result<Vec<&'s ImportSlot<'f, 'a>>, LinkError>
     requires { AreImportsOf slots.now imports }
-    ensures firsts { IfOk result
-        (λ firsts. firsts ≡ insert_all (same_slot imports.entry) [] slots.now) }
+    ensures firsts { IfOk result (λ firsts. map (λ t. t.now) firsts.items
+        ≡ insert_all (same_slot imports.entry) [] slots.now) }
     ensures clear { OnOk result
         (Clear (IsConflict input.now.link.objects (same_slot imports.entry) slots.now)) }
     ensures err { IfErr result
         (Refuses (IsConflict input.now.link.objects (same_slot imports.entry) slots.now)) }
 {
     let files = input.files();
-    let mut firsts = FirstSlots::new(alloc);
+    let mut firsts: Vec<&'s ImportSlot<'f, 'a>> = Vec::new(alloc);
     for slot in slots {
-        let Some(first) = firsts.get(imports.place(slot)) else {
+        let Some(first) = slot_at(firsts.as_slice(), imports.place(slot)) else {
             firsts.push(slot)?;
             continue;
         };

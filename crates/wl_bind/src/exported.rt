@@ -29,11 +29,11 @@ pub struct DataSymbol {
 /// What is exported as globals with addresses.
 pub struct ExportedData {
     /// The data that the linker makes whose names are to be exported, each once.
-    pub addresses: ItemList<WasmLinkerSymbol>,
+    pub addresses: IndexSet<WasmLinkerSymbol>,
     /// The named data symbols that `--export-dynamic` exports, by object and symbol.
     pub dynamic: ItemList<DataSymbol>,
     /// The data symbols whose names are to be exported, each once, the former aside.
-    pub forced: ItemList<DataSymbol>,
+    pub forced: IndexSet<DataSymbol>,
 }
 
 impl Drop for ExportedData {
@@ -59,14 +59,14 @@ fn data_named(name: &str) -> Option<WasmLinkerSymbol>
 fn exported_addresses(
     alloc: Global,
     args: &WasmArgs,
-) -> Result<ItemList<WasmLinkerSymbol>, AllocError>
-    ensures { IfOk result (λ list. list ≡ exported_addresses args.now) }
+) -> Result<IndexSet<WasmLinkerSymbol>, AllocError>
+    ensures { IfOk result (λ list. list.keys ≡ exported_addresses args.now) }
 {
     let mut list = IndexSet::new(alloc);
     for name in args.force_export_symbol_names() {
         insert_some(&mut list, data_named(name.as_str()))?;
     }
-    listed(alloc, &list)
+    Ok(list)
 }
 
 /// Adds a thing, where there is one, to a set, unless it stands there.
@@ -80,16 +80,6 @@ fn insert_some<T: Copy + Eq + Hash + Drop>(
         set.insert(item)?;
     }
     Ok(())
-}
-
-/// What stands in a set, in its order.
-fn listed<T: Copy + Eq + Hash + Drop>(
-    alloc: Global,
-    set: &IndexSet<T>,
-) -> Result<ItemList<T>, AllocError>
-    ensures { IfOk result (λ list. list ≡ set.now.keys) }
-{
-    Ok(ItemList::new(Vec::from_slice(alloc, set.as_slice())?))
 }
 
 // ---- with `--export-dynamic`
@@ -199,15 +189,15 @@ fn forced_data(
     alloc: Global,
     input: &LinkInput<'_, '_>,
     needs: LinkerImportAbsorption,
-) -> Result<ItemList<DataSymbol>, AllocError>
+) -> Result<IndexSet<DataSymbol>, AllocError>
     requires { needs ≡ linker_needs input.now }
-    ensures { IfOk result (λ list. list ≡ forced_data input.now) }
+    ensures { IfOk result (λ list. list.keys ≡ forced_data input.now) }
 {
     let mut list = IndexSet::new(alloc);
     for name in input.args().force_export_symbol_names() {
         insert_some(&mut list, forced_alone(input, needs, name.as_str()))?;
     }
-    listed(alloc, &list)
+    Ok(list)
 }
 
 /// What is exported as globals with addresses.

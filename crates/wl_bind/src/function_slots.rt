@@ -1,15 +1,15 @@
 //! What function slots are bound to, by all rules: each is found once a link, and lent from here.
 
-ghost use Rattle.std.specs.Prelude.{◌≡◌, map, option_map, IfOk, Some, None, Contains, slice_get};
+ghost use Rattle.std.specs.Prelude.{◌≡◌, map, option_map, IfOk, OnOk, Some, None, Contains, slice_get};
 ghost use Rattle.std.specs.Option.{option_and_then};
 ghost use Rattle.wl_custom.specs.declared.symbols.WasmSymbolKind.TheVariants.{Func};
 ghost use Rattle.wl_symbols.specs.ImportSlots.{import_slots};
 ghost use Rattle.wl_symbols.specs.Left.{first_slot, stub_slots, place_of_name, place_of_import};
 ghost use Rattle.wl_symbols.specs.KeptSlots.{slots_from};
-ghost use Rattle.wl_bind.specs.FunctionBinding.{left_functions, named_function, link_stubs, host_functions};
+ghost use Rattle.wl_bind.specs.FunctionBinding.{left_functions, link_stubs, host_functions};
 ghost use Rattle.wl_bind.specs.FunctionSymbols.{kept_binding, function_bindings};
 ghost use Rattle.wl_bind.specs.steps.FunctionSlots.{AreFunctionSlots};
-ghost use Rattle.wl_bind.specs.Resolutions.{resolved, function_resolution};
+ghost use Rattle.wl_bind.specs.Resolutions.{function_resolution};
 ghost use Rattle.wl_bind.specs.Shared.{function_imports, import_place, import_places};
 ghost use Rattle.wl_bind.specs.SlotRows.{slot_rows};
 ghost use Rattle.wl_bind.specs.BindingSteps.{host_target, left_target, left_place, left_resolution};
@@ -23,10 +23,10 @@ use crate::slot_rows::{BoundSlot, SlotRow, SlotRows};
 use crate::targets::{FunctionBindings, named_function};
 use std::alloc::{AllocError, Global};
 use wl_linking::WasmSymbolKind;
-use wl_lists::ItemList;
+use wl_rows::RowList;
 use wl_symbols::{
-    HostImport, HostImports, ImportSlot, LinkInput, SlotTarget, Stubs, divide_slots, host_imports,
-    import_slots, is_kept_slot, left_slots, slot_target, stubs_are_found_by_name,
+    HostImport, HostImports, ImportSlot, LinkInput, Stubs, divide_slots, fill_slots, host_imports,
+    is_kept_slot, left_slots, slot_target, stubs_are_found_by_name,
 };
 
 // ---- the slots to which names bind nothing
@@ -152,18 +152,6 @@ fn left_slot(left: &LeftFunctions<'_, '_>, slot: &ImportSlot<'_, '_>) -> BoundFu
     }
 }
 
-/// What names bind a function slot to.
-fn named_slot(input: &LinkInput<'_, '_>, target: SlotTarget) -> BoundFunction
-    ensures target { result.target ≡ Some (named_function target) }
-    ensures resolution { result.slot.resolution ≡ resolved input.now Func target }
-    ensures place { result.slot.place ≡ None }
-{
-    BoundFunction {
-        target: Some(named_function(target)),
-        slot: BoundSlot::without_import(resolved(input, WasmSymbolKind::Func, target)),
-    }
-}
-
 /// What a function slot is bound to, where it is kept.
 fn bound_slot(
     input: &LinkInput<'_, '_>,
@@ -187,7 +175,10 @@ fn bound_slot(
     }
     match slot_target(input.symbols(), slot) {
         None => left_slot(left, slot),
-        Some(target) => named_slot(input, target),
+        Some(target) => BoundFunction {
+            target: Some(named_function(target)),
+            slot: BoundSlot::without_import(resolved(input, WasmSymbolKind::Func, target)),
+        },
     }
 }
 
@@ -200,35 +191,35 @@ struct FunctionRow {
     slots: SlotRow,
 }
 
-/// What the function slots of an object are bound to.
-fn bind_row(
+/// Puts what the function slots of an object are bound to in place of what the row holds. The list of
+/// slots is filled anew.
+fn bind_row<'i, 'a>(
     alloc: Global,
-    input: &LinkInput<'_, '_>,
+    input: &LinkInput<'i, 'a>,
     left: &LeftFunctions<'_, '_>,
     object: usize,
-) -> Result<FunctionRow, AllocError>
+    slots: &mut Vec<ImportSlot<'i, 'a>>,
+    row: &mut FunctionRow,
+) -> Result<(), AllocError>
     requires stubs { left.now.stubs ≡ map first_slot (link_stubs input.now) }
     requires hosts { left.now.hosts ≡ function_imports input.now }
-    ensures targets { IfOk result (λ row. row.targets.items
+    ensures targets { OnOk result (row.new.targets.items
         ≡ map (kept_binding input.now) (import_slots input.now.link.objects object Func)) }
-    ensures resolutions { IfOk result (λ row. row.slots.resolutions.items
+    ensures resolutions { OnOk result (row.new.slots.resolutions.items
         ≡ map (function_resolution input.now) (import_slots input.now.link.objects object Func)) }
-    ensures places { IfOk result (λ row. row.slots.places.items
+    ensures places { OnOk result (row.new.slots.places.items
         ≡ map (import_place input.now Func (function_imports input.now))
         (import_slots input.now.link.objects object Func)) }
 {
-    let slots = import_slots(alloc, input.symbols(), object, WasmSymbolKind::Func)?;
-    let mut targets = Vec::new(alloc);
-    let mut row = SlotRow::new(alloc);
-    for slot in &slots {
+    fill_slots(alloc, input.symbols(), object, WasmSymbolKind::Func, slots)?;
+    row.targets.clear();
+    row.slots.clear();
+    for slot in slots.as_slice() {
         let bound = bound_slot(input, left, slot);
-        targets.push(bound.target)?;
-        row.push(bound.slot)?;
+        row.targets.push(bound.target)?;
+        row.slots.push(bound.slot)?;
     }
-    Ok(FunctionRow {
-        targets,
-        slots: row,
-    })
+    Ok(())
 }
 
 // ---- the slots of all objects
@@ -236,30 +227,35 @@ fn bind_row(
 /// What the function slots of all objects are bound to, a row an object.
 #[derive(Drop)]
 struct FunctionRows {
-    targets: Vec<ItemList<Option<FunctionTarget>>>,
+    targets: RowList<Option<FunctionTarget>>,
     slots: SlotRows,
 }
 
 /// What the function slots of all objects are bound to.
-fn bind_rows(
+fn bind_rows<'i, 'a>(
     alloc: Global,
-    input: &LinkInput<'_, '_>,
+    input: &LinkInput<'i, 'a>,
     left: &LeftFunctions<'_, '_>,
 ) -> Result<FunctionRows, AllocError>
     requires stubs { left.now.stubs ≡ map first_slot (link_stubs input.now) }
     requires hosts { left.now.hosts ≡ function_imports input.now }
-    ensures targets { IfOk result (λ rows. rows.targets.items ≡ function_bindings input.now) }
+    ensures targets { IfOk result (λ rows. rows.targets ≡ function_bindings input.now) }
     ensures resolutions { IfOk result (λ rows. rows.slots.resolutions.items
         ≡ slot_rows (function_resolution input.now) Func 0 input.now.link.objects) }
-    ensures places { IfOk result (λ rows. rows.slots.places.items
+    ensures places { IfOk result (λ rows. rows.slots.places
         ≡ import_places input.now Func (function_imports input.now)) }
 {
-    let mut targets = Vec::new(alloc);
+    let mut targets = RowList::new(alloc);
     let mut rows = SlotRows::new(alloc);
+    let mut slots = Vec::new(alloc);
+    let mut row = FunctionRow {
+        targets: Vec::new(alloc),
+        slots: SlotRow::new(alloc),
+    };
     for object in 0..input.files().len() {
-        let row = bind_row(alloc, input, left, object)?;
-        targets.push(ItemList::new(row.targets))?;
-        rows.push(row.slots)?;
+        bind_row(alloc, input, left, object, &mut slots, &mut row)?;
+        targets.push(&mut row.targets)?;
+        rows.push(alloc, &mut row.slots)?;
     }
     Ok(FunctionRows {
         targets,

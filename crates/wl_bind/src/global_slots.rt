@@ -24,13 +24,6 @@ use wl_symbols::{
     slot_target,
 };
 
-/// Whether the lists leave a slot to the host to which names bind nothing.
-fn is_host_by_lists(scan: &RelocScan<'_>, slot: &ImportSlot<'_, '_>) -> bool
-    ensures { result ≡ is_host_by_lists scan.now slot.now }
-{
-    got_resolution(scan, slot.module(), slot.field()).is_unresolved()
-}
-
 /// The global slots that are left to the host, object by object.
 fn host_slots<'i, 'a>(
     alloc: Global,
@@ -44,7 +37,7 @@ fn host_slots<'i, 'a>(
     slots.retain(
         |slot: &ImportSlot<'_, '_>| -> bool
             ensures { result ≡ is_host_by_lists scan.entry.now slot.now }
-        { is_host_by_lists(scan, slot) },
+        { got_resolution(scan, slot.module(), slot.field()).is_unresolved() },
     );
     Ok(slots)
 }
@@ -122,11 +115,12 @@ fn bind_rows(
     ensures resolutions { IfOk result (λ rows. rows.resolutions.items
         ≡ slot_rows (global_resolution input.now) GlobalKind 0 input.now.link.objects) }
     ensures places { IfOk result
-        (λ rows. rows.places.items ≡ import_places input.now GlobalKind hosts.now) }
+        (λ rows. rows.places ≡ import_places input.now GlobalKind hosts.now) }
 {
     let mut rows = SlotRows::new(alloc);
     for object in 0..input.files().len() {
-        rows.push(bind_row(alloc, input, scan, hosts, object)?)?;
+        let mut row = bind_row(alloc, input, scan, hosts, object)?;
+        rows.push(alloc, &mut row)?;
     }
     Ok(rows)
 }

@@ -1,11 +1,11 @@
 //! Lists of first occurrences over kept relocations.
 
-ghost use Rattle.std.specs.Prelude.{◌≡◌, ◌==◌, ◌&&◌, not, ℕ, List, [], OnOk, Some, None, position, map, length, slice_get, bytes_eq, option_map, if◌then◌else◌};
+ghost use Rattle.std.specs.Prelude.{◌≡◌, ◌==◌, ◌&&◌, not, ℕ, List, [], IfOk, OnOk, Some, None, position, map, length, slice_get, bytes_eq, option_map, if◌then◌else◌};
 ghost use Rattle.std.specs.Option.{option_or};
 ghost use Rattle.std.specs.HashMap.{get_by};
 ghost use Rattle.indexmap.specs.IndexSet.{insert_key};
-ghost use Rattle.wl_bind.specs.Sameness.{same_definition, same_target, same_pair};
-ghost use Rattle.wl_bind.specs.GotSteps.{mem_entry, func_entry, is_name, place_named, insert_named, insert_some_named, insert_some, ArePlaces};
+ghost use Rattle.wl_bind.specs.Sameness.{same_target};
+ghost use Rattle.wl_bind.specs.GotSteps.{named, is_name, add_entry, insert_some, ArePlaces};
 
 use crate::binding::FunctionTarget;
 use indexmap::{IndexMap, IndexSet};
@@ -33,13 +33,71 @@ fn note_name<'a>(
     Ok(())
 }
 
-/// Keys in the order in which they came first, each with a name, and the first place of each name.
-pub(crate) struct NamedKeys<'a, K: Copy + Eq + Hash + Drop> {
+/// The first place of each name.
+fn name_places<'a, K: Copy + Eq + Hash + Drop>(
+    alloc: Global,
+    entries: &IndexMap<K, &'a [u8]>,
+) -> Result<HashMap<&'a [u8], usize>, AllocError>
+    ensures { IfOk result (λ places. ArePlaces places entries.now.entries) }
+{
+    let mut places = HashMap::with_capacity(alloc, entries.len())?;
+    for place in 0..entries.len() {
+        if let Some((_, name)) = entries.get_index(place) {
+            note_name(&mut places, *name, place)?;
+        }
+    }
+    Ok(places)
+}
+
+/// Adds a key with its name, unless the same key is there.
+fn add<'a, K: Copy + Eq + Hash + Drop>(
+    entries: &mut IndexMap<K, &'a [u8]>,
+    key: K,
+    name: &'a [u8],
+) -> Result<(), AllocError>
+    ensures { OnOk result (map named entries.new.entries
+        ≡ add_entry K.eq (map named entries.old.entries) (Some (named (key, name.entry)))) }
+{
+    if entries.contains_key(&key) {
+        return Ok(());
+    }
+    entries.insert(key, name)?;
+    Ok(())
+}
+
+/// Adds a key with its name, where there is one, unless the same key is there.
+///
+/// # Errors
+/// `AllocError` where memory runs out.
+pub(crate) fn add_some<'a, K: Copy + Eq + Hash + Drop>(
+    entries: &mut IndexMap<K, &'a [u8]>,
+    item: Option<(K, &'a [u8])>,
+) -> Result<(), AllocError>
+    ensures { OnOk result (map named entries.new.entries
+        ≡ add_entry K.eq (map named entries.old.entries) (option_map named item.entry)) }
+{
+    match item {
+        None => Ok(()),
+        Some((key, name)) => add(entries, key, name),
+    }
+}
+
+/// A list of the GOT: what its globals hold, each once, with the names of the definitions. Clauses
+/// see it as a list.
+pub struct GotList<'a, K: Copy + Eq + Hash + Drop> {
     entries: IndexMap<K, &'a [u8]>,
+    /// The first place of each name.
     places: HashMap<&'a [u8], usize>,
 }
 
-impl<'a, K: Copy + Eq + Hash + Drop> Drop for NamedKeys<'a, K> {
+/// The definitions of data symbols whose address a global holds.
+pub type GotMem<'a> = GotList<'a, Definition>;
+
+/// The definitions of function symbols whose slot a global holds, each with the function that it
+/// leads to.
+pub type GotFunc<'a> = GotList<'a, (Definition, FunctionTarget)>;
+
+impl<'a, K: Copy + Eq + Hash + Drop> Drop for GotList<'a, K> {
     fn drop(self) {
         let Self {
             entries: _,
@@ -48,221 +106,65 @@ impl<'a, K: Copy + Eq + Hash + Drop> Drop for NamedKeys<'a, K> {
     }
 }
 
-impl<'a, K: Copy + Eq + Hash + Drop> NamedKeys<'a, K> {
-    /// No keys.
-    pub(crate) fn new(alloc: Global) -> Self
-        ensures entries { result.entries.entries ≡ [] }
-        ensures places { ArePlaces result.places result.entries.entries }
-    {
-        NamedKeys {
-            entries: IndexMap::new(alloc),
-            places: HashMap::new(alloc),
-        }
-    }
+impl<'a, K: Copy + Eq + Hash + Drop> Model for GotList<'a, K> {
+    ghost use Rattle.std.specs.Prelude.{List, map};
+    ghost use Rattle.wl_bind.specs.Scan.{Named};
+    ghost use Rattle.wl_bind.specs.GotSteps.{named, ArePlaces};
 
-    /// Adds a key with its name, unless the same key is there.
+    ghost Value = { List (Named K) };
+
+    ghost view = { λ g. map named g.entries.entries };
+
+    ghost invariant = { λ g. ArePlaces g.places g.entries.entries };
+}
+
+impl<'a, K: Copy + Eq + Hash + Drop> GotList<'a, K> {
+    /// The list of these entries.
     ///
     /// # Errors
     /// `AllocError` where memory runs out.
-    pub(crate) fn add(&mut self, key: K, name: &'a [u8]) -> Result<(), AllocError>
-        requires { ArePlaces self.old.places self.old.entries.entries }
-        ensures entries { OnOk result
-            (self.new.entries.entries
-            ≡ insert_named K.eq self.old.entries.entries key name.entry) }
-        ensures places { OnOk result (ArePlaces self.new.places self.new.entries.entries) }
+    pub(crate) fn new(alloc: Global, entries: IndexMap<K, &'a [u8]>) -> Result<Self, AllocError>
+        ensures { IfOk result (λ list. list ≡ map named entries.entry.entries) }
     {
-        if self.entries.contains_key(&key) {
-            return Ok(());
-        }
-        let place = self.entries.len();
-        self.entries.insert(key, name)?;
-        note_name(&mut self.places, name, place)
+        let places = name_places(alloc, &entries)?;
+        Ok(GotList { entries, places })
     }
 
-    /// Adds a key with its name, where there is one, unless the same key is there.
-    ///
-    /// # Errors
-    /// `AllocError` where memory runs out.
-    pub(crate) fn add_some(&mut self, item: Option<(K, &'a [u8])>) -> Result<(), AllocError>
-        requires { ArePlaces self.old.places self.old.entries.entries }
-        ensures entries { OnOk result
-            (self.new.entries.entries
-            ≡ insert_some_named K.eq self.old.entries.entries item.entry) }
-        ensures places { OnOk result (ArePlaces self.new.places self.new.entries.entries) }
-    {
-        match item {
-            None => Ok(()),
-            Some((key, name)) => self.add(key, name),
-        }
-    }
-
-    /// How many keys there are.
-    fn len(&self) -> usize
-        ensures { result ≡ length self.now.entries.entries }
+    /// How many entries there are.
+    pub fn len(&self) -> usize
+        ensures { result ≡ length self.now }
     {
         self.entries.len()
     }
 
-    /// The place of a key.
-    fn place(&self, key: K) -> Option<usize>
-        ensures { result ≡ position (λ e. K.eq key e.0) self.now.entries.entries }
+    /// Whether there are none.
+    pub fn is_empty(&self) -> bool
+        ensures { result ≡ (length self.now == 0) }
+    {
+        self.entries.len() == 0
+    }
+
+    /// The place of what a global holds.
+    pub fn place(&self, key: K) -> Option<usize>
+        ensures { result ≡ position (λ e. K.eq key e.key) self.now }
     {
         self.entries.get_index_of(&key)
     }
 
-    /// The first place whose key has the name, an empty one being none.
-    fn place_of_name(&self, name: &str) -> Option<usize>
-        requires { ArePlaces self.now.places self.now.entries.entries }
-        ensures { result ≡ place_named self.now.entries.entries name.now }
+    /// The first place whose definition has the name, an empty one being none.
+    pub fn place_of_name(&self, name: &str) -> Option<usize>
+        ensures { result
+            ≡ position (λ e. not (length name.now == 0) && bytes_eq e.name name.now) self.now }
     {
         self.places.get(name.as_bytes()).copied()
     }
 
-    /// The key of a place.
-    fn key(&self, place: usize) -> Option<K>
-        ensures { result ≡ option_map (λ e. e.0) (slice_get self.now.entries.entries place) }
+    /// What the global of a place holds.
+    pub fn key(&self, place: usize) -> Option<K>
+        ensures { result ≡ option_map (λ e. e.key) (slice_get self.now place) }
     {
         let (key, _) = self.entries.get_index(place)?;
         Some(*key)
-    }
-}
-
-/// The definitions of data symbols whose address a global holds, each once, with their names.
-#[derive(Drop)]
-pub struct GotMem<'a> {
-    list: NamedKeys<'a, Definition>,
-}
-
-impl<'a> Model for GotMem<'a> {
-    ghost use Rattle.std.specs.Prelude.{List, map};
-    ghost use Rattle.wl_bind.specs.Scan.{GotMemEntry};
-    ghost use Rattle.wl_bind.specs.GotSteps.{mem_entry, ArePlaces};
-
-    ghost Value = { List GotMemEntry };
-
-    ghost view = { λ g. map mem_entry g.list.entries.entries };
-
-    ghost invariant = { λ g. ArePlaces g.list.places g.list.entries.entries };
-}
-
-impl<'a> GotMem<'a> {
-    /// The list of these definitions.
-    pub(crate) fn of(list: NamedKeys<'a, Definition>) -> Self
-        requires { ArePlaces list.places list.entries.entries }
-        ensures { result ≡ map mem_entry list.entry.entries.entries }
-    {
-        GotMem { list }
-    }
-
-    /// How many entries there are.
-    pub fn len(&self) -> usize
-        ensures { result ≡ length self.now }
-    {
-        self.list.len()
-    }
-
-    /// Whether there are none.
-    pub fn is_empty(&self) -> bool
-        ensures { result ≡ (length self.now == 0) }
-    {
-        self.list.len() == 0
-    }
-
-    /// The place of a definition.
-    pub fn place(&self, definition: Definition) -> Option<usize>
-        ensures { result ≡ position (λ e. same_definition definition e.definition) self.now }
-    {
-        self.list.place(definition)
-    }
-
-    /// The first place whose definition has the name, an empty one being none.
-    pub fn place_of_name(&self, name: &str) -> Option<usize>
-        ensures { result
-            ≡ position (λ e. not (length name.now == 0) && bytes_eq e.name name.now) self.now }
-    {
-        self.list.place_of_name(name)
-    }
-
-    /// The definition of a place.
-    pub fn definition(&self, place: usize) -> Option<Definition>
-        ensures { result ≡ option_map (λ e. e.definition) (slice_get self.now place) }
-    {
-        self.list.key(place)
-    }
-}
-
-/// The definitions of function symbols whose slot a global holds, each once with the function that
-/// it leads to, with their names.
-#[derive(Drop)]
-pub struct GotFunc<'a> {
-    list: NamedKeys<'a, (Definition, FunctionTarget)>,
-}
-
-impl<'a> Model for GotFunc<'a> {
-    ghost use Rattle.std.specs.Prelude.{List, map};
-    ghost use Rattle.wl_bind.specs.Scan.{GotFuncEntry};
-    ghost use Rattle.wl_bind.specs.GotSteps.{func_entry, ArePlaces};
-
-    ghost Value = { List GotFuncEntry };
-
-    ghost view = { λ g. map func_entry g.list.entries.entries };
-
-    ghost invariant = { λ g. ArePlaces g.list.places g.list.entries.entries };
-}
-
-impl<'a> GotFunc<'a> {
-    /// The list of these definitions and functions.
-    pub(crate) fn of(list: NamedKeys<'a, (Definition, FunctionTarget)>) -> Self
-        requires { ArePlaces list.places list.entries.entries }
-        ensures { result ≡ map func_entry list.entry.entries.entries }
-    {
-        GotFunc { list }
-    }
-
-    /// How many entries there are.
-    pub fn len(&self) -> usize
-        ensures { result ≡ length self.now }
-    {
-        self.list.len()
-    }
-
-    /// Whether there are none.
-    pub fn is_empty(&self) -> bool
-        ensures { result ≡ (length self.now == 0) }
-    {
-        self.list.len() == 0
-    }
-
-    /// The place of a definition with the function that it leads to.
-    pub fn place(&self, definition: Definition, target: FunctionTarget) -> Option<usize>
-        ensures { result ≡
-            position (λ e. same_pair (definition, target) (e.definition, e.target)) self.now }
-    {
-        self.list.place((definition, target))
-    }
-
-    /// The first place whose definition has the name, an empty one being none.
-    pub fn place_of_name(&self, name: &str) -> Option<usize>
-        ensures { result
-            ≡ position (λ e. not (length name.now == 0) && bytes_eq e.name name.now) self.now }
-    {
-        self.list.place_of_name(name)
-    }
-
-    /// The definition of a place.
-    pub fn definition(&self, place: usize) -> Option<Definition>
-        ensures { result ≡ option_map (λ e. e.definition) (slice_get self.now place) }
-    {
-        let (definition, _) = self.list.key(place)?;
-        Some(definition)
-    }
-
-    /// The function of a place.
-    pub fn target(&self, place: usize) -> Option<FunctionTarget>
-        ensures { result ≡ option_map (λ e. e.target) (slice_get self.now place) }
-    {
-        let (_, target) = self.list.key(place)?;
-        Some(target)
     }
 }
 

@@ -1,9 +1,8 @@
 //! The globals that hold the addresses and slots of the symbols of an object.
 
-ghost use Rattle.std.specs.Prelude.{◌≡◌, ◌==◌, false, map, length, replicate, IfOk, IsSome, Some, None, slice_get};
+ghost use Rattle.std.specs.Prelude.{◌≡◌, map, length, replicate, IfOk, IsSome, Some, None, slice_get};
 ghost use Rattle.std.specs.List.{range_with_len};
 ghost use Rattle.wl_symbols.specs.Entries.{symbol_in};
-ghost use Rattle.wl_bind.specs.FunctionSymbols.{function_bindings};
 ghost use Rattle.wl_bind.specs.GlobalSpace.{global_space};
 ghost use Rattle.wl_bind.specs.steps.GotGlobals.{marked, mem_global_if, func_global_if};
 ghost use Rattle.wl_bind.specs.IndexMaps.{has_global, mem_place, got_mem_globals, func_place, got_func_globals};
@@ -11,7 +10,6 @@ ghost use Rattle.wl_bind.specs.steps.Numbering.{IsNumbering};
 ghost use Rattle.wl_bind.specs.Parts.{IsPlaceOf, ArePlacesOf};
 
 use crate::numbering::Numbering;
-use crate::targets::FunctionBindings;
 use std::alloc::{AllocError, Global};
 use wl_linking::File;
 use wl_lists::ItemList;
@@ -97,44 +95,36 @@ fn got_mem_global(
 
 /// The place of the definition of a symbol, with the function that it leads to, in the GOT list of
 /// functions.
-fn func_place(
-    numbering: &Numbering<'_, '_, '_>,
-    bindings: &FunctionBindings,
-    object: usize,
-    number: u32,
-) -> Option<usize>
+fn func_place(numbering: &Numbering<'_, '_, '_>, object: usize, number: u32) -> Option<usize>
     requires numbering { IsNumbering numbering.now.input.now numbering.now }
-    requires bindings { bindings.now ≡ function_bindings numbering.now.input.now }
     requires there { IsSome (symbol_in numbering.now.input.now.link.objects object number) }
     ensures { result ≡ func_place numbering.now.input.now object number }
 {
-    let function = bindings.function(numbering.input, object, number)?;
+    let function = numbering
+        .bindings
+        .function(numbering.input, object, number)?;
     let definition = numbering.input.symbols().definition(object, number);
     let scan = numbering.scan;
-    scan.got_func.place(definition, function)
+    scan.got_func.place((definition, function))
 }
 
 /// The index of the global with the slot of the function that a symbol leads to, if it is marked and
 /// the GOT list of functions has its definition.
 fn got_func_global(
     numbering: &Numbering<'_, '_, '_>,
-    bindings: &FunctionBindings,
     object: usize,
     number: u32,
     mark: bool,
 ) -> Option<u32>
     requires numbering { IsNumbering numbering.now.input.now numbering.now }
-    requires bindings { (length numbering.now.scan.now.got_func == 0) ≡ false
-        → bindings.now ≡ function_bindings numbering.now.input.now }
     requires there { IsSome (symbol_in numbering.now.input.now.link.objects object number) }
     ensures { IsPlaceOf (global_space numbering.now.input.now)
         (func_global_if numbering.now.input.now object number mark) result }
 {
-    let scan = numbering.scan;
-    if !mark || scan.got_func.is_empty() {
+    if !mark {
         return None;
     }
-    let place = func_place(numbering, bindings, object, number)?;
+    let place = func_place(numbering, object, number)?;
     Some(numbering.indices.got_func(place))
 }
 
@@ -158,13 +148,10 @@ pub(crate) struct GotGlobals {
 pub(crate) fn got_globals(
     alloc: Global,
     numbering: &Numbering<'_, '_, '_>,
-    bindings: &FunctionBindings,
     object: usize,
     file: &File<'_>,
 ) -> Result<GotGlobals, AllocError>
     requires numbering { IsNumbering numbering.now.input.now numbering.now }
-    requires bindings { (length numbering.now.scan.now.got_func == 0) ≡ false
-        → bindings.now ≡ function_bindings numbering.now.input.now }
     requires here { slice_get numbering.now.input.now.link.objects object ≡ Some file.now }
     ensures mem { let input = numbering.now.input.now in IfOk result
         (λ globals. ArePlacesOf (global_space input) (got_mem_globals input object file.now)
@@ -188,7 +175,7 @@ pub(crate) fn got_globals(
     for (number, mark) in marks.iter().enumerate() {
         let symbol = number as u32;
         mem.push(got_mem_global(numbering, object, symbol, *mark))?;
-        func.push(got_func_global(numbering, bindings, object, symbol, *mark))?;
+        func.push(got_func_global(numbering, object, symbol, *mark))?;
     }
     Ok(GotGlobals { mem, func })
 }

@@ -1,20 +1,17 @@
 //! Where the things of each object stand in the output.
 
-ghost use Rattle.std.specs.Prelude.{◌≡◌, ◌==◌, ◌<◌, false, length, slice_get, IfOk, Some};
+ghost use Rattle.std.specs.Prelude.{◌≡◌, ◌<◌, length, slice_get, IfOk, Some};
 ghost use Rattle.wl_linking.specs.Object.{Object as SpecObject};
-ghost use Rattle.wl_bind.specs.FunctionSymbols.{function_bindings};
 ghost use Rattle.wl_bind.specs.steps.IndexMaps.{AreMapSources};
 ghost use Rattle.wl_bind.specs.IndexMaps.{IsIndexMap, AreIndexMaps};
 ghost use Rattle.wl_bind.specs.steps.Numbering.{IsNumbering};
 ghost use Rattle.wl_bind.specs.OutputTypes.{IsMerged};
 
-use crate::function_slots::FunctionSlots;
 use crate::got_globals::got_globals;
 use crate::merging::MergedTypes;
 use crate::numbering::Numbering;
 use crate::own_indices::Own;
 use crate::redirects::function_redirects;
-use crate::targets::FunctionBindings;
 use std::alloc::{AllocError, Global};
 use wl_index::WasmObjectIndexMap;
 use wl_lists::ItemList;
@@ -24,8 +21,6 @@ use wl_lists::ItemList;
 struct MapSources<'m, 'n, 'i, 'a> {
     /// What the things of objects are numbered by.
     numbering: &'m Numbering<'n, 'i, 'a>,
-    /// The functions that function slots are bound to; rows of no object where no map asks for any.
-    bindings: &'m FunctionBindings,
     /// The output types of the types of each object.
     types: &'m [ItemList<u32>],
     /// The indices of the functions of each object.
@@ -63,7 +58,7 @@ fn index_map(
     let input = sources.numbering.input;
     let files = input.files().as_slice();
     let file = &files[object];
-    let got = got_globals(alloc, sources.numbering, sources.bindings, object, file)?;
+    let got = got_globals(alloc, sources.numbering, object, file)?;
     Ok(WasmObjectIndexMap {
         type_indices: row_copy(alloc, sources.types, object)?,
         function_indices: row_copy(alloc, sources.functions, object)?,
@@ -82,22 +77,6 @@ fn index_map(
     })
 }
 
-/// The functions that function slots are bound to, where the GOT list of functions asks for any.
-fn asked_bindings(
-    alloc: Global,
-    numbering: &Numbering<'_, '_, '_>,
-) -> Result<FunctionBindings, AllocError>
-    ensures { IfOk result (λ b. (length numbering.now.scan.now.got_func == 0) ≡ false
-        → b ≡ function_bindings numbering.now.input.now) }
-{
-    let scan = numbering.scan;
-    if scan.got_func.is_empty() {
-        return Ok(FunctionBindings::of(Vec::new(alloc)));
-    }
-    let slots = FunctionSlots::new(alloc, numbering.input)?;
-    Ok(slots.bindings)
-}
-
 /// The maps of all objects.
 ///
 /// # Errors
@@ -111,12 +90,10 @@ pub(crate) fn index_maps_of(
     requires types { IsMerged numbering.now.input.now types.now }
     ensures { IfOk result (AreIndexMaps numbering.now.input.now) }
 {
-    let bindings = asked_bindings(alloc, numbering)?;
     let functions = numbering.rows_of(alloc, Own::Functions)?;
     let globals = numbering.rows_of(alloc, Own::Globals)?;
     let sources = MapSources {
         numbering,
-        bindings: &bindings,
         types: types.indices.as_slice(),
         functions: functions.as_slice(),
         globals: globals.as_slice(),

@@ -15,7 +15,7 @@ ghost use Rattle.wl_bind.specs.Resolutions.{resolutions, by_all_rules};
 ghost use Rattle.wl_bind.specs.Sameness.{same_made};
 ghost use Rattle.wl_bind.specs.Scan.{scan_of};
 ghost use Rattle.wl_bind.specs.Shared.{shared_of};
-ghost use Rattle.wl_bind.specs.SpaceFaults.{IsSpaceOver};
+ghost use Rattle.wl_bind.specs.SpaceFaults.{ArePartsOver};
 ghost use Rattle.wl_bind.specs.declared.binding.GlobalTarget.TheVariants as Globals;
 
 use crate::exported::{ExportedData, exported_data};
@@ -92,13 +92,6 @@ impl Drop for LinkerDefinedIndices {
     }
 }
 
-/// One entry, or none.
-fn one_if(exists: bool) -> usize
-    ensures { result ≡ (if exists then 1 else 0) }
-{
-    if exists { 1 } else { 0 }
-}
-
 /// How many entries what the linker makes under a name has in the output.
 fn count_made(
     input: &LinkInput<'_, '_>,
@@ -108,7 +101,7 @@ fn count_made(
     requires { needs ≡ linker_needs input.now }
     ensures { result ≡ (if is_made input.now made then 1 else 0) }
 {
-    one_if(is_made(input, needs, made))
+    usize::from(is_made(input, needs, made))
 }
 
 /// Each stub has a type, since objects are whole.
@@ -150,7 +143,7 @@ fn function_starts(
         shared.functions().len(),
         count_made(input, needs.absorption, WasmLinkerSymbol::CallCtors),
         count_made(input, needs.absorption, WasmLinkerSymbol::InitTls),
-        one_if(needs.init_memory),
+        usize::from(needs.init_memory),
         stubs.len(),
     ];
     PartStarts::new(alloc, &lengths)
@@ -197,7 +190,8 @@ impl LinkerDefinedIndices {
     /// host is asked for.
     ///
     /// # Errors
-    /// `TooLarge` where a space would get more than 4294967294 entries.
+    /// `TooLarge` where more than 4294967294 entries come before the objects' functions, or before
+    /// their globals.
     pub fn compute(
         alloc: Global,
         input: &LinkInput<'_, '_>,
@@ -211,7 +205,7 @@ impl LinkerDefinedIndices {
         requires shared { shared.now ≡ shared_of input.now }
         requires stubs { stubs.now ≡ stub_types input.now }
         ensures ok { IfOk result (AreMadeIndices input.now) }
-        ensures err { IfErr result (IsSpaceOver input.now) }
+        ensures err { IfErr result (ArePartsOver input.now) }
     {
         let needs = linker_needs(alloc, input, rows, scan)?;
         let functions = function_starts(alloc, input, needs, shared, stubs)?;

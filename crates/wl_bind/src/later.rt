@@ -34,15 +34,7 @@ impl ImportResolution {
     pub fn is_unresolved(self) -> bool
         ensures { result ≡ is_unresolved self }
     {
-        match self {
-            ImportResolution::Unresolved => true,
-            ImportResolution::ResolvedFunction { .. }
-            | ImportResolution::ResolvedGlobal { .. }
-            | ImportResolution::LinkerDefined(_)
-            | ImportResolution::WeakUndefStub { .. }
-            | ImportResolution::GotMemSlot(_)
-            | ImportResolution::GotFuncSlot(_) => false,
-        }
+        matches!(self, ImportResolution::Unresolved)
     }
 }
 

@@ -32,7 +32,6 @@ mod stubs;
 
 // What is left to the host, and what refuses it.
 mod conflicts;
-mod first_slots;
 mod report;
 mod shared;
 
@@ -59,17 +58,20 @@ mod type_marks;
 // Laws.
 mod binding_laws;
 mod laws;
+mod link_laws;
 mod reference_laws;
 mod space_laws;
 
 pub use absorbing::absorb_got_imports;
 pub use binding::{FunctionTarget, GlobalTarget};
-pub use binding_laws::{functions_have_their_types, slots_are_bound_by_one_rule};
+pub use binding_laws::{
+    bound_slots_are_kept, functions_have_their_types, slots_are_bound_by_one_rule,
+};
 pub use bound::{BoundReferences, bind_references};
 pub use build::{BoundIndices, build_index_maps};
 pub use exported::{DataSymbol, ExportedData};
 pub use function_slots::stub_imports;
-pub use got::{GotFunc, GotMem, TableFunctions};
+pub use got::{GotFunc, GotList, GotMem, TableFunctions};
 pub use indices::LinkerDefinedIndices;
 pub use laws::{same_targets_are_one, stubs_have_no_slot, table_functions_stand_once};
 pub use merging::{MergedTypes, merge_live_output_types};

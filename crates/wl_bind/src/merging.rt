@@ -1,8 +1,7 @@
 //! The types of the output, and where the types of each object went.
 
-ghost use Rattle.std.specs.Prelude.{◌≡◌, ◌<◌, ◌∷◌, ◌++◌, [], Some, length, slice_get, IfOk, IfErr, OnOk};
+ghost use Rattle.std.specs.Prelude.{◌≡◌, ◌∷◌, ◌++◌, [], Some, length, slice_get, IfOk, IfErr, OnOk};
 ghost use Rattle.indexmap.specs.IndexSet.{insert_all};
-ghost use Rattle.wl_linking.specs.Object.{Object as SpecObject};
 ghost use Rattle.wl_module.specs.Types.{same_type};
 ghost use Rattle.wl_types.specs.Types.{IsFull};
 ghost use Rattle.wl_bind.specs.FunctionTypes.{stub_types};
@@ -18,7 +17,7 @@ use crate::resolution::ObjectImportResolutions;
 use crate::type_marks::live_marks;
 use std::alloc::{AllocError, Global};
 use wl_index::WASM_DEAD_INDEX;
-use wl_linking::LinkError;
+use wl_linking::{File, LinkError};
 use wl_lists::ItemList;
 use wl_module::{FuncType, ValType};
 use wl_symbols::{LinkInput, WasmLinkerSymbol};
@@ -79,18 +78,17 @@ fn merge_object(
     input: &LinkInput<'_, '_>,
     rows: &[ObjectImportResolutions],
     object: usize,
+    file: &File<'_>,
 ) -> Result<ItemList<u32>, LinkError>
     requires rows { rows.now ≡ resolutions input.now (by_all_rules input.now) }
-    requires within { object < length input.now.link.objects }
-    ensures types { (o : SpecObject) → slice_get input.now.link.objects object ≡ Some o
-        → OnOk result (merger.new ≡ merged merger.old (local_types input.now object o)) }
-    ensures indices { (o : SpecObject) → slice_get input.now.link.objects object ≡ Some o
-        → IfOk result (AreIndicesOf merger.new (local_types input.now object o)) }
-    ensures err { (o : SpecObject) → slice_get input.now.link.objects object ≡ Some o
-        → IfErr result (IsFull (merged merger.old (local_types input.now object o))) }
+    requires here { slice_get input.now.link.objects object ≡ Some file.now }
+    ensures types { OnOk result
+        (merger.new ≡ merged merger.old (local_types input.now object file.now)) }
+    ensures indices { IfOk result
+        (AreIndicesOf merger.new (local_types input.now object file.now)) }
+    ensures err { IfErr result
+        (IsFull (merged merger.old (local_types input.now object file.now))) }
 {
-    let files = input.files().as_slice();
-    let file = &files[object];
     let marks = live_marks(alloc, input, rows, object, file)?;
     merge_marked(alloc, merger, file.types(), &marks)
 }
@@ -110,12 +108,13 @@ fn merge_objects(
     ensures err { IfErr result (IsFull (insert_all same_type []
         (by_object (live_types input.now) 0 input.now.link.objects))) }
 {
+    let files = input.files().as_slice();
     let mut merged = MergedTypes {
         types: TypeMerger::new(alloc),
         indices: ItemList::empty(alloc),
     };
-    for object in 0..input.files().len() {
-        let row = merge_object(alloc, &mut merged.types, input, rows, object)?;
+    for (object, file) in files.iter().enumerate() {
+        let row = merge_object(alloc, &mut merged.types, input, rows, object, file)?;
         merged.indices.push(row)?;
     }
     Ok(merged)

@@ -88,15 +88,7 @@ pub fn is_made(
 fn leads_to(resolution: &ImportResolution, made: WasmLinkerSymbol) -> bool
     ensures { result ≡ leads_to made resolution.now }
 {
-    match resolution {
-        ImportResolution::LinkerDefined(other) => made == *other,
-        ImportResolution::Unresolved
-        | ImportResolution::ResolvedFunction { .. }
-        | ImportResolution::ResolvedGlobal { .. }
-        | ImportResolution::WeakUndefStub { .. }
-        | ImportResolution::GotMemSlot(_)
-        | ImportResolution::GotFuncSlot(_) => false,
-    }
+    matches!(resolution, ImportResolution::LinkerDefined(other) if made == *other)
 }
 
 /// Whether a slot of an object is resolved to what the linker makes.
@@ -119,11 +111,7 @@ fn any_row_leads_to(rows: &[ObjectImportResolutions], made: WasmLinkerSymbol) ->
 }
 
 /// Whether it is asked for already, or a kept slot is bound to it.
-fn is_asked_or_bound(
-    rows: &[ObjectImportResolutions],
-    is_asked: bool,
-    made: WasmLinkerSymbol,
-) -> bool
+fn is_needed(rows: &[ObjectImportResolutions], is_asked: bool, made: WasmLinkerSymbol) -> bool
     ensures { (input : Linked) → rows.now ≡ resolutions input (by_all_rules input)
         → result ≡ (is_asked || is_bound input made) }
 {
@@ -228,9 +216,9 @@ fn has_shared_tls(
     requires kept { keeps_data ≡ any_object (keeps_thread_data input.now) 0 input.now.link.objects }
     ensures { result ≡ has_shared_tls input.now }
 {
-    let is_asked = is_asked_or_bound(rows, false, WasmLinkerSymbol::InitTls);
-    let is_asked = is_asked_or_bound(rows, is_asked, WasmLinkerSymbol::TlsAlign);
-    let is_asked = is_asked_or_bound(rows, is_asked, WasmLinkerSymbol::TlsSize);
+    let is_asked = is_needed(rows, false, WasmLinkerSymbol::InitTls);
+    let is_asked = is_needed(rows, is_asked, WasmLinkerSymbol::TlsAlign);
+    let is_asked = is_needed(rows, is_asked, WasmLinkerSymbol::TlsSize);
     input.args().shared_memory && (keeps_data || is_asked)
 }
 
@@ -275,21 +263,13 @@ pub(crate) fn linker_needs(
     let needs = scan.needs;
     Ok(LinkerNeeds {
         absorption: LinkerImportAbsorption {
-            needs_memory_base: is_asked_or_bound(
-                rows,
-                needs.memory_base,
-                WasmLinkerSymbol::MemoryBase,
-            ),
-            needs_table_base: is_asked_or_bound(
-                rows,
-                needs.table_base,
-                WasmLinkerSymbol::TableBase,
-            ),
-            needs_tls_base: is_asked_or_bound(rows, has_block, WasmLinkerSymbol::TlsBase),
+            needs_memory_base: is_needed(rows, needs.memory_base, WasmLinkerSymbol::MemoryBase),
+            needs_table_base: is_needed(rows, needs.table_base, WasmLinkerSymbol::TableBase),
+            needs_tls_base: is_needed(rows, has_block, WasmLinkerSymbol::TlsBase),
             needs_tls_size: has_block,
             needs_tls_align: has_block,
             needs_init_tls: has_block,
-            needs_ctors: is_asked_or_bound(rows, has_functions, WasmLinkerSymbol::CallCtors),
+            needs_ctors: is_needed(rows, has_functions, WasmLinkerSymbol::CallCtors),
         },
         init_memory: input.args().shared_memory && kept.common,
     })

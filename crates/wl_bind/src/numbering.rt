@@ -9,28 +9,27 @@ ghost use Rattle.wl_index.specs.declared.index.TheConstants.{WASM_DEAD_INDEX, MA
 ghost use Rattle.wl_symbols.specs.Input.{keeps_slot};
 ghost use Rattle.wl_bind.specs.MadeIndices.{AreMadeIndices};
 ghost use Rattle.wl_bind.specs.steps.Numbering.{IsNumbering};
-ghost use Rattle.wl_bind.specs.steps.Numbered.{HasRoom, behind_first, FitsOwn, own_indices_of, FitsPlace, HasIndex, IsIndexOfMade, IsResolvedIndex, resolution_of, HaveSlotIndices, IsSlotIndex, made_end, row_part, firsts_of, AreObjectIndices, SlotLaws};
+ghost use Rattle.wl_bind.specs.steps.Numbered.{HasRoom, behind_first, FitsOwn, own_indices_of, FitsPlace, HasIndex, IsIndexOfMade, IsResolvedIndex, resolution_of, HaveSlotIndices, IsSlotIndex, row_part, firsts_of, AreObjectIndices};
 ghost use Rattle.wl_bind.specs.steps.OwnIndices.{own_unit, own_index, own_firsts, space_length};
 ghost use Rattle.wl_bind.specs.Parts.{AreRows};
-ghost use Rattle.wl_bind.specs.Resolutions.{resolutions, by_all_rules};
-ghost use Rattle.wl_bind.specs.Scan.{scan_of};
-ghost use Rattle.wl_bind.specs.Shared.{shared_of, place_at};
+ghost use Rattle.wl_bind.specs.Bound.{bound_of};
+ghost use Rattle.wl_bind.specs.Shared.{place_at};
 ghost use Rattle.wl_bind.specs.declared.resolution.ObjectImportResolutions.{ObjectImportResolutions as Row};
 ghost use Rattle.wl_bind.specs.SpaceFaults.{IsSpaceOver};
 
+use crate::bound::BoundReferences;
 use crate::indices::LinkerDefinedIndices;
-use crate::own_indices::{Own, first_indices};
+use crate::link_laws::link_laws;
+use crate::own_indices::{Own, own_firsts};
 use crate::resolution::{ImportResolution, ObjectImportResolutions};
 use crate::scan::RelocScan;
 use crate::shared::SharedUnresolvedImports;
+use crate::targets::FunctionBindings;
 use std::alloc::{AllocError, Global};
 use wl_index::WASM_DEAD_INDEX;
-use wl_linking::{LinkError, WasmSymbolKind, whole_objects};
+use wl_linking::{LinkError, WasmSymbolKind};
 use wl_lists::ItemList;
-use wl_symbols::{
-    LinkInput, WasmGcUnit, WasmLinkerSymbol, host_imports_are_found, live_units_are_closed,
-    name_by_cases, slots_are_numbered, targets_by_cases,
-};
+use wl_symbols::{LinkInput, WasmGcUnit, WasmLinkerSymbol};
 
 /// What the things of objects are numbered by.
 #[derive(Drop)]
@@ -43,6 +42,8 @@ pub(crate) struct Numbering<'n, 'i, 'a> {
     pub(crate) scan: &'n RelocScan<'a>,
     /// What the host is asked for.
     pub(crate) shared: &'n SharedUnresolvedImports<'a>,
+    /// The functions that function slots are bound to.
+    pub(crate) bindings: &'n FunctionBindings,
     /// Where the parts of the spaces begin.
     pub(crate) indices: &'n LinkerDefinedIndices,
     /// The first index of the functions of each object.
@@ -70,31 +71,6 @@ fn own_index(input: &LinkInput<'_, '_>, firsts: &[u32], object: usize, unit: Was
     }
 }
 
-/// The index after all that no object defines.
-fn made_end(indices: &LinkerDefinedIndices, own: Own) -> u32
-    ensures { result ≡ made_end indices.now own }
-{
-    match own {
-        Own::Functions => indices.functions_end(),
-        Own::Globals => indices.globals_end(),
-    }
-}
-
-/// The first index of what each object defines.
-fn own_firsts(
-    alloc: Global,
-    input: &LinkInput<'_, '_>,
-    indices: &LinkerDefinedIndices,
-    own: Own,
-) -> Result<Vec<u32>, LinkError>
-    requires { AreMadeIndices input.now indices.now }
-    ensures firsts { IfOk result (λ firsts. firsts.items ≡ own_firsts input.now own) }
-    ensures room { OnOk result (space_length input.now own ≤ MAX_ENTRIES) }
-    ensures err { IfErr result (IsSpaceOver input.now) }
-{
-    first_indices(alloc, input, own, made_end(indices, own))
-}
-
 /// Adds the indices of so many things that an object defines.
 fn push_own(
     indices: &mut ItemList<u32>,
@@ -116,18 +92,6 @@ fn push_own(
     Ok(())
 }
 
-/// What the indices of the slots of an object follow from.
-fn slots_have_indices()
-    ensures { SlotLaws }
-{
-    whole_objects();
-    slots_are_numbered();
-    name_by_cases();
-    targets_by_cases();
-    host_imports_are_found();
-    live_units_are_closed();
-}
-
 impl<'n, 'i, 'a> Numbering<'n, 'i, 'a> {
     /// What the things of objects are numbered by.
     ///
@@ -136,25 +100,22 @@ impl<'n, 'i, 'a> Numbering<'n, 'i, 'a> {
     pub(crate) fn new(
         alloc: Global,
         input: &'n LinkInput<'i, 'a>,
-        rows: &'n [ObjectImportResolutions],
-        scan: &'n RelocScan<'a>,
-        shared: &'n SharedUnresolvedImports<'a>,
+        bound: &'n BoundReferences<'a>,
         indices: &'n LinkerDefinedIndices,
     ) -> Result<Self, LinkError>
-        requires rows { rows.now ≡ resolutions input.now (by_all_rules input.now) }
-        requires scan { scan.now ≡ scan_of input.now }
-        requires shared { shared.now ≡ shared_of input.now }
+        requires bound { bound.now ≡ bound_of input.now }
         requires indices { AreMadeIndices input.now indices.now }
         ensures ok { IfOk result (IsNumbering input.now) }
         ensures err { IfErr result (IsSpaceOver input.now) }
     {
-        let functions = own_firsts(alloc, input, indices, Own::Functions)?;
-        let globals = own_firsts(alloc, input, indices, Own::Globals)?;
+        let functions = own_firsts(alloc, input, Own::Functions, indices.functions_end())?;
+        let globals = own_firsts(alloc, input, Own::Globals, indices.globals_end())?;
         Ok(Numbering {
             input,
-            rows,
-            scan,
-            shared,
+            rows: bound.resolutions.as_slice(),
+            scan: &bound.scan,
+            shared: &bound.shared,
+            bindings: &bound.functions,
             indices,
             function_firsts: functions,
             global_firsts: globals,
@@ -299,7 +260,7 @@ impl<'n, 'i, 'a> Numbering<'n, 'i, 'a> {
             (λ row. (o : SpecObject) → slice_get input.link.objects object ≡ Some o
             → AreObjectIndices input own object o row) }
     {
-        slots_have_indices();
+        link_laws();
         let files = self.input.files().as_slice();
         let file = &files[object];
         file.stands_for_an_object();

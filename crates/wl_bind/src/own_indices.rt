@@ -1,11 +1,10 @@
 //! The indices of what objects define.
 
-ghost use Rattle.std.specs.Prelude.{◌≡◌, ◌<◌, ◌≤◌, ◌+◌, Some, length, slice_get, IfOk, IfErr, OnOk};
+ghost use Rattle.std.specs.Prelude.{◌≡◌, ◌≤◌, length, IfOk, IfErr, OnOk};
 ghost use Rattle.wl_bytes.specs.declared.reader.TheConstants.{MAX_LEN};
-ghost use Rattle.wl_linking.specs.Object.{Object as SpecObject};
 ghost use Rattle.wl_index.specs.declared.index.TheConstants.{MAX_ENTRIES};
-ghost use Rattle.wl_bind.specs.steps.OwnIndices.{own_kind, own_unit, own_count, kept_own, firsts_from, kept_count};
-ghost use Rattle.wl_bind.specs.Parts.{IsOver};
+ghost use Rattle.wl_bind.specs.steps.OwnIndices.{own_kind, own_unit, own_count, kept_own, own_start, own_firsts, space_length};
+ghost use Rattle.wl_bind.specs.SpaceFaults.{IsSpaceOver};
 
 use crate::parts::behind;
 use std::alloc::Global;
@@ -54,14 +53,11 @@ impl Own {
 }
 
 /// How many an object defines that are kept.
-fn count_kept(input: &LinkInput<'_, '_>, own: Own, object: usize) -> usize
-    requires { object < length input.now.link.objects }
-    ensures { (o : SpecObject) → slice_get input.now.link.objects object ≡ Some o
-        → result ≡ length (kept_own input.now own object o) }
+fn count_kept(input: &LinkInput<'_, '_>, own: Own, object: usize, file: &File<'_>) -> usize
+    ensures { result ≡ length (kept_own input.now own object file.now) }
 {
-    let files = input.files().as_slice();
     let mut kept = 0;
-    for number in 0..own.count(&files[object]) {
+    for number in 0..own.count(file) {
         if input.live().is_live(object, own.unit(number as u32)) {
             kept += 1;
         }
@@ -73,25 +69,24 @@ fn count_kept(input: &LinkInput<'_, '_>, own: Own, object: usize) -> usize
 ///
 /// # Errors
 /// `TooLarge` where the last index of all would be above 4294967293.
-pub(crate) fn first_indices(
+pub(crate) fn own_firsts(
     alloc: Global,
     input: &LinkInput<'_, '_>,
     own: Own,
     start: u32,
 ) -> Result<Vec<u32>, LinkError>
-    requires { start ≤ MAX_ENTRIES }
-    ensures firsts { IfOk result
-        (λ firsts. firsts.items ≡ firsts_from input.now own start 0 input.now.link.objects) }
-    ensures room { OnOk result
-        (start + kept_count input.now own 0 input.now.link.objects ≤ MAX_ENTRIES) }
-    ensures err { IfErr result
-        (IsOver (start + kept_count input.now own 0 input.now.link.objects)) }
+    requires start { start ≡ own_start input.now own }
+    requires few { start ≤ MAX_ENTRIES }
+    ensures firsts { IfOk result (λ firsts. firsts.items ≡ own_firsts input.now own) }
+    ensures room { OnOk result (space_length input.now own ≤ MAX_ENTRIES) }
+    ensures err { IfErr result (IsSpaceOver input.now) }
 {
+    let files = input.files().as_slice();
     let mut firsts = Vec::new(alloc);
     let mut next = start;
-    for object in 0..input.files().len() {
+    for (object, file) in files.iter().enumerate() {
         firsts.push(next)?;
-        next = behind(next, count_kept(input, own, object))?;
+        next = behind(next, count_kept(input, own, object, file))?;
     }
     Ok(firsts)
 }

@@ -1,6 +1,6 @@
 //! Where the parts of a space begin.
 
-ghost use Rattle.std.specs.Prelude.{◌≡◌, ◌<◌, ◌≤◌, ◌+◌, ◌^◌, IfOk, IfErr};
+ghost use Rattle.std.specs.Prelude.{◌≡◌, ◌≤◌, ◌+◌, IfOk, IfErr};
 ghost use Rattle.wl_index.specs.declared.index.TheConstants.{MAX_ENTRIES};
 ghost use Rattle.wl_bind.specs.steps.Parts.{entry_of};
 ghost use Rattle.wl_bind.specs.Parts.{starts_from, total, start_of, single_of, HasEntry, IsOver};
@@ -62,23 +62,19 @@ impl PartStarts {
     pub(crate) fn start(&self, part: usize) -> u32
         ensures { result ≡ start_of self.now part }
     {
-        match self.starts.as_slice().get(part) {
-            None => self.end,
-            Some(start) => *start,
-        }
+        self.starts
+            .as_slice()
+            .get(part)
+            .copied()
+            .unwrap_or(self.end)
     }
 
     /// The index of the one entry of a part, if it has one.
     pub(crate) fn single(&self, part: usize) -> Option<u32>
-        requires { part < 2 ^ 32 }
         ensures { result ≡ single_of self.now part }
     {
         let start = self.start(part);
-        if start < self.start(part + 1) {
-            Some(start)
-        } else {
-            None
-        }
+        (start < self.end_of(part)).then_some(start)
     }
 
     /// The index after the last entry of a part.
@@ -109,9 +105,6 @@ impl PartStarts {
         requires { HasEntry self.now part place }
         ensures { result ≡ start_of self.now part + place }
     {
-        match self.entry_at(part, place) {
-            None => self.end,
-            Some(index) => index,
-        }
+        self.entry_at(part, place).unwrap_or(self.end)
     }
 }

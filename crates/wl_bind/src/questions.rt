@@ -2,9 +2,9 @@
 
 ghost use Rattle.std.specs.Prelude.{◌≡◌, option_map};
 ghost use Rattle.wl_bind.specs.FunctionSymbols.{function_bindings};
-ghost use Rattle.wl_bind.specs.GotSteps.{mem_entry, func_entry};
+ghost use Rattle.wl_bind.specs.GotSteps.{named};
 ghost use Rattle.wl_bind.specs.Scan.{got_mem_of, got_mem_entry, got_func_of, got_func_entry};
-ghost use Rattle.wl_bind.specs.steps.Scanning.{asks_for_entries, entries_of, needs_by, no_faults, faults_of};
+ghost use Rattle.wl_bind.specs.steps.Scanning.{asks_for_entries, entries_of, needs_by, faults_of};
 ghost use Rattle.wl_bind.specs.steps.Walks.{entries_by, faults_by};
 
 use crate::binding::FunctionTarget;
@@ -21,7 +21,7 @@ use wl_symbols::{Definition, LinkInput, Relocated};
 
 /// The entry that a relocation asks for in the GOT list of data, with its name.
 fn named_mem<'a>(input: &LinkInput<'_, 'a>, relocated: &Relocated) -> Option<(Definition, &'a [u8])>
-    ensures { option_map mem_entry result
+    ensures { option_map named result
         ≡ option_map (got_mem_entry input.now) (got_mem_of input.now relocated.now) }
 {
     let definition = got_mem_of(input, relocated)?;
@@ -35,7 +35,7 @@ fn named_func<'a>(
     relocated: &Relocated,
 ) -> Option<((Definition, FunctionTarget), &'a [u8])>
     requires { bindings.now ≡ function_bindings input.now }
-    ensures { option_map func_entry result
+    ensures { option_map named result
         ≡ option_map (got_func_entry input.now) (got_func_of input.now relocated.now) }
 {
     let (definition, target) = got_func_of(input, bindings, relocated)?;
@@ -101,27 +101,21 @@ pub(crate) struct RelocFaults<'a> {
     pub(crate) undefined: Option<(usize, &'a str)>,
 }
 
-/// Nothing refuses it.
-fn no_faults<'a>() -> RelocFaults<'a>
-    ensures { faults_by result ≡ no_faults }
-{
-    RelocFaults {
-        is_wrong: false,
-        is_mismatch: false,
-        undefined: None,
-    }
-}
-
 /// Why a link is refused for a relocation. One against a type names no symbol.
 pub(crate) fn faults_of<'a>(check: &TypeCheck<'_, '_, 'a>, relocated: &Relocated) -> RelocFaults<'a>
     ensures { faults_by result ≡ faults_of check.now.input.now relocated.now }
 {
     let (input, number) = (check.input, relocated.relocation.index);
+    let none = RelocFaults {
+        is_wrong: false,
+        is_mismatch: false,
+        undefined: None,
+    };
     if relocated.relocation.ty.names_a_type() {
-        return no_faults();
+        return none;
     }
     match input.symbols().symbol(relocated.object, number) {
-        None => no_faults(),
+        None => none,
         Some(symbol) => RelocFaults {
             is_wrong: is_wrong_use(input, relocated, symbol),
             is_mismatch: check.leads_to_other(relocated.object, number, symbol),

@@ -7,14 +7,12 @@ ghost use Rattle.wl_bind.specs.IndexMaps.{symbol_functions};
 ghost use Rattle.wl_bind.specs.Parts.{AreIndicesOf, ArePlacesOf, AreRows};
 ghost use Rattle.wl_bind.specs.steps.Redirects.{row_place, definition_function, redirect_of};
 
+use crate::link_laws::link_laws;
 use std::alloc::{AllocError, Global};
 use wl_index::WASM_DEAD_INDEX;
-use wl_linking::{File, whole_objects};
+use wl_linking::File;
 use wl_lists::ItemList;
-use wl_symbols::{
-    Definition, LinkInput, definitions_have_numbers, live_units_are_closed, slots_are_numbered,
-    targets_by_cases,
-};
+use wl_symbols::{Definition, LinkInput};
 
 /// A function of an object, by its index there: imported ones come first.
 #[derive(Clone, Copy, Drop)]
@@ -102,11 +100,7 @@ pub(crate) fn function_redirects(
     ensures { IfOk result (λ list. ArePlacesOf (function_space input.now)
         (symbol_functions input.now object file.now) list) }
 {
-    whole_objects();
-    slots_are_numbered();
-    targets_by_cases();
-    definitions_have_numbers();
-    live_units_are_closed();
+    link_laws();
     let _ = input.live();
     let _ = input.files().as_slice();
     file.stands_for_an_object();

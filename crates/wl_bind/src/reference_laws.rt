@@ -19,11 +19,8 @@ ghost use Rattle.wl_bind.specs.declared.binding.FunctionTarget.{FunctionTarget a
 ghost use Rattle.wl_bind.specs.declared.binding.FunctionTarget.TheVariants.{Defined, Host};
 ghost use Rattle.wl_symbols.specs.declared.relocated.Relocated.{Relocated as KeptRelocation};
 
+use crate::link_laws::link_laws;
 use wl_linking::whole_objects;
-use wl_symbols::{
-    definitions_have_numbers, live_units_are_closed, name_by_cases, slots_are_numbered,
-    targets_by_cases,
-};
 use wl_types::same_types_are_one;
 
 /// What a kept relocation names is in the output: its type, its function, its global; and a
@@ -46,12 +43,7 @@ pub fn references_are_kept()
         → names_function input r ≡ true → fun input r.object r.relocation.index ≡ Some target
         → HasSlot input target }
 {
-    whole_objects();
-    name_by_cases();
-    targets_by_cases();
-    slots_are_numbered();
-    definitions_have_numbers();
-    live_units_are_closed();
+    link_laws();
 }
 
 /// The output has the functions of the table.
@@ -59,12 +51,7 @@ pub fn table_functions_are_kept()
     ensures { (input : Input) (target : Target) → IsSettled input
         → Contains (table_functions input) target → IsInOutput input target }
 {
-    whole_objects();
-    name_by_cases();
-    targets_by_cases();
-    slots_are_numbered();
-    definitions_have_numbers();
-    live_units_are_closed();
+    link_laws();
 }
 
 /// Each function of the output has a type, which is one of the output's.

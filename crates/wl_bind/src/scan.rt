@@ -2,7 +2,7 @@
 
 ghost use Rattle.std.specs.Prelude.{◌≡◌};
 ghost use Rattle.wl_bind.specs.FunctionSymbols.{function_bindings};
-ghost use Rattle.wl_bind.specs.Scan.{names_data, names_function, got_mem_of, got_func_of, unless_stub, table_function_of, asks_for_table, definition_name};
+ghost use Rattle.wl_bind.specs.Scan.{names_data, names_function, got_mem_of, got_func_of, table_function_of, asks_for_table, definition_name};
 
 use crate::binding::FunctionTarget;
 use crate::got::{GotFunc, GotMem, TableFunctions};
@@ -130,18 +130,6 @@ pub(crate) fn got_func_of(
     }
 }
 
-/// The function, where it may have a slot in the table: a stub has none.
-fn unless_stub(target: FunctionTarget) -> Option<FunctionTarget>
-    ensures { result ≡ unless_stub target }
-{
-    match target {
-        FunctionTarget::Defined { .. } | FunctionTarget::Made(_) | FunctionTarget::Host { .. } => {
-            Some(target)
-        }
-        FunctionTarget::Stub { .. } => None,
-    }
-}
-
 /// The function that a function symbol under the slot of a function or the number of a global leads
 /// to, unless it is a stub.
 pub(crate) fn table_function_of(
@@ -154,8 +142,12 @@ pub(crate) fn table_function_of(
 {
     let ty = relocated.relocation.ty;
     if (ty.is_table_index() || ty.is_global_index()) && names_function(input, relocated) {
-        let target = bindings.function(input, relocated.object, relocated.relocation.index)?;
-        unless_stub(target)
+        match bindings.function(input, relocated.object, relocated.relocation.index)? {
+            FunctionTarget::Stub { .. } => None,
+            target @ (FunctionTarget::Defined { .. }
+            | FunctionTarget::Made(_)
+            | FunctionTarget::Host { .. }) => Some(target),
+        }
     } else {
         None
     }

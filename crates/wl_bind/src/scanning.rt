@@ -7,13 +7,13 @@ ghost use Rattle.wl_bind.specs.Kinds.{IsWrongKind};
 ghost use Rattle.wl_bind.specs.Scan.{scan_of};
 ghost use Rattle.wl_bind.specs.ScanFaults.{scan_fault};
 ghost use Rattle.wl_bind.specs.steps.Scanning.{first_such, with_faults, with_needs, with_entries, found_in, nothing_found, scan_part};
-ghost use Rattle.wl_bind.specs.steps.Walks.{AreLists, entries_by, faults_by, found_by};
+ghost use Rattle.wl_bind.specs.steps.Walks.{entries_by, faults_by, found_by};
 ghost use Rattle.wl_bind.specs.Signatures.{IsMismatch};
 ghost use Rattle.wl_bind.specs.Undefined.{IsUndefinedData};
 
 use crate::binding::FunctionTarget;
 use crate::function_slots::FunctionSlots;
-use crate::got::{GotFunc, GotMem, NamedKeys, TableFunctions};
+use crate::got::{GotList, TableFunctions, add_some};
 use crate::kinds::check_kinds;
 use crate::questions::{
     ListEntries, RelocFaults, asks_for_entries, entries_of, faults_of, needs_by,
@@ -22,6 +22,7 @@ use crate::scan::{RelocNeeds, RelocScan};
 use crate::signatures::TypeCheck;
 use crate::targets::FunctionBindings;
 use crate::undefined::{UndefinedNames, check_undefined_data};
+use indexmap::IndexMap;
 use std::alloc::{AllocError, Global};
 use wl_linking::LinkError;
 use wl_symbols::{Definition, LinkInput, Relocated, kept_relocations};
@@ -43,8 +44,8 @@ fn note_first(first: &mut Option<Relocated>, is_such: bool, relocated: &Relocate
 /// one the first, or all names.
 #[derive(Drop)]
 struct Walk<'a> {
-    got_mem: NamedKeys<'a, Definition>,
-    got_func: NamedKeys<'a, (Definition, FunctionTarget)>,
+    got_mem: IndexMap<Definition, &'a [u8]>,
+    got_func: IndexMap<(Definition, FunctionTarget), &'a [u8]>,
     table_functions: TableFunctions,
     needs: RelocNeeds,
     /// The first that doesn't take the symbol that it names.
@@ -58,12 +59,11 @@ struct Walk<'a> {
 impl<'a> Walk<'a> {
     /// Before the first relocation.
     fn new(alloc: Global) -> Self
-        ensures found { found_by result ≡ nothing_found }
-        ensures lists { AreLists result }
+        ensures { found_by result ≡ nothing_found }
     {
         Walk {
-            got_mem: NamedKeys::new(alloc),
-            got_func: NamedKeys::new(alloc),
+            got_mem: IndexMap::new(alloc),
+            got_func: IndexMap::new(alloc),
             table_functions: TableFunctions::new(alloc),
             needs: RelocNeeds {
                 memory_base: false,
@@ -85,10 +85,8 @@ impl<'a> Walk<'a> {
         relocated: &Relocated,
         faults: RelocFaults<'a>,
     ) -> Result<(), AllocError>
-        requires lists { AreLists self.old }
-        ensures found { OnOk result (found_by self.new
+        ensures { OnOk result (found_by self.new
             ≡ with_faults (found_by self.old) (faults_by faults.entry) relocated.now) }
-        ensures lists { OnOk result (AreLists self.new) }
     {
         note_first(&mut self.wrong, faults.is_wrong, relocated);
         note_first(&mut self.mismatch, faults.is_mismatch, relocated);
@@ -100,22 +98,18 @@ impl<'a> Walk<'a> {
     /// # Errors
     /// `AllocError` where memory runs out.
     fn add_entries(&mut self, entries: ListEntries<'a>) -> Result<(), AllocError>
-        requires lists { AreLists self.old }
-        ensures found { OnOk result (found_by self.new
+        ensures { OnOk result (found_by self.new
             ≡ with_entries (found_by self.old) (entries_by entries.entry)) }
-        ensures lists { OnOk result (AreLists self.new) }
     {
-        self.got_mem.add_some(entries.got_mem)?;
-        self.got_func.add_some(entries.got_func)?;
+        add_some(&mut self.got_mem, entries.got_mem)?;
+        add_some(&mut self.got_func, entries.got_func)?;
         self.table_functions.add_some(entries.table_function)?;
         Ok(())
     }
 
     /// Takes in what else one more relocation asks for.
     fn note_needs(&mut self, more: RelocNeeds)
-        requires lists { AreLists self.old }
-        ensures found { found_by self.new ≡ with_needs (found_by self.old) more }
-        ensures lists { AreLists self.new }
+        ensures { found_by self.new ≡ with_needs (found_by self.old) more }
     {
         self.needs.memory_base |= more.memory_base;
         self.needs.table_base |= more.table_base;
@@ -123,16 +117,18 @@ impl<'a> Walk<'a> {
     }
 
     /// What the relocations ask for.
-    fn into_scan(self) -> RelocScan<'a>
-        requires { AreLists self }
-        ensures { result ≡ scan_part (found_by self.entry) }
+    ///
+    /// # Errors
+    /// `AllocError` where memory runs out.
+    fn into_scan(self, alloc: Global) -> Result<RelocScan<'a>, AllocError>
+        ensures { IfOk result (λ scan. scan ≡ scan_part (found_by self.entry)) }
     {
-        RelocScan {
-            got_mem: GotMem::of(self.got_mem),
-            got_func: GotFunc::of(self.got_func),
+        Ok(RelocScan {
+            got_mem: GotList::new(alloc, self.got_mem)?,
+            got_func: GotList::new(alloc, self.got_func)?,
             table_functions: self.table_functions,
             needs: self.needs,
-        }
+        })
     }
 }
 
@@ -144,8 +140,7 @@ fn walk_relocations<'a>(
     alloc: Global,
     check: &TypeCheck<'_, '_, 'a>,
 ) -> Result<Walk<'a>, AllocError>
-    ensures found { IfOk result (λ walk. found_by walk ≡ found_in check.now.input.now) }
-    ensures lists { IfOk result AreLists }
+    ensures { IfOk result (λ walk. found_by walk ≡ found_in check.now.input.now) }
 {
     let mut walk = Walk::new(alloc);
     for relocated in kept_relocations(check.input) {
@@ -171,7 +166,7 @@ pub(crate) fn gather<'a>(
     ensures { IfOk result (λ scan. scan ≡ scan_of input.now) }
 {
     let check = TypeCheck::new(alloc, input, bindings)?;
-    Ok(walk_relocations(alloc, &check)?.into_scan())
+    walk_relocations(alloc, &check)?.into_scan(alloc)
 }
 
 /// Sees that nothing that was found refuses the link. Judged in this order: kinds, types, undefined
@@ -215,7 +210,7 @@ pub(crate) fn scan_with<'a>(
     let check = TypeCheck::new(alloc, input, bindings)?;
     let found = walk_relocations(alloc, &check)?;
     check_found(alloc, &check, &found)?;
-    Ok(found.into_scan())
+    Ok(found.into_scan(alloc)?)
 }
 
 /// What the kept relocations ask for: entries of the GOT lists, functions of the table, and what

@@ -15,7 +15,7 @@ use crate::scanning::gather;
 use std::alloc::Global;
 use std::marker::Model;
 use wl_linking::{LinkError, WasmSymbolKind};
-use wl_lists::ItemList;
+use wl_rows::RowList;
 use wl_symbols::{HostImport, HostImports, ImportSlot, LinkInput};
 
 /// The imports of a kind that the host is asked for, and which of them each slot of that kind is.
@@ -23,7 +23,7 @@ pub(crate) struct SharedImports<'a> {
     /// One per module and field name, in order of their first slots.
     pub(crate) imports: HostImports<'a>,
     /// For each slot of each object that is left to the host the place of its import.
-    pub(crate) places: Vec<ItemList<Option<usize>>>,
+    pub(crate) places: RowList<Option<usize>>,
 }
 
 impl<'a> Drop for SharedImports<'a> {
@@ -59,8 +59,8 @@ impl<'a> Model for SharedUnresolvedImports<'a> {
     ghost view = { λ s. record {
       functions = s.functions.imports;
       globals = s.globals.imports;
-      function_places = s.functions.places.items;
-      global_places = s.globals.places.items;
+      function_places = s.functions.places;
+      global_places = s.globals.places;
     } };
 }
 
@@ -94,8 +94,8 @@ impl<'a> SharedUnresolvedImports<'a> {
         ensures { result ≡ place_at self.now kind object slot }
     {
         match kind {
-            WasmSymbolKind::Func => place_in(self.functions.places.as_slice(), object, slot),
-            WasmSymbolKind::Global => place_in(self.globals.places.as_slice(), object, slot),
+            WasmSymbolKind::Func => place_in(&self.functions.places, object, slot),
+            WasmSymbolKind::Global => place_in(&self.globals.places, object, slot),
             WasmSymbolKind::Data
             | WasmSymbolKind::Section
             | WasmSymbolKind::Event
@@ -105,12 +105,10 @@ impl<'a> SharedUnresolvedImports<'a> {
 }
 
 /// The place that these rows say for a slot of an object.
-fn place_in(rows: &[ItemList<Option<usize>>], object: usize, slot: u32) -> Option<usize>
+fn place_in(rows: &RowList<Option<usize>>, object: usize, slot: u32) -> Option<usize>
     ensures { result ≡ place_in rows.now object slot }
 {
-    let row = rows.get(object)?;
-    let place = row.as_slice().get(slot as usize)?;
-    *place
+    rows.get(object, slot as usize)?
 }
 
 // ---- the slots of a link
@@ -145,8 +143,8 @@ impl<'a> SharedUnresolvedImports<'a> {
         ensures { result ≡ record {
           functions = functions.entry.shared.imports;
           globals = globals.entry.shared.imports;
-          function_places = functions.entry.shared.places.items;
-          global_places = globals.entry.shared.places.items;
+          function_places = functions.entry.shared.places;
+          global_places = globals.entry.shared.places;
         } }
     {
         SharedUnresolvedImports {

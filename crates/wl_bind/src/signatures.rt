@@ -6,20 +6,13 @@ ghost use Rattle.wl_symbols.specs.Entries.{symbol_in};
 ghost use Rattle.wl_bind.specs.FunctionSymbols.{function_bindings};
 ghost use Rattle.wl_symbols.specs.Relocations.{relocations};
 ghost use Rattle.wl_bind.specs.Signatures.{OnKeptSlot, NamedByInit, IsMismatch};
-ghost use Rattle.wl_bind.specs.BindingSteps.{slot_numbers, is_mismatch, names_mismatch, mismatch_error, TellsMismatch, AreOwnClear};
+ghost use Rattle.wl_bind.specs.BindingSteps.{slot_numbers, is_mismatch, names_mismatch, TellsMismatch, AreOwnClear};
 
 use crate::targets::FunctionBindings;
 use crate::types::{SlotTypes, declared_type, is_other_type};
 use std::alloc::{AllocError, Global};
 use wl_linking::{File, LinkError, WasmSymbol, WasmSymbolKind};
 use wl_symbols::{LinkInput, Relocated};
-
-/// A symbol that leads to a function of another type, by the number of its object and its own.
-#[derive(Clone, Copy)]
-struct Mismatch {
-    object: usize,
-    symbol: u32,
-}
 
 /// What types are compared by: what function slots are bound to, and their types.
 #[derive(Drop)]
@@ -72,16 +65,15 @@ impl<'c, 'i, 'a> TypeCheck<'c, 'i, 'a> {
     }
 
     /// Sees that a function symbol leads to no function of another type.
-    fn check_symbol(&self, object: usize, number: u32) -> Result<(), Mismatch>
+    fn check_symbol(&self, object: usize, number: u32) -> Result<(), LinkError>
         ensures clear { OnOk result (is_mismatch self.now.input.now object number ≡ false) }
-        ensures err { IfErr result
-            (λ m. TellsMismatch self.now.input.now object number (mismatch_error m)) }
+        ensures err { IfErr result (TellsMismatch self.now.input.now object number) }
     {
         let Some(symbol) = self.input.symbols().symbol(object, number) else {
             return Ok(());
         };
         if self.leads_to_other(object, number, symbol) {
-            Err(Mismatch {
+            Err(LinkError::SignatureMismatch {
                 object,
                 symbol: number,
             })
@@ -96,28 +88,25 @@ impl<'c, 'i, 'a> TypeCheck<'c, 'i, 'a> {
         object: usize,
         number: u32,
         symbol: &WasmSymbol<'_>,
-    ) -> Result<(), Mismatch>
+    ) -> Result<(), LinkError>
         requires { symbol_in self.now.input.now.link.objects object number ≡ Some symbol.now }
         ensures clear { OnOk result (OnKeptSlot self.now.input.now object number
             → is_mismatch self.now.input.now object number ≡ false) }
-        ensures err { IfErr result (λ m. IsMismatch self.now.input.now (mismatch_error m)) }
+        ensures err { IfErr result (IsMismatch self.now.input.now) }
     {
         let input = self.input;
-        if !symbol.is_undefined() {
-            return Ok(());
-        }
-        if !input.keeps_slot(WasmSymbolKind::Func, object, symbol.index) {
+        if !symbol.is_undefined() || !input.keeps_slot(WasmSymbolKind::Func, object, symbol.index) {
             return Ok(());
         }
         self.check_symbol(object, number)
     }
 
     /// The same of the undefined symbols of an object.
-    fn check_slots(&self, object: usize, file: &File<'_>) -> Result<(), Mismatch>
+    fn check_slots(&self, object: usize, file: &File<'_>) -> Result<(), LinkError>
         requires { slice_get self.now.input.now.link.objects object ≡ Some file.now }
         ensures clear { OnOk result ((number : ℕ) → OnKeptSlot self.now.input.now object number
             → is_mismatch self.now.input.now object number ≡ false) }
-        ensures err { IfErr result (λ m. IsMismatch self.now.input.now (mismatch_error m)) }
+        ensures err { IfErr result (IsMismatch self.now.input.now) }
     {
         file.stands_for_an_object();
         let symbols = file.symbols();
@@ -128,11 +117,11 @@ impl<'c, 'i, 'a> TypeCheck<'c, 'i, 'a> {
     }
 
     /// The same of the symbols of functions of an object that run at the start.
-    fn check_inits(&self, object: usize, file: &File<'_>) -> Result<(), Mismatch>
+    fn check_inits(&self, object: usize, file: &File<'_>) -> Result<(), LinkError>
         requires { slice_get self.now.input.now.link.objects object ≡ Some file.now }
         ensures clear { OnOk result ((number : ℕ) → NamedByInit self.now.input.now object number
             → is_mismatch self.now.input.now object number ≡ false) }
-        ensures err { IfErr result (λ m. IsMismatch self.now.input.now (mismatch_error m)) }
+        ensures err { IfErr result (IsMismatch self.now.input.now) }
     {
         for function in file.init_funcs() {
             self.check_symbol(object, function.symbol_index)?;
@@ -141,9 +130,9 @@ impl<'c, 'i, 'a> TypeCheck<'c, 'i, 'a> {
     }
 
     /// The same of the symbols that objects name without a relocation.
-    fn check_objects(&self) -> Result<(), Mismatch>
+    fn check_objects(&self) -> Result<(), LinkError>
         ensures clear { OnOk result ((object : ℕ) → AreOwnClear self.now.input.now object) }
-        ensures err { IfErr result (λ m. IsMismatch self.now.input.now (mismatch_error m)) }
+        ensures err { IfErr result (IsMismatch self.now.input.now) }
     {
         let files = self.input.files().as_slice();
         for (object, file) in files.iter().enumerate() {
@@ -172,12 +161,6 @@ impl<'c, 'i, 'a> TypeCheck<'c, 'i, 'a> {
                 symbol: relocated.relocation.index,
             });
         }
-        match self.check_objects() {
-            Ok(()) => Ok(()),
-            Err(found) => Err(LinkError::SignatureMismatch {
-                object: found.object,
-                symbol: found.symbol,
-            }),
-        }
+        self.check_objects()
     }
 }

@@ -5,7 +5,8 @@ ghost use Rattle.wl_bind.specs.steps.SlotRows.{joined_rows};
 
 use crate::resolution::{ImportResolution, ObjectImportResolutions, ResolutionList};
 use std::alloc::{AllocError, Global};
-use wl_lists::ItemList;
+use std::mem;
+use wl_rows::RowList;
 
 /// What a slot is resolved to, and, where it is left to the host, the place of its import.
 #[derive(Clone, Copy)]
@@ -46,6 +47,15 @@ impl SlotRow {
         }
     }
 
+    /// Takes all slots out.
+    pub(crate) fn clear(&mut self)
+        ensures resolutions { self.new.resolutions.items ≡ [] }
+        ensures places { self.new.places.items ≡ [] }
+    {
+        self.resolutions.clear();
+        self.places.clear();
+    }
+
     /// Adds the next slot.
     ///
     /// # Errors
@@ -66,34 +76,34 @@ impl SlotRow {
 #[derive(Drop)]
 pub(crate) struct SlotRows {
     pub(crate) resolutions: Vec<ResolutionList>,
-    pub(crate) places: Vec<ItemList<Option<usize>>>,
+    pub(crate) places: RowList<Option<usize>>,
 }
 
 impl SlotRows {
     /// The rows of no object.
     pub(crate) fn new(alloc: Global) -> Self
         ensures resolutions { result.resolutions.items ≡ [] }
-        ensures places { result.places.items ≡ [] }
+        ensures places { result.places ≡ [] }
     {
         SlotRows {
             resolutions: Vec::new(alloc),
-            places: Vec::new(alloc),
+            places: RowList::new(alloc),
         }
     }
 
-    /// Adds the row of the next object.
+    /// Adds the row of the next object, and takes its slots out of it.
     ///
     /// # Errors
     /// `AllocError` where memory runs out.
-    pub(crate) fn push(&mut self, row: SlotRow) -> Result<(), AllocError>
+    pub(crate) fn push(&mut self, alloc: Global, row: &mut SlotRow) -> Result<(), AllocError>
         ensures resolutions { OnOk result (self.new.resolutions.items
-            ≡ self.old.resolutions.items ++ row.resolutions.items ∷ []) }
+            ≡ self.old.resolutions.items ++ row.old.resolutions.items ∷ []) }
         ensures places { OnOk result
-            (self.new.places.items ≡ self.old.places.items ++ row.places.items ∷ []) }
+            (self.new.places ≡ self.old.places ++ row.old.places.items ∷ []) }
     {
-        self.resolutions.push(ResolutionList::new(row.resolutions))?;
-        self.places.push(ItemList::new(row.places))?;
-        Ok(())
+        let resolutions = mem::replace(&mut row.resolutions, Vec::new(alloc));
+        self.resolutions.push(ResolutionList::new(resolutions))?;
+        self.places.push(&mut row.places)
     }
 }
 

@@ -1,6 +1,6 @@
 //! Stubs: functions that are named weakly, and that nothing defines.
 
-ghost use Rattle.std.specs.Prelude.{◌≡◌, ◌++◌, option_map, IfOk, OnOk, OnErr, IfErr, filter_map};
+ghost use Rattle.std.specs.Prelude.{◌≡◌, ◌++◌, option_map, IfOk, OnOk, OnErr, IfErr, filter_map, map};
 ghost use Rattle.std.specs.Option.{option_to_list};
 ghost use Rattle.wl_linking.specs.Steps.{Clear, Refuses};
 ghost use Rattle.wl_bind.specs.Stepped.{stepped, step_at};
@@ -11,14 +11,13 @@ ghost use Rattle.wl_bind.specs.Later.{with_functions};
 ghost use Rattle.wl_bind.specs.Resolutions.{resolutions, by_names_and_got, by_all_rules};
 
 use crate::conflicts::{SlotImports, check_types};
-use crate::first_slots::FirstSlots;
 use crate::function_slots::FunctionSlots;
 use crate::resolution::{ObjectImportResolutions, ResolutionList};
 use crate::types::slot_type;
 use std::alloc::{AllocError, Global};
 use wl_linking::{FileList, LinkError};
 use wl_module::FuncType;
-use wl_symbols::LinkInput;
+use wl_symbols::{ImportSlot, LinkInput};
 use wl_types::copy_type;
 
 // ---- the types of stubs
@@ -42,12 +41,13 @@ fn push_type(
 fn slot_types(
     alloc: Global,
     files: &FileList<'_>,
-    slots: &FirstSlots<'_, '_, '_>,
+    slots: &[&ImportSlot<'_, '_>],
 ) -> Result<Vec<FuncType>, AllocError>
-    ensures { IfOk result (λ v. v.items ≡ filter_map (slot_type files.now) slots.now) }
+    ensures { IfOk result
+        (λ v. v.items ≡ filter_map (slot_type files.now) (map (λ t. t.now) slots.now)) }
 {
     let mut types = Vec::new(alloc);
-    for slot in slots.as_slice() {
+    for slot in slots {
         push_type(alloc, &mut types, slot_type(files, slot))?;
     }
     Ok(types)

@@ -1,8 +1,11 @@
 //! Which types of an object the output has a use for.
 
-ghost use Rattle.std.specs.Prelude.{◌≡◌, ◌≤◌, Some, length, map, slice_get, IfOk, OnOk};
+ghost use Rattle.std.specs.Prelude.{◌≡◌, ◌≤◌, None, Some, if◌then◌else◌, length, map, slice_get, IfOk};
 ghost use Rattle.wl_bytes.specs.declared.reader.TheConstants.{MAX_LEN};
+ghost use Rattle.wl_custom.specs.declared.symbols.WasmSymbolKind.TheVariants.{Func};
 ghost use Rattle.wl_symbols.specs.Relocations.{object_relocations};
+ghost use Rattle.wl_bind.specs.FunctionTypes.{type_number};
+ghost use Rattle.wl_bind.specs.steps.Shared.{is_host_at};
 ghost use Rattle.wl_bind.specs.Resolutions.{resolutions, by_all_rules};
 ghost use Rattle.wl_bind.specs.OutputTypes.{is_live_type};
 ghost use Rattle.wl_bind.specs.steps.Merging.{mark, mark_all, AreMarked, function_types, host_types, named_type};
@@ -12,7 +15,8 @@ use crate::resolution::ObjectImportResolutions;
 use crate::types::type_number;
 use std::alloc::{AllocError, Global};
 use wl_linking::{File, WasmSymbolKind};
-use wl_symbols::{LinkInput, Relocated, WasmGcUnit, import_slots, kept_of_object};
+use wl_module::ImportEntity;
+use wl_symbols::{LinkInput, Relocated, WasmGcUnit, is_slot_of, kept_of_object};
 
 /// Marks the type of that number, if one is named and there is one.
 fn mark(marks: &mut Vec<bool>, number: Option<u32>)
@@ -47,25 +51,45 @@ fn mark_functions(
 
 // ---- slots that are left to the host
 
-/// Marks the types of the function slots of an object that are left to the host.
-fn mark_hosts(
-    alloc: Global,
+/// Marks the type under which the function slot of that number is imported, if the slot is left to
+/// the host.
+fn mark_host(
     marks: &mut Vec<bool>,
     input: &LinkInput<'_, '_>,
     rows: &[ObjectImportResolutions],
     object: usize,
-) -> Result<(), AllocError>
-    requires rows { rows.now ≡ resolutions input.now (by_all_rules input.now) }
-    ensures { OnOk result
-        (marks.new.items ≡ mark_all marks.old.items (host_types input.now object)) }
+    number: u32,
+    entity: ImportEntity,
+)
+    requires { rows.now ≡ resolutions input.now (by_all_rules input.now) }
+    ensures { marks.new.items ≡ mark marks.old.items
+        (if is_host_at input.now Func object number then type_number entity else None) }
 {
-    let slots = import_slots(alloc, input.symbols(), object, WasmSymbolKind::Func)?;
-    for slot in slots.as_slice() {
-        if is_host_at(input, rows, slot.kind(), slot.object(), slot.number()) {
-            mark(marks, type_number(slot.entity()));
+    if is_host_at(input, rows, WasmSymbolKind::Func, object, number) {
+        mark(marks, type_number(entity));
+    }
+}
+
+/// Marks the types of the function slots of an object that are left to the host.
+fn mark_hosts(
+    marks: &mut Vec<bool>,
+    input: &LinkInput<'_, '_>,
+    rows: &[ObjectImportResolutions],
+    object: usize,
+    file: &File<'_>,
+)
+    requires rows { rows.now ≡ resolutions input.now (by_all_rules input.now) }
+    requires object { slice_get input.now.link.objects object ≡ Some file.now }
+    ensures { marks.new.items ≡ mark_all marks.old.items (host_types input.now object) }
+{
+    file.stands_for_an_object();
+    let mut number: u32 = 0;
+    for import in file.imports() {
+        if is_slot_of(WasmSymbolKind::Func, import.entity) {
+            mark_host(marks, input, rows, object, number, import.entity);
+            number += 1;
         }
     }
-    Ok(())
 }
 
 // ---- kept relocations
@@ -110,7 +134,7 @@ pub(crate) fn live_marks(
     file.stands_for_an_object();
     let mut marks = vec![in alloc; false; file.types().len()]?;
     mark_functions(&mut marks, input, object, file.functions());
-    mark_hosts(alloc, &mut marks, input, rows, object)?;
+    mark_hosts(&mut marks, input, rows, object, file);
     mark_relocations(&mut marks, input, object, file);
     Ok(marks)
 }

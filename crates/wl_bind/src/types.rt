@@ -1,21 +1,19 @@
 //! The types of functions, as they are declared and as they are.
 
-ghost use Rattle.std.specs.Prelude.{◌≡◌, ◌∷◌, ◌++◌, [], not, false, option_map, option_to_list, slice_get, IfOk, OnOk};
+ghost use Rattle.std.specs.Prelude.{◌≡◌, ◌++◌, not, false, option_map, option_to_list, slice_get, IfOk, OnOk};
 ghost use Rattle.std.specs.Option.{option_map_or, option_and_then};
-ghost use Rattle.std.specs.Cmp.Lexicographic.{pointwise};
-ghost use Rattle.wl_module.specs.Types.{same_value, same_type};
-ghost use Rattle.wl_module.specs.declared.types.ValType.TheVariants.{I32};
+ghost use Rattle.wl_module.specs.Types.{same_type};
 ghost use Rattle.wl_custom.specs.declared.symbols.WasmSymbolKind.TheVariants.{Func};
 ghost use Rattle.wl_symbols.specs.ImportSlots.{import_slots};
-ghost use Rattle.wl_bind.specs.FunctionTypes.{type_in, type_of_defined, type_number, type_of_made, slot_type, declared_type};
+ghost use Rattle.wl_bind.specs.FunctionTypes.{type_in, type_of_defined, type_number, made_params, type_of_made, slot_type, declared_type};
 ghost use Rattle.wl_bind.specs.BindingSteps.{numbers_in, slot_numbers, number_at, is_other_type};
 
 use crate::binding::FunctionTarget;
 use std::alloc::{AllocError, Global};
 use std::marker::Model;
 use wl_linking::{File, FileList, WasmSymbol, WasmSymbolKind};
-use wl_lists::ItemList;
 use wl_module::{FuncType, ImportEntity, ValType};
+use wl_rows::RowList;
 use wl_symbols::{ImportSlot, MadeSort, NamedFunction, WasmLinkerSymbol, own_number};
 
 /// The type of that number of the object of that number.
@@ -68,7 +66,7 @@ pub(crate) fn slot_type<'f>(
 /// it as a row for each object.
 #[derive(Drop)]
 pub struct SlotTypes {
-    rows: Vec<ItemList<u32>>,
+    rows: RowList<u32>,
 }
 
 impl Model for SlotTypes {
@@ -76,7 +74,7 @@ impl Model for SlotTypes {
 
     ghost Value = { List (List ℕ) };
 
-    ghost view = { λ t. t.rows.items };
+    ghost view = { λ t. t.rows };
 }
 
 /// Adds the number of the type of an import, if it is a function.
@@ -90,15 +88,16 @@ fn push_number(list: &mut Vec<u32>, entity: ImportEntity) -> Result<(), AllocErr
     Ok(())
 }
 
-/// The numbers of the types of the functions that an object imports.
-fn numbers_in(alloc: Global, file: &File<'_>) -> Result<ItemList<u32>, AllocError>
-    ensures { IfOk result (λ list. list ≡ numbers_in file.now.imports) }
+/// Puts the numbers of the types of the functions that an object imports in place of what the list
+/// holds.
+fn fill_numbers(list: &mut Vec<u32>, file: &File<'_>) -> Result<(), AllocError>
+    ensures { OnOk result (list.new.items ≡ numbers_in file.now.imports) }
 {
-    let mut list = Vec::new(alloc);
+    list.clear();
     for import in file.imports() {
-        push_number(&mut list, import.entity)?;
+        push_number(list, import.entity)?;
     }
-    Ok(ItemList::new(list))
+    Ok(())
 }
 
 impl SlotTypes {
@@ -109,9 +108,11 @@ impl SlotTypes {
     pub fn new(alloc: Global, files: &FileList<'_>) -> Result<Self, AllocError>
         ensures { IfOk result (λ types. types ≡ slot_numbers files.now) }
     {
-        let mut rows = Vec::new(alloc);
+        let mut rows = RowList::new(alloc);
+        let mut row = Vec::new(alloc);
         for file in files.as_slice() {
-            rows.push(numbers_in(alloc, file)?)?;
+            fill_numbers(&mut row, file)?;
+            rows.push(&mut row)?;
         }
         Ok(SlotTypes { rows })
     }
@@ -120,8 +121,7 @@ impl SlotTypes {
     pub fn number(&self, object: usize, slot: u32) -> Option<u32>
         ensures { result ≡ number_at self.now object slot }
     {
-        let row = self.rows.get(object)?;
-        row.as_slice().get(slot as usize).copied()
+        self.rows.get(object, slot as usize)
     }
 }
 
@@ -160,38 +160,13 @@ pub(crate) fn declared_type<'f>(
     }
 }
 
-/// Whether a type is that of integers of 32 bits.
-fn is_word(value: ValType) -> bool
-    ensures { result ≡ same_value value I32 }
+/// The parameters of a function that the linker makes, which has no results.
+pub(crate) fn made_params(function: NamedFunction) -> &'static [ValType]
+    ensures { result.now ≡ made_params function }
 {
-    match value {
-        ValType::I32 => true,
-        ValType::I64
-        | ValType::F32
-        | ValType::F64
-        | ValType::V128
-        | ValType::FuncRef
-        | ValType::ExternRef => false,
-    }
-}
-
-/// Whether the list is empty.
-fn are_none(values: &[ValType]) -> bool
-    ensures { result ≡ pointwise same_value values.now [] }
-{
-    match values {
-        [] => true,
-        [_, ..] => false,
-    }
-}
-
-/// Whether the list is one integer of 32 bits.
-fn are_one_word(values: &[ValType]) -> bool
-    ensures { result ≡ pointwise same_value values.now (I32 ∷ []) }
-{
-    match values {
-        [value] => is_word(*value),
-        _ => false,
+    match function {
+        NamedFunction::CallCtors => &[],
+        NamedFunction::InitTls => &[ValType::I32],
     }
 }
 
@@ -201,11 +176,8 @@ fn is_other_made(declared: &FuncType, made: WasmLinkerSymbol) -> bool
         (λ actual. not (same_type declared.now actual)) (type_of_made made) false }
 {
     match made.sort() {
-        MadeSort::Function(NamedFunction::CallCtors) => {
-            !are_none(declared.params()) || !are_none(declared.results())
-        }
-        MadeSort::Function(NamedFunction::InitTls) => {
-            !are_one_word(declared.params()) || !are_none(declared.results())
+        MadeSort::Function(function) => {
+            declared.params() != made_params(function) || !declared.results().is_empty()
         }
         MadeSort::Global(_) | MadeSort::Data => false,
     }

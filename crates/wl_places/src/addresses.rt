@@ -276,7 +276,7 @@ pub fn check_exported(
     placing: &Placing<'_>,
     exported: &ExportedData,
 ) -> Result<(), LinkError>
-    requires { exported.now.addresses ≡ exported_addresses input.now.link.args }
+    requires { exported.now.addresses.keys ≡ exported_addresses input.now.link.args }
     ensures clear { OnOk result (HasHighExport input.now placing.now → ⊥) }
     ensures err { IfErr result (λ e. (e ≡ TooLarge Address) × HasHighExport input.now placing.now) }
 {

@@ -23,7 +23,7 @@ use Rattle.wl_index.specs.declared.index_map.WasmObjectIndexMap.{WasmObjectIndex
 use Rattle.wl_symbols.specs.Input.{Input}
 use Rattle.wl_bind.specs.Parts.{AreRows}
 use Rattle.wl_bind.specs.Sameness.{same_definition}
-use Rattle.wl_bind.specs.Scan.{names_data, definition_of, got_mem_of, got_mem, got_func, scan_of, GotMemEntry, GotFuncEntry, got_mem_entry, got_func_entry, Scanned}
+use Rattle.wl_bind.specs.Scan.{names_data, definition_of, got_mem_of, got_mem, got_func, scan_of, Named, got_mem_entry, got_func_entry, Scanned}
 use Rattle.wl_symbols.specs.Relocations.{relocations}
 use Rattle.wl_bind.specs.declared.binding.FunctionTarget.{FunctionTarget}
 use Rattle.wl_symbols.specs.declared.relocated.Relocated.{Relocated}
@@ -47,32 +47,33 @@ map_same (Some x) = refl
 
 -- the definition of a place in the GOT list of data
 pub mem_at : (input : Input) (scan : Scanned) (place : ℕ) → scan ≡ scan_of input
-    → option_map (λ (e : GotMemEntry). e.definition) (slice_get scan.got_mem place)
+    → option_map (λ (e : Named Definition). e.key) (slice_get scan.got_mem place)
     ≡ slice_get (got_mem input) place
 mem_at input scan place is =
     let at : slice_get (map (got_mem_entry input) (got_mem input)) place
     ≡ option_map (got_mem_entry input) (slice_get (got_mem input) place) =
     slice_get-map (got_mem_entry input) (got_mem input) place in
-    ap (λ (s : Scanned). option_map (λ (e : GotMemEntry). e.definition) (slice_get s.got_mem place))
+    ap (λ (s : Scanned). option_map (λ (e : Named Definition). e.key) (slice_get s.got_mem place))
     is
-    ∙ (ap (option_map (λ (e : GotMemEntry). e.definition)) at
-    ∙ (map_map (got_mem_entry input) (λ (e : GotMemEntry). e.definition) (λ (d : Definition). d)
+    ∙ (ap (option_map (λ (e : Named Definition). e.key)) at
+    ∙ (map_map (got_mem_entry input) (λ (e : Named Definition). e.key) (λ (d : Definition). d)
     (λ d. refl) (slice_get (got_mem input) place)
     ∙ map_same (slice_get (got_mem input) place)))
 
--- the function of a place in the GOT list of functions
+-- the definition and the function of a place in the GOT list of functions
 pub func_at : (input : Input) (scan : Scanned) (place : ℕ) → scan ≡ scan_of input
-    → option_map (λ (e : GotFuncEntry). e.target) (slice_get scan.got_func place)
-    ≡ option_map (λ (p : Definition × FunctionTarget). p.1) (slice_get (got_func input) place)
+    → option_map (λ (e : Named (Definition × FunctionTarget)). e.key) (slice_get scan.got_func place)
+    ≡ slice_get (got_func input) place
 func_at input scan place is =
     let at : slice_get (map (got_func_entry input) (got_func input)) place
     ≡ option_map (got_func_entry input) (slice_get (got_func input) place) =
     slice_get-map (got_func_entry input) (got_func input) place in
-    ap (λ (s : Scanned). option_map (λ (e : GotFuncEntry). e.target) (slice_get s.got_func place))
-    is
-    ∙ (ap (option_map (λ (e : GotFuncEntry). e.target)) at
-    ∙ map_map (got_func_entry input) (λ (e : GotFuncEntry). e.target)
-    (λ (p : Definition × FunctionTarget). p.1) (λ p. refl) (slice_get (got_func input) place))
+    ap (λ (s : Scanned). option_map (λ (e : Named (Definition × FunctionTarget)). e.key)
+    (slice_get s.got_func place)) is
+    ∙ (ap (option_map (λ (e : Named (Definition × FunctionTarget)). e.key)) at
+    ∙ (map_map (got_func_entry input) (λ (e : Named (Definition × FunctionTarget)). e.key)
+    (λ (p : Definition × FunctionTarget). p) (λ p. refl) (slice_get (got_func input) place)
+    ∙ map_same (slice_get (got_func input) place)))
 
 -- ---- what stands in lists of first occurrences
 

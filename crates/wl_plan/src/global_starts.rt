@@ -139,7 +139,7 @@ impl<'g, 'b, 'i, 'a> GlobalSources<'g, 'b, 'i, 'a> {
         ensures { result ≡ slice_get (got_mem self.now.book.now.input.now) place }
     {
         let scan = &self.bindings.scan;
-        scan.got_mem.definition(place)
+        scan.got_mem.key(place)
     }
 
     /// How many entries the GOT list of data has.
@@ -225,8 +225,8 @@ impl<'g, 'b, 'i, 'a> GlobalSources<'g, 'b, 'i, 'a> {
         ensures { AnswersStart self.now (GlobalOf (global.GotFunc place)) result }
     {
         let scan = &self.bindings.scan;
-        let slot = match scan.got_func.target(place) {
-            Some(target) => slot_of(self.book.input, self.bindings, target).unwrap_or(0),
+        let slot = match scan.got_func.key(place) {
+            Some((_, target)) => slot_of(self.book.input, self.bindings, target).unwrap_or(0),
             None => 0,
         };
         Ok(Start {

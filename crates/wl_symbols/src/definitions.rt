@@ -11,14 +11,14 @@ use crate::names::CountedNames;
 use std::alloc::{AllocError, Global};
 use std::sync::ledger::Ledger;
 use wl_linking::{FileList, WasmSymbol};
-use wl_lists::ItemList;
+use wl_rows::RowList;
 use wl_steps::Steps;
 use wl_words::WasmArgs;
 
 /// What each symbol stands for, a row for each object.
 #[derive(Drop)]
 pub(crate) struct DefinitionRows {
-    rows: Vec<ItemList<Definition>>,
+    rows: RowList<Definition>,
 }
 
 /// What a symbol stands for. Where other objects know it, that takes a step.
@@ -42,23 +42,23 @@ fn define<L: Ledger>(
     firsts.choose(symbol.name, args).unwrap_or(itself)
 }
 
-/// What an object's symbols stand for.
+/// Puts what an object's symbols stand for in place of what the row holds.
 fn define_symbols<L: Ledger>(
-    alloc: Global,
+    row: &mut Vec<Definition>,
     names: &CountedNames<'_>,
     args: &WasmArgs,
     object: usize,
     symbols: &[WasmSymbol<'_>],
     steps: &mut Steps<L>,
-) -> Result<ItemList<Definition>, AllocError>
+) -> Result<(), AllocError>
     requires { length symbols.now < 2 ^ 32 }
-    ensures row { IfOk result (λ row. row
+    ensures row { OnOk result (row.new.items
         ≡ row_from (defined_by (firsts_in names.now.names.firsts) args.now object) 0 symbols.now) }
     ensures counted { OnOk result
         (steps.new ≡ steps.old + length (entries_from object 0 symbols.now)) }
     ensures cost { steps.new ≤ steps.old + length symbols.now }
 {
-    let mut row = Vec::new(alloc);
+    row.clear();
     for (i, symbol) in symbols.iter().enumerate() {
         let place = Place {
             object,
@@ -66,7 +66,7 @@ fn define_symbols<L: Ledger>(
         };
         row.push(define(names, args, place, symbol, steps))?;
     }
-    Ok(ItemList::new(row))
+    Ok(())
 }
 
 impl DefinitionRows {
@@ -78,16 +78,18 @@ impl DefinitionRows {
         args: &WasmArgs,
         steps: &mut Steps<L>,
     ) -> Result<Self, AllocError>
-        ensures rows { IfOk result (λ d. d.rows.items
+        ensures rows { IfOk result (λ d. d.rows
             ≡ rows_from (defined_by (firsts_in names.now.names.firsts) args.now) 0 files.now) }
         ensures counted { OnOk result
             (steps.new ≡ steps.old + length (entries_of 0 files.now)) }
         ensures cost { steps.new ≤ steps.old + symbol_count files.now }
     {
-        let mut rows = Vec::new(alloc);
+        let mut rows = RowList::new(alloc);
+        let mut row = Vec::new(alloc);
         for (object, file) in files.as_slice().iter().enumerate() {
             file.stands_for_an_object();
-            rows.push(define_symbols(alloc, names, args, object, file.symbols(), steps)?)?;
+            define_symbols(&mut row, names, args, object, file.symbols(), steps)?;
+            rows.push(&mut row)?;
         }
         Ok(DefinitionRows { rows })
     }
@@ -95,9 +97,8 @@ impl DefinitionRows {
     /// What the symbol of that number in the object of that number stands for, if there is one.
     pub(crate) fn get(&self, object: usize, symbol: u32) -> Option<Definition>
         ensures { result
-            ≡ option_and_then (λ row. slice_get row symbol) (slice_get self.now.rows.items object) }
+            ≡ option_and_then (λ row. slice_get row symbol) (slice_get self.now.rows object) }
     {
-        let row = self.rows.get(object)?;
-        row.as_slice().get(symbol as usize).copied()
+        self.rows.get(object, symbol as usize)
     }
 }

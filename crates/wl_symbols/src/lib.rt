@@ -69,7 +69,7 @@ pub use slot_laws::{
     definitions_have_numbers, host_imports_are_found, imports_stand_once, slots_are_numbered,
     slots_have_one_name, stubs_are_found_by_name, targets_by_cases,
 };
-pub use slots::{ImportSlot, import_slots, is_slot_of};
+pub use slots::{ImportSlot, fill_slots, import_slots, is_slot_of};
 pub use table::SymbolTable;
 pub use targets::{
     SlotTarget, object_target, own_number, slot_target, slot_targets, symbol_target,

@@ -228,7 +228,10 @@ fn fill_from<'f, 'a>(
 
 /// Puts the slots of a kind of the object of that number in place of what the list holds, so that
 /// the slots of many objects, one after the other, take memory once.
-pub(crate) fn fill_slots<'t, 'a>(
+///
+/// # Errors
+/// `AllocError` where memory runs out.
+pub fn fill_slots<'t, 'a>(
     alloc: Global,
     table: &SymbolTable<'t, 'a>,
     object: usize,

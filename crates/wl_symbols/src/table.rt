@@ -40,7 +40,7 @@ impl<'f, 'a> Model for SymbolTable<'f, 'a> {
     ghost view = { λ t. link_of t.files.now t.args.now };
 
     ghost invariant = { λ t. IsTable (link_of t.files.now t.args.now) (firsts_in t.names.firsts)
-        t.definitions.rows.items };
+        t.definitions.rows };
 }
 
 /// How many of these symbols other objects know by a name.

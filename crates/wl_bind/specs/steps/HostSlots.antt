@@ -15,7 +15,7 @@ pub record AreHostSlots (input : Input) (kind : WasmSymbolKind) (left : List Imp
     (s : HostSlots) : Type 0 where
   pub slots : s.slots.items ≡ left
   pub imports : s.shared.imports ≡ map first_slot (first_imports left)
-  pub places : s.shared.places.items
+  pub places : s.shared.places
       ≡ import_places input kind (map first_slot (first_imports left))
 
 -- the function slots of a link that are left to the host

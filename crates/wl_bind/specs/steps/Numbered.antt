@@ -1,16 +1,14 @@
 -- While the things of objects are numbered.
-use Rattle.std.specs.Prelude.{◌≡◌, ◌≤◌, ℕ, ◌+◌, ◌++◌, true, false, List, length, map, Option, Some, None, unwrap_or, slice_get, ⊤}
-use Rattle.std.specs.List.{AllZip, range_with_len}
-use Rattle.wl_bytes.specs.declared.reader.TheConstants.{MAX_LEN}
-use Rattle.wl_linking.specs.Fitting.{IsWhole}
+use Rattle.std.specs.Prelude.{◌≡◌, ◌≤◌, ℕ, ◌+◌, true, false, List, map, Option, Some, None, unwrap_or, slice_get, ⊤}
+use Rattle.std.specs.List.{range_with_len}
 use Rattle.wl_linking.specs.Object.{Object}
 use Rattle.wl_custom.specs.declared.symbols.WasmSymbolKind.{WasmSymbolKind}
 use Rattle.wl_custom.specs.declared.symbols.WasmSymbolKind.TheVariants.{Func, Data, Global, Section, Event, Table}
 use Rattle.wl_symbols.specs.LinkerNames.{kind_of}
 use Rattle.wl_symbols.specs.declared.linker_symbol.WasmLinkerSymbol.{WasmLinkerSymbol}
-use Rattle.wl_symbols.specs.Live.{IsLiveOf, ordinal_of}
+use Rattle.wl_symbols.specs.Live.{ordinal_of}
 use Rattle.wl_symbols.specs.declared.units.WasmGcUnit.{WasmGcUnit}
-use Rattle.wl_symbols.specs.ImportSlots.{ImportSlot, object_slots, import_slots}
+use Rattle.wl_symbols.specs.ImportSlots.{ImportSlot}
 use Rattle.wl_index.specs.declared.index.TheConstants.{WASM_DEAD_INDEX, MAX_ENTRIES}
 use Rattle.wl_bind.specs.FunctionSpace.{stub_part, function_space, local_functions}
 use Rattle.wl_bind.specs.GlobalSpace.{GlobalOf, global_space, local_globals}
@@ -18,13 +16,11 @@ use Rattle.wl_symbols.specs.Input.{Input}
 use Rattle.wl_symbols.specs.KeptSlots.{is_kept_slot}
 use Rattle.wl_bind.specs.Made.{is_made}
 use Rattle.wl_bind.specs.MadeIndices.{StandsAt}
-use Rattle.wl_bind.specs.steps.Numbering.{IsNumbering}
-use Rattle.wl_bind.specs.steps.OwnIndices.{own_kind, own_unit, own_count, own_index}
+use Rattle.wl_bind.specs.steps.OwnIndices.{own_unit, own_index}
 use Rattle.wl_bind.specs.Parts.{HasEntry, AreIndicesOf}
 use Rattle.wl_bind.specs.Resolutions.{function_resolution, global_resolution}
 use Rattle.wl_bind.specs.Shared.{place_at}
 use Rattle.wl_bind.specs.declared.binding.GlobalTarget.TheVariants as global
-use Rattle.wl_bind.specs.declared.indices.LinkerDefinedIndices.{LinkerDefinedIndices}
 use Rattle.wl_bind.specs.declared.numbering.Numbering.{Numbering}
 use Rattle.wl_bind.specs.declared.own_indices.Own.{Own}
 use Rattle.wl_bind.specs.declared.own_indices.Own.TheVariants.{Functions, Globals}
@@ -33,11 +29,6 @@ use Rattle.wl_bind.specs.declared.resolution.ImportResolution.TheVariants.{Unres
 use Rattle.wl_bind.specs.declared.resolution.ObjectImportResolutions.{ObjectImportResolutions}
 
 -- ---- functions or globals
-
--- the index after all that no object defines
-abbrev pub made_end : LinkerDefinedIndices → Own → ℕ
-made_end i Functions = i.functions.end
-made_end i Globals = i.globals.end
 
 -- what the slots of that kind of an object are resolved to
 abbrev pub row_part : Own → ObjectImportResolutions → List ImportResolution
@@ -145,20 +136,3 @@ pub record IsSlotIndex (n : Numbering) (kind : WasmSymbolKind) (t : ImportSlot) 
   pub kept : is_kept_slot n.input.now t ≡ true
       → IsResolvedIndex n (host_place n kind t) (resolution_of n.input.now kind t) index
   pub dead : is_kept_slot n.input.now t ≡ false → index ≡ WASM_DEAD_INDEX
-
--- what the indices of slots follow from: the slots of an object are few, each that is kept has an
--- index, and the indices of slots and then of what the object defines are those of the object
-pub record SlotLaws : Type 0 where
-  pub few : (own : Own) (object : ℕ) (o : Object) → IsWhole o
-      → length (object_slots object (own_kind own) o) ≤ MAX_LEN
-  pub have : (n : Numbering) → IsNumbering n.input.now n
-      → IsLiveOf n.input.now.link n.input.now.live → (own : Own) (object : ℕ)
-      → HaveSlotIndices n (own_kind own)
-      (import_slots n.input.now.link.objects object (own_kind own))
-  pub all : (n : Numbering) → IsNumbering n.input.now n
-      → IsLiveOf n.input.now.link n.input.now.live → (own : Own) (object : ℕ) (o : Object)
-      → slice_get n.input.now.link.objects object ≡ Some o → (slots : List ℕ)
-      → AllZip (IsSlotIndex n (own_kind own))
-      (import_slots n.input.now.link.objects object (own_kind own)) slots
-      → AreObjectIndices n.input.now own object o
-      (slots ++ own_indices_of n.input.now own (firsts_of n own) object (own_count own o))

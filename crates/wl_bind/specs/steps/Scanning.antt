@@ -4,13 +4,14 @@ use Rattle.std.specs.Option.{option_or, option_map}
 use Rattle.wl_custom.specs.RelocationTypes.{is_global_index, is_table_index, is_memory_relative, is_table_relative}
 use Rattle.wl_linking.specs.declared.error.UndefinedSymbol.{UndefinedSymbol}
 use Rattle.wl_symbols.specs.Input.{Input}
+use Rattle.wl_symbols.specs.declared.entry.Definition.{Definition}
 use Rattle.wl_symbols.specs.Relocations.{relocations}
 use Rattle.wl_symbols.specs.declared.relocated.Relocated.{Relocated}
 use Rattle.wl_bind.specs.BindingSteps.{names_mismatch}
-use Rattle.wl_bind.specs.GotSteps.{insert_some, add_entry, mem_key, func_key}
+use Rattle.wl_bind.specs.GotSteps.{insert_some, add_entry}
 use Rattle.wl_bind.specs.steps.Kinds.{is_wrong_relocation}
 use Rattle.wl_bind.specs.Sameness.{same_definition, same_target, same_pair}
-use Rattle.wl_bind.specs.Scan.{Scanned, GotMemEntry, GotFuncEntry, got_mem_of, got_mem_entry, got_func_of, got_func_entry, table_function_of, asks_for_table}
+use Rattle.wl_bind.specs.Scan.{Scanned, Named, got_mem_of, got_mem_entry, got_func_of, got_func_entry, table_function_of, asks_for_table}
 use Rattle.wl_bind.specs.Undefined.{undefined_data_of}
 use Rattle.wl_bind.specs.UndefinedSteps.{insert_some as insert_undefined}
 use Rattle.wl_bind.specs.declared.binding.FunctionTarget.{FunctionTarget}
@@ -18,8 +19,8 @@ use Rattle.wl_bind.specs.declared.scan.RelocNeeds.{RelocNeeds}
 
 -- what relocations ask for, and what of them is refused
 pub record Found : Type 0 where
-  pub got_mem : List GotMemEntry
-  pub got_func : List GotFuncEntry
+  pub got_mem : List (Named Definition)
+  pub got_func : List (Named (Definition × FunctionTarget))
   pub table_functions : List FunctionTarget
   pub needs : RelocNeeds
   pub wrong : Option Relocated
@@ -55,8 +56,8 @@ first_such first is_such r = option_or first (if is_such then Some r else None)
 
 -- what one relocation asks for of the lists
 pub record Entries : Type 0 where
-  pub got_mem : Option GotMemEntry
-  pub got_func : Option GotFuncEntry
+  pub got_mem : Option (Named Definition)
+  pub got_func : Option (Named (Definition × FunctionTarget))
   pub table_function : Option FunctionTarget
 
 -- why it may be refused, and the undefined data that it names
@@ -83,9 +84,6 @@ faults_of input r = record {
   undefined = undefined_data_of input r;
 }
 
-abbrev pub no_faults : Faults
-no_faults = record { is_wrong = false; is_mismatch = false; undefined = None }
-
 -- what else it asks for
 abbrev pub needs_by : Input → Relocated → RelocNeeds
 needs_by input r = record {
@@ -99,8 +97,8 @@ needs_by input r = record {
 -- what is found, with what one more asks for of the lists
 abbrev pub with_entries : Found → Entries → Found
 with_entries f e = record f {
-  got_mem = add_entry same_definition mem_key f.got_mem e.got_mem;
-  got_func = add_entry same_pair func_key f.got_func e.got_func;
+  got_mem = add_entry same_definition f.got_mem e.got_mem;
+  got_func = add_entry same_pair f.got_func e.got_func;
   table_functions = insert_some same_target f.table_functions e.table_function;
 }
 

@@ -79,8 +79,8 @@ returns-clause-ok c =
       global_places = globals.hosts.places i;
     }) in
     all_bound input
-    (record { resolutions = c.new-3.result; scan = c.in_ok-scan.scan; stubs = c.new-4.result; shared = c.of.result })
-    (c.new-3.ensures ∙ rows) c.in_ok-scan.ensures.ok (c.new-4.ensures ∙ c.in_ok-stubs.ensures.types) shared
+    (record { functions = c.in_ok-functions.functions.bindings; resolutions = c.new-3.result; scan = c.in_ok-scan.scan; stubs = c.new-4.result; shared = c.of.result })
+    functions.bindings (c.new-3.ensures ∙ rows) c.in_ok-scan.ensures.ok (c.new-4.ensures ∙ c.in_ok-stubs.ensures.types) shared
 
 pub returns-clause-clear : goal.returns-clause-clear
 returns-clause-clear c =

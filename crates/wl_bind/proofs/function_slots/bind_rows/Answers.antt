@@ -1,4 +1,4 @@
-use Rattle.std.proofs.Common.{◌<◌, ◌∙◌, rules, length}
+use Rattle.std.proofs.Common.{◌<◌, rules, length}
 use Rattle.wl_custom.specs.declared.symbols.WasmSymbolKind.TheVariants.{Func}
 use Rattle.wl_bind.specs.FunctionSymbols.{kept_binding, function_bindings}
 use Rattle.wl_bind.specs.Resolutions.{function_resolution}
@@ -13,16 +13,16 @@ loop-object-preserved c =
     let objects = input.link.objects in
     let k = c.loop-object.object in
     let lt : k < length objects = search rules in
-    let row = c.in_ok-row.row in
+    let row = c.bind_row.new.row in
     let old = c.loop-object.rows in
     let new = c.push-in-loop-object.new.self in
     let told = c.loop-object.invariant in
     record {
-      targets = row_pushed (kept_binding input) Func objects k c.new.result c.loop-object.targets.items c.push.new.self.items (function_bindings input) lt
-          (c.new.ensures ∙ c.in_ok-row.ensures.targets) c.in_ok-push.ensures.items told.targets;
+      targets = row_pushed (kept_binding input) Func objects k row.targets.items c.loop-object.targets c.push.new.self (function_bindings input) lt
+          c.in_ok-bind_row.ensures.targets c.in_ok-push.ensures.ok told.targets;
       resolutions = row_pushed (function_resolution input) Func objects k row.slots.resolutions.items old.resolutions.items new.resolutions.items
           (slot_rows (function_resolution input) Func 0 objects) lt
-          c.in_ok-row.ensures.resolutions c.in_ok-push-2.ensures.resolutions told.resolutions;
-      places = row_pushed (import_place input Func (function_imports input)) Func objects k row.slots.places.items old.places.items new.places.items
-          (import_places input Func (function_imports input)) lt c.in_ok-row.ensures.places c.in_ok-push-2.ensures.places told.places;
+          c.in_ok-bind_row.ensures.resolutions c.in_ok-push-2.ensures.resolutions told.resolutions;
+      places = row_pushed (import_place input Func (function_imports input)) Func objects k row.slots.places.items old.places new.places
+          (import_places input Func (function_imports input)) lt c.in_ok-bind_row.ensures.places c.in_ok-push-2.ensures.places told.places;
     }

@@ -9,11 +9,11 @@ use Rattle.wl_bind.proofs.function_slots.bind_rows.Given as goal
 abbrev pub invariant-loop-object : goal.invariant-loop-object
 invariant-loop-object l = record {
   targets :
-      l.targets.items ++ slot_rows (kept_binding l.input) Func l.object (drop l.object l.input.link.objects) ≡ function_bindings l.input;
+      l.targets ++ slot_rows (kept_binding l.input) Func l.object (drop l.object l.input.link.objects) ≡ function_bindings l.input;
   resolutions :
       l.rows.resolutions.items ++ slot_rows (function_resolution l.input) Func l.object (drop l.object l.input.link.objects)
       ≡ slot_rows (function_resolution l.input) Func 0 l.input.link.objects;
   places :
-      l.rows.places.items ++ slot_rows (import_place l.input Func (function_imports l.input)) Func l.object (drop l.object l.input.link.objects)
+      l.rows.places ++ slot_rows (import_place l.input Func (function_imports l.input)) Func l.object (drop l.object l.input.link.objects)
       ≡ import_places l.input Func (function_imports l.input);
 }

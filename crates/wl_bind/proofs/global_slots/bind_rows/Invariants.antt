@@ -11,6 +11,6 @@ invariant-loop-object l = record {
       l.rows.resolutions.items ++ slot_rows (global_resolution l.input) Global l.object (drop l.object l.input.link.objects)
       ≡ slot_rows (global_resolution l.input) Global 0 l.input.link.objects;
   places :
-      l.rows.places.items ++ slot_rows (import_place l.input Global l.hosts) Global l.object (drop l.object l.input.link.objects)
+      l.rows.places ++ slot_rows (import_place l.input Global l.hosts) Global l.object (drop l.object l.input.link.objects)
       ≡ import_places l.input Global l.hosts;
 }

@@ -12,7 +12,6 @@ index_map-requires-clause-sources c =
     let input = c.args.numbering.now.input.now in
     record {
       numbering = c.requires.numbering;
-      bindings = c.in_ok-bindings.ensures;
       types = subst (λ (rows : List (List ℕ)). AreRows (AreTypeIndices input) 0 input.link.objects rows)
           (sym c.as_slice.ensures) c.requires.types.indices;
       functions = subst (λ (rows : List (List ℕ)). AreRows

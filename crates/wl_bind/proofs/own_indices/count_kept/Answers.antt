@@ -1,9 +1,7 @@
 use Rattle.std.proofs.Common.{◌≡◌, ◌∙◌, ◌≤◌, ◌+◌, ℕ, Bool, true, false, if◌then◌else◌, sym, ap, arith, subst}
-use Rattle.wl_linking.specs.Object.{Object}
 use Rattle.wl_symbols.specs.Input.{Input, keeps}
 use Rattle.wl_symbols.specs.Live.{Live, is_live}
 use Rattle.wl_bind.specs.steps.OwnIndices.{own_unit, own_count}
-use Rattle.wl_bind.proofs.NumberingLaws.{same_object}
 use Rattle.wl_bind.proofs.OwnLaws.{passing, passing_more, passing_all}
 use Rattle.wl_bind.proofs.own_indices.count_kept.Goals as goal
 use Rattle.wl_bind.proofs.own_indices.count_kept.Goals.{then-is_live, else-is_live}
@@ -31,13 +29,9 @@ loop-number-preserved c =
     ]
 
 pub returns : goal.returns
-returns c = λ o here.
-    let objects = c.args.input.now.link.objects in
-    let files = c.as_slice-files.ensures.objects ∙ c.files.ensures.objects in
-    let same : c.index-files-object.result ≡ o =
-    same_object objects c.as_slice-files.result.now c.args.object o c.index-files-object.result files c.index-files-object.is here in
-    let count = c.count-number-end.ensures.count ∙ ap (λ (p : Object). own_count c.args.own p) same in
+returns c =
+    let count = c.count-number-end.ensures.count in
     passing_all (λ k. keeps c.args.input.now c.args.object (own_unit c.args.own k))
-    c.loop-number.kept c.loop-number.number (own_count c.args.own o) c.loop-number.invariant.0
+    c.loop-number.kept c.loop-number.number (own_count c.args.own c.args.file.now) c.loop-number.invariant.0
     (subst (λ (n : ℕ). c.loop-number.number ≤ n) count c.loop-number.auto.number-end)
     (subst (λ (n : ℕ). n ≤ c.loop-number.number) count c.loop-number-test.false)

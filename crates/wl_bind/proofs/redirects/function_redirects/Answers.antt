@@ -26,13 +26,7 @@ returns c =
       live = c.live.ensures.kept;
       whole = subst (λ (os : List Object). AllByRecursion IsWhole os)
           (c.as_slice.ensures.objects ∙ c.files.ensures.objects) c.as_slice.ensures.whole;
-      laws = record {
-        targets = c.targets_by_cases.ensures;
-        closed = c.live_units_are_closed.ensures.slot;
-      };
-      fitting = c.whole_objects.ensures.fitting;
-      slots = c.slots_are_numbered.ensures.functions;
-      numbers = c.definitions_have_numbers.ensures;
+      laws = c.link_laws.ensures;
     } in
     let all : c.loop-number.list ≡ redirects_of c.args.input.now.link c.args.function_rows.now c.args.object c.args.file.now = search rules in
     subst (λ (list : List (Option ℕ)). ArePlacesOf (function_space c.args.input.now)

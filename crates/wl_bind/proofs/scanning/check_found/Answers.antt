@@ -1,19 +1,20 @@
+use Rattle.wl_symbols.specs.Relocations.{relocations}
 use Rattle.std.proofs.Common.{◌∙◌, ap}
 use Rattle.std.proofs.lemmas.Result.{err_from_is_err_and}
 use Rattle.wl_linking.specs.Steps.{here, behind, Refuses}
 use Rattle.wl_bind.specs.ScanFaults.{scan_fault}
-use Rattle.wl_bind.specs.steps.Scanning.{Found}
-use Rattle.wl_bind.proofs.ScanLaws.{wrong_found, mismatch_found, undefined_found}
+use Rattle.wl_bind.specs.steps.Scanning.{Found, nothing_found}
+use Rattle.wl_bind.proofs.ScanLaws.{wrong_from, mismatch_from, undefined_from}
 use Rattle.wl_bind.proofs.scanning.check_found.Goals as goal
 
 pub check_kinds-requires-clause-wrong : goal.check_kinds-requires-clause-wrong
-check_kinds-requires-clause-wrong c = ap (λ (f : Found). f.wrong) c.requires ∙ wrong_found c.args.check.now.input.now
+check_kinds-requires-clause-wrong c = ap (λ (f : Found). f.wrong) c.requires ∙ wrong_from c.args.check.now.input.now (relocations c.args.check.now.input.now) nothing_found
 
 pub check-requires : goal.check-requires
-check-requires c = ap (λ (f : Found). f.mismatch) c.requires ∙ mismatch_found c.args.check.now.input.now
+check-requires c = ap (λ (f : Found). f.mismatch) c.requires ∙ mismatch_from c.args.check.now.input.now (relocations c.args.check.now.input.now) nothing_found
 
 pub check_undefined_data-requires : goal.check_undefined_data-requires
-check_undefined_data-requires c = ap (λ (f : Found). f.undefined) c.requires ∙ undefined_found c.args.check.now.input.now
+check_undefined_data-requires c = ap (λ (f : Found). f.undefined) c.requires ∙ undefined_from c.args.check.now.input.now (relocations c.args.check.now.input.now) nothing_found
 
 pub returns-in_err-check_kinds-clause-err : goal.returns-in_err-check_kinds-clause-err
 returns-in_err-check_kinds-clause-err c =

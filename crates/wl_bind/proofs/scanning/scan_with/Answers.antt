@@ -21,7 +21,7 @@ returns-in_err-check_found-clause-err c =
 
 pub returns-clause-ok : goal.returns-clause-ok
 returns-clause-ok c =
-    c.into_scan.ensures ∙ ap scan_part c.in_ok-found.ensures.found ∙ scan_found c.in_ok-check.check.input.now
+    c.in_ok-into_scan.ensures ∙ ap scan_part c.in_ok-found.ensures ∙ scan_found c.in_ok-check.check.input.now
     ∙ ap scan_of c.in_ok-check.ensures.input
 
 pub returns-clause-kinds : goal.returns-clause-kinds

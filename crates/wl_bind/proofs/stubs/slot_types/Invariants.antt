@@ -4,5 +4,5 @@ use Rattle.wl_bind.proofs.stubs.slot_types.Given as goal
 
 abbrev pub invariant-loop-slot : goal.invariant-loop-slot
 invariant-loop-slot l =
-    l.types.items ++ filter_map (slot_type l.files) (map (λ t. t.now) (drop l.slot-index l.slot-items))
-    ≡ filter_map (slot_type l.files) l.slots
+    l.types.items ++ filter_map (slot_type l.files) (map (λ t. t.now) (drop l.slot-index l.slots))
+    ≡ filter_map (slot_type l.files) (map (λ t. t.now) l.slots)

@@ -12,4 +12,4 @@ returns c =
     all_marked c.args.input.now c.args.object c.args.file.now c.in_ok-marks.marks.items
     c.mark_functions.new.marks.items
     c.mark_hosts.new.marks.items c.mark_relocations.new.marks.items c.requires.object none functions
-    c.in_ok-mark_hosts.ensures c.mark_relocations.ensures
+    c.mark_hosts.ensures c.mark_relocations.ensures

@@ -11,7 +11,7 @@ returns c =
     c.as_slice-dynamic.ensures ∙ (ap (λ (e : ExportedData). e.dynamic) c.exported.ensures
     ∙ c.requires.indices.exported.dynamic) in
     let forced : c.as_slice-forced.result.now ≡ forced_data input =
-    c.as_slice-forced.ensures ∙ (ap (λ (e : ExportedData). e.forced) c.exported-2.ensures
+    c.as_slice-forced.ensures.keys ∙ (ap (λ (e : ExportedData). e.forced.keys) c.exported-2.ensures
     ∙ c.requires.indices.exported.forced) in
     let end : c.globals_end.result
     ≡ data_start input + (length (dynamic_data input) + length (forced_data input)) =

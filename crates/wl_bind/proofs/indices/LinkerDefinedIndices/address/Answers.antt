@@ -8,7 +8,7 @@ pub returns-in_err-place : goal.returns-in_err-place
 returns-in_err-place c = λ input are is.
     let list = c.as_slice.ensures in
     let told = c.in_err-place.ensures in
-    let at : position (λ a. same_made a c.args.made) c.args.self.now.exported.addresses ≡ None = cc in
+    let at : position (λ a. same_made a c.args.made) c.args.self.now.exported.addresses.keys ≡ None = cc in
     let P : Option ℕ → Type 0 = λ index. IsMadeIndex input c.args.made index in
     subst P (sym c.from_residual.ensures) (address_absent input c.args.self.now c.args.made are is at)
 
@@ -16,5 +16,5 @@ pub returns : goal.returns
 returns c = λ input are is.
     let list = c.as_slice.ensures in
     let told = c.in_ok-place.ensures in
-    let at : position (λ a. same_made a c.args.made) c.args.self.now.exported.addresses ≡ Some c.in_ok-place.place = cc in
+    let at : position (λ a. same_made a c.args.made) c.args.self.now.exported.addresses.keys ≡ Some c.in_ok-place.place = cc in
     address_there input c.args.self.now c.args.made c.in_ok-place.place c.entry_at.result are is at c.entry_at.ensures

@@ -7,9 +7,10 @@ use Rattle.wl_symbols.specs.ImportSlots.{ImportSlot, object_slots, import_slots}
 use Rattle.wl_bind.specs.steps.Numbered.{AreObjectIndices, FitsOwn, HaveSlotIndices, IsSlotIndex, firsts_of, own_indices_of, resolution_of}
 use Rattle.wl_bind.specs.steps.OwnIndices.{own_count, own_kind, own_unit}
 use Rattle.wl_lists.proofs.Rows.{object_here}
-use Rattle.wl_bind.proofs.NumberingLaws.{row_there, slots_here, firsts_fit, row_few, same_object}
-use Rattle.wl_bind.proofs.ObjectIndexLaws.{row_is}
+use Rattle.wl_bind.proofs.NumberingLaws.{row_there, firsts_fit, row_few, same_object}
+use Rattle.wl_bind.proofs.ObjectIndexLaws.{row_is, few_slots, own_have, own_all}
 use Rattle.wl_bind.proofs.numbering.Numbering.indices_of.Goals as goal
+use Rattle.wl_bind.proofs.HostLaws.{slots_here}
 
 pub row-row-requires : goal.row-row-requires
 row-row-requires c =
@@ -50,13 +51,14 @@ slot_indices-requires-clause-few c =
     let here = object_here input.link.objects c.as_slice-files.result.now object o files lt c.index-files-object.is in
     row_few input kind object o c.row-row.result.now (length (object_slots object kind o))
     (row_is input n.rows.now c.args.own object o c.row-row.result.now c.requires.numbering.rows here c.row-row.ensures) refl
-    (c.slots_have_indices.ensures.few c.args.own object o c.stands_for_an_object.ensures.whole)
+    (few_slots c.args.own object o (c.link_laws.ensures.functions object o) (c.link_laws.ensures.globals object o)
+    (λ kind'. c.link_laws.ensures.few o kind' c.stands_for_an_object.ensures.whole))
 
 pub slot_indices-requires-clause-there : goal.slot_indices-requires-clause-there
 slot_indices-requires-clause-there c =
     let n = c.args.self.now in
     subst (λ (k : WasmSymbolKind). HaveSlotIndices n k (import_slots n.input.now.link.objects c.args.object k)) (sym c.kind.ensures)
-    (c.slots_have_indices.ensures.have n c.requires.numbering c.files.ensures.kept c.args.own c.args.object)
+    (own_have c.link_laws.ensures n c.requires.numbering c.files.ensures.kept c.args.own c.args.object)
 
 pub push_own-requires-clause-fits : goal.push_own-requires-clause-fits
 push_own-requires-clause-fits c =
@@ -80,6 +82,6 @@ returns c = λ o here.
     ∙ ap (λ (k : ℕ). slots ++ own_indices_of input own (firsts_of n own) object k)
     (c.count.ensures.count ∙ ap (λ (p : Object). own_count own p) same)) in
     subst (λ (list : List ℕ). AreObjectIndices input own object o list) (sym pushed)
-    (c.slots_have_indices.ensures.all n c.requires.numbering c.files.ensures.kept own object o here slots
+    (own_all c.link_laws.ensures n c.requires.numbering c.files.ensures.kept own object o here slots
     (subst (λ (k : WasmSymbolKind). AllZip (IsSlotIndex n k) (import_slots input.link.objects object k) slots)
     c.kind.ensures c.in_ok-indices.ensures))

@@ -1,11 +1,12 @@
 use Rattle.std.proofs.Common.{◌≤◌, length, rules, inl, inr}
 use Rattle.std.proofs.lemmas.Result.{err_from_is_err_and}
-use Rattle.wl_bind.proofs.MismatchLaws.{own_more, own_all}
+use Rattle.wl_bind.proofs.MismatchLaws.{one_more, own_all}
 use Rattle.wl_bind.proofs.signatures.TypeCheck.check_objects.Goals as goal
+use Rattle.wl_bind.specs.BindingSteps.{AreOwnClear}
 
 pub loop-object-preserved : goal.loop-object-preserved
 loop-object-preserved c =
-    own_more c.args.self.now.input.now c.loop-object.object (λ number looked. elim looked [
+    one_more (AreOwnClear c.args.self.now.input.now) c.loop-object.object (λ number looked. elim looked [
       | inl on_slot ↦ c.in_ok-check_slots.ensures.clear number on_slot
       | inr named ↦ c.in_ok-check_inits.ensures.clear number named
     ]) c.loop-object.invariant

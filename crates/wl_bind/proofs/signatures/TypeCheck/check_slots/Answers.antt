@@ -1,10 +1,15 @@
-use Rattle.std.proofs.Common.{◌≤◌, length, rules, arith, ap}
+use Rattle.std.proofs.Common.{◌≡◌, ◌≤◌, ℕ, false, length, rules, arith, ap}
 use Rattle.std.proofs.lemmas.Result.{err_from_is_err_and}
-use Rattle.wl_bind.proofs.MismatchLaws.{slot_more, slots_clear}
+use Rattle.wl_bind.proofs.MismatchLaws.{one_more, slots_clear}
 use Rattle.wl_bind.proofs.signatures.TypeCheck.check_slots.Goals as goal
+use Rattle.wl_bind.specs.Signatures.{OnKeptSlot}
+use Rattle.wl_bind.specs.BindingSteps.{is_mismatch}
 
 pub loop-i-preserved : goal.loop-i-preserved
-loop-i-preserved c = slot_more c.args.self.now.input.now c.args.object c.loop-i.i c.in_ok-check_undefined.ensures.clear c.loop-i.invariant
+loop-i-preserved c =
+    let input = c.args.self.now.input.now in
+    one_more (λ (k : ℕ). OnKeptSlot input c.args.object k → is_mismatch input c.args.object k ≡ false) c.loop-i.i
+    c.in_ok-check_undefined.ensures.clear c.loop-i.invariant
 
 pub returns-clause-clear : goal.returns-clause-clear
 returns-clause-clear c =
